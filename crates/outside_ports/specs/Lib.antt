@@ -1,0 +1,5 @@
+pub mod Faults
+pub mod Library
+pub mod Sink
+pub mod MemoryLibrary
+pub mod MemorySink

@@ -1,13 +1,16 @@
-// A library with one function.
+//! Where the program's texts come from and where its output goes: libraries of files and sinks of bytes.
+//!
+//! A port tells its content or not, and always counts its faults, so that a caller can be told exactly when a
+//! fault may be answered. It stands on `chill_base`; the top call is generic over these ports, and the program
+//! puts real files and streams behind them.
 #![tactic(auto)]
 
-ghost use Rattle.std.specs.Prelude.{◌≡◌};
-ghost use Rattle.outside_ports.specs.Echo.{echo_of};
+mod library;
+mod memory_library;
+mod memory_sink;
+mod sink;
 
-// The `ensures` clause is the contract: what `echo` returns is `echo_of` of its argument, a definition
-// in `specs/Echo.antt`, which a caller's clause can cite too.
-pub fn echo(x: usize) -> usize
-    ensures { result ≡ echo_of x }
-{
-    x
-}
+pub use library::{Library, PortFault};
+pub use memory_library::{File, Files, MemoryLibrary};
+pub use memory_sink::MemorySink;
+pub use sink::Sink;

@@ -1,0 +1,5 @@
+use Rattle.chill_tree.proofs.OneList.{sums-one}
+use Rattle.chill_tree.proofs.one_list_of_sums.Goals as goal
+
+pub returns : goal.returns
+returns c = sums-one
