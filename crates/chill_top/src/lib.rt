@@ -1,13 +1,7 @@
-// A library with one function.
+//! The top call: reads a text, decides what it says, and writes that.
 #![tactic(auto)]
 
-ghost use Rattle.std.specs.Prelude.{◌≡◌};
-ghost use Rattle.chill_top.specs.Echo.{echo_of};
+mod sums;
+mod words;
 
-// The `ensures` clause is the contract: what `echo` returns is `echo_of` of its argument, a definition
-// in `specs/Echo.antt`, which a caller's clause can cite too.
-pub fn echo(x: usize) -> usize
-    ensures { result ≡ echo_of x }
-{
-    x
-}
+pub use sums::read_sums;

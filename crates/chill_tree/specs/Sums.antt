@@ -1,5 +1,5 @@
 -- The form "sums": one module whose actions are PUT_INT calls, each on a sum of whole literals.
-use Rattle.std.specs.Prelude.{◌≡◌, ℕ, ◌+◌, ◌<◌, ◌≤◌, ◌&&◌, ◌||◌, ◌==◌, nat_le, IsTrue, Bool, false, if◌then◌else◌, List, [], ◌∷◌, ◌++◌, length, map, sum_by, codes}
+use Rattle.std.specs.Prelude.{◌≡◌, ℕ, ◌+◌, ◌<◌, ◌≤◌, ◌&&◌, ◌||◌, ◌==◌, nat_le, IsTrue, Bool, false, if◌then◌else◌, List, [], ◌∷◌, ◌++◌, length, map, codes}
 use Rattle.std.specs.List.{AllByRecursion, flat_map}
 use Rattle.std.specs.Str.Parse.{IsNumeral, digits_value}
 
@@ -40,7 +40,8 @@ pub record IsWhole (token : List ℕ) : Type 0 where
 
 -- what a sum of wholes comes to
 abbrev pub sum_of : List (List ℕ) → ℕ
-sum_of wholes = sum_by (digits_value 10) wholes
+sum_of [] = 0
+sum_of (whole ∷ wholes) = digits_value 10 whole + sum_of wholes
 
 -- a sum has 1 to 33 wholes, and neither it nor a front of it is above 2147483647
 pub record IsSum (wholes : List (List ℕ)) : Type 0 where
