@@ -1,1 +1,4 @@
 pub mod Reading
+pub mod Run
+pub mod Plan
+pub mod Causes

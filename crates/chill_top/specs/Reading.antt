@@ -1,9 +1,13 @@
 -- What the reader of sums finds in the tokens of a text, and what it leaves.
-use Rattle.std.specs.Prelude.{◌≡◌, ℕ, ◌+◌, ◌^◌, ◌<◌, ◌≤◌, IsTrue, Bool, false, List, [], ◌∷◌, ◌++◌, length, map, codes, Some, None, MatchOption}
+use Rattle.std.specs.Prelude.{◌≡◌, ℕ, ◌+◌, ◌^◌, ◌<◌, ◌≤◌, IsTrue, Bool, false, List, [], ◌∷◌, ◌++◌, length, map, take, codes, IfSome}
 use Rattle.std.specs.declared.option.Option.{Option}
 use Rattle.std.specs.List.{AllByRecursion}
 use Rattle.std.specs.Str.Parse.{digits_value}
 use Rattle.chill_tree.specs.Sums.{IsWhole, IsSum, sum_of, plus_tokens, sum_tokens, actions_tokens, end_tokens, is_letter, is_gap}
+
+-- what was read is a front of the file, where that is told
+abbrev pub IsFront : Option (List ℕ) → List ℕ → Type 0
+IsFront told read = IfSome told (λ text. take (length read) text ≡ read)
 
 -- a gap stands first
 abbrev pub begins_gap : List ℕ → Bool

@@ -1,7 +1,16 @@
-//! The top call: reads a text, decides what it says, and writes that.
+//! The top call: `chill` reads the text that the words name, decides what it says, and writes that.
+//!
+//! It meets the definitions of `specs/Plan.antt` and `specs/Causes.antt`: which answer comes, its cause, and what
+//! was written with it. It stands on the ports, the form of a text and the events of a journal, and below the
+//! program, which puts real files and streams behind the ports.
 #![tactic(auto)]
 
+mod plan;
+mod read;
+mod run;
 mod sums;
+mod top;
 mod words;
+mod write;
 
-pub use sums::read_sums;
+pub use top::{Outcome, chill};

@@ -3,12 +3,10 @@ ghost use Rattle.std.specs.Prelude.{◌≡◌, ◌↔◌, ◌+◌, ◌<◌, ◌�
 ghost use Rattle.chill_tree.specs.Sums.{form_tokens, end_tokens, Sums, IsNoSums};
 ghost use Rattle.chill_top.specs.Reading.{IsMoreAt, IsFurtherAt, IsActionAt, IsBodyAt, IsHeadAt, AreActionsAt, Alone, Nowhere};
 
+use crate::read::MAX_BYTES;
 use crate::words::{expect, is_letter, next_token, whole};
 use chill_base::Memory;
 use std::alloc::Global;
-
-// A text has at most this many bytes.
-pub(crate) const MAX_BYTES: usize = 262_144;
 
 // A sum has at most this many wholes.
 const MAX_WHOLES: u32 = 33;
@@ -114,7 +112,7 @@ fn actions(alloc: Global, text: &[u8]) -> Result<Option<(Vec<u32>, &[u8])>, Memo
 }
 
 /// The sums of a text, or none where it isn't of the form "sums".
-pub fn read_sums(alloc: Global, text: &[u8]) -> Result<Option<Vec<u32>>, Memory>
+pub(crate) fn read_sums(alloc: Global, text: &[u8]) -> Result<Option<Vec<u32>>, Memory>
     ensures { IfOk result (λ found. MatchOption found (IsNoSums text.now) (λ sums. Sums text.now sums.items)) }
 {
     if text.len() > MAX_BYTES {

@@ -1,0 +1,18 @@
+use Rattle.std.proofs.Common.{◌≡◌, ◌≤◌, ◌-◌, ℕ, List, length, vec_len}
+use Rattle.chill_top.specs.Reading.{IsFront}
+use Rattle.chill_top.proofs.read.read_text.Given as goal
+
+-- the text so far is a front of the file
+abbrev pub invariant-pieces : goal.invariant-pieces
+invariant-pieces g l =
+    let library = g.L.Library in
+    record {
+      front : IsFront (library.bytes l.library l.name) l.text.items;
+      fits : length l.text.items ≤ 262145;
+      same : (n : List ℕ) → library.bytes l.library n ≡ library.bytes l.fn.library n;
+      later : (n : List ℕ) → library.faults l.fn.library n ≤ library.faults l.library n;
+      room : length l.piece.items ≡ 65536;
+    }
+
+abbrev pub decreases-pieces : goal.decreases-pieces
+decreases-pieces g l = 262145 - vec_len l.text
