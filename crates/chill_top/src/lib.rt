@@ -14,3 +14,6 @@ mod words;
 mod write;
 
 pub use top::{Outcome, chill};
+
+#[cfg(test)]
+mod tests;

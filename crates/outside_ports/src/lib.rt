@@ -14,3 +14,6 @@ pub use library::{Library, PortFault};
 pub use memory_library::{File, Files, MemoryLibrary};
 pub use memory_sink::MemorySink;
 pub use sink::Sink;
+
+#[cfg(test)]
+mod tests;

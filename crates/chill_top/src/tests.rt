@@ -1,0 +1,186 @@
+// Calls over ports in memory, with ample memory: what they answer, and what was written.
+use crate::chill;
+use chill_base::{Answer, Event, Events, How, Item, Memory, Numbers, Over, Request, Text};
+use outside_ports::{File, Files, MemoryLibrary, MemorySink};
+use std::alloc::{AllocError, Global};
+use std::test::Fail;
+
+const TEXT: &str = "M: MODULE PUT_INT(1 + 2); PUT_INT(40); END M;";
+
+fn text(alloc: Global, text: &str) -> Result<Text, AllocError> {
+    Ok(Text::from_vec(text.as_bytes().to_vec(alloc)?))
+}
+
+// The call of this number fails, and with 0 none does.
+fn fault(alloc: Global, call: u32) -> Result<Numbers, Memory> {
+    let mut fails = Numbers::new(alloc);
+    fails.push(call)?;
+    Ok(fails)
+}
+
+fn library(alloc: Global, bytes: &str, fails: u32) -> Result<MemoryLibrary, Memory> {
+    let mut files = Files::new(alloc);
+    files.push(File {
+        name: text(alloc, "f")?,
+        bytes: text(alloc, bytes)?,
+    })?;
+    Ok(MemoryLibrary::new(files, fault(alloc, fails)?))
+}
+
+struct Case {
+    text: &'static str,
+    // the numbers of the read and of the put to out that fail
+    read: u32,
+    put: u32,
+    status: u8,
+    out: &'static str,
+    err: &'static str,
+}
+
+const REFUSED: &str = "1:1: T2 no program\n";
+
+const CASES: [Case; 8] = [
+    Case {
+        text: TEXT,
+        read: 0,
+        put: 0,
+        status: 0,
+        out: "340",
+        err: "",
+    },
+    Case {
+        text: "M: MODULE END M;",
+        read: 0,
+        put: 0,
+        status: 0,
+        out: "",
+        err: "",
+    },
+    Case {
+        text: "",
+        read: 0,
+        put: 0,
+        status: 3,
+        out: "",
+        err: REFUSED,
+    },
+    Case {
+        text: "M: MODULE END N;",
+        read: 0,
+        put: 0,
+        status: 3,
+        out: "",
+        err: REFUSED,
+    },
+    Case {
+        text: TEXT,
+        read: 2,
+        put: 0,
+        status: 4,
+        out: "",
+        err: "",
+    },
+    Case {
+        text: TEXT,
+        read: 0,
+        put: 1,
+        status: 5,
+        out: "",
+        err: "",
+    },
+    Case {
+        text: TEXT,
+        read: 0,
+        put: 2,
+        status: 5,
+        out: "3",
+        err: "",
+    },
+    Case {
+        text: TEXT,
+        read: 0,
+        put: 4,
+        status: 0,
+        out: "340",
+        err: "",
+    },
+];
+
+#[test]
+fn statuses_and_what_was_written(rt: HostRuntime) -> Result<(), Fail> {
+    let alloc = rt.alloc();
+    let words = vec![in alloc;
+        String::from_str(alloc, "run")?,
+        String::from_str(alloc, "f")?,
+    ]?;
+    for case in &CASES {
+        let mut library = library(alloc, case.text, case.read)?;
+        let mut out = MemorySink::new(alloc, 1, 100, fault(alloc, case.put)?)?;
+        let mut err = MemorySink::new(alloc, 7, 100, fault(alloc, 0)?)?;
+        let outcome = chill(alloc, &words, &mut library, &mut out, &mut err);
+        let text = case.text;
+        assert_eq!(rt; outcome.status, case.status, "{text}");
+        assert_eq!(rt; out.taken(), case.out.as_bytes(), "{text}");
+        assert_eq!(rt; err.taken(), case.err.as_bytes(), "{text}");
+    }
+    Ok(())
+}
+
+#[test]
+fn other_words_are_usage(rt: HostRuntime) -> Result<(), Fail> {
+    let alloc = rt.alloc();
+    for words in [
+        [].as_slice(),
+        ["run"].as_slice(),
+        ["run", "f", "f"].as_slice(),
+        ["runs", "f"].as_slice(),
+    ] {
+        let mut given = Vec::new(alloc);
+        for word in words {
+            given.push(String::from_str(alloc, word)?)?;
+        }
+        let mut library = library(alloc, TEXT, 0)?;
+        let mut out = MemorySink::new(alloc, 100, 100, fault(alloc, 0)?)?;
+        let mut err = MemorySink::new(alloc, 200, 200, fault(alloc, 0)?)?;
+        let outcome = chill(alloc, &given, &mut library, &mut out, &mut err);
+        assert_eq!(rt; outcome.status, 2);
+        assert_eq!(rt; out.taken(), b"".as_slice());
+        assert!(rt; err.taken().starts_with(b"usage: chill run FILE "));
+    }
+    Ok(())
+}
+
+// The event of a request that the outermost process made.
+fn done(request: Request) -> Event {
+    Event::Did {
+        who: 1,
+        ticks: 0,
+        request,
+        answer: Answer::Done,
+        refill: None,
+    }
+}
+
+#[test]
+fn the_journal_of_a_run(rt: HostRuntime) -> Result<(), Fail> {
+    let alloc = rt.alloc();
+    let words = vec![in alloc;
+        String::from_str(alloc, "run")?,
+        String::from_str(alloc, "f")?,
+    ]?;
+    let mut library = library(alloc, TEXT, 0)?;
+    let mut out = MemorySink::new(alloc, 100, 100, fault(alloc, 0)?)?;
+    let mut err = MemorySink::new(alloc, 100, 100, fault(alloc, 0)?)?;
+    let outcome = chill(alloc, &words, &mut library, &mut out, &mut err);
+    assert_eq!(rt; outcome.over, Some(Over::AllEnded));
+    let mut wanted = Events::new(alloc);
+    wanted.push(done(Request::Put {
+        bytes: text(alloc, "3")?,
+    }))?;
+    wanted.push(done(Request::Put {
+        bytes: text(alloc, "40")?,
+    }))?;
+    wanted.push(done(Request::End { how: How::Normal }))?;
+    assert!(rt; outcome.events.equals(&wanted));
+    Ok(())
+}
