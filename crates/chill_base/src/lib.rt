@@ -8,15 +8,19 @@
 mod answer;
 mod ends;
 mod event;
+mod facts;
 mod list;
 mod memory;
 mod pos;
 mod request;
+mod value;
 
 pub use answer::Answer;
 pub use ends::{Exc, How, Over};
 pub use event::{Event, Events};
+pub use facts::{Bits, Facts, Layout, Layouts, Lengths};
 pub use list::{Item, List, Numbers, Scalars, Text};
 pub use memory::Memory;
 pub use pos::Pos;
 pub use request::{Alternative, Alternatives, Place, Request};
+pub use value::{Value, Values};
