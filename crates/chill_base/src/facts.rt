@@ -81,9 +81,14 @@ impl Item for Facts {
     }
 
     fn equals(&self, other: &Self) -> bool {
-        self.store.equals(&other.store) && self.layouts.equals(&other.layouts) && self.regions == other.regions
-            && self.events.equals(&other.events) && self.buffers.equals(&other.buffers)
-            && self.processes == other.processes && self.signals.equals(&other.signals)
-            && self.input.equals(&other.input) && self.units == other.units
+        self.store.equals(&other.store)
+            && self.layouts.equals(&other.layouts)
+            && self.regions == other.regions
+            && self.events.equals(&other.events)
+            && self.buffers.equals(&other.buffers)
+            && self.processes == other.processes
+            && self.signals.equals(&other.signals)
+            && self.input.equals(&other.input)
+            && self.units == other.units
     }
 }

@@ -16,6 +16,15 @@ pub enum Value {
     Parts(List<Value>),
 }
 
+/// What a scalar of a value is.
+#[derive(Clone, Copy, Debug)]
+pub enum ScalarKind {
+    /// A discrete value or an instance.
+    Plain,
+    /// Members of a powerset whose member mode has `size` values: bit k tells the member at offset `first` + k.
+    Powerset { size: u32, first: u32 },
+}
+
 /// Values of several locations.
 pub type Values = List<Value>;
 
