@@ -28,3 +28,6 @@ pub use pos::Pos;
 pub use request::{Alternative, Alternatives, Place, Request};
 pub use units::event_units;
 pub use value::{ScalarKind, Value, Values};
+
+#[cfg(test)]
+mod tests;
