@@ -8,15 +8,26 @@
 mod answer;
 mod ends;
 mod event;
+mod facts;
+mod fitting;
 mod list;
 mod memory;
 mod pos;
 mod request;
+mod units;
+mod value;
 
 pub use answer::Answer;
 pub use ends::{Exc, How, Over};
 pub use event::{Event, Events};
+pub use facts::{Bits, Facts, Layout, Layouts, Lengths};
+pub use fitting::fits;
 pub use list::{Item, List, Numbers, Scalars, Text};
 pub use memory::Memory;
 pub use pos::Pos;
 pub use request::{Alternative, Alternatives, Place, Request};
+pub use units::event_units;
+pub use value::{ScalarKind, Value, Values};
+
+#[cfg(test)]
+mod tests;
