@@ -6,17 +6,21 @@
 #![tactic(auto)]
 
 mod answer;
+mod diagnostic;
 mod ends;
 mod event;
 mod list;
 mod memory;
 mod pos;
 mod request;
+mod rule;
 
 pub use answer::Answer;
+pub use diagnostic::{Diagnostic, Diagnostics};
 pub use ends::{Exc, How, Over};
 pub use event::{Event, Events};
 pub use list::{Item, List, Numbers, Scalars, Text};
 pub use memory::Memory;
 pub use pos::Pos;
 pub use request::{Alternative, Alternatives, Place, Request};
+pub use rule::Rule;
