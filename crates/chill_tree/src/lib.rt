@@ -3,6 +3,7 @@
 //! It stands on `chill_base`. The definitions that the rules of the language are stated with stand in `specs/`.
 #![tactic(auto)]
 
+mod spelling;
 mod token;
 
 pub use token::{Sign, Token, TokenKind, Tokens, Word};
