@@ -53,12 +53,12 @@ actions_tokens-one [] (y ∷ ys) m n p q e = absurd (no_action (ap head e))
 actions_tokens-one (x ∷ xs) [] m n p q e = absurd (no_action (sym (ap head e)))
 actions_tokens-one (x ∷ xs) (y ∷ ys) m n p q e =
     let one = sum_tokens-one x y (codes ";" ∷ actions_tokens xs (end_tokens m)) (codes ";" ∷ actions_tokens ys (end_tokens n)) p.0 q.0
-        (ap (λ (ts : List (List ℕ)). tail (tail ts)) e) in
+    (ap (λ (ts : List (List ℕ)). tail (tail ts)) e) in
     let rest = actions_tokens-one xs ys m n p.1 q.1 (ap tail one.1) in
     ap (λ (v : List (List ℕ)). v ∷ xs) one.0 ∙ ap (λ (vs : List (List (List ℕ))). y ∷ vs) rest
 
 pub sums-one : (text sums others : List ℕ) → Sums text sums → Sums text others → sums ≡ others
 sums-one text sums others s t =
     let same = actions_tokens-one s.written t.written s.name t.name s.each t.each
-        (ap (λ (ts : List (List ℕ)). tail (tail (tail ts))) (sym s.tokens ∙ t.tokens)) in
+    (ap (λ (ts : List (List ℕ)). tail (tail (tail ts))) (sym s.tokens ∙ t.tokens)) in
     s.values ∙ ap (map sum_of) same ∙ sym t.values

@@ -29,9 +29,9 @@ with_word_byte b goes_on (token ∷ tokens) = if goes_on then (b ∷ token) ∷ 
 abbrev pub form_tokens : List ℕ → List (List ℕ)
 form_tokens [] = []
 form_tokens (b ∷ text) =
-  if is_gap b then form_tokens text
-  else if is_word_byte b then with_word_byte b (begins_word text) (form_tokens text)
-  else (b ∷ []) ∷ form_tokens text
+    if is_gap b then form_tokens text
+    else if is_word_byte b then with_word_byte b (begins_word text) (form_tokens text)
+    else (b ∷ []) ∷ form_tokens text
 
 -- a whole literal has 1 to 10 decimal digits
 pub record IsWhole (token : List ℕ) : Type 0 where

@@ -1,0 +1,3 @@
+pub mod TokensShapes
+pub mod TokensCut
+pub mod TokensReading

@@ -1,0 +1,3 @@
+pub mod TokensRuns
+pub mod TokensExact
+pub mod TokensLaws
