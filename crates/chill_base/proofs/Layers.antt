@@ -1,5 +1,5 @@
 -- The scalars and kinds of a value, layer by layer, and where a kind stands among them.
-use Rattle.std.proofs.Common.{◌≡◌, ℕ, zero, suc, ◌+◌, ◌*◌, ◌<◌, List, [], ◌∷◌, ◌++◌, ℤ, length, get_or, refl, sym, ap, ◌∙◌, arith, map, take, Option, Some, None, length-append, add-zero, add-suc}
+use Rattle.std.proofs.Common.{◌≡◌, ℕ, zero, suc, ◌+◌, ◌*◌, ◌<◌, List, [], ◌∷◌, ◌++◌, ℤ, length, get_or, refl, sym, ap, ◌∙◌, arith, take, Some, length-append, add-zero}
 use Rattle.std.specs.Prelude.{slice_get}
 use Rattle.std.specs.List.{flat_map}
 use Rattle.std.proofs.lemmas.List.Folds.{flat_map-map}
@@ -8,7 +8,7 @@ use Rattle.chill_base.specs.declared.value.Value.TheOpen as layer
 use Rattle.chill_base.specs.declared.value.Value.TheVariants as made
 use Rattle.chill_base.specs.declared.value.ScalarKind.{ScalarKind}
 use Rattle.chill_base.specs.declared.value.ScalarKind.TheVariants.{Plain, Powerset}
-use Rattle.chill_base.specs.Value.{joined, scalars_in, scalars_of, kinds_in, kinds_of, kinds_from, numbers_from, count_of_numbers}
+use Rattle.chill_base.specs.Value.{scalars_in, scalars_of, kinds_in, kinds_of, kinds_from, numbers_from, count_of_numbers}
 
 pub scalars_of-Number : (number : ℤ) → scalars_of (made.Number number) ≡ number ∷ []
 unfolding scalars_of

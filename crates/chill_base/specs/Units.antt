@@ -1,6 +1,5 @@
 -- The units of an event, by which a run's budget is counted.
-use Rattle.std.specs.Prelude.{ℕ, ◌+◌, ◌/◌, ℤ, List, length, sum_by}
-use Rattle.chill_base.specs.declared.request.Alternative.{Alternative}
+use Rattle.std.specs.Prelude.{ℕ, ◌+◌, ◌/◌, List, length, sum_by}
 use Rattle.chill_base.specs.declared.request.Request.{Request}
 use Rattle.chill_base.specs.declared.request.Request.TheVariants.{Read, Write, Enter, Leave, Delay, Continue, SendBuffer, ReceiveBuffer, SendSignal, ReceiveSignal, Start, Put, Get, End}
 use Rattle.chill_base.specs.declared.answer.Answer.{Answer}

@@ -1,5 +1,5 @@
 -- The flat scalars of a value.
-use Rattle.std.specs.Prelude.{ℕ, suc, zero, ◌+◌, ◌*◌, ◌/◌, ◌%◌, ◌^◌, ◌==◌, if◌then◌else◌, List, [], ◌∷◌, ◌++◌, ℤ, pos, sum_by}
+use Rattle.std.specs.Prelude.{ℕ, suc, zero, ◌+◌, ◌*◌, ◌/◌, ◌%◌, ◌^◌, ◌==◌, if◌then◌else◌, List, [], ◌∷◌, ℤ, pos, sum_by}
 use Rattle.std.specs.List.{flat_map}
 use Rattle.chill_base.specs.declared.value.Value.{Value, Value-F, fold-Value}
 use Rattle.chill_base.specs.declared.value.Value.TheOpen as layer

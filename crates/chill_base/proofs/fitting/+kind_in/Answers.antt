@@ -1,8 +1,6 @@
-use Rattle.std.proofs.Common.{◌≡◌, ◌+◌, ◌∙◌, ap, sym, subst, take, take_all, length, arith, refl, ℕ, List, [], ◌∷◌, Some, get_or}
+use Rattle.std.proofs.Common.{◌≡◌, ◌+◌, ◌∙◌, ap, sym, subst, take, take_all, length, arith, refl, List, [], ◌∷◌, Some, get_or}
 use Rattle.std.specs.Prelude.{slice_get}
 use Rattle.std.specs.List.{flat_map}
-use Rattle.std.proofs.lemmas.Grind.{common_steps}
-use Rattle.chill_base.specs.declared.value.Value.TheVariants as made
 use Rattle.chill_base.specs.declared.value.ScalarKind.{ScalarKind}
 use Rattle.chill_base.specs.declared.value.ScalarKind.TheVariants.{Plain}
 use Rattle.chill_base.specs.declared.value.Value.{Value}

@@ -1,6 +1,5 @@
-use Rattle.std.proofs.Common.{rules, ◌≡◌, arith, sym, refl, SFits, w64}
+use Rattle.std.proofs.Common.{rules, SFits, w64}
 use Rattle.std.proofs.lemmas.Int.{to_z-of_z}
-use Rattle.chill_base.specs.Facts.{FitsScalar, FitsLayout, FitsValue}
 use Rattle.chill_base.proofs.fitting.fits_scalar.Goals as goal
 
 pub returns-then-fits_layout : goal.returns-then-fits_layout

@@ -1,7 +1,4 @@
-use Rattle.std.proofs.Common.{◌≡◌, ◌+◌, ◌<◌, arith, sym, refl, below_more, pos, ℕ}
-use Rattle.std.specs.Prelude.{slice_index_or}
-use Rattle.std.proofs.lemmas.Grind.{common_steps}
-use Rattle.chill_base.specs.Facts.{FitsScalar, FitsWrite}
+use Rattle.std.proofs.Common.{arith, refl, below_more}
 use Rattle.chill_base.proofs.fitting.fits_write.Goals as goal
 
 pub returns-then-not-fits_scalar : goal.returns-then-not-fits_scalar
