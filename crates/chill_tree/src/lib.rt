@@ -4,5 +4,6 @@
 #![tactic(auto)]
 
 mod token;
+pub mod tree;
 
 pub use token::{Sign, Token, TokenKind, Tokens, Word};
