@@ -1,1 +1,6 @@
 pub mod ExprTree
+pub mod ItemTree
+pub mod LocalTree
+pub mod ModeTree
+pub mod SimpleTree
+pub mod StatementTree
