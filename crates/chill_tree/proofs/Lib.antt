@@ -1,1 +1,4 @@
 pub mod ExprViews
+pub mod ItemViews
+pub mod ModeViews
+pub mod StatementViews

@@ -1,5 +1,7 @@
 // Modulions, procedures, processes and signals (Z.200, chapters on program structure and on concurrent
 // execution).
+ghost use Rattle.std.specs.Prelude.{◌≡◌};
+
 use crate::tree::{BodyPart, Handler, Local, Mode, Name, Statement};
 use chill_base::{List, Pos};
 
@@ -99,4 +101,101 @@ pub struct Process {
 pub struct Formal {
     pub names: List<Name>,
     pub mode: Mode,
+}
+
+impl Item {
+    ghost use Rattle.std.specs.Prelude.{map};
+    ghost use Rattle.chill_tree.specs.LocalTree.{local_tree};
+    ghost use Rattle.chill_tree.specs.StatementTree.{statement_tree};
+    ghost use Rattle.chill_tree.specs.ItemTree.{seize, grant, local_item, signals, procedure, process, modulion_item, action, signal_tree, procedure_tree, process_tree, item_tree, modulion_tree};
+
+    /// Names that are taken from outside.
+    #[tactic(auto, using(crate::proofs::ItemViews::item_built))]
+    pub fn seize(at: Pos, passed: Passed) -> Item
+        ensures { item_tree result ≡ seize at passed }
+    {
+        Item::Seize { at, passed }
+    }
+
+    /// Names that are given to the outside.
+    #[tactic(auto, using(crate::proofs::ItemViews::item_built))]
+    pub fn grant(at: Pos, passed: Passed) -> Item
+        ensures { item_tree result ≡ grant at passed }
+    {
+        Item::Grant { at, passed }
+    }
+
+    /// A definition.
+    #[tactic(auto, using(crate::proofs::ItemViews::item_built))]
+    pub fn local(own: Local) -> Item
+        ensures { item_tree result ≡ local_item (local_tree own) }
+    {
+        Item::Local(own)
+    }
+
+    /// Signals.
+    #[tactic(auto, using(crate::proofs::ItemViews::item_built))]
+    pub fn signals(at: Pos, own: List<Signal>) -> Item
+        ensures { item_tree result ≡ signals at (map signal_tree own) }
+    {
+        Item::Signals { at, signals: own }
+    }
+
+    /// A procedure.
+    #[tactic(auto, using(crate::proofs::ItemViews::item_built))]
+    pub fn procedure(own: Procedure) -> Item
+        ensures { item_tree result ≡ procedure (procedure_tree own) }
+    {
+        Item::Procedure(own)
+    }
+
+    /// A process.
+    #[tactic(auto, using(crate::proofs::ItemViews::item_built))]
+    pub fn process(own: Process) -> Item
+        ensures { item_tree result ≡ process (process_tree own) }
+    {
+        Item::Process(own)
+    }
+
+    /// A modulion in another.
+    #[tactic(auto, using(crate::proofs::ItemViews::item_built))]
+    pub fn modulion(own: Modulion) -> Item
+        ensures { item_tree result ≡ modulion_item (modulion_tree own) }
+    {
+        Item::Modulion(own)
+    }
+
+    /// An action of the outermost process.
+    #[tactic(auto, using(crate::proofs::ItemViews::item_built))]
+    pub fn action(own: Statement) -> Item
+        ensures { item_tree result ≡ action (statement_tree own) }
+    {
+        Item::Statement(own)
+    }
+}
+
+impl Modulion {
+    ghost use Rattle.std.specs.Prelude.{option_map};
+    ghost use Rattle.chill_tree.specs.StatementTree.{handler_tree};
+    ghost use Rattle.chill_tree.specs.ItemTree.{item_trees, modulion_tree};
+
+    /// A module or a region.
+    #[tactic(auto, using(crate::proofs::ItemViews::item_built))]
+    pub fn new(
+        name: Name,
+        kind: ModulionKind,
+        items: List<Item>,
+        handler: Option<Handler>,
+        closing: Option<Name>,
+    ) -> Modulion
+        ensures { modulion_tree result ≡ record { name = name; kind = kind; items = item_trees items; handler = option_map handler_tree handler; closing = closing } }
+    {
+        Modulion {
+            name,
+            kind,
+            items,
+            handler,
+            closing,
+        }
+    }
 }

@@ -1,6 +1,9 @@
 // Modes as they are written (Z.200, chapter on modes and classes).
+ghost use Rattle.std.specs.Prelude.{◌≡◌};
+
 use crate::tree::{Expr, Name};
-use chill_base::{List, Pos};
+use chill_base::{List, Memory, Pos};
+use std::alloc::Global;
 
 /// A mode, whose values locations hold, or through which processes meet.
 #[derive(Debug, Drop)]
@@ -108,4 +111,79 @@ pub struct Step {
     pub at: Pos,
     pub place: Place,
     pub distance: Expr,
+}
+
+impl Base {
+    ghost use Rattle.std.specs.Prelude.{IfOk, option_map};
+    ghost use Rattle.chill_tree.specs.ExprTree.{expr_tree};
+    ghost use Rattle.chill_tree.specs.ModeTree.{discrete, powerset, chars, structure, array, field_nodes, discrete_tree, index_tree, spread_tree, base_tree, field_trees};
+
+    /// A discrete mode.
+    #[tactic(auto, using(crate::proofs::ModeViews::base_built))]
+    pub fn discrete(own: Discrete) -> Base
+        ensures { base_tree result ≡ discrete (discrete_tree own) }
+    {
+        Base::Discrete(own)
+    }
+
+    /// The sets of values of a discrete mode.
+    #[tactic(auto, using(crate::proofs::ModeViews::base_built))]
+    pub fn powerset(at: Pos, member: Discrete) -> Base
+        ensures { base_tree result ≡ powerset at (discrete_tree member) }
+    {
+        Base::Powerset { at, member }
+    }
+
+    /// Texts of a length.
+    #[tactic(auto, using(crate::proofs::ModeViews::base_built))]
+    pub fn chars(at: Pos, length: Expr) -> Base
+        ensures { base_tree result ≡ chars at (expr_tree length) }
+    {
+        Base::Chars { at, length }
+    }
+
+    /// A structure.
+    #[tactic(auto, using(crate::proofs::ModeViews::base_built))]
+    pub fn structure(at: Pos, fields: List<Field>, packing: Option<Packing>) -> Base
+        ensures { base_tree result ≡ structure at (field_nodes (field_trees fields)) packing }
+    {
+        Base::Struct {
+            at,
+            fields,
+            packing,
+        }
+    }
+
+    /// An array.
+    #[tactic(auto, using(crate::proofs::ModeViews::base_built))]
+    pub fn array(
+        alloc: Global,
+        at: Pos,
+        index: Index,
+        element: Base,
+        spread: Option<Spread>,
+    ) -> Result<Base, Memory>
+        ensures { IfOk result (λ b. base_tree b ≡ array at (index_tree index) (base_tree element) (option_map spread_tree spread)) }
+    {
+        let element = Box::new(alloc, element)?;
+        Ok(Base::Array {
+            at,
+            index,
+            element,
+            spread,
+        })
+    }
+}
+
+impl Field {
+    ghost use Rattle.std.specs.Prelude.{option_map};
+    ghost use Rattle.chill_tree.specs.ModeTree.{place_tree, base_tree, field_tree};
+
+    /// Fields of one mode.
+    #[tactic(auto, using(crate::proofs::ModeViews::base_built))]
+    pub fn new(names: List<Name>, base: Base, place: Option<Place>) -> Field
+        ensures { field_tree result ≡ record { names = names; base = base_tree base; place = option_map place_tree place } }
+    {
+        Field { names, base, place }
+    }
 }
