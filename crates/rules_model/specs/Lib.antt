@@ -1,0 +1,2 @@
+pub mod ExprGrammar
+pub mod Marks
