@@ -1,2 +1,9 @@
 pub mod ExprGrammar
+pub mod ItemGrammar
+pub mod ListGrammar
+pub mod LocalGrammar
 pub mod Marks
+pub mod ModeGrammar
+pub mod Nesting
+pub mod SimpleGrammar
+pub mod StatementGrammar
