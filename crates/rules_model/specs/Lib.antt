@@ -1,9 +1,11 @@
 pub mod ExprGrammar
+pub mod ExprReading
 pub mod ItemGrammar
 pub mod ListGrammar
 pub mod LocalGrammar
 pub mod Marks
 pub mod ModeGrammar
 pub mod Nesting
+pub mod Reading
 pub mod SimpleGrammar
 pub mod StatementGrammar
