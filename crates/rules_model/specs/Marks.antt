@@ -226,3 +226,22 @@ may_update operators.LessOrEqual = false
 may_update operators.Greater = false
 may_update operators.GreaterOrEqual = false
 may_update operators.In = false
+
+-- whether an expression may begin with the token
+abbrev pub starts_expr : TokenKind → Bool
+starts_expr (kinds.Whole n) = true
+starts_expr (kinds.Char n) = true
+starts_expr (kinds.Text n) = true
+starts_expr (kinds.Name n) = true
+starts_expr (kinds.Word words.This) = true
+starts_expr (kinds.Word words.Receive) = true
+starts_expr (kinds.Word words.Start) = true
+starts_expr (kinds.Word words.Not) = true
+starts_expr (kinds.Sign signs.Open) = true
+starts_expr (kinds.Sign signs.OpenBracket) = true
+starts_expr (kinds.Sign signs.Minus) = true
+starts_expr _ = false
+
+abbrev pub begins_expr : Toks → Bool
+begins_expr [] = false
+begins_expr (t ∷ rest) = starts_expr t.kind

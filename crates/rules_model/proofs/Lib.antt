@@ -1,0 +1,4 @@
+pub mod ExprExact
+pub mod ExprStarts
+pub mod ExprStops
+pub mod Loops
