@@ -1,4 +1,5 @@
 pub mod ExprExact
 pub mod ExprStarts
 pub mod ExprStops
+pub mod ListExact
 pub mod Loops

@@ -5,6 +5,7 @@ pub mod ListGrammar
 pub mod LocalGrammar
 pub mod Marks
 pub mod ModeGrammar
+pub mod ModeReading
 pub mod Nesting
 pub mod Reading
 pub mod SimpleGrammar
