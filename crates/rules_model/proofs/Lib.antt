@@ -3,3 +3,4 @@ pub mod ExprStarts
 pub mod ExprStops
 pub mod ListExact
 pub mod Loops
+pub mod ModeExact
