@@ -2,5 +2,6 @@ pub mod ExprExact
 pub mod ExprStarts
 pub mod ExprStops
 pub mod ListExact
+pub mod LocalExact
 pub mod Loops
 pub mod ModeExact
