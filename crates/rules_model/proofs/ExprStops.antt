@@ -7,6 +7,7 @@ use Rattle.chill_tree.specs.declared.token.Sign.TheVariants as signs
 use Rattle.chill_tree.specs.declared.token.TokenKind.{TokenKind}
 use Rattle.chill_tree.specs.declared.token.TokenKind.TheVariants as kinds
 use Rattle.chill_tree.specs.declared.tree.expr.Operator.{Operator}
+use Rattle.chill_tree.specs.declared.tree.expr.Operator.TheVariants as operators
 use Rattle.chill_tree.specs.ExprTree.{ExprTree}
 use Rattle.rules_model.specs.Marks.{Toks, tok, sign, is_sign, begins, operator_of, rank_of}
 use Rattle.rules_model.specs.Nesting.{room_after}
@@ -76,6 +77,32 @@ pub turn_stops : (r : ℕ) (at : Pos) (kind : TokenKind) (o : Operator) (m : Tok
 turn_stops r at kind o m e rank =
     let s = operator_marks kind o e in
     (s.open_sign, s.dot, s.bracket, some_is o (operator_of kind) e (AllAbove r) (omega (arith, rank)))
+
+rank_some : (o : Operator) → 0 < rank_of o
+rank_some operators.Or = omega arith
+rank_some operators.Xor = omega arith
+rank_some operators.OrIf = omega arith
+rank_some operators.And = omega arith
+rank_some operators.AndIf = omega arith
+rank_some operators.Equal = omega arith
+rank_some operators.NotEqual = omega arith
+rank_some operators.Less = omega arith
+rank_some operators.LessOrEqual = omega arith
+rank_some operators.Greater = omega arith
+rank_some operators.GreaterOrEqual = omega arith
+rank_some operators.In = omega arith
+rank_some operators.Plus = omega arith
+rank_some operators.Minus = omega arith
+rank_some operators.Times = omega arith
+rank_some operators.Divide = omega arith
+rank_some operators.Mod = omega arith
+rank_some operators.Rem = omega arith
+
+-- an operator ends what no operator goes on with
+pub operator_stops : (at : Pos) (kind : TokenKind) (o : Operator) (m : Toks) → operator_of kind ≡ Some o → Stops 0 (tok at kind ∷ m)
+operator_stops at kind o m e =
+    let s = operator_marks kind o e in
+    (s.open_sign, s.dot, s.bracket, some_is o (operator_of kind) e (AllAbove 0) (rank_some o))
 
 -- no part
 pub part_none : (n : ℕ) (sub : Sub) (r : ℕ) (toks : Toks) → Stops r toks → part_at n sub toks ≡ Ok None

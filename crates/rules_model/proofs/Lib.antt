@@ -5,3 +5,4 @@ pub mod ListExact
 pub mod LocalExact
 pub mod Loops
 pub mod ModeExact
+pub mod SimpleExact

@@ -9,4 +9,5 @@ pub mod ModeReading
 pub mod Nesting
 pub mod Reading
 pub mod SimpleGrammar
+pub mod SimpleReading
 pub mod StatementGrammar
