@@ -11,3 +11,4 @@ pub mod Reading
 pub mod SimpleGrammar
 pub mod SimpleReading
 pub mod StatementGrammar
+pub mod StatementReading
