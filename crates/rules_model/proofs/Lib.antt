@@ -5,4 +5,6 @@ pub mod ListExact
 pub mod LocalExact
 pub mod Loops
 pub mod ModeExact
+pub mod Names
 pub mod SimpleExact
+pub mod StatementStarts

@@ -229,13 +229,13 @@ exact_message (with_message {es = es} {p = p} {q = q} {m = m} {rest = rest} d) (
     let all = listing_all (expr_at (suc n) p) es m (sign q signs.Close ∷ rest) h.0 refl (omega (arith, exprs_shrink d)) h.2 in
     (a_message (suc n) p q es m rest all, h.1.1)
 
-exact_location : {t : ExprTree} {toks rest : Toks} → IsLocation t toks rest → (n : ℕ) → StaysBelow (suc n) toks → Stops 0 rest → (named_at n (expr_at n) toks ≡ Ok (t, rest)) × StaysBelow (suc n) rest × (is_location t ≡ true)
+pub exact_location : {t : ExprTree} {toks rest : Toks} → IsLocation t toks rest → (n : ℕ) → StaysBelow (suc n) toks → Stops 0 rest → (named_at n (expr_at n) toks ≡ Ok (t, rest)) × StaysBelow (suc n) rest × (is_location t ≡ true)
 exact_location {rest = rest} (is_loc d l) n below stops = let h = exact_whole_name d n below (part_none n (expr_at n) 0 rest stops) in (h.0, h.1, l)
 
-location_first : {t : ExprTree} {toks rest : Toks} → IsLocation t toks rest → begins signs.OpenBracket rest ≡ false → begins signs.Colon rest ≡ false → NameFirst toks
+pub location_first : {t : ExprTree} {toks rest : Toks} → IsLocation t toks rest → begins signs.OpenBracket rest ≡ false → begins signs.Colon rest ≡ false → NameFirst toks
 location_first (is_loc d l) b c = name_first d b c
 
-marks_stop : (p : Pos) (kind : TokenKind) (o : Operator) (m : Toks) → operator_of kind ≡ Some o → Stops 0 (tok p kind ∷ m) × (begins signs.OpenBracket (tok p kind ∷ m) ≡ false) × (begins signs.Colon (tok p kind ∷ m) ≡ false) × (begins signs.Becomes (tok p kind ∷ m) ≡ false)
+pub marks_stop : (p : Pos) (kind : TokenKind) (o : Operator) (m : Toks) → operator_of kind ≡ Some o → Stops 0 (tok p kind ∷ m) × (begins signs.OpenBracket (tok p kind ∷ m) ≡ false) × (begins signs.Colon (tok p kind ∷ m) ≡ false) × (begins signs.Becomes (tok p kind ∷ m) ≡ false)
 marks_stop p kind o m is = let k = operator_marks kind o is in (operator_stops p kind o m is, k.bracket, k.colon, k.becomes)
 
 pub exact_simple : {a : SimpleTree} {toks rest : Toks} → IsSimple a toks rest → (n : ℕ) → StaysBelow (suc n) toks → EndsSimple rest → (simple_at n toks ≡ Ok (a, rest)) × StaysBelow (suc n) rest
