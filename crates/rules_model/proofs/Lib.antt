@@ -7,4 +7,5 @@ pub mod Loops
 pub mod ModeExact
 pub mod Names
 pub mod SimpleExact
+pub mod StatementExact
 pub mod StatementStarts
