@@ -1,6 +1,7 @@
 pub mod ExprGrammar
 pub mod ExprReading
 pub mod ItemGrammar
+pub mod ItemReading
 pub mod ListGrammar
 pub mod LocalGrammar
 pub mod Marks
