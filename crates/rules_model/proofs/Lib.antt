@@ -7,6 +7,7 @@ pub mod LocalExact
 pub mod Loops
 pub mod ModeExact
 pub mod Names
+pub mod OneTree
 pub mod SimpleExact
 pub mod StatementExact
 pub mod StatementStarts

@@ -117,3 +117,7 @@ pub data AreModulions : List ModulionTree → Toks → Toks → Type 0 where
 -- program = modulion {modulion}, and all the tokens are the program's
 pub data IsTreeOf : Toks → ProgramTree → Type 0 where
   is_tree : {xs : List ModulionTree} {toks : Toks} → AreModulions xs toks [] → 0 < length xs → IsTreeOf toks (record { modulions = xs })
+
+-- all trees of the tokens are one
+abbrev pub HasOneTree : Toks → Type 0
+HasOneTree toks = (first second : ProgramTree) → IsTreeOf toks first → IsTreeOf toks second → first ≡ second
