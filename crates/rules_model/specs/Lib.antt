@@ -13,3 +13,5 @@ pub mod SimpleGrammar
 pub mod SimpleReading
 pub mod StatementGrammar
 pub mod StatementReading
+pub mod TreeSize
+pub mod TreeTokens
