@@ -1,2 +1,6 @@
 pub mod OneList
 pub mod SpellingLemmas
+pub mod ExprViews
+pub mod ItemViews
+pub mod ModeViews
+pub mod StatementViews

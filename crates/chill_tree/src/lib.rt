@@ -1,11 +1,13 @@
-//! What a text is made of: its tokens, and the forms that are told of it.
+//! What a text is made of: its tokens with their spellings, and its syntax tree.
 //!
-//! It stands on `chill_base`. The definitions that the rules of the language are stated with stand in `specs/`.
+//! It stands on `chill_base`, and below `rules_model`, which says which tokens a text has and which tree its tokens
+//! have. A contract sees a tree of the program as a plain tree of `specs/`, without where it lies in memory.
 #![tactic(auto)]
 
 mod spelling;
 mod sums;
 mod token;
+pub mod tree;
 
 pub use sums::one_list_of_sums;
 pub use token::{Sign, Token, TokenKind, Tokens, Word};

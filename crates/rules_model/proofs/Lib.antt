@@ -1,3 +1,16 @@
 pub mod TokensRuns
 pub mod TokensExact
 pub mod TokensLaws
+pub mod ExprExact
+pub mod ExprStarts
+pub mod ExprStops
+pub mod ItemExact
+pub mod ListExact
+pub mod LocalExact
+pub mod Loops
+pub mod ModeExact
+pub mod Names
+pub mod OneTree
+pub mod SimpleExact
+pub mod StatementExact
+pub mod StatementStarts
