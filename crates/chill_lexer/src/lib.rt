@@ -7,5 +7,7 @@ mod front;
 mod lexer;
 mod literal;
 mod run;
+#[cfg(test)]
+mod tests;
 
 pub use lexer::{LexRefusal, lex};
