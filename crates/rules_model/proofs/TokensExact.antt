@@ -1,15 +1,15 @@
 -- What is computed at the front of a text is its longest shape.
-use Rattle.std.proofs.Common.{◌≡◌, ◌≢◌, ℕ, zero, suc, ◌+◌, ◌-◌, ◌*◌, ◌<◌, ◌≤◌, Bool, true, false, ◌&&◌, ◌||◌, cond, eqb, leb, ltb, List, [], ◌∷◌, ◌++◌, length, take, drop, get_or, Option, Some, None, option_map, unwrap_or, lit≤, refl, sym, ap, subst, ◌∙◌, ◌⊎◌, inl, inr, arith, one-add, append_assoc, length-append}
+use Rattle.std.proofs.Common.{◌≡◌, ◌≢◌, ℕ, zero, suc, ◌-◌, ◌<◌, ◌≤◌, Bool, true, false, ◌&&◌, cond, eqb, ltb, List, [], ◌∷◌, ◌++◌, length, take, drop, Option, Some, None, lit≤, refl, sym, ap, subst, ◌∙◌, inl, inr, arith, one-add, append_assoc, length-append}
 use Rattle.std.proofs.lemmas.List.Sums.{prefix_len-le-length}
-use Rattle.std.proofs.lemmas.List.{take_all, take_at, drop_at, take-append-drop, length-take-le, append-nil}
+use Rattle.std.proofs.lemmas.List.{take_all, take_at, take-append-drop, length-take-le, append-nil}
 use Rattle.std.proofs.lemmas.Bool.Decides.{nat_tests}
 use Rattle.std.specs.List.{list_all, prefix_len}
 use Rattle.chill_tree.specs.declared.token.Sign.{Sign}
 use Rattle.chill_tree.specs.declared.token.Sign.TheVariants as signs
 use Rattle.chill_tree.specs.Spelling.{sign_spelling}
-use Rattle.rules_model.specs.TokensShapes.{is_separator, is_letter, is_decimal, is_name_byte, is_in_line, digit_of, base_of, IsNumeral, digit, more, apart, number_of, closes, LacksClosing, quoted, Shape, separator, comment, unclosed, name, whole, character, text, sign, Spells, a_separator, a_line, a_comment, an_unclosed, a_name, a_whole, a_based, a_character, an_apostrophe, a_text, a_sign, IsLongest}
-use Rattle.rules_model.specs.TokensReading.{Found, is_digit, more_length, numeral_length, closing_length, text_length, unquoted, name_at, whole_at, digits_at, based_at, begins_with, character_at, quoted_at, comment_at, one_or_two, sign_at, shape_at}
-use Rattle.rules_model.proofs.TokensRuns.{split, Covers, at_or_above, covers, letter_first, decimal_first, base_first, prefix_len-run, list_all-prefix, name_covers, numeral_more, is_digit-true, digit_below, underline_apart, underlined, numeral_head, numeral_underlined, numeral_covers, numeral_more-sound, numeral_sound, more_length-le, numeral_length-le, closes_apart, closing_covers, Beyond, closing_beyond, ClosingAt, closing_true, closing_sound, AtLeast, text_next, unquoted_next, unquoted-quoted, text_ends, text_covers, TextAt, text_sound}
+use Rattle.rules_model.specs.TokensShapes.{is_separator, is_letter, is_decimal, is_name_byte, is_in_line, digit_of, base_of, IsNumeral, number_of, quoted, Shape, comment, unclosed, name, whole, character, text, sign, Spells, a_separator, a_line, a_comment, an_unclosed, a_name, a_whole, a_based, a_character, an_apostrophe, a_text, a_sign, IsLongest}
+use Rattle.rules_model.specs.TokensReading.{Found, numeral_length, closing_length, text_length, unquoted, name_at, whole_at, digits_at, based_at, begins_with, character_at, quoted_at, comment_at, one_or_two, sign_at, shape_at}
+use Rattle.rules_model.proofs.TokensRuns.{split, Covers, covers, letter_first, decimal_first, base_first, prefix_len-run, list_all-prefix, name_covers, is_digit-true, numeral_head, numeral_covers, numeral_sound, numeral_length-le, closing_covers, Beyond, closing_beyond, ClosingAt, closing_sound, AtLeast, unquoted-quoted, text_covers, TextAt, text_sound}
 
 -- a name, or a literal of a base that is longer
 based_covers : (o : Option ℕ) (b : ℕ) (bs left : List ℕ) → list_all is_name_byte (b ∷ bs) ≡ true → Covers (name (b ∷ bs)) (b ∷ bs) (based_at o (b ∷ (bs ++ left)))

@@ -1,9 +1,9 @@
 -- Each text has one reading: its tokens, or the first place where no piece begins.
-use Rattle.std.proofs.Common.{◌≡◌, ◌≢◌, ℕ, zero, suc, ◌+◌, ◌-◌, ◌<◌, ◌≤◌, List, [], ◌∷◌, ◌++◌, length, take, drop, Option, Some, None, option_map, refl, sym, ap, subst, ◌∙◌, ◌⊎◌, inl, inr, arith, append_assoc, length-append}
-use Rattle.std.proofs.lemmas.List.{take_at, drop_at, take-append-drop, length-take-le, length-drop, append-nil, append_cancel_left}
+use Rattle.std.proofs.Common.{◌≡◌, ℕ, zero, suc, ◌<◌, ◌≤◌, List, [], ◌∷◌, ◌++◌, length, take, drop, Option, Some, None, option_map, refl, sym, ap, subst, ◌∙◌, ◌⊎◌, inl, inr, arith, append_assoc}
+use Rattle.std.proofs.lemmas.List.{take_at, drop_at, take-append-drop, length-drop, append-nil}
 use Rattle.chill_base.specs.declared.pos.Pos.{Pos}
 use Rattle.chill_tree.specs.declared.token.Token.{Token}
-use Rattle.rules_model.specs.TokensShapes.{Shape, Spells, IsLongest, Piece, piece_of}
+use Rattle.rules_model.specs.TokensShapes.{Shape, Piece, piece_of}
 use Rattle.rules_model.specs.TokensCut.{behind_all, first_place, IsPieceAt, Cut, joined, ArePieces, tokens_among, AreTokensOf, BeginsNone, IsBadAt}
 use Rattle.rules_model.specs.TokensReading.{Found, shape_at, limited, piece_at}
 use Rattle.rules_model.proofs.TokensExact.{longest_at, longest_found, found_within}

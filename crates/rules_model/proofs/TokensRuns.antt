@@ -1,13 +1,10 @@
 -- Runs of bytes at the front of a text: names, numerals, comments and texts, as they are and as they are computed.
-use Rattle.std.proofs.Common.{◌≡◌, ◌≢◌, ℕ, zero, suc, ◌+◌, ◌-◌, ◌*◌, ◌<◌, ◌≤◌, Bool, true, false, ◌&&◌, ◌||◌, cond, eqb, leb, ltb, List, [], ◌∷◌, ◌++◌, length, take, drop, get_or, Option, Some, None, option_map, unwrap_or, refl, sym, ap, subst, ◌∙◌, ◌⊎◌, inl, inr, arith, one-add, append_assoc, length-append}
-use Rattle.std.proofs.lemmas.List.{take_at, drop_at, take-append-drop, length-take-le, append-nil}
+use Rattle.std.proofs.Common.{◌≡◌, ℕ, suc, ◌+◌, ◌<◌, ◌≤◌, Bool, true, false, ◌&&◌, cond, eqb, List, [], ◌∷◌, ◌++◌, length, take, Option, Some, None, option_map, unwrap_or, refl, sym, ap, subst, ◌∙◌, ◌⊎◌, inl, inr, arith, one-add}
+use Rattle.std.proofs.lemmas.List.{take_at}
 use Rattle.std.proofs.lemmas.Bool.Decides.{nat_tests}
 use Rattle.std.specs.List.{list_all, prefix_len}
-use Rattle.chill_tree.specs.declared.token.Sign.{Sign}
-use Rattle.chill_tree.specs.declared.token.Sign.TheVariants as signs
-use Rattle.chill_tree.specs.Spelling.{sign_spelling}
-use Rattle.rules_model.specs.TokensShapes.{is_separator, is_letter, is_decimal, is_name_byte, is_in_line, digit_of, base_of, IsNumeral, digit, more, apart, number_of, closes, LacksClosing, quoted, Shape, separator, comment, unclosed, name, whole, character, text, sign, Spells, a_separator, a_line, a_comment, an_unclosed, a_name, a_whole, a_based, a_character, an_apostrophe, a_text, a_sign, IsLongest}
-use Rattle.rules_model.specs.TokensReading.{Found, is_digit, more_length, numeral_length, closing_length, text_length, unquoted, name_at, whole_at, digits_at, based_at, begins_with, character_at, quoted_at, comment_at, one_or_two, sign_at, shape_at}
+use Rattle.rules_model.specs.TokensShapes.{is_separator, is_letter, is_decimal, is_name_byte, is_in_line, digit_of, base_of, IsNumeral, digit, more, apart, closes, LacksClosing, quoted, Shape, name}
+use Rattle.rules_model.specs.TokensReading.{Found, is_digit, more_length, numeral_length, closing_length, text_length, unquoted, name_at}
 
 -- either branch
 pub split : (P : Found → Type 0) (b : Bool) (x y : Found) → (b ≡ true → P x) → (b ≡ false → P y) → P (cond b x y)

@@ -1,5 +1,5 @@
 -- The longest shape at the front of a text, computed: for proofs and for the lexer's own functions.
-use Rattle.std.specs.Prelude.{ℕ, suc, ◌-◌, nat_lt, nat_le, Bool, false, ◌==◌, ◌&&◌, ◌||◌, List, [], ◌∷◌, length, take, drop, Option, Some, None, option_map, unwrap_or, if◌then◌else◌}
+use Rattle.std.specs.Prelude.{ℕ, suc, ◌-◌, nat_lt, Bool, false, ◌==◌, ◌&&◌, List, [], ◌∷◌, length, take, drop, Option, Some, None, option_map, unwrap_or, if◌then◌else◌}
 use Rattle.std.specs.List.{prefix_len}
 use Rattle.chill_tree.specs.declared.token.Sign.{Sign}
 use Rattle.chill_tree.specs.declared.token.Sign.TheVariants as signs

@@ -1,5 +1,5 @@
 -- What the pieces of a text look like (Z.200, chapter on the lexical elements).
-use Rattle.std.specs.Prelude.{◌≡◌, ◌≢◌, ℕ, ◌+◌, ◌-◌, ◌*◌, ◌<◌, ◌≤◌, ◌^◌, nat_le, nat_lt, Bool, true, false, ◌==◌, ◌&&◌, ◌||◌, List, [], ◌∷◌, ◌++◌, length, Option, Some, None, if◌then◌else◌, fold}
+use Rattle.std.specs.Prelude.{◌≡◌, ◌≢◌, ℕ, ◌+◌, ◌-◌, ◌*◌, ◌<◌, ◌≤◌, ◌^◌, nat_le, nat_lt, Bool, true, false, ◌==◌, ◌&&◌, ◌||◌, List, [], ◌∷◌, ◌++◌, length, Option, Some, None, if◌then◌else◌, fold, codes}
 use Rattle.std.specs.List.{list_all}
 use Rattle.chill_tree.specs.declared.token.Sign.{Sign}
 use Rattle.chill_tree.specs.declared.token.Word.{Word}
@@ -46,7 +46,7 @@ base_of b =
 pub data IsNumeral : ℕ → List ℕ → Type 0 where
   digit : {base b : ℕ} → digit_of b < base → IsNumeral base (b ∷ [])
   more : {base b : ℕ} {bs : List ℕ} → digit_of b < base → IsNumeral base bs → IsNumeral base (b ∷ bs)
-  apart : {base b : ℕ} {bs : List ℕ} → digit_of b < base → IsNumeral base bs → IsNumeral base (b ∷ 95 ∷ bs)
+  apart : {base b : ℕ} {bs : List ℕ} → digit_of b < base → IsNumeral base bs → IsNumeral base (b ∷ (codes "_" ++ bs))
 
 -- the number that they stand for
 abbrev pub with_digit : ℕ → ℕ → ℕ → ℕ
@@ -87,20 +87,20 @@ pub data Spells : Shape → List ℕ → Type 0 where
   -- one separator
   a_separator : {b : ℕ} → is_separator b ≡ true → Spells separator (b ∷ [])
   -- `--` and what is left of the line
-  a_line : {bs : List ℕ} → list_all is_in_line bs ≡ true → Spells comment (45 ∷ 45 ∷ bs)
+  a_line : {bs : List ℕ} → list_all is_in_line bs ≡ true → Spells comment (codes "--" ++ bs)
   -- `/*` up to the next `*/`, which begins behind it
-  a_comment : (bs : List ℕ) → LacksClosing (bs ++ 42 ∷ []) → Spells comment (47 ∷ 42 ∷ (bs ++ 42 ∷ 47 ∷ []))
-  an_unclosed : {bs : List ℕ} → LacksClosing bs → Spells unclosed (47 ∷ 42 ∷ bs)
+  a_comment : (bs : List ℕ) → LacksClosing (bs ++ codes "*") → Spells comment (codes "/*" ++ (bs ++ codes "*/"))
+  an_unclosed : {bs : List ℕ} → LacksClosing bs → Spells unclosed (codes "/*" ++ bs)
   -- a letter, and letters, digits and `_`
   a_name : {b : ℕ} {bs : List ℕ} → is_letter b ≡ true → list_all is_name_byte bs ≡ true → Spells (name (b ∷ bs)) (b ∷ bs)
   -- decimal digits
   a_whole : {bs : List ℕ} → IsNumeral 10 bs → Spells (whole (number_of 10 bs)) bs
   -- a letter for the base, `'`, and digits of that base
-  a_based : {b base : ℕ} {bs : List ℕ} → base_of b ≡ Some base → IsNumeral base bs → Spells (whole (number_of base bs)) (b ∷ 39 ∷ bs)
+  a_based : {b base : ℕ} {bs : List ℕ} → base_of b ≡ Some base → IsNumeral base bs → Spells (whole (number_of base bs)) (b ∷ (codes "'" ++ bs))
   -- a byte between two `'`, neither a line feed nor `'`
-  a_character : {b : ℕ} → is_in_line b ≡ true → b ≢ 39 → Spells (character b) (39 ∷ b ∷ 39 ∷ [])
+  a_character : {b : ℕ} → is_in_line b ≡ true → b ≢ 39 → Spells (character b) (codes "'" ++ b ∷ codes "'")
   -- the apostrophe is written `''''` (our own choice)
-  an_apostrophe : Spells (character 39) (39 ∷ 39 ∷ 39 ∷ 39 ∷ [])
+  an_apostrophe : Spells (character 39) (codes "''''")
   -- bytes of one line between two `"`, each `"` among them twice
   a_text : {value : List ℕ} → list_all is_in_line value ≡ true → Spells (text value) (34 ∷ (quoted value ++ 34 ∷ []))
   a_sign : {s : Sign} → Spells (sign s) (sign_spelling s)

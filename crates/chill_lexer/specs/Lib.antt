@@ -1,0 +1,3 @@
+pub mod Runs
+pub mod Front
+pub mod Lexer

@@ -1,0 +1,20 @@
+-- What the lexer's own functions say beside the definition.
+use Rattle.std.specs.Prelude.{ℕ, Bool, false, ◌==◌, ◌&&◌, List, [], ◌∷◌, Option, Some, None}
+use Rattle.chill_tree.specs.declared.token.TokenKind.{TokenKind}
+use Rattle.rules_model.specs.TokensShapes.{Piece, token}
+use Rattle.rules_model.specs.TokensReading.{is_digit}
+
+-- a `_` stands at the front, and a digit behind it
+abbrev pub is_apart : ℕ → List ℕ → Bool
+is_apart base (b ∷ c ∷ bs) = b == 95 && is_digit base c
+is_apart base bs = false
+
+-- a digit stands at the front
+abbrev pub begins_numeral : ℕ → List ℕ → Bool
+begins_numeral base [] = false
+begins_numeral base (b ∷ bs) = is_digit base b
+
+-- the piece that a token is, if any
+abbrev pub as_token : Option (TokenKind × ℕ) → Option (Piece × ℕ)
+as_token None = None
+as_token (Some found) = Some (token found.0, found.1)

@@ -1,0 +1,13 @@
+//! The lexer: the tokens of a text, read byte by byte.
+//!
+//! It meets the definition of the tokens of a text in `rules_model`, and gives the parser the tokens of `chill_tree`.
+#![tactic(auto)]
+
+mod front;
+mod lexer;
+mod literal;
+mod run;
+#[cfg(test)]
+mod tests;
+
+pub use lexer::{LexRefusal, lex};
