@@ -1,7 +1,6 @@
 -- What is a mode, and is followed by nothing that goes on with it, is read as that mode.
-use Rattle.std.proofs.Common.{◌≡◌, ℕ, zero, suc, ◌+◌, ◌<◌, ◌≤◌, Bool, true, false, not, List, [], ◌∷◌, ◌++◌, length, Option, Some, None, Result, Ok, Err, refl, sym, ap, ◌∙◌, arith, length-append}
+use Rattle.std.proofs.Common.{◌≡◌, ℕ, zero, suc, ◌+◌, ◌<◌, ◌≤◌, true, false, not, List, [], ◌∷◌, length, Option, Some, None, Ok, refl, arith, length-append}
 use Rattle.chill_base.specs.declared.pos.Pos.{Pos}
-use Rattle.chill_tree.specs.declared.token.Word.{Word}
 use Rattle.chill_tree.specs.declared.token.Word.TheVariants as words
 use Rattle.chill_tree.specs.declared.token.Sign.TheVariants as signs
 use Rattle.chill_tree.specs.declared.tree.name.Name.{Name}
@@ -10,14 +9,14 @@ use Rattle.chill_tree.specs.declared.tree.mode.Packing.TheVariants as packings
 use Rattle.chill_tree.specs.declared.tree.mode.PlaceForm.TheVariants as forms
 use Rattle.chill_tree.specs.ExprTree.{ExprTree, name}
 use Rattle.chill_tree.specs.ModeTree.{DiscreteTree, named, bounded, set_of, IndexTree, index_named, index_bounded, PlaceTree, StepTree, SpreadTree, by_packing, by_step, BaseTree, discrete, powerset, chars, structure, array, FieldTree, FieldNodes, field_nodes, ModeTree, base_mode, read_mode, event_mode, buffer_mode}
-use Rattle.rules_model.specs.Marks.{Toks, tok, sign, word, name_token, begins, begins_with}
+use Rattle.rules_model.specs.Marks.{Toks, sign, word, name_token, begins, begins_with}
 use Rattle.rules_model.specs.ExprGrammar.{IsRanked, a_name, is_named, is_plain, is_chain, first}
-use Rattle.rules_model.specs.ListGrammar.{AreNames, IsLength, no_length, with_length}
+use Rattle.rules_model.specs.ListGrammar.{IsLength, no_length, with_length}
 use Rattle.rules_model.specs.ModeGrammar.{IsDiscrete, is_named_mode, is_bounded, is_set, IsIndex, is_index_name, is_index_range, IsPlace, up_to, of_length, IsFieldPlace, no_place, with_place, IsStep, is_step, IsPacking, no_packing, packed, not_packed, IsSpread, no_spread, spread_packed, spread_not_packed, spread_by_step, is_bare_array, is_bare, leaves_word, arrays_in, IsBase, is_discrete, is_powerset, is_chars, is_structure, is_array, AreFields, one_field, and_field, IsField, is_field, IsMode, is_base_mode, is_read_mode, is_event_mode, is_buffer_mode}
 use Rattle.rules_model.specs.Nesting.{less, StaysBelow}
-use Rattle.rules_model.specs.Reading.{Fault, Read, ◌>>=◌, sign_at, word_at, name_at, listed_at}
-use Rattle.rules_model.specs.ExprReading.{ranked_at, expr_at}
-use Rattle.rules_model.specs.ModeReading.{value_at, length_at, set_at, bounds_at, discrete_at, index_of, index_at, place_end_at, place_at, field_place_at, step_at, packing_at, spread_at, Fields, plain_base_at, arrays_at, one_field_at, fields_at, base_at, mode_at}
+use Rattle.rules_model.specs.Reading.{Read, sign_at, word_at, name_at, listed_at}
+use Rattle.rules_model.specs.ExprReading.{expr_at}
+use Rattle.rules_model.specs.ModeReading.{value_at, length_at, set_at, bounds_at, discrete_at, index_at, place_end_at, place_at, field_place_at, step_at, packing_at, spread_at, Fields, plain_base_at, arrays_at, one_field_at, fields_at, base_at, mode_at}
 use Rattle.rules_model.proofs.Loops.{Listing, listing_one, listing_and, listing_all}
 use Rattle.rules_model.proofs.ExprStarts.{ranked_shrinks}
 use Rattle.rules_model.proofs.ExprStops.{Stops}
@@ -106,7 +105,7 @@ an_index_range n p q l h toks m rest g k = rw (g, k) refl
 
 exact_index : {i : IndexTree} {r : Pos} {toks rest : Toks} → IsIndex i toks (sign r signs.Close ∷ rest) → (n : ℕ) (p : Pos) → 0 < n → StaysBelow n toks → (index_at n p toks ≡ Ok (i, sign r signs.Close ∷ rest)) × StaysBelow n (sign r signs.Close ∷ rest)
 exact_index {r = r} {rest = rest} (is_index_name {n = x}) n p pos below =
-    let e = exact_inside (is_chain (first (is_chain (first (is_chain (first (is_chain (first (is_chain (first (is_plain (is_named (a_name {n = x} {rest = sign r signs.Close ∷ rest})))))))))))) ) n p pos below (refl, refl, refl, tt) in
+    let e = exact_inside (is_chain (first (is_chain (first (is_chain (first (is_chain (first (is_chain (first (is_plain (is_named (a_name {n = x} {rest = sign r signs.Close ∷ rest}))))))))))))) n p pos below (refl, refl, refl, tt) in
     (an_index_name n p r x (name_token x ∷ sign r signs.Close ∷ rest) rest e.0, e.1)
 exact_index {r = r} {rest = rest} (is_index_range {l = l} {h = h} {p = q} {toks = toks} {m = m} dl dh) n p pos below =
     let xl = exact_inside dl n p pos below (refl, refl, refl, tt) in
@@ -404,9 +403,11 @@ mutual
   exact_arrays (is_structure {at = at} {p = p} {q = q} {fs = fs} {w = w} {m = m} {m2 = m2} {rest = rest} x y) (suc n) k le below ends =
       let ih = exact_fields x n below.1.1 (record { open_sign = refl; pack = refl; no_pack = refl; step = refl }) refl in
       let all = listing_all (one_field_at n (base_at n)) fs m (sign q signs.Close ∷ m2) ih.0 refl (omega (arith, fields_shrink x)) ih.2 in
-      let iw = exact_packing y at (field_nodes fs) (suc (suc n)) ih.1.1 ends in
-      (no_array (suc n) (fields_at (suc n)) k (word at words.Struct ∷ sign p signs.Open ∷ m) (Ok (structure at (field_nodes fs) w, rest)) refl
-          (a_structure (suc n) (fields_at (suc n)) at p q fs w m m2 rest (the_fields n p m (Ok (fs, sign q signs.Close ∷ m2)) all) iw.0), iw.1)
+      let iw = exact_packing y at (field_nodes fs) (suc (suc n)) ih.1.1 ends in (
+        no_array (suc n) (fields_at (suc n)) k (word at words.Struct ∷ sign p signs.Open ∷ m) (Ok (structure at (field_nodes fs) w, rest)) refl
+            (a_structure (suc n) (fields_at (suc n)) at p q fs w m m2 rest (the_fields n p m (Ok (fs, sign q signs.Close ∷ m2)) all) iw.0),
+        iw.1,
+      )
   exact_arrays (is_array i e s l few) n zero le below ends = absurd (omega (arith, le))
   exact_arrays (is_array {at = at} {p = p} {q = q} {i = i} {e = e} {s = s} {m = m} {m2 = m2} {m3 = m3} {rest = rest} di de ds l few) n (suc k) le below ends =
       let xi = exact_index di n p below.1.0 below.1.1 in

@@ -6,5 +6,4 @@ ghost use Rattle.rules_model.specs.ItemGrammar.{HasOneTree};
 /// A list of tokens has at most one tree.
 pub fn one_tree()
     ensures { (tokens : List Token) → HasOneTree tokens }
-{
-}
+{}
