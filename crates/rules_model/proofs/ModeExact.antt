@@ -354,7 +354,7 @@ mutual
   field_shrinks : {f : FieldTree} {toks rest : Toks} → IsField f toks rest → length rest < length toks
   field_shrinks (is_field ns b w) = omega (arith, names_shrink ns, base_shrinks b, field_place_shrinks w)
 
-arrays_few : {b : BaseTree} {toks rest : Toks} → IsBase b toks rest → arrays_in b ≤ 8
+pub arrays_few : {b : BaseTree} {toks rest : Toks} → IsBase b toks rest → arrays_in b ≤ 8
 arrays_few (is_discrete d) = omega arith
 arrays_few (is_powerset d) = omega arith
 arrays_few (is_chars d) = omega arith
