@@ -1,5 +1,5 @@
 -- What is an expression, and is followed by nothing that goes on with it, is read as that expression.
-use Rattle.std.proofs.Common.{◌≡◌, ℕ, zero, suc, ◌+◌, ◌-◌, ◌<◌, ◌≤◌, Bool, true, false, List, [], ◌∷◌, ◌++◌, length, Option, Some, None, Result, Ok, Err, refl, sym, ap, ◌∙◌, subst, arith, length-append}
+use Rattle.std.proofs.Common.{◌≡◌, ℕ, zero, suc, ◌+◌, ◌-◌, ◌<◌, false, List, [], ◌∷◌, length, Option, Some, None, Ok, refl, ◌∙◌, subst, arith, length-append}
 use Rattle.chill_base.specs.declared.pos.Pos.{Pos}
 use Rattle.chill_tree.specs.declared.token.Word.TheVariants as words
 use Rattle.chill_tree.specs.declared.token.Sign.TheVariants as signs
@@ -8,12 +8,12 @@ use Rattle.chill_tree.specs.declared.token.TokenKind.TheVariants as kinds
 use Rattle.chill_tree.specs.declared.tree.name.Name.{Name}
 use Rattle.chill_tree.specs.declared.tree.expr.Operator.{Operator}
 use Rattle.chill_tree.specs.declared.tree.expr.Prefix.TheVariants as prefixes
-use Rattle.chill_tree.specs.ExprTree.{ExprTree, whole, character, text, this_instance, paren, receive, start, tuple, uniform, name, apply, field, prefixed, binary, RangeTree, alone, between, expr_nodes, range_nodes, place_of}
-use Rattle.rules_model.specs.Marks.{Toks, tok, sign, word, name_token, begins, begins_with, begins_expr, operator_of, rank_of}
+use Rattle.chill_tree.specs.ExprTree.{ExprTree, whole, character, text, this_instance, paren, receive, start, tuple, uniform, name, prefixed, RangeTree, alone, between, expr_nodes, range_nodes}
+use Rattle.rules_model.specs.Marks.{Toks, tok, sign, word, name_token, begins, begins_with, operator_of, rank_of}
 use Rattle.rules_model.specs.ExprGrammar.{IsTupleHead, bare, of_mode, tuple_place, IsNamed, a_name, with_args, with_field, AreArgs, no_args, some_args, AreExprs, one_expr, and_expr, IsRange, is_alone, is_between, AreRanges, one_range, and_range, AreParts, no_parts, some_parts, IsOperand, is_whole, is_character, is_text, is_this, is_paren, is_receive, is_start, is_tuple, is_uniform, is_named, IsRanked, is_plain, is_minus, is_not, is_chain, IsChain, first, turn}
-use Rattle.rules_model.specs.Nesting.{less, room_after, StaysBelow}
-use Rattle.rules_model.specs.Reading.{Fault, Read, Piece, ◌>>=◌, settle, roomy, sign_at, word_at, name_at, repeat, another_at, listed_at}
-use Rattle.rules_model.specs.ExprReading.{Sub, args_at, field_at, NamePart, Args, Field, with_part, part_at, parts_at, named_at, paren_at, range_at, begins_uniform, uniform_at, ranges_at, tuple_at, begun_at, operand_at, prefixed_at, turn_at, with_turn, ranked_at, expr_at}
+use Rattle.rules_model.specs.Nesting.{less, StaysBelow}
+use Rattle.rules_model.specs.Reading.{Read, sign_at, word_at, name_at, repeat, listed_at}
+use Rattle.rules_model.specs.ExprReading.{Sub, args_at, field_at, Args, Field, with_part, part_at, named_at, paren_at, range_at, begins_uniform, uniform_at, ranges_at, tuple_at, begun_at, operand_at, prefixed_at, turn_at, with_turn, ranked_at, expr_at}
 use Rattle.rules_model.proofs.Loops.{repeat_none, repeat_some, Listing, listing_one, listing_and, listing_all, room_left}
 use Rattle.rules_model.proofs.ExprStarts.{exprs_shrink, ranges_shrink, operand_unsigned, no_end, exprs_begin, ranges_begin, parts_uniform, named_few, chain_few, NameFirst, name_first}
 use Rattle.rules_model.proofs.ExprStops.{Stops, stops_less, stops_bracket, operator_marks, turn_stops, part_none, turn_none, operator_some}

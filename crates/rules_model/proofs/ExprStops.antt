@@ -1,6 +1,5 @@
 -- What an expression does not go on with.
-use Rattle.std.proofs.Common.{◌≡◌, ℕ, zero, suc, ◌+◌, ◌<◌, ◌≤◌, Bool, true, false, cond, eqb, List, [], ◌∷◌, Option, Some, None, Result, Ok, Err, refl, sym, ap, ◌∙◌, subst, arith}
-use Rattle.std.proofs.lemmas.Bool.{eqb-true}
+use Rattle.std.proofs.Common.{◌≡◌, ℕ, suc, ◌<◌, false, cond, eqb, [], ◌∷◌, Option, Some, None, Ok, refl, sym, subst, arith}
 use Rattle.chill_base.specs.declared.pos.Pos.{Pos}
 use Rattle.chill_tree.specs.declared.token.Word.TheVariants as words
 use Rattle.chill_tree.specs.declared.token.Sign.TheVariants as signs
@@ -9,9 +8,9 @@ use Rattle.chill_tree.specs.declared.token.TokenKind.TheVariants as kinds
 use Rattle.chill_tree.specs.declared.tree.expr.Operator.{Operator}
 use Rattle.chill_tree.specs.declared.tree.expr.Operator.TheVariants as operators
 use Rattle.chill_tree.specs.ExprTree.{ExprTree}
-use Rattle.rules_model.specs.Marks.{Toks, tok, sign, is_sign, begins, operator_of, rank_of}
+use Rattle.rules_model.specs.Marks.{Toks, tok, is_sign, begins, operator_of, rank_of}
 use Rattle.rules_model.specs.Nesting.{room_after}
-use Rattle.rules_model.specs.Reading.{Fault, Read, Piece, ◌>>=◌, chosen}
+use Rattle.rules_model.specs.Reading.{Read, chosen}
 use Rattle.rules_model.specs.ExprReading.{Sub, part_at, ranked_operator, operator_at, turn_at}
 
 abbrev pub AllAbove : ℕ → Option Operator → Type 0

@@ -1,12 +1,10 @@
 -- What is an item, a modulion or a program is read as that.
-use Rattle.std.proofs.Common.{◌≡◌, ℕ, zero, suc, ◌+◌, ◌<◌, ◌≤◌, Bool, true, false, List, [], ◌∷◌, ◌++◌, length, Option, Some, None, Result, Ok, Err, refl, sym, ap, ◌∙◌, arith, length-append}
+use Rattle.std.proofs.Common.{◌≡◌, ℕ, zero, suc, ◌+◌, ◌<◌, ◌≤◌, true, false, List, [], ◌∷◌, length, Option, Some, None, Ok, refl, arith, length-append}
 use Rattle.chill_base.specs.declared.pos.Pos.{Pos}
-use Rattle.chill_tree.specs.declared.token.Word.{Word}
 use Rattle.chill_tree.specs.declared.token.Word.TheVariants as words
 use Rattle.chill_tree.specs.declared.token.Sign.TheVariants as signs
 use Rattle.chill_tree.specs.declared.tree.name.Name.{Name}
 use Rattle.chill_tree.specs.declared.tree.item.ModulionKind.{ModulionKind}
-use Rattle.chill_tree.specs.declared.tree.item.ModulionKind.TheVariants as modulions
 use Rattle.chill_tree.specs.declared.tree.item.Passed.{Passed}
 use Rattle.chill_tree.specs.declared.tree.item.Passed.TheVariants as passes
 use Rattle.chill_tree.specs.declared.tree.item.Passing.{Passing}
@@ -16,19 +14,19 @@ use Rattle.chill_tree.specs.LocalTree.{LocalTree}
 use Rattle.chill_tree.specs.SimpleTree.{SimpleTree}
 use Rattle.chill_tree.specs.StatementTree.{StatementTree, BracketedTree, HandlerTree, BodyTree}
 use Rattle.chill_tree.specs.ItemTree.{SignalTree, ParamTree, ProcedureTree, FormalTree, ProcessTree, ItemTree, seize, grant, local_item, signals, procedure, process, action, ModulionTree, modulion_item, ProgramTree}
-use Rattle.rules_model.specs.Marks.{Toks, sign, word, name_token, begins, begins_with, behind}
-use Rattle.rules_model.specs.ListGrammar.{AreListed, IsName, AreNames, one_of, and_of, is_name, IsClause, IsLabel, no_label, with_label, IsClosing}
+use Rattle.rules_model.specs.Marks.{Toks, sign, word, name_token, begins, begins_with}
+use Rattle.rules_model.specs.ListGrammar.{AreListed, AreNames, one_of, and_of, is_name, IsLabel, no_label, with_label}
 use Rattle.rules_model.specs.ModeGrammar.{IsMode}
 use Rattle.rules_model.specs.LocalGrammar.{IsLocal, are_synonyms, are_syn_modes, are_new_modes, are_locations}
-use Rattle.rules_model.specs.StatementGrammar.{IsStatement, is_empty, is_simple, is_bracketed, IsBracketed, is_if, is_case, is_do, is_begin, is_delay_case, is_receive_case, IsHandler, AreBody}
+use Rattle.rules_model.specs.StatementGrammar.{IsStatement, is_empty, is_simple, is_bracketed, IsBracketed, is_if, is_case, is_do, is_begin, is_delay_case, is_receive_case}
 use Rattle.rules_model.specs.ItemGrammar.{IsPassed, pass_names, pass_all, AreSignalParts, no_signal_parts, with_signal_parts, IsSignal, is_signal, IsPassing, no_passing, pass_in, pass_out, pass_in_out, IsParam, is_param, IsFormal, is_formal, AreWithin, none_within, some_within, IsResult, is_result, AreExceptions, are_exceptions, IsBlock, is_block, IsProcedure, is_procedure, IsProcess, is_process, IsKind, is_module, is_region, IsItem, is_seize, is_grant, is_local_item, are_signals, is_procedure_item, is_process_item, is_modulion_item, is_action, AreItems, no_items, then_item, IsModulion, is_modulion, AreModulions, no_modulions, then_modulion, IsTreeOf, is_tree}
 use Rattle.rules_model.specs.Nesting.{less, StaysBelow}
-use Rattle.rules_model.specs.Reading.{Fault, Read, Piece, ◌>>=◌, sign_at, word_at, name_at, many_at, listed_at}
+use Rattle.rules_model.specs.Reading.{Read, sign_at, word_at, name_at, many_at, listed_at}
 use Rattle.rules_model.specs.ModeReading.{mode_at, local_at}
 use Rattle.rules_model.specs.SimpleGrammar.{IsSimple, is_assign, is_update, is_call, is_call_word, is_exit, is_return, is_result, is_assert, is_cause, is_stop, is_start, is_delay, is_continue, is_send}
 use Rattle.rules_model.specs.SimpleReading.{clause_at}
-use Rattle.rules_model.specs.StatementReading.{begins_label, begins_local, begins_statement, kept, handler_at, closing_at, statement_at, actions_at, body_at}
-use Rattle.rules_model.specs.ItemReading.{passed_at, signal_parts_at, signal_at, passing_at, param_at, formal_at, within_at, result_at, exceptions_at, Block, block_at, procedure_rest_at, procedure_at, process_rest_at, process_at, kind_at, Items, modulion_at, begins_block, block_item_at, item_at, items_at, modulion_piece_at, nothing_left, program_at}
+use Rattle.rules_model.specs.StatementReading.{begins_label, begins_local, begins_statement, handler_at, closing_at, statement_at, actions_at, body_at}
+use Rattle.rules_model.specs.ItemReading.{passed_at, signal_parts_at, signal_at, passing_at, param_at, formal_at, within_at, result_at, exceptions_at, block_at, procedure_rest_at, procedure_at, process_rest_at, process_at, kind_at, Items, modulion_at, begins_block, block_item_at, item_at, items_at, modulion_piece_at, program_at}
 use Rattle.rules_model.proofs.Loops.{Gathering, gathering_none, gathering_then, gathering_all}
 use Rattle.rules_model.proofs.ListExact.{AnyEnd, Exact, Shrinks, listed_shrinks, exact_listed, exact_name, name_shrinks, names_shrink, exact_names}
 use Rattle.rules_model.proofs.ModeExact.{EndsAll, exact_mode, mode_shrinks, mode_first}

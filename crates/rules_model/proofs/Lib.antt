@@ -4,6 +4,7 @@ pub mod TokensLaws
 pub mod ExprExact
 pub mod ExprStarts
 pub mod ExprStops
+pub mod GrammarExamples
 pub mod ItemExact
 pub mod ListExact
 pub mod LocalExact

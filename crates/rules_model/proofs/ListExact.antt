@@ -1,13 +1,12 @@
 -- What is a list is read as that list.
-use Rattle.std.proofs.Common.{◌≡◌, ℕ, zero, suc, ◌+◌, ◌<◌, ◌≤◌, Bool, true, false, List, [], ◌∷◌, ◌++◌, length, Option, Some, None, Result, Ok, Err, refl, sym, ap, ◌∙◌, arith, length-append}
+use Rattle.std.proofs.Common.{◌≡◌, ℕ, ◌+◌, ◌<◌, ◌≤◌, false, List, [], ◌∷◌, length, Ok, refl, arith, length-append}
 use Rattle.chill_base.specs.declared.pos.Pos.{Pos}
-use Rattle.chill_tree.specs.declared.token.Word.{Word}
 use Rattle.chill_tree.specs.declared.token.Sign.TheVariants as signs
 use Rattle.chill_tree.specs.declared.tree.name.Name.{Name}
 use Rattle.rules_model.specs.Marks.{Toks, sign, name_token, begins}
 use Rattle.rules_model.specs.ListGrammar.{AreListed, one_of, and_of, IsName, is_name, AreNames}
 use Rattle.rules_model.specs.Nesting.{StaysBelow}
-use Rattle.rules_model.specs.Reading.{Fault, Read, ◌>>=◌, name_at, listed_at}
+use Rattle.rules_model.specs.Reading.{Read, name_at, listed_at}
 use Rattle.rules_model.proofs.Loops.{Listing, listing_one, listing_and, listing_all}
 
 -- how one of the list is read, where what stands behind it ends it

@@ -1,5 +1,5 @@
 -- What is a definition is read as that definition.
-use Rattle.std.proofs.Common.{◌≡◌, ℕ, zero, suc, ◌+◌, ◌<◌, ◌≤◌, Bool, true, false, List, [], ◌∷◌, ◌++◌, length, Option, Some, None, Result, Ok, Err, refl, sym, ap, ◌∙◌, arith}
+use Rattle.std.proofs.Common.{◌≡◌, ℕ, suc, ◌<◌, ◌≤◌, true, false, List, ◌∷◌, length, Option, Some, None, Ok, refl, arith}
 use Rattle.chill_base.specs.declared.pos.Pos.{Pos}
 use Rattle.chill_tree.specs.declared.token.Word.TheVariants as words
 use Rattle.chill_tree.specs.declared.token.Sign.TheVariants as signs
@@ -8,10 +8,9 @@ use Rattle.chill_tree.specs.ExprTree.{ExprTree}
 use Rattle.chill_tree.specs.ModeTree.{ModeTree}
 use Rattle.chill_tree.specs.LocalTree.{SynonymTree, ModeDefinitionTree, InitialTree, DeclarationTree, LocalTree, synonyms, syn_modes, new_modes, locations}
 use Rattle.rules_model.specs.Marks.{Toks, sign, word, name_token, begins, begins_with}
-use Rattle.rules_model.specs.ListGrammar.{AreListed}
 use Rattle.rules_model.specs.LocalGrammar.{IsWrittenMode, no_mode, with_mode, IsSynonym, is_synonym, IsModeDefinition, is_mode_definition, IsInitial, no_initial, by_sign, by_word, IsDeclaration, is_declaration, IsLocal, are_synonyms, are_syn_modes, are_new_modes, are_locations}
 use Rattle.rules_model.specs.Nesting.{StaysBelow}
-use Rattle.rules_model.specs.Reading.{Fault, Read, ◌>>=◌, sign_at, word_at, name_at, listed_at}
+use Rattle.rules_model.specs.Reading.{sign_at, word_at, name_at, listed_at}
 use Rattle.rules_model.specs.ModeReading.{value_at, mode_at, written_mode_at, synonym_at, mode_definition_at, initial_at, declaration_at, local_at}
 use Rattle.rules_model.proofs.ExprStarts.{ranked_shrinks}
 use Rattle.rules_model.proofs.ExprStops.{Stops}

@@ -1,9 +1,9 @@
 -- Loops that read piece after piece.
-use Rattle.std.proofs.Common.{◌≡◌, ℕ, zero, suc, ◌+◌, ◌-◌, ◌<◌, ◌≤◌, Bool, true, false, List, [], ◌∷◌, ◌++◌, length, Option, Some, None, Result, Ok, Err, refl, sym, ap, ◌∙◌, arith, length-append}
+use Rattle.std.proofs.Common.{◌≡◌, ℕ, zero, suc, ◌+◌, ◌-◌, ◌<◌, ◌≤◌, false, List, [], ◌∷◌, ◌++◌, length, Some, None, Result, Ok, refl, ap, ◌∙◌, arith, length-append}
 use Rattle.chill_base.specs.declared.pos.Pos.{Pos}
 use Rattle.chill_tree.specs.declared.token.Sign.TheVariants as signs
 use Rattle.rules_model.specs.Marks.{Toks, sign, begins}
-use Rattle.rules_model.specs.Reading.{Fault, Deep, Read, Piece, ◌>>=◌, chosen, roomy, sign_at, repeat, push, many_at, another_at, listed_at}
+use Rattle.rules_model.specs.Reading.{Fault, Read, Piece, ◌>>=◌, roomy, sign_at, repeat, push, many_at, another_at, listed_at}
 
 pub repeat_none : {S P : Type 0} (piece : Toks → Piece P) (grow : S → P → S) (j : ℕ) (s : S) (toks : Toks) → piece toks ≡ Ok None → repeat piece grow j s toks ≡ Ok (s, toks)
 unfolding repeat

@@ -1,7 +1,6 @@
 -- What is a mode, and is followed by nothing that goes on with it, is read as that mode.
-use Rattle.std.proofs.Common.{◌≡◌, ℕ, zero, suc, ◌+◌, ◌<◌, ◌≤◌, Bool, true, false, not, List, [], ◌∷◌, ◌++◌, length, Option, Some, None, Result, Ok, Err, refl, sym, ap, ◌∙◌, arith, length-append}
+use Rattle.std.proofs.Common.{◌≡◌, ℕ, zero, suc, ◌+◌, ◌<◌, ◌≤◌, true, false, not, List, [], ◌∷◌, length, Option, Some, None, Ok, refl, arith, length-append}
 use Rattle.chill_base.specs.declared.pos.Pos.{Pos}
-use Rattle.chill_tree.specs.declared.token.Word.{Word}
 use Rattle.chill_tree.specs.declared.token.Word.TheVariants as words
 use Rattle.chill_tree.specs.declared.token.Sign.TheVariants as signs
 use Rattle.chill_tree.specs.declared.tree.name.Name.{Name}
@@ -10,14 +9,14 @@ use Rattle.chill_tree.specs.declared.tree.mode.Packing.TheVariants as packings
 use Rattle.chill_tree.specs.declared.tree.mode.PlaceForm.TheVariants as forms
 use Rattle.chill_tree.specs.ExprTree.{ExprTree, name}
 use Rattle.chill_tree.specs.ModeTree.{DiscreteTree, named, bounded, set_of, IndexTree, index_named, index_bounded, PlaceTree, StepTree, SpreadTree, by_packing, by_step, BaseTree, discrete, powerset, chars, structure, array, FieldTree, FieldNodes, field_nodes, ModeTree, base_mode, read_mode, event_mode, buffer_mode}
-use Rattle.rules_model.specs.Marks.{Toks, tok, sign, word, name_token, begins, begins_with}
+use Rattle.rules_model.specs.Marks.{Toks, sign, word, name_token, begins, begins_with}
 use Rattle.rules_model.specs.ExprGrammar.{IsRanked, a_name, is_named, is_plain, is_chain, first}
-use Rattle.rules_model.specs.ListGrammar.{AreNames, IsLength, no_length, with_length}
+use Rattle.rules_model.specs.ListGrammar.{IsLength, no_length, with_length}
 use Rattle.rules_model.specs.ModeGrammar.{IsDiscrete, is_named_mode, is_bounded, is_set, IsIndex, is_index_name, is_index_range, IsPlace, up_to, of_length, IsFieldPlace, no_place, with_place, IsStep, is_step, IsPacking, no_packing, packed, not_packed, IsSpread, no_spread, spread_packed, spread_not_packed, spread_by_step, is_bare_array, is_bare, leaves_word, arrays_in, IsBase, is_discrete, is_powerset, is_chars, is_structure, is_array, AreFields, one_field, and_field, IsField, is_field, IsMode, is_base_mode, is_read_mode, is_event_mode, is_buffer_mode}
 use Rattle.rules_model.specs.Nesting.{less, StaysBelow}
-use Rattle.rules_model.specs.Reading.{Fault, Read, ◌>>=◌, sign_at, word_at, name_at, listed_at}
-use Rattle.rules_model.specs.ExprReading.{ranked_at, expr_at}
-use Rattle.rules_model.specs.ModeReading.{value_at, length_at, set_at, bounds_at, discrete_at, index_of, index_at, place_end_at, place_at, field_place_at, step_at, packing_at, spread_at, Fields, plain_base_at, arrays_at, one_field_at, fields_at, base_at, mode_at}
+use Rattle.rules_model.specs.Reading.{Read, sign_at, word_at, name_at, listed_at}
+use Rattle.rules_model.specs.ExprReading.{expr_at}
+use Rattle.rules_model.specs.ModeReading.{value_at, length_at, set_at, bounds_at, discrete_at, index_at, place_end_at, place_at, field_place_at, step_at, packing_at, spread_at, Fields, plain_base_at, arrays_at, one_field_at, fields_at, base_at, mode_at}
 use Rattle.rules_model.proofs.Loops.{Listing, listing_one, listing_and, listing_all}
 use Rattle.rules_model.proofs.ExprStarts.{ranked_shrinks}
 use Rattle.rules_model.proofs.ExprStops.{Stops}
@@ -355,7 +354,7 @@ mutual
   field_shrinks : {f : FieldTree} {toks rest : Toks} → IsField f toks rest → length rest < length toks
   field_shrinks (is_field ns b w) = omega (arith, names_shrink ns, base_shrinks b, field_place_shrinks w)
 
-arrays_few : {b : BaseTree} {toks rest : Toks} → IsBase b toks rest → arrays_in b ≤ 8
+pub arrays_few : {b : BaseTree} {toks rest : Toks} → IsBase b toks rest → arrays_in b ≤ 8
 arrays_few (is_discrete d) = omega arith
 arrays_few (is_powerset d) = omega arith
 arrays_few (is_chars d) = omega arith

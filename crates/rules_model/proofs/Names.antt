@@ -1,5 +1,5 @@
 -- Whether two names are one.
-use Rattle.std.proofs.Common.{◌≡◌, ℕ, Bool, true, false, List, [], ◌∷◌, refl, ap, ◌∙◌, sym}
+use Rattle.std.proofs.Common.{◌≡◌, ℕ, true, List, [], ◌∷◌, refl, ap, ◌∙◌, sym}
 use Rattle.std.proofs.lemmas.Bool.{eq-eqb}
 use Rattle.rules_model.specs.StatementReading.{same_name}
 

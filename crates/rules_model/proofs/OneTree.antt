@@ -1,8 +1,7 @@
 -- A list of tokens has at most one tree.
-use Rattle.std.proofs.Common.{◌≡◌, ℕ, zero, suc, ◌+◌, ◌<◌, ◌≤◌, Bool, true, false, cond, List, [], ◌∷◌, length, Result, Ok, Err, refl, sym, ap, ◌∙◌, arith}
-use Rattle.chill_tree.specs.ItemTree.{ProgramTree}
+use Rattle.std.proofs.Common.{◌≡◌, ℕ, zero, suc, ◌<◌, ◌≤◌, Bool, true, false, cond, [], ◌∷◌, length, Result, Ok, sym, ◌∙◌, arith}
 use Rattle.rules_model.specs.Marks.{Toks}
-use Rattle.rules_model.specs.ItemGrammar.{IsTreeOf, HasOneTree}
+use Rattle.rules_model.specs.ItemGrammar.{HasOneTree}
 use Rattle.rules_model.specs.Nesting.{opens, closes, less, room_after, StaysBelow}
 use Rattle.rules_model.specs.Reading.{Fault}
 use Rattle.rules_model.proofs.ItemExact.{exact_program}

@@ -1,5 +1,5 @@
 -- What is an action that holds no other, or controls a loop, is read as that.
-use Rattle.std.proofs.Common.{◌≡◌, ℕ, zero, suc, ◌+◌, ◌<◌, ◌≤◌, Bool, true, false, eqb, List, [], ◌∷◌, ◌++◌, length, Option, Some, None, Result, Ok, Err, refl, sym, ap, ◌∙◌, subst, arith}
+use Rattle.std.proofs.Common.{◌≡◌, ℕ, zero, suc, ◌<◌, ◌≤◌, Bool, true, false, eqb, List, [], ◌∷◌, length, Option, Some, None, Ok, refl, ap, subst, arith}
 use Rattle.std.proofs.lemmas.Bool.{eq-eqb}
 use Rattle.chill_base.specs.declared.pos.Pos.{Pos}
 use Rattle.chill_tree.specs.declared.token.Word.{Word}
@@ -10,17 +10,17 @@ use Rattle.chill_tree.specs.declared.tree.name.Name.{Name}
 use Rattle.chill_tree.specs.declared.tree.expr.Operator.{Operator}
 use Rattle.chill_tree.specs.ExprTree.{ExprTree, name, apply, expr_nodes, exprs_in, place_of}
 use Rattle.chill_tree.specs.SimpleTree.{SimpleTree, assign, update, call_of, exit, return_with, result_of, assert_that, cause, stop, start_of, delay, continue_event, send, ControlTree, while_holds, for_ever, for_members, for_steps}
-use Rattle.rules_model.specs.Marks.{Toks, tok, sign, word, name_token, is_word, word_code, begins, begins_with, begins_expr, operator_of, may_update}
-use Rattle.rules_model.specs.ExprGrammar.{IsNamed, a_name, with_args, AreArgs, AreExprs, IsRanked, IsExpr, is_location, IsLocation, is_loc}
+use Rattle.rules_model.specs.Marks.{Toks, tok, sign, word, name_token, word_code, begins, begins_with, begins_expr, operator_of, may_update}
+use Rattle.rules_model.specs.ExprGrammar.{a_name, with_args, IsExpr, is_location, IsLocation, is_loc}
 use Rattle.rules_model.specs.ListGrammar.{IsClause, no_clause, with_clause, IsFlag, no_flag, with_flag}
 use Rattle.rules_model.specs.SimpleGrammar.{IsControl, is_while, is_ever, is_members, is_steps, IsValue, no_value, with_value, IsMessage, no_message, with_message, IsSimple, is_assign, is_update, is_call, is_call_word, is_exit, is_return, is_result, is_assert, is_cause, is_stop, is_start, is_delay, is_continue, is_send}
-use Rattle.rules_model.specs.Nesting.{room_after, StaysBelow}
-use Rattle.rules_model.specs.Reading.{Fault, Read, ◌>>=◌, chosen, sign_at, word_at, name_at, listed_at}
-use Rattle.rules_model.specs.ExprReading.{expr_at, args_at, named_at, part_at}
+use Rattle.rules_model.specs.Nesting.{StaysBelow}
+use Rattle.rules_model.specs.Reading.{Read, sign_at, word_at, name_at, listed_at}
+use Rattle.rules_model.specs.ExprReading.{expr_at, args_at, named_at}
 use Rattle.rules_model.specs.ModeReading.{value_at}
-use Rattle.rules_model.specs.SimpleReading.{clause_at, flag_at, members_at, steps_at, for_at, control_at, update_of, call_in, called_at, assigned_at, updated_at, behind_name_at, named_action_at, call_at, return_at, start_at, delay_at, message_at, send_at, simple_at}
+use Rattle.rules_model.specs.SimpleReading.{clause_at, flag_at, members_at, steps_at, for_at, control_at, update_of, called_at, assigned_at, updated_at, behind_name_at, named_action_at, call_at, return_at, start_at, delay_at, message_at, send_at, simple_at}
 use Rattle.rules_model.proofs.Loops.{listing_all}
-use Rattle.rules_model.proofs.ExprStarts.{named_shrinks, args_shrink, exprs_shrink, ranked_shrinks, location_shrinks, ranked_begins, NameFirst, name_first}
+use Rattle.rules_model.proofs.ExprStarts.{args_shrink, exprs_shrink, ranked_shrinks, location_shrinks, ranked_begins, NameFirst, name_first}
 use Rattle.rules_model.proofs.ExprStops.{Stops, part_none, operator_marks, operator_stops}
 use Rattle.rules_model.proofs.ExprExact.{exact_args, exact_exprs, exact_whole_name}
 use Rattle.rules_model.proofs.ListExact.{Exact}

@@ -1,5 +1,5 @@
 -- What is a statement is read as that statement.
-use Rattle.std.proofs.Common.{◌≡◌, ℕ, zero, suc, ◌+◌, ◌<◌, ◌≤◌, Bool, true, false, List, [], ◌∷◌, ◌++◌, length, Option, Some, None, Result, Ok, Err, refl, sym, ap, ◌∙◌, arith, length-append}
+use Rattle.std.proofs.Common.{◌≡◌, ℕ, zero, suc, ◌<◌, true, false, List, [], ◌∷◌, length, Option, Some, None, Result, Ok, refl, ◌∙◌, arith}
 use Rattle.chill_base.specs.declared.pos.Pos.{Pos}
 use Rattle.chill_tree.specs.declared.token.Word.TheVariants as words
 use Rattle.chill_tree.specs.declared.token.Sign.TheVariants as signs
@@ -9,17 +9,16 @@ use Rattle.chill_tree.specs.LocalTree.{LocalTree}
 use Rattle.chill_tree.specs.SimpleTree.{SimpleTree, ControlTree}
 use Rattle.chill_tree.specs.StatementTree.{StatementTree, empty, simple, bracketed, BracketedTree, if_then, case_of, do_loop, begin_end, delay_case, receive_case, ElsIfTree, CaseTree, NamedTree, ReceiveTree, HandlerTree, BodyTree, local_part, action_part, statement_nodes, branch_nodes, case_nodes, named_nodes, receive_nodes, otherwise_node, handler_node, body_nodes}
 use Rattle.rules_model.specs.Marks.{Toks, sign, word, name_token, begins, begins_with}
-use Rattle.rules_model.specs.ExprGrammar.{is_location, IsLocation, AreRanges}
-use Rattle.rules_model.specs.ListGrammar.{AreNames, IsClause, IsLabel, no_label, with_label, IsClosing, left_open, closed_by}
-use Rattle.rules_model.specs.LocalGrammar.{IsLocal}
-use Rattle.rules_model.specs.SimpleGrammar.{IsSimple, place_of_simple}
+use Rattle.rules_model.specs.ExprGrammar.{is_location, AreRanges}
+use Rattle.rules_model.specs.ListGrammar.{AreNames, IsLabel, no_label, with_label, IsClosing, left_open, closed_by}
+use Rattle.rules_model.specs.SimpleGrammar.{place_of_simple}
 use Rattle.rules_model.specs.StatementGrammar.{place_of_labelled, handles, IsDelayHead, no_head, head_sets, head_ranks, IsReceiveHead, sets_none, sets_one, IsStatement, is_empty, is_simple, is_bracketed, AreStatements, no_statements, then_statement, IsBracketed, is_if, is_case, is_do, is_begin, is_delay_case, is_receive_case, AreBranches, no_branches, then_branch, AreCases, no_cases, then_case, AreNamed, no_named, then_named, AreReceives, no_receives, then_receive, IsOtherwise, no_else, with_else, IsHandler, no_handler, with_handler, AreBody, no_parts, then_local, then_action}
 use Rattle.rules_model.specs.Nesting.{less, StaysBelow}
-use Rattle.rules_model.specs.Reading.{Fault, Read, Piece, ◌>>=◌, sign_at, word_at, name_at, repeat, push, many_at, listed_at}
+use Rattle.rules_model.specs.Reading.{Fault, Read, sign_at, word_at, name_at, many_at, listed_at}
 use Rattle.rules_model.specs.ExprReading.{expr_at, named_at, range_at}
 use Rattle.rules_model.specs.ModeReading.{value_at, local_at}
 use Rattle.rules_model.specs.SimpleReading.{clause_at, control_at, simple_at}
-use Rattle.rules_model.specs.StatementReading.{begins_label, begins_bracketed, begins_statement, begins_local, Acts, Body, kept, location_at, otherwise_at, branch_at, case_at, alternative_at, receipt_at, handler_at, same_name, closing_at, if_at, case_of_at, do_at, begin_at, delay_head_at, delay_case_at, receive_head_at, receive_case_at, bracketed_at, holding_at, labelled_at, unlabelled_at, statement_at, action_at, body_part_at, inside_at, actions_at, body_at}
+use Rattle.rules_model.specs.StatementReading.{begins_statement, begins_local, Acts, Body, kept, location_at, otherwise_at, branch_at, case_at, alternative_at, receipt_at, handler_at, closing_at, if_at, case_of_at, do_at, begin_at, delay_head_at, delay_case_at, receive_head_at, receive_case_at, bracketed_at, holding_at, labelled_at, unlabelled_at, statement_at, action_at, body_part_at, inside_at, actions_at, body_at}
 use Rattle.rules_model.proofs.Names.{same_equal}
 use Rattle.rules_model.proofs.Loops.{Gathering, gathering_none, gathering_then, gathering_all, listing_all}
 use Rattle.rules_model.proofs.ExprStarts.{ranges_shrink}
@@ -29,7 +28,7 @@ use Rattle.rules_model.proofs.ListExact.{Exact, exact_names}
 use Rattle.rules_model.proofs.ModeExact.{exact_value}
 use Rattle.rules_model.proofs.LocalExact.{exact_local}
 use Rattle.rules_model.proofs.SimpleExact.{EndsSimple, exact_clause, clause_front, value_exact, exact_control, exact_location, exact_simple}
-use Rattle.rules_model.proofs.StatementStarts.{statements_shrink, branches_shrink, cases_shrink, named_shrink, receives_shrink, body_shrinks, otherwise_front, handler_front, branches_front, cases_front, named_front, receives_front, closing_front, BracketedFirst, bracketed_first, SimpleFirst, simple_first, statement_first, local_first}
+use Rattle.rules_model.proofs.StatementStarts.{statements_shrink, branches_shrink, cases_shrink, named_shrink, receives_shrink, body_shrinks, otherwise_front, handler_front, branches_front, named_front, receives_front, closing_front, BracketedFirst, bracketed_first, SimpleFirst, simple_first, statement_first, local_first}
 
 -- ---- one production each
 

@@ -1,16 +1,15 @@
 -- How statements begin, and that each takes a token.
-use Rattle.std.proofs.Common.{◌≡◌, ℕ, zero, suc, ◌+◌, ◌<◌, ◌≤◌, Bool, true, false, List, [], ◌∷◌, ◌++◌, length, Option, Some, None, refl, sym, ap, ◌∙◌, arith, length-append}
+use Rattle.std.proofs.Common.{◌≡◌, ◌+◌, ◌<◌, ◌≤◌, true, false, List, [], ◌∷◌, length, Option, refl, arith, length-append}
 use Rattle.chill_base.specs.declared.pos.Pos.{Pos}
 use Rattle.chill_tree.specs.declared.token.Word.TheVariants as words
 use Rattle.chill_tree.specs.declared.token.Sign.TheVariants as signs
 use Rattle.chill_tree.specs.declared.tree.name.Name.{Name}
-use Rattle.chill_tree.specs.ExprTree.{ExprTree, RangeTree}
+use Rattle.chill_tree.specs.ExprTree.{ExprTree}
 use Rattle.chill_tree.specs.LocalTree.{LocalTree}
 use Rattle.chill_tree.specs.SimpleTree.{SimpleTree}
 use Rattle.chill_tree.specs.StatementTree.{StatementTree, BracketedTree, ElsIfTree, CaseTree, NamedTree, ReceiveTree, HandlerTree, BodyTree, local_part, action_part}
-use Rattle.rules_model.specs.Marks.{Toks, sign, word, name_token, begins, begins_with}
-use Rattle.rules_model.specs.ExprGrammar.{IsLocation, is_loc}
-use Rattle.rules_model.specs.ListGrammar.{AreNames, IsClause, no_clause, with_clause, IsLabel, no_label, with_label, IsClosing, left_open, closed_by}
+use Rattle.rules_model.specs.Marks.{Toks, sign, word, name_token, begins}
+use Rattle.rules_model.specs.ListGrammar.{AreNames, IsLabel, no_label, with_label, IsClosing, left_open, closed_by}
 use Rattle.rules_model.specs.LocalGrammar.{IsLocal, are_synonyms, are_syn_modes, are_new_modes, are_locations}
 use Rattle.rules_model.specs.SimpleGrammar.{IsSimple, is_assign, is_update, is_call, is_call_word, is_exit, is_return, is_result, is_assert, is_cause, is_stop, is_start, is_delay, is_continue, is_send}
 use Rattle.rules_model.specs.StatementGrammar.{IsDelayHead, no_head, head_sets, head_ranks, IsReceiveHead, sets_none, sets_one, IsStatement, is_empty, is_simple, is_bracketed, AreStatements, no_statements, then_statement, IsBracketed, is_if, is_case, is_do, is_begin, is_delay_case, is_receive_case, AreBranches, no_branches, then_branch, AreCases, no_cases, then_case, AreNamed, no_named, then_named, AreReceives, no_receives, then_receive, IsOtherwise, no_else, with_else, IsHandler, no_handler, with_handler, AreBody, no_parts, then_local, then_action}

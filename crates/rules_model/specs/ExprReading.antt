@@ -1,5 +1,5 @@
 -- Reading an expression from the front, the longest that stands there.
-use Rattle.std.specs.Prelude.{ℕ, zero, suc, ◌==◌, ◌&&◌, Bool, true, false, List, [], ◌∷◌, Option, Some, None, Result, Ok, Err, if◌then◌else◌}
+use Rattle.std.specs.Prelude.{ℕ, zero, suc, ◌==◌, ◌&&◌, Bool, List, [], ◌∷◌, Option, Some, None, Ok, Err, if◌then◌else◌}
 use Rattle.chill_base.specs.declared.pos.Pos.{Pos}
 use Rattle.chill_tree.specs.declared.token.Word.TheVariants as words
 use Rattle.chill_tree.specs.declared.token.Sign.TheVariants as signs
@@ -12,7 +12,7 @@ use Rattle.chill_tree.specs.ExprTree.{ExprTree, whole, character, text, this_ins
 use Rattle.rules_model.specs.Marks.{Toks, begins, begins_with, behind, operator_of, rank_of}
 use Rattle.rules_model.specs.ExprGrammar.{tuple_place}
 use Rattle.rules_model.specs.Nesting.{less}
-use Rattle.rules_model.specs.Reading.{Fault, Deep, Absent, Read, Piece, ◌>>=◌, settle, chosen, roomy, sign_at, word_at, name_at, repeat, listed_at}
+use Rattle.rules_model.specs.Reading.{Deep, Absent, Read, Piece, ◌>>=◌, settle, chosen, roomy, sign_at, word_at, name_at, repeat, listed_at}
 
 -- reads an expression in what opened at the place
 abbrev pub Sub : Type 0

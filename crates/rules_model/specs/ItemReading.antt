@@ -1,5 +1,5 @@
 -- Reading items, modulions and programs from the front.
-use Rattle.std.specs.Prelude.{ℕ, zero, suc, ◌&&◌, Bool, true, false, List, [], ◌∷◌, Option, Some, None, Result, Ok, Err, if◌then◌else◌}
+use Rattle.std.specs.Prelude.{ℕ, zero, suc, ◌&&◌, Bool, List, [], ◌∷◌, Option, Some, None, Result, Ok, Err, if◌then◌else◌}
 use Rattle.chill_base.specs.declared.pos.Pos.{Pos}
 use Rattle.chill_tree.specs.declared.token.Word.{Word}
 use Rattle.chill_tree.specs.declared.token.Word.TheVariants as words
@@ -14,7 +14,7 @@ use Rattle.chill_tree.specs.declared.tree.item.Passing.TheVariants as ways
 use Rattle.chill_tree.specs.ModeTree.{ModeTree}
 use Rattle.chill_tree.specs.StatementTree.{HandlerTree, BodyTree}
 use Rattle.chill_tree.specs.ItemTree.{SignalTree, ParamTree, ProcedureTree, FormalTree, ProcessTree, ItemTree, seize, grant, local_item, signals, procedure, process, action, ModulionTree, modulion_item, ProgramTree}
-use Rattle.rules_model.specs.Marks.{Toks, begins, begins_with, behind, front}
+use Rattle.rules_model.specs.Marks.{Toks, begins, begins_with, behind}
 use Rattle.rules_model.specs.Nesting.{less}
 use Rattle.rules_model.specs.Reading.{Fault, Deep, Absent, Read, Piece, ◌>>=◌, sign_at, word_at, name_at, many_at, listed_at}
 use Rattle.rules_model.specs.ModeReading.{mode_at, local_at}

@@ -1,5 +1,5 @@
 -- Reading modes and definitions from the front.
-use Rattle.std.specs.Prelude.{ℕ, zero, suc, Bool, true, false, List, [], ◌∷◌, Option, Some, None, Result, Ok, Err, if◌then◌else◌}
+use Rattle.std.specs.Prelude.{ℕ, zero, suc, true, false, List, Option, Some, None, Ok, Err, if◌then◌else◌}
 use Rattle.chill_base.specs.declared.pos.Pos.{Pos}
 use Rattle.chill_tree.specs.declared.token.Word.TheVariants as words
 use Rattle.chill_tree.specs.declared.token.Sign.TheVariants as signs
@@ -12,7 +12,7 @@ use Rattle.chill_tree.specs.ModeTree.{DiscreteTree, named, bounded, set_of, Inde
 use Rattle.chill_tree.specs.LocalTree.{SynonymTree, ModeDefinitionTree, InitialTree, DeclarationTree, LocalTree, synonyms, syn_modes, new_modes, locations}
 use Rattle.rules_model.specs.Marks.{Toks, begins, begins_with, front}
 use Rattle.rules_model.specs.Nesting.{less}
-use Rattle.rules_model.specs.Reading.{Fault, Deep, Absent, Read, ◌>>=◌, sign_at, word_at, name_at, listed_at}
+use Rattle.rules_model.specs.Reading.{Deep, Absent, Read, ◌>>=◌, sign_at, word_at, name_at, listed_at}
 use Rattle.rules_model.specs.ExprReading.{ranked_at, expr_at}
 
 -- In what follows n is the number of levels of nesting that are left behind an opening token.

@@ -1,5 +1,5 @@
 -- Reading from the front: a tree and the tokens behind it, or why there is none.
-use Rattle.std.specs.Prelude.{ℕ, zero, suc, Bool, true, false, List, [], ◌∷◌, ◌++◌, length, Option, Some, None, Result, Ok, Err, if◌then◌else◌}
+use Rattle.std.specs.Prelude.{ℕ, zero, suc, List, [], ◌∷◌, ◌++◌, length, Option, Some, None, Result, Ok, Err, if◌then◌else◌}
 use Rattle.chill_base.specs.declared.pos.Pos.{Pos}
 use Rattle.chill_tree.specs.declared.token.Word.{Word}
 use Rattle.chill_tree.specs.declared.token.Sign.{Sign}
@@ -8,7 +8,7 @@ use Rattle.chill_tree.specs.declared.token.Token.{Token}
 use Rattle.chill_tree.specs.declared.token.TokenKind.{TokenKind}
 use Rattle.chill_tree.specs.declared.token.TokenKind.TheVariants as kinds
 use Rattle.chill_tree.specs.declared.tree.name.Name.{Name}
-use Rattle.rules_model.specs.Marks.{Toks, is_sign, is_word, begins, begins_with}
+use Rattle.rules_model.specs.Marks.{Toks, is_sign, is_word, begins}
 
 -- why there is no tree: the nesting is too deep at a place, or a token or the end doesn't fit
 pub data Fault : Type 0 where

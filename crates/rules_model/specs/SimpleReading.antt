@@ -1,5 +1,5 @@
 -- Reading actions that hold no other, and what controls a loop, from the front.
-use Rattle.std.specs.Prelude.{ℕ, zero, suc, Bool, true, false, List, [], ◌∷◌, Option, Some, None, Result, Ok, Err, if◌then◌else◌}
+use Rattle.std.specs.Prelude.{ℕ, Bool, true, false, List, [], ◌∷◌, Option, Some, None, Ok, Err, if◌then◌else◌}
 use Rattle.chill_base.specs.declared.pos.Pos.{Pos}
 use Rattle.chill_tree.specs.declared.token.Word.{Word}
 use Rattle.chill_tree.specs.declared.token.Word.TheVariants as words
@@ -10,7 +10,7 @@ use Rattle.chill_tree.specs.ExprTree.{ExprTree, name, apply, exprs_in, place_of}
 use Rattle.chill_tree.specs.SimpleTree.{SimpleTree, assign, update, call_of, exit, return_with, result_of, assert_that, cause, stop, start_of, delay, continue_event, send, ControlTree, while_holds, for_ever, for_members, for_steps}
 use Rattle.rules_model.specs.Marks.{Toks, begins, begins_with, begins_expr, behind, front, operator_of, may_update}
 use Rattle.rules_model.specs.ExprGrammar.{is_location}
-use Rattle.rules_model.specs.Reading.{Fault, Absent, Read, ◌>>=◌, chosen, sign_at, word_at, name_at, listed_at}
+use Rattle.rules_model.specs.Reading.{Absent, Read, ◌>>=◌, chosen, sign_at, word_at, name_at, listed_at}
 use Rattle.rules_model.specs.ExprReading.{expr_at, args_at, named_at}
 use Rattle.rules_model.specs.ModeReading.{value_at}
 

@@ -1,5 +1,5 @@
 -- The grammar of statements, handlers and bodies.
-use Rattle.std.specs.Prelude.{◌≡◌, ℕ, ◌<◌, Bool, true, false, List, [], ◌∷◌, ◌++◌, length, Option, Some, None}
+use Rattle.std.specs.Prelude.{◌≡◌, ◌<◌, Bool, true, false, List, [], ◌∷◌, ◌++◌, length, Option, Some, None}
 use Rattle.chill_base.specs.declared.pos.Pos.{Pos}
 use Rattle.chill_tree.specs.declared.token.Word.TheVariants as words
 use Rattle.chill_tree.specs.declared.token.Sign.TheVariants as signs
