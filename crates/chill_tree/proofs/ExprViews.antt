@@ -1,5 +1,5 @@
 -- The trees of expressions that are built.
-use Rattle.std.proofs.Common.{◌≡◌, ℕ, List, [], ◌∷◌, Option, Some, None, ap, sym, ◌∙◌, refl}
+use Rattle.std.proofs.Common.{◌≡◌, ℕ, List, Option, Some, None, ap, sym, ◌∙◌}
 use Rattle.std.specs.Prelude.{option_map}
 use Rattle.std.specs.declared.alloc.Global.{Global}
 use Rattle.std.specs.declared.boxed.Box.{Box}
@@ -7,10 +7,10 @@ use Rattle.chill_base.specs.declared.pos.Pos.{Pos}
 use Rattle.chill_tree.specs.declared.tree.name.Name.{Name}
 use Rattle.chill_tree.specs.declared.tree.expr.Operator.{Operator}
 use Rattle.chill_tree.specs.declared.tree.expr.Prefix.{Prefix}
-use Rattle.chill_tree.specs.declared.tree.expr.Expr.{Expr, Expr-F, fold-Expr, fold-roll-Expr}
+use Rattle.chill_tree.specs.declared.tree.expr.Expr.{Expr, fold-Expr, fold-roll-Expr}
 use Rattle.chill_tree.specs.declared.tree.expr.Expr.TheOpen as opens
 use Rattle.chill_tree.specs.declared.tree.expr.Expr.TheVariants as made
-use Rattle.chill_tree.specs.declared.tree.expr.ValueRange.{ValueRange, ValueRange-F, fold-ValueRange, fold-roll-ValueRange, roll-ValueRange}
+use Rattle.chill_tree.specs.declared.tree.expr.ValueRange.{ValueRange, fold-roll-ValueRange, roll-ValueRange}
 use Rattle.chill_tree.specs.ExprTree.{ExprTree, RangeTree, whole, character, text, this_instance, paren, receive, start, tuple, uniform, name, apply, field, prefixed, binary, expr_nodes, range_nodes, range_of, expr_layer, range_layer, expr_tree, range_tree, expr_trees, range_trees}
 
 pub tree-whole : (at : Pos) (n : ℕ) → expr_tree (made.Whole at n) ≡ whole at n

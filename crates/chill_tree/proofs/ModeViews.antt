@@ -1,6 +1,6 @@
 -- The trees of modes that are built.
-use Rattle.std.proofs.Common.{◌≡◌, ℕ, List, [], ◌∷◌, Option, Some, None, ap, sym, ◌∙◌, refl}
-use Rattle.std.specs.Prelude.{map, option_map}
+use Rattle.std.proofs.Common.{◌≡◌, List, Option, ap, sym, ◌∙◌}
+use Rattle.std.specs.Prelude.{option_map}
 use Rattle.std.specs.declared.alloc.Global.{Global}
 use Rattle.std.specs.declared.boxed.Box.{Box}
 use Rattle.chill_base.specs.declared.pos.Pos.{Pos}
@@ -11,10 +11,10 @@ use Rattle.chill_tree.specs.declared.tree.mode.Discrete.{Discrete}
 use Rattle.chill_tree.specs.declared.tree.mode.Index.{Index}
 use Rattle.chill_tree.specs.declared.tree.mode.Place.{Place}
 use Rattle.chill_tree.specs.declared.tree.mode.Spread.{Spread}
-use Rattle.chill_tree.specs.declared.tree.mode.Base.{Base, Base-F, fold-Base, fold-roll-Base}
+use Rattle.chill_tree.specs.declared.tree.mode.Base.{Base, fold-Base, fold-roll-Base}
 use Rattle.chill_tree.specs.declared.tree.mode.Base.TheOpen as opens
 use Rattle.chill_tree.specs.declared.tree.mode.Base.TheVariants as made_base
-use Rattle.chill_tree.specs.declared.tree.mode.Field.{Field, Field-F, fold-Field, fold-roll-Field, roll-Field}
+use Rattle.chill_tree.specs.declared.tree.mode.Field.{Field, fold-roll-Field, roll-Field}
 use Rattle.chill_tree.specs.ExprTree.{expr_tree}
 use Rattle.chill_tree.specs.ModeTree.{BaseTree, FieldTree, discrete, powerset, chars, structure, array, field_nodes, discrete_tree, index_tree, place_tree, spread_tree, base_layer, field_layer, base_tree, field_tree, field_trees}
 

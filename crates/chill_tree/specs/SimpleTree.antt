@@ -1,9 +1,8 @@
 -- Actions that hold no other, and what controls a loop, without where they lie in memory.
-use Rattle.std.specs.Prelude.{ℕ, Bool, List, map, Option, Some, None, option_map}
+use Rattle.std.specs.Prelude.{Bool, List, Option, option_map}
 use Rattle.chill_base.specs.declared.pos.Pos.{Pos}
 use Rattle.chill_tree.specs.declared.tree.name.Name.{Name}
 use Rattle.chill_tree.specs.declared.tree.expr.Operator.{Operator}
-use Rattle.chill_tree.specs.declared.tree.expr.Expr.{Expr}
 use Rattle.chill_tree.specs.declared.tree.statement.Simple.{Simple}
 use Rattle.chill_tree.specs.declared.tree.statement.Simple.TheVariants as simples
 use Rattle.chill_tree.specs.declared.tree.statement.Control.{Control}

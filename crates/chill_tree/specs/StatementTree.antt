@@ -1,5 +1,5 @@
 -- Statements, handlers and bodies as they are written, without where they lie in memory.
-use Rattle.std.specs.Prelude.{ℕ, Bool, List, [], ◌∷◌, map, Option, Some, None, option_map}
+use Rattle.std.specs.Prelude.{List, [], ◌∷◌, map, Option, Some, None, option_map}
 use Rattle.chill_base.specs.declared.pos.Pos.{Pos}
 use Rattle.chill_tree.specs.declared.tree.name.Name.{Name}
 use Rattle.chill_tree.specs.declared.tree.statement.Statement.{Statement, Statement-F, fold-Statement}
