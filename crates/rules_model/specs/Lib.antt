@@ -1,6 +1,7 @@
 pub mod TokensShapes
 pub mod TokensCut
 pub mod TokensReading
+pub mod Diagnoses
 pub mod ExprGrammar
 pub mod ExprReading
 pub mod ItemGrammar
