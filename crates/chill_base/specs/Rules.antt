@@ -1,5 +1,5 @@
 -- The names and the texts of the rules, for all that print or sort diagnostics.
-use Rattle.std.specs.Prelude.{ℕ, ◌==◌, ◌&&◌, List, [], ◌∷◌, ◌++◌, if◌then◌else◌, codes}
+use Rattle.std.specs.Prelude.{ℕ, ◌==◌, ◌&&◌, List, ◌∷◌, ◌++◌, if◌then◌else◌, codes}
 use Rattle.chill_base.specs.declared.rule.Rule.{Rule}
 use Rattle.chill_base.specs.declared.rule.Rule.TheVariants as rules
 

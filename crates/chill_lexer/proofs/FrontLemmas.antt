@@ -1,13 +1,13 @@
 -- What is computed at the front of a text, by its first bytes.
-use Rattle.std.proofs.Common.{◌≡◌, ◌≢◌, ℕ, zero, suc, ◌+◌, ◌-◌, ◌<◌, ◌≤◌, Bool, true, false, ◌&&◌, cond, eqb, leb, List, [], ◌∷◌, ◌++◌, length, take, drop, get_or, Option, Some, None, option_map, refl, sym, ap, subst, ◌∙◌, arith, add-zero}
+use Rattle.std.proofs.Common.{◌≡◌, ◌≢◌, ℕ, suc, ◌+◌, ◌<◌, ◌≤◌, true, false, eqb, List, [], ◌∷◌, length, take, drop, get_or, Option, Some, None, refl, sym, ap, subst, ◌∙◌, arith, add-zero}
 use Rattle.std.specs.List.{prefix_len, list_all}
-use Rattle.std.proofs.lemmas.List.{length-drop, take-append-drop, length-take-le, length-append}
+use Rattle.std.proofs.lemmas.List.{length-drop, length-take-le, length-append}
 use Rattle.std.proofs.lemmas.List.Sums.{prefix_len-le-length}
 use Rattle.std.proofs.lemmas.Bool.Decides.{nat_tests}
 use Rattle.chill_base.specs.declared.pos.Pos.{Pos}
-use Rattle.rules_model.specs.TokensShapes.{is_separator, is_letter, is_decimal, is_in_line, digit_of, base_of, Piece, between}
+use Rattle.rules_model.specs.TokensShapes.{is_separator, is_letter, is_decimal, is_in_line, digit_of, base_of, between}
 use Rattle.rules_model.specs.TokensCut.{behind, behind_all}
-use Rattle.rules_model.specs.TokensReading.{Found, is_digit, closing_length, text_length, begins_with, based_at, whole_at, character_at, quoted_at, comment_at, sign_at, shape_at, limited, piece_at}
+use Rattle.rules_model.specs.TokensReading.{closing_length, text_length, based_at, whole_at, character_at, quoted_at, comment_at, sign_at, shape_at, limited, piece_at}
 use Rattle.rules_model.proofs.TokensRuns.{letter_first, decimal_first, list_all-prefix, ClosingAt, closing_sound}
 use Rattle.chill_lexer.specs.Front.{starts}
 use Rattle.chill_lexer.specs.Runs.{begins_numeral}

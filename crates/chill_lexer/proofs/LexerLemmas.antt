@@ -1,7 +1,7 @@
 -- The pieces so far, and one more.
-use Rattle.std.proofs.Common.{◌≡◌, ◌≢◌, ℕ, zero, suc, ◌+◌, ◌-◌, ◌<◌, ◌≤◌, Bool, true, false, cond, eqb, List, [], ◌∷◌, ◌++◌, length, take, drop, Option, Some, None, refl, sym, ap, subst, ◌∙◌, arith, append_assoc}
+use Rattle.std.proofs.Common.{◌≡◌, ◌≢◌, ℕ, ◌+◌, ◌<◌, ◌≤◌, Bool, true, false, cond, eqb, List, [], ◌∷◌, ◌++◌, length, take, drop, Some, None, refl, sym, ap, subst, ◌∙◌, arith, append_assoc}
 use Rattle.std.specs.List.{list_all}
-use Rattle.std.proofs.lemmas.List.{length-drop, take-append-drop, length-take-le, length-append, append-nil}
+use Rattle.std.proofs.lemmas.List.{length-drop, take-append-drop, length-take-le, append-nil}
 use Rattle.std.proofs.lemmas.Bool.Decides.{nat_tests}
 use Rattle.chill_base.specs.declared.pos.Pos.{Pos}
 use Rattle.chill_tree.specs.declared.token.Token.{Token}
@@ -9,8 +9,8 @@ use Rattle.chill_tree.specs.declared.token.TokenKind.{TokenKind}
 use Rattle.chill_tree.specs.declared.token.Sign.{Sign}
 use Rattle.chill_tree.specs.declared.token.Sign.TheVariants as signs
 use Rattle.chill_tree.specs.Spelling.{sign_spelling}
-use Rattle.rules_model.specs.TokensShapes.{is_letter, is_name_byte, is_in_line, digit_of, base_of, IsNumeral, digit, more, apart, quoted, Shape, Spells, a_separator, a_line, a_comment, an_unclosed, a_name, a_whole, a_based, a_character, an_apostrophe, a_text, a_sign, Piece, between, token, piece_of}
-use Rattle.rules_model.specs.TokensCut.{behind, behind_all, first_place, IsPieceAt, Cut, joined, ArePieces, own_token, tokens_among, AreTokensOf, BeginsNone, IsBadAt}
+use Rattle.rules_model.specs.TokensShapes.{is_letter, is_name_byte, is_in_line, base_of, IsNumeral, digit, more, apart, quoted, Shape, Spells, a_separator, a_line, a_comment, an_unclosed, a_name, a_whole, a_based, a_character, an_apostrophe, a_text, a_sign, Piece, between, token, piece_of}
+use Rattle.rules_model.specs.TokensCut.{behind, behind_all, first_place, IsPieceAt, Cut, joined, ArePieces, own_token, tokens_among, AreTokensOf, IsBadAt}
 use Rattle.rules_model.specs.TokensReading.{piece_at}
 use Rattle.rules_model.proofs.TokensLaws.{piece_begins, piece_none}
 use Rattle.chill_lexer.proofs.RunLemmas.{behind-within}
@@ -180,10 +180,6 @@ read_to_bad text rest tokens at far some none = record {
 -- how far a place can be
 pub piece_size : (rest : List ℕ) (piece : Piece) (n : ℕ) → piece_at rest ≡ Some (piece, n) → (n ≤ length rest) × (0 < n)
 piece_size rest piece n e = let begins = piece_begins rest piece n e in (begins.1, begins.2)
-
--- the rest after a piece is shorter
-pub rest_size : (rest : List ℕ) (piece : Piece) (n : ℕ) → piece_at rest ≡ Some (piece, n) → (length (drop n rest) + n ≡ length rest) × (0 < n)
-rest_size rest piece n e = let h = piece_size rest piece n e in let k = length-drop n rest in (omega arith, h.1)
 
 -- the place behind a piece
 pub piece_place : (at next : Pos) (rest : List ℕ) (n limit : ℕ) → n ≤ length rest → next ≡ behind_all at (take n rest)

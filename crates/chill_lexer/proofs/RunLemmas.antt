@@ -1,13 +1,13 @@
 -- The lexer's loops, byte by byte.
-use Rattle.std.proofs.Common.{◌≡◌, ◌≢◌, ◌⊎◌, inl, inr, ℕ, zero, suc, ◌+◌, ◌-◌, ◌*◌, ◌^◌, ◌<◌, ◌≤◌, Bool, true, false, ◌&&◌, cond, eqb, ltb, List, [], ◌∷◌, ◌++◌, length, take, drop, get_or, Option, Some, None, option_map, unwrap_or, fold, SomeIff, refl, sym, ap, subst, ◌∙◌, arith, add-one, append_assoc, length-append}
-use Rattle.std.proofs.lemmas.List.{drop_more, take_more, drop_all, take_rest, length-drop, get_or-drop, append-nil}
+use Rattle.std.proofs.Common.{◌≡◌, ◌≢◌, ◌⊎◌, inl, inr, ℕ, suc, ◌+◌, ◌*◌, ◌^◌, ◌<◌, ◌≤◌, Bool, true, false, ◌&&◌, cond, eqb, ltb, List, [], ◌∷◌, ◌++◌, length, take, drop, get_or, Option, Some, None, option_map, unwrap_or, fold, SomeIff, refl, sym, ap, subst, ◌∙◌, arith, append_assoc, length-append}
+use Rattle.std.proofs.lemmas.List.{drop_more, take_more, drop_all, length-drop, get_or-drop, append-nil}
 use Rattle.std.proofs.lemmas.Bool.Decides.{nat_tests}
 use Rattle.std.proofs.lemmas.List.Sums.{fold_more}
 use Rattle.chill_base.specs.declared.pos.Pos.{Pos}
 use Rattle.rules_model.specs.TokensShapes.{digit_of, closes, with_digit, number_of, quoted}
 use Rattle.rules_model.specs.TokensCut.{behind, behind_all}
 use Rattle.rules_model.specs.TokensReading.{Found, is_digit, more_length, numeral_length, closing_length, text_length, unquoted, name_at, digits_at, based_at}
-use Rattle.rules_model.proofs.TokensRuns.{text_next, unquoted_next, underline_apart, more_length-le, TextAt, text_sound}
+use Rattle.rules_model.proofs.TokensRuns.{text_next, underline_apart, more_length-le, TextAt, text_sound}
 use Rattle.chill_lexer.specs.Runs.{is_apart, begins_numeral}
 
 -- what is left begins with the byte there

@@ -1,5 +1,5 @@
 -- What the lexer finds at the front of a text.
-use Rattle.std.specs.Prelude.{◌≡◌, ℕ, Bool, false, ◌==◌, ◌&&◌, List, [], ◌∷◌, take, Option, Some, None}
+use Rattle.std.specs.Prelude.{◌≡◌, ℕ, Bool, false, ◌==◌, ◌&&◌, List, [], ◌∷◌, take, Some, None}
 use Rattle.chill_base.specs.declared.pos.Pos.{Pos}
 use Rattle.chill_lexer.specs.declared.front.Front.{Front}
 use Rattle.chill_lexer.specs.declared.front.Front.TheVariants as fronts

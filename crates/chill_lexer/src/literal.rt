@@ -1,4 +1,5 @@
-// Names, literals and signs at the front of a text, each with the number of its bytes. None begins where a limit is passed.
+// Names, literals and signs at the front of a text, each with the number of its bytes. None begins where a limit is
+// passed.
 ghost use Rattle.std.specs.Prelude.{◌≡◌, ◌+◌, ◌^◌, ◌<◌, ◌≤◌, length, take, true, slice_index, IfOk, IfSome, SomeIff};
 ghost use Rattle.rules_model.specs.TokensShapes.{base_of, number_of};
 ghost use Rattle.rules_model.specs.TokensReading.{is_digit, numeral_length, unquoted, name_at, whole_at, digits_at, based_at, begins_with, character_at, quoted_at, sign_at, limited, text_length};
@@ -18,7 +19,8 @@ const TEXT_BYTES: usize = 256;
 // A literal of a base, or a name, at a letter.
 pub(crate) fn word(alloc: Global, text: &[u8]) -> Result<Option<(TokenKind, usize)>, Memory>
     requires { length text.now < 2 ^ 32 }
-    ensures { IfOk result (λ found. as_token found ≡ limited (based_at (base_of (slice_index text.now 0)) text.now)) }
+    ensures { IfOk result (λ found.
+        as_token found ≡ limited (based_at (base_of (slice_index text.now 0)) text.now)) }
 {
     let [letter, mark, digits @ ..] = text else {
         return name(alloc, text)
@@ -98,7 +100,9 @@ fn numeral(base: u64, text: &[u8]) -> Option<(u64, usize)>
     requires small { base ≤ 16 }
     requires room { length text.now < 2 ^ 32 }
     ensures within { IfSome result (λ found. found.1 ≤ length text.now) }
-    ensures value { let number = number_of base (take (numeral_length base text.now) text.now) in SomeIff result (number < 2 ^ 64) (record { 0 = number; 1 = numeral_length base text.now }) }
+    ensures value { let number = number_of base (take (numeral_length base text.now) text.now) in
+        let length = numeral_length base text.now in
+        SomeIff result (number < 2 ^ 64) (record { 0 = number; 1 = length }) }
 {
     let [digit, behind @ ..] = text else {
         return None
@@ -122,7 +126,8 @@ pub(crate) fn character(text: &[u8]) -> Option<(TokenKind, usize)>
 // A text literal behind its first `"`.
 pub(crate) fn text(alloc: Global, text: &[u8]) -> Result<Option<(TokenKind, usize)>, Memory>
     requires { length text.now < 2 ^ 32 }
-    ensures { IfOk result (λ found. as_token found ≡ limited (quoted_at text.now (text_length text.now))) }
+    ensures { IfOk result (λ found.
+        as_token found ≡ limited (quoted_at text.now (text_length text.now))) }
 {
     let Some(length) = run::text_length(text) else {
         return Ok(None)

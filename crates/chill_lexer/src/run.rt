@@ -60,7 +60,8 @@ pub(crate) fn numeral(base: u64, first: u64, text: &[u8]) -> (usize, Option<u64>
     requires some { 0 < base }
     requires small { base ≤ 16 }
     ensures length { result.0 ≡ more_length base text.now }
-    ensures value { let number = fold (with_digit base) first (take (more_length base text.now) text.now) in SomeIff result.1 (number < 2 ^ 64) number }
+    ensures value { let number = fold (with_digit base) first (take (more_length base text.now) text.now) in
+        SomeIff result.1 (number < 2 ^ 64) number }
 {
     let mut value = Some(first);
     let mut length = 0;
@@ -89,7 +90,8 @@ fn is_apart(base: u64, text: &[u8]) -> bool
 // A number with one more digit: none above 2^64 - 1.
 fn with_digit(base: u64, value: Option<u64>, digit: u64) -> Option<u64>
     requires { 0 < base }
-    ensures { (n : ℕ) → SomeIff value (n < 2 ^ 64) n → SomeIff result (n * base + digit < 2 ^ 64) (n * base + digit) }
+    ensures { (n : ℕ) → SomeIff value (n < 2 ^ 64) n
+        → SomeIff result (n * base + digit < 2 ^ 64) (n * base + digit) }
 {
     value?.checked_mul(base)?.checked_add(digit)
 }

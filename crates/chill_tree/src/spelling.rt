@@ -1,4 +1,5 @@
-// How words and signs are spelled (Z.200, chapter on the lexical elements): the one table, read by all that read or write tokens.
+// How words and signs are spelled (Z.200, chapter on the lexical elements): the one table, read by all that read or
+// write tokens.
 ghost use Rattle.std.specs.Prelude.{◌≡◌, ◌-◌, ◌↔◌, IsTrue, IfSome, IfNone, nat_le, if◌then◌else◌};
 ghost use Rattle.chill_tree.specs.Spelling.{word_spelling, sign_spelling, lower_case, IsSpelled, word_of, words_beginning};
 

@@ -1,4 +1,4 @@
-use Rattle.std.proofs.Common.{◌≡◌, ap, sym, ◌∙◌, ℕ, ◌+◌, Option, Some, None, option_map, drop, take, List, arith}
+use Rattle.std.proofs.Common.{◌≡◌, ap, sym, ◌∙◌, ℕ, Some, option_map, drop, take, arith}
 use Rattle.std.proofs.lemmas.List.{take_rest}
 use Rattle.chill_base.specs.declared.pos.Pos.{Pos}
 use Rattle.rules_model.specs.TokensCut.{behind_all}

@@ -1,9 +1,9 @@
 use Rattle.std.proofs.Common.{◌≡◌, IfOk, ap, sym, subst, ◌∙◌, Option, ℕ, List, get_or, arith}
 use Rattle.std.proofs.lemmas.List.{take_rest}
 use Rattle.rules_model.specs.TokensShapes.{Piece}
-use Rattle.rules_model.specs.TokensReading.{limited, character_at, quoted_at, text_length, sign_at, piece_at}
+use Rattle.rules_model.specs.TokensReading.{limited, character_at, quoted_at, text_length, sign_at}
 use Rattle.chill_lexer.specs.Runs.{as_token}
-use Rattle.chill_lexer.proofs.FrontLemmas.{piece_empty, piece_word, piece_whole, decimal_begins, piece_character, piece_text, piece_sign}
+use Rattle.chill_lexer.proofs.FrontLemmas.{piece_empty, piece_word, piece_whole, piece_character, piece_text, piece_sign}
 use Rattle.chill_lexer.proofs.front.token.Goals as goal
 
 pub returns-in_default : goal.returns-in_default

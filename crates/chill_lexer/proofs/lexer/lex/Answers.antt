@@ -1,11 +1,10 @@
-use Rattle.std.proofs.Common.{◌≡◌, ◌≢◌, ℕ, ◌+◌, ◌<◌, ◌≤◌, List, [], length, drop, take, Some, None, subst, sym, ap, ◌∙◌, refl, arith}
+use Rattle.std.proofs.Common.{◌≡◌, ◌+◌, length, Some, None, subst, sym, arith}
 use Rattle.rules_model.specs.TokensShapes.{between, token}
-use Rattle.rules_model.specs.TokensCut.{behind_all, IsBadAt}
+use Rattle.rules_model.specs.TokensCut.{IsBadAt}
 use Rattle.rules_model.specs.TokensReading.{piece_at}
-use Rattle.chill_base.specs.declared.pos.Pos.{Pos}
 use Rattle.chill_lexer.specs.Front.{IsFront}
 use Rattle.chill_lexer.specs.declared.front.Front.TheVariants as fronts
-use Rattle.chill_lexer.proofs.LexerLemmas.{IsSoFar, nothing_yet, further_between, further_token, all_read, read_to_bad, piece_size, not_empty, piece_place, token_place}
+use Rattle.chill_lexer.proofs.LexerLemmas.{IsSoFar, further_between, further_token, read_to_bad, piece_size, not_empty, piece_place, token_place}
 use Rattle.chill_lexer.proofs.lexer.lex.Goals as goal
 
 is_between : (c : goal.In-Between) → IsFront c.loop-rest.at c.loop-rest.rest.now (fronts.Between c.in-Between.length c.in-Between.behind)

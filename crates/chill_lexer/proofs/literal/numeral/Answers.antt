@@ -1,6 +1,6 @@
-use Rattle.std.proofs.Common.{◌≡◌, ◌∙◌, arith, ap, refl}
+use Rattle.std.proofs.Common.{arith}
 use Rattle.std.proofs.lemmas.List.{take_rest}
-use Rattle.chill_lexer.proofs.RunLemmas.{numeral_found, numeral_above, more_within}
+use Rattle.chill_lexer.proofs.RunLemmas.{numeral_found, more_within}
 use Rattle.chill_lexer.proofs.literal.numeral.Goals as goal
 
 pub overflow_add-result : goal.overflow_add-result

@@ -1,8 +1,8 @@
-use Rattle.std.proofs.Common.{◌≡◌, ◌≢◌, ◌⊎◌, inl, inr, ℕ, ◌+◌, refl, arith, sym, ap, ◌∙◌, take, get_or}
+use Rattle.std.proofs.Common.{◌≢◌, ◌⊎◌, inl, inr, ◌+◌, refl, arith, sym, ap, ◌∙◌, get_or}
 use Rattle.chill_base.specs.declared.pos.Pos.{Pos}
-use Rattle.rules_model.specs.TokensCut.{behind, behind_all}
+use Rattle.rules_model.specs.TokensCut.{behind}
 use Rattle.rules_model.specs.TokensReading.{closing_length}
-use Rattle.chill_lexer.proofs.RunLemmas.{closing_behind, closing_start, closing_here, closing_on, closing_none, behind_all-more, behind-within, behind_closing}
+use Rattle.chill_lexer.proofs.RunLemmas.{closing_start, closing_here, closing_on, closing_none, behind_all-more, behind-within, behind_closing}
 use Rattle.chill_lexer.proofs.run.closing.Goals as goal
 use Rattle.chill_lexer.proofs.run.closing.Goals.{else-text-length-eq42-via-then-text-length-eq42+else-text-length-eq47, else-text-length-eq42-via-else-text-length-eq42}
 

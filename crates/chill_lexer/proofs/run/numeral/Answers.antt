@@ -1,4 +1,4 @@
-use Rattle.std.proofs.Common.{◌≡◌, ◌+◌, ◌*◌, ◌^◌, ◌<◌, ◌≤◌, ℕ, Option, false, true, List, length, take, drop, fold, SomeIff, subst, sym, ap, refl, ◌∙◌, arith, get_or}
+use Rattle.std.proofs.Common.{◌≡◌, ◌+◌, ◌*◌, ◌^◌, ◌<◌, ◌≤◌, ℕ, Option, false, true, List, take, drop, fold, SomeIff, subst, sym, ap, refl, ◌∙◌, arith, get_or}
 use Rattle.std.proofs.lemmas.List.{take_rest}
 use Rattle.rules_model.specs.TokensShapes.{with_digit, digit_of}
 use Rattle.rules_model.specs.TokensReading.{more_length}

@@ -1,6 +1,6 @@
-use Rattle.std.proofs.Common.{◌≡◌, inl, inr, refl, arith, sym, option_map, Option, Some, None, ℕ, ap, ◌∙◌}
+use Rattle.std.proofs.Common.{inl, inr, arith}
 use Rattle.rules_model.specs.TokensReading.{text_length}
-use Rattle.chill_lexer.proofs.RunLemmas.{found_behind, found_start, text_at_line, text_at_end, text_at_two, text_at_byte, text_at_all}
+use Rattle.chill_lexer.proofs.RunLemmas.{found_start, text_at_line, text_at_end, text_at_two, text_at_byte, text_at_all}
 use Rattle.chill_lexer.proofs.run.text_length.Goals as goal
 use Rattle.chill_lexer.proofs.run.text_length.Goals.{then-length-text-via-then-length-text, then-length-text-via-else-length-text+then-text-length-ne34}
 
