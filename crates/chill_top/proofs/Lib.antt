@@ -1,3 +1,4 @@
+pub mod OneList
 pub mod Tokens
 pub mod Readings
 pub mod Pieces

@@ -3,7 +3,7 @@ use Rattle.std.proofs.Common.{◌≡◌, ℕ, ◌+◌, ◌-◌, ◌<◌, ◌≤�
 use Rattle.std.specs.Prelude.{None, Some, Ok, Err}
 use Rattle.std.specs.declared.result.Result.{Result}
 use Rattle.chill_base.specs.declared.memory.Memory.{Memory}
-use Rattle.chill_tree.specs.Sums.{Sums, IsNoSums}
+use Rattle.chill_top.specs.Sums.{Sums, IsNoSums}
 use Rattle.chill_top.specs.Plan.{IsTextOf, IsReadingOf, IsPlanFor, sums_plan, refusal_plan}
 use Rattle.chill_top.specs.declared.plan.Plan.{Plan}
 use Rattle.std.specs.declared.option.Option.{Option}

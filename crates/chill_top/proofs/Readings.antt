@@ -4,7 +4,7 @@ use Rattle.std.specs.Prelude.{codes, Some, None}
 use Rattle.std.specs.declared.option.Option.{Option}
 use Rattle.std.specs.List.{AllByRecursion}
 use Rattle.std.specs.Str.Parse.{digits_value}
-use Rattle.chill_tree.specs.Sums.{IsWhole, IsSum, sum_of, plus_tokens, sum_tokens, actions_tokens, action_tokens, end_tokens, form_tokens, module_tokens, Sums}
+use Rattle.chill_top.specs.Sums.{IsWhole, IsSum, sum_of, plus_tokens, sum_tokens, actions_tokens, action_tokens, end_tokens, form_tokens, module_tokens, Sums}
 use Rattle.chill_top.specs.Reading.{Begins, BeginsNot, IsWholeAt, IsMoreAt, IsFurtherAt, IsActionAt, IsBodyAt, IsHeadAt, AreActionsAt, Alone, Nowhere}
 
 -- the first number of a token, and 0 of none

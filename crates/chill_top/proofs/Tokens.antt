@@ -4,7 +4,7 @@ use Rattle.std.proofs.lemmas.Bool.Decides.{nat_tests}
 use Rattle.std.specs.List.{AllByRecursion}
 use Rattle.std.specs.Char.{digit_value, is_ascii_digit}
 use Rattle.std.specs.Str.Parse.{digits_value_after}
-use Rattle.chill_tree.specs.Sums.{is_gap, is_word_byte, is_letter, begins_word, with_word_byte, form_tokens}
+use Rattle.chill_top.specs.Sums.{is_gap, is_word_byte, is_letter, begins_word, with_word_byte, form_tokens}
 
 true_not_false : true ≡ false → ⊥
 true_not_false e = cc

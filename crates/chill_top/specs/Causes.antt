@@ -6,7 +6,7 @@ use Rattle.outside_ports.specs.Faults.{Rose}
 use Rattle.chill_base.specs.declared.ends.Over.{Over}
 use Rattle.chill_base.specs.declared.ends.Over.TheVariants.{AllEnded}
 use Rattle.chill_base.specs.declared.event.Event.{Event}
-use Rattle.chill_tree.specs.Sums.{Sums, IsNoSums}
+use Rattle.chill_top.specs.Sums.{Sums, IsNoSums}
 use Rattle.chill_top.specs.Run.{run_of}
 use Rattle.chill_top.specs.Plan.{IsTextNamed, file_of}
 use Rattle.chill_top.specs.declared.plan.Plan.{Plan}

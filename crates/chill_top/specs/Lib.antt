@@ -1,3 +1,4 @@
+pub mod Sums
 pub mod Reading
 pub mod Run
 pub mod Plan

@@ -3,7 +3,7 @@ use Rattle.std.specs.Prelude.{◌≡◌, ◌⊎◌, ℕ, List, [], ◌∷◌, �
 use Rattle.std.specs.declared.option.Option.{Option}
 use Rattle.std.specs.Str.{bytes_eq}
 use Rattle.chill_base.specs.declared.ends.Over.TheVariants.{AllEnded}
-use Rattle.chill_tree.specs.Sums.{Sums, IsNoSums}
+use Rattle.chill_top.specs.Sums.{Sums, IsNoSums}
 use Rattle.chill_top.specs.Run.{run_of, output_of}
 use Rattle.chill_top.specs.declared.plan.Plan.{Plan}
 

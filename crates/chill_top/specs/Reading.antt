@@ -3,7 +3,7 @@ use Rattle.std.specs.Prelude.{◌≡◌, ℕ, ◌+◌, ◌^◌, ◌<◌, ◌≤�
 use Rattle.std.specs.declared.option.Option.{Option}
 use Rattle.std.specs.List.{AllByRecursion}
 use Rattle.std.specs.Str.Parse.{digits_value}
-use Rattle.chill_tree.specs.Sums.{IsWhole, IsSum, sum_of, plus_tokens, sum_tokens, actions_tokens, end_tokens, is_letter, is_gap}
+use Rattle.chill_top.specs.Sums.{IsWhole, IsSum, sum_of, plus_tokens, sum_tokens, actions_tokens, end_tokens, is_letter, is_gap}
 
 -- what was read is a front of the file, where that is told
 abbrev pub IsFront : Option (List ℕ) → List ℕ → Type 0

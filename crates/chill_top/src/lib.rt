@@ -5,6 +5,7 @@
 //! program, which puts real files and streams behind the ports.
 #![tactic(auto)]
 
+mod form;
 mod plan;
 mod read;
 mod run;
@@ -13,6 +14,7 @@ mod top;
 mod words;
 mod write;
 
+pub use form::one_list_of_sums;
 pub use top::{Outcome, chill};
 
 #[cfg(test)]

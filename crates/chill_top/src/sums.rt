@@ -1,6 +1,6 @@
 // The reader of sums. It takes one token at a time.
 ghost use Rattle.std.specs.Prelude.{◌≡◌, ◌↔◌, ◌+◌, ◌<◌, ◌≤◌, ◌^◌, [], ◌∷◌, length, ℕ, IsTrue, IfSome, IfNone, IfOk, MatchOption};
-ghost use Rattle.chill_tree.specs.Sums.{form_tokens, end_tokens, Sums, IsNoSums};
+ghost use Rattle.chill_top.specs.Sums.{form_tokens, end_tokens, Sums, IsNoSums};
 ghost use Rattle.chill_top.specs.Reading.{IsMoreAt, IsFurtherAt, IsActionAt, IsBodyAt, IsHeadAt, AreActionsAt, Alone, Nowhere};
 
 use crate::read::MAX_BYTES;

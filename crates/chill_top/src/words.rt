@@ -3,7 +3,7 @@ ghost use Rattle.std.specs.Prelude.{◌≡◌, ◌<◌, ◌≤◌, ◌^◌, true
 ghost use Rattle.std.specs.List.{AllByRecursion};
 ghost use Rattle.std.specs.Option.{SomeIff};
 ghost use Rattle.std.specs.Str.Parse.{IsNumeral, digits_value};
-ghost use Rattle.chill_tree.specs.Sums.{form_tokens, is_gap, is_letter, is_word_byte, begins_word};
+ghost use Rattle.chill_top.specs.Sums.{form_tokens, is_gap, is_letter, is_word_byte, begins_word};
 ghost use Rattle.chill_top.specs.Reading.{Begins, BeginsNot, IsWholeAt, Nowhere, begins_gap};
 
 // A whole literal has at most this many digits.

@@ -1,4 +1,3 @@
-pub mod OneList
 pub mod SpellingLemmas
 pub mod ExprViews
 pub mod ItemViews

@@ -1,4 +1,3 @@
-pub mod Sums
 pub mod Spelling
 pub mod ExprTree
 pub mod ItemTree

@@ -5,9 +5,7 @@
 #![tactic(auto)]
 
 mod spelling;
-mod sums;
 mod token;
 pub mod tree;
 
-pub use sums::one_list_of_sums;
 pub use token::{Sign, Token, TokenKind, Tokens, Word};

@@ -1,6 +1,6 @@
 use Rattle.std.proofs.Common.{◌≡◌, ℕ, List, length, map}
 use Rattle.std.specs.List.{AllByRecursion}
-use Rattle.chill_tree.specs.Sums.{form_tokens, IsSum, sum_of, actions_tokens}
+use Rattle.chill_top.specs.Sums.{form_tokens, IsSum, sum_of, actions_tokens}
 use Rattle.chill_top.specs.Reading.{IsBodyAt}
 use Rattle.chill_top.proofs.Readings.{AreReadTo}
 use Rattle.chill_top.proofs.sums.actions.Given as goal

@@ -1,5 +1,5 @@
 use Rattle.std.proofs.Common.{◌-◌, ◌≤◌, ℕ, List, length}
-use Rattle.chill_tree.specs.Sums.{form_tokens}
+use Rattle.chill_top.specs.Sums.{form_tokens}
 use Rattle.chill_top.specs.Reading.{IsFurtherAt}
 use Rattle.chill_top.proofs.sums.further.Given as goal
 

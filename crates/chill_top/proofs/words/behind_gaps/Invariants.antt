@@ -1,5 +1,5 @@
 use Rattle.std.proofs.Common.{◌≡◌, ◌≤◌, length}
-use Rattle.chill_tree.specs.Sums.{form_tokens}
+use Rattle.chill_top.specs.Sums.{form_tokens}
 use Rattle.chill_top.proofs.words.behind_gaps.Given as goal
 
 -- what is left has the tokens of the whole

@@ -1,6 +1,6 @@
 use Rattle.std.proofs.Common.{take, drop, ap, sym, ◌∙◌}
 use Rattle.std.proofs.lemmas.List.{take-append-drop}
-use Rattle.chill_tree.specs.Sums.{form_tokens}
+use Rattle.chill_top.specs.Sums.{form_tokens}
 use Rattle.chill_top.proofs.Tokens.{word_run, word_begins}
 use Rattle.chill_top.proofs.words.token_length.Goals as goal
 

@@ -1,6 +1,6 @@
 use Rattle.std.proofs.Common.{◌≡◌, ◌≤◌, ◌-◌, length, take, true}
 use Rattle.std.specs.List.{AllByRecursion}
-use Rattle.chill_tree.specs.Sums.{is_word_byte}
+use Rattle.chill_top.specs.Sums.{is_word_byte}
 use Rattle.chill_top.proofs.words.word_length.Given as goal
 
 -- the bytes so far belong to a word

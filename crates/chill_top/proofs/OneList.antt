@@ -2,7 +2,7 @@
 use Rattle.std.proofs.Common.{◌≡◌, ℕ, ◌<◌, List, [], ◌∷◌, ◌++◌, length, map, refl, ap, sym, ◌∙◌, lit<, arith}
 use Rattle.std.specs.Prelude.{codes}
 use Rattle.std.specs.List.{AllByRecursion}
-use Rattle.chill_tree.specs.Sums.{IsSum, Sums, sum_of, plus_tokens, sum_tokens, actions_tokens, end_tokens, module_tokens}
+use Rattle.chill_top.specs.Sums.{IsSum, Sums, sum_of, plus_tokens, sum_tokens, actions_tokens, end_tokens, module_tokens}
 
 -- the first number of a list, and 0 of none
 abbrev first : List ℕ → ℕ
