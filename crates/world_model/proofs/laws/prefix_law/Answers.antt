@@ -1,0 +1,5 @@
+use Rattle.world_model.proofs.Runs.{prefix_law}
+use Rattle.world_model.proofs.laws.prefix_law.Goals as goal
+
+pub returns : goal.returns
+returns c = prefix_law

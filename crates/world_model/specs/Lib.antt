@@ -1,0 +1,12 @@
+pub mod Lists
+pub mod Input
+pub mod Waiting
+pub mod World
+pub mod Ranges
+pub mod Allowed
+pub mod Gives
+pub mod Journal
+pub mod Session
+pub mod Over
+pub mod Laws
+pub mod Examples
