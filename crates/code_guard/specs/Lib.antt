@@ -1,0 +1,4 @@
+pub mod Owners
+pub mod Fitting
+pub mod Heights
+pub mod Guarding

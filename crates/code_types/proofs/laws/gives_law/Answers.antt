@@ -1,0 +1,5 @@
+use Rattle.code_types.proofs.laws.gives_law.Goals as goal
+use Rattle.code_types.proofs.Giving.{gives_tells}
+
+pub returns : goal.returns
+returns c = gives_tells

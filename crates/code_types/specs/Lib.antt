@@ -1,0 +1,12 @@
+pub mod Numbers
+pub mod Powersets
+pub mod Places
+pub mod State
+pub mod Answers
+pub mod Operands
+pub mod Actions
+pub mod Steps
+pub mod Talk
+pub mod Agreement
+pub mod Runs
+pub mod Laws
