@@ -1,0 +1,3 @@
+pub mod Expressing
+pub mod Giving
+pub mod Parts

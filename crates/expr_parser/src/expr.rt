@@ -1,0 +1,603 @@
+// Readers of expressions and of their parts (Z.200, chapter on values).
+ghost use Rattle.std.specs.Prelude.{◌≡◌, ◌-◌, ◌<◌, ◌∷◌, [], option_map, IfOk};
+ghost use Rattle.chill_tree.specs.ExprTree.{expr_tree, range_tree, expr_trees, range_trees};
+ghost use Rattle.expr_parser.specs.Giving.{Gives};
+ghost use Rattle.expr_parser.specs.Parts.{part_of};
+ghost use Rattle.rules_model.specs.Marks as marks;
+ghost use Rattle.rules_model.specs.ExprGrammar as grammar;
+ghost use Rattle.rules_model.specs.Reading.{repeat, push, another_at, listed_at};
+ghost use Rattle.rules_model.specs.ExprReading.{args_at, field_at, part_at, parts_at, named_at, paren_at, range_at, uniform_at, ranges_at, tuple_at, begun_at, operand_at, prefixed_at, operator_at, turn_at, ranked_at, expr_at};
+ghost use Rattle.rules_model.specs.ExprReading as reading;
+
+use crate::ParseRefusal;
+use crate::reader::{operator_of, read_name, read_sign, read_word, starts, starts_with};
+use chill_base::{Item, List, Memory, Pos};
+use chill_tree::tree::{Expr, Name, Operator, Prefix, ValueRange};
+use chill_tree::{Sign, Token, TokenKind, Word};
+use std::alloc::Global;
+
+/// How many operators of one rank stand in a row, and how many parts behind a name, at most.
+const TURNS: usize = 32;
+
+/// The loosest rank of an operator.
+const LOOSEST: usize = 5;
+
+/// Reads the longest expression at the front, behind an opening token at the place `opened` where `room` levels of
+/// nesting are left.
+#[cycle(expr)]
+#[tactic(auto, unfolding(rules_model::specs::ExprReading::expr_at))]
+pub fn read_expr(
+    alloc: Global,
+    tokens: &[Token],
+    room: usize,
+    opened: Pos,
+) -> Result<(Expr, &[Token]), ParseRefusal>
+    ensures { Gives (λ x. (expr_tree x.0, x.1.now)) result (expr_at room opened tokens.now) }
+{
+    if room == 0 {
+        return Err(ParseRefusal::TooDeep { at: opened });
+    }
+    ranked(alloc, tokens, LOOSEST, room - 1)
+}
+
+/// Reads the longest expression at the front, where `inner` levels are left behind its opening tokens.
+pub fn read_value(
+    alloc: Global,
+    tokens: &[Token],
+    inner: usize,
+) -> Result<(Expr, &[Token]), ParseRefusal>
+    ensures { Gives (λ x. (expr_tree x.0, x.1.now)) result (ranked_at inner (expr_at inner) 5 tokens.now) }
+{
+    ranked(alloc, tokens, LOOSEST, inner)
+}
+
+// Reads an expression whose operators outside brackets have at most this rank.
+#[cycle(expr)]
+#[tactic(auto, unfolding(rules_model::specs::ExprReading::ranked_at))]
+fn ranked(
+    alloc: Global,
+    tokens: &[Token],
+    rank: usize,
+    inner: usize,
+) -> Result<(Expr, &[Token]), ParseRefusal>
+    ensures { Gives (λ x. (expr_tree x.0, x.1.now)) result (ranked_at inner (expr_at inner) rank tokens.now) }
+{
+    if rank == 0 {
+        return prefixed(alloc, tokens, inner);
+    }
+    let (first, rest) = ranked(alloc, tokens, rank - 1, inner)?;
+    turns(alloc, first, rest, rank, inner)
+}
+
+// Reads the operators of this rank behind an expression, with what they are for.
+#[cycle(expr)]
+#[tactic(auto, using(crate::proofs::Repeats::repeats))]
+fn turns(
+    alloc: Global,
+    first: Expr,
+    tokens: &[Token],
+    rank: usize,
+    inner: usize,
+) -> Result<(Expr, &[Token]), ParseRefusal>
+    requires { 0 < rank }
+    ensures { Gives (λ x. (expr_tree x.0, x.1.now)) result (repeat (turn_at (ranked_at inner (expr_at inner) (rank - 1)) rank) reading.with_turn 32 (expr_tree first) tokens.now) }
+{
+    let mut left = first;
+    let mut rest = tokens;
+    for _ in 0..TURNS {
+        let Some((turn, after)) = turn(alloc, rest, rank, inner)? else {
+            return Ok((left, rest));
+        };
+        left = with_turn(alloc, left, turn)?;
+        rest = after;
+    }
+    Ok((left, rest))
+}
+
+// An operator with its place, and what stands behind it.
+#[derive(Drop)]
+struct Behind {
+    sign: Pos,
+    operator: Operator,
+    right: Expr,
+}
+
+// An expression with one more operator.
+fn with_turn(alloc: Global, left: Expr, turn: Behind) -> Result<Expr, Memory>
+    ensures { IfOk result (λ e. expr_tree e ≡ reading.with_turn (expr_tree left) ((turn.sign, turn.operator), expr_tree turn.right)) }
+{
+    Expr::binary(alloc, left, turn.operator, turn.sign, turn.right)
+}
+
+// Reads an operator of this rank and what stands behind it, if both are there.
+#[cycle(expr)]
+#[tactic(auto, unfolding(rules_model::specs::ExprReading::turn_at))]
+fn turn(
+    alloc: Global,
+    tokens: &[Token],
+    rank: usize,
+    inner: usize,
+) -> Result<Option<(Behind, &[Token])>, ParseRefusal>
+    requires { 0 < rank }
+    ensures { Gives (option_map (λ x. (((x.0.sign, x.0.operator), expr_tree x.0.right), x.1.now))) result (turn_at (ranked_at inner (expr_at inner) (rank - 1)) rank tokens.now) }
+{
+    match operator(tokens, rank) {
+        Some((sign, operator, rest)) => match ranked(alloc, rest, rank - 1, inner) {
+            Ok((right, after)) => Ok(Some((
+                Behind {
+                    sign,
+                    operator,
+                    right,
+                },
+                after,
+            ))),
+            Err(ParseRefusal::NoProgram { .. }) => Ok(None),
+            Err(refusal) => Err(refusal),
+        },
+        None => Ok(None),
+    }
+}
+
+// An operator of this rank at the front, with its place and the tokens behind it.
+#[tactic(auto, unfolding(rules_model::specs::ExprReading::operator_at))]
+fn operator(tokens: &[Token], wanted: usize) -> Option<(Pos, Operator, &[Token])>
+    ensures { option_map (λ x. ((x.0, x.1), x.2.now)) result ≡ operator_at wanted tokens.now }
+{
+    match tokens {
+        [token, rest @ ..] => match operator_of(&token.kind) {
+            Some(operator) => {
+                if rank_of(operator) == wanted {
+                    Some((token.at, operator, rest))
+                } else {
+                    None
+                }
+            }
+            None => None,
+        },
+        [] => None,
+    }
+}
+
+// How loosely an operator binds.
+fn rank_of(operator: Operator) -> usize
+    ensures { result ≡ marks.rank_of operator }
+{
+    match operator {
+        Operator::Or | Operator::Xor | Operator::OrIf => 5,
+        Operator::And | Operator::AndIf => 4,
+        Operator::Equal | Operator::NotEqual | Operator::Less | Operator::LessOrEqual => 3,
+        Operator::Greater | Operator::GreaterOrEqual | Operator::In => 3,
+        Operator::Plus | Operator::Minus => 2,
+        Operator::Times | Operator::Divide | Operator::Mod | Operator::Rem => 1,
+    }
+}
+
+// Reads an operand, with an operator before it or none.
+#[cycle(expr)]
+#[tactic(auto, unfolding(rules_model::specs::ExprReading::prefixed_at))]
+fn prefixed(alloc: Global, tokens: &[Token], inner: usize) -> Result<(Expr, &[Token]), ParseRefusal>
+    ensures { Gives (λ x. (expr_tree x.0, x.1.now)) result (prefixed_at inner (expr_at inner) tokens.now) }
+{
+    if starts(tokens, Sign::Minus) {
+        let (at, rest) = read_sign(tokens, Sign::Minus)?;
+        let (number, rest) = operand(alloc, rest, inner)?;
+        return Ok((Expr::prefixed(alloc, at, Prefix::Minus, number)?, rest));
+    }
+    if starts_with(tokens, Word::Not) {
+        let (at, rest) = read_word(tokens, Word::Not)?;
+        let (truth, rest) = operand(alloc, rest, inner)?;
+        return Ok((Expr::prefixed(alloc, at, Prefix::Not, truth)?, rest));
+    }
+    operand(alloc, tokens, inner)
+}
+
+// Reads a literal, an expression in parentheses, a tuple, or a name with its parts.
+#[cycle(expr)]
+#[tactic(auto, unfolding(rules_model::specs::ExprReading::operand_at))]
+fn operand(alloc: Global, tokens: &[Token], inner: usize) -> Result<(Expr, &[Token]), ParseRefusal>
+    ensures { Gives (λ x. (expr_tree x.0, x.1.now)) result (operand_at inner (expr_at inner) tokens.now) }
+{
+    match tokens {
+        [token, rest @ ..] => match &token.kind {
+            TokenKind::Whole(value) => Ok((Expr::whole(token.at, *value), rest)),
+            TokenKind::Char(value) => Ok((Expr::character(token.at, *value), rest)),
+            TokenKind::Text(value) => Ok((Expr::text(token.at, value.copy()?), rest)),
+            TokenKind::Name(text) => {
+                let text = text.copy()?;
+                begun(alloc, Name { at: token.at, text }, rest, inner)
+            }
+            TokenKind::Word(Word::This) => Ok((Expr::this_instance(token.at), rest)),
+            TokenKind::Word(Word::Receive) => {
+                let (buffer, rest) = read_name(rest)?;
+                Ok((Expr::receive(token.at, buffer), rest))
+            }
+            TokenKind::Word(Word::Start) => {
+                let (process, rest) = read_name(rest)?;
+                let (args, rest) = read_args(alloc, rest, inner)?;
+                Ok((Expr::start(token.at, process, args), rest))
+            }
+            TokenKind::Sign(Sign::Open) => paren(alloc, tokens, inner),
+            TokenKind::Sign(Sign::OpenBracket) => tuple(alloc, None, tokens, inner),
+            _ => Err(ParseRefusal::NoProgram { at: Some(token.at) }),
+        },
+        [] => Err(ParseRefusal::NoProgram { at: None }),
+    }
+}
+
+// Reads an expression in parentheses.
+#[cycle(expr)]
+#[tactic(auto, unfolding(rules_model::specs::ExprReading::paren_at))]
+fn paren(alloc: Global, tokens: &[Token], inner: usize) -> Result<(Expr, &[Token]), ParseRefusal>
+    ensures { Gives (λ x. (expr_tree x.0, x.1.now)) result (paren_at (expr_at inner) tokens.now) }
+{
+    let (at, rest) = read_sign(tokens, Sign::Open)?;
+    let (of, rest) = read_expr(alloc, rest, inner, at)?;
+    let (_, rest) = read_sign(rest, Sign::Close)?;
+    Ok((Expr::paren(alloc, at, of)?, rest))
+}
+
+// Reads what a name begins: a tuple, or the name's parts.
+#[cycle(expr)]
+#[tactic(auto, unfolding(rules_model::specs::ExprReading::begun_at))]
+fn begun(
+    alloc: Global,
+    name: Name,
+    tokens: &[Token],
+    inner: usize,
+) -> Result<(Expr, &[Token]), ParseRefusal>
+    ensures { Gives (λ x. (expr_tree x.0, x.1.now)) result (begun_at inner (expr_at inner) name tokens.now) }
+{
+    if !starts(tokens, Sign::OpenBracket) {
+        return parts(alloc, Expr::name(name), tokens, inner);
+    }
+    let text = name.text.copy()?;
+    let mode = Name { at: name.at, text };
+    match tuple(alloc, Some(mode), tokens, inner) {
+        Ok((found, rest)) => Ok((found, rest)),
+        Err(ParseRefusal::NoProgram { .. }) => Ok((Expr::name(name), tokens)),
+        Err(refusal) => Err(refusal),
+    }
+}
+
+/// Reads a name and the parts behind it, where `inner` levels are left behind an opening token: a location, or what
+/// a call begins with.
+#[tactic(auto, unfolding(rules_model::specs::ExprReading::named_at))]
+pub fn read_named(
+    alloc: Global,
+    tokens: &[Token],
+    inner: usize,
+) -> Result<(Expr, &[Token]), ParseRefusal>
+    ensures { Gives (λ x. (expr_tree x.0, x.1.now)) result (named_at inner (expr_at inner) tokens.now) }
+{
+    let (name, rest) = read_name(tokens)?;
+    parts(alloc, Expr::name(name), rest, inner)
+}
+
+// A part behind a name.
+#[derive(Drop)]
+enum NamePart {
+    Args(List<Expr>),
+    Field(Name),
+}
+
+// Reads the parts behind a name.
+#[cycle(expr)]
+#[tactic(auto, using(crate::proofs::Repeats::repeats))]
+fn parts(
+    alloc: Global,
+    first: Expr,
+    tokens: &[Token],
+    inner: usize,
+) -> Result<(Expr, &[Token]), ParseRefusal>
+    ensures { Gives (λ x. (expr_tree x.0, x.1.now)) result (parts_at inner (expr_at inner) (expr_tree first) tokens.now) }
+{
+    let mut of = first;
+    let mut rest = tokens;
+    for _ in 0..TURNS {
+        let Some((piece, after)) = part(alloc, rest, inner)? else {
+            return Ok((of, rest));
+        };
+        of = with_part(alloc, of, piece)?;
+        rest = after;
+    }
+    Ok((of, rest))
+}
+
+// An expression with one more part.
+fn with_part(alloc: Global, of: Expr, part: NamePart) -> Result<Expr, Memory>
+    ensures { IfOk result (λ e. expr_tree e ≡ reading.with_part (expr_tree of) (part_of part)) }
+{
+    match part {
+        NamePart::Args(args) => Expr::apply(alloc, of, args),
+        NamePart::Field(name) => Expr::field(alloc, of, name),
+    }
+}
+
+// Reads a part behind a name, if a whole one is there.
+#[cycle(expr)]
+#[tactic(auto, unfolding(rules_model::specs::ExprReading::part_at))]
+fn part(
+    alloc: Global,
+    tokens: &[Token],
+    inner: usize,
+) -> Result<Option<(NamePart, &[Token])>, ParseRefusal>
+    ensures { Gives (option_map (λ x. (part_of x.0, x.1.now))) result (part_at inner (expr_at inner) tokens.now) }
+{
+    if starts(tokens, Sign::Open) {
+        return match read_args(alloc, tokens, inner) {
+            Ok((args, rest)) => Ok(Some((NamePart::Args(args), rest))),
+            Err(ParseRefusal::NoProgram { .. }) => Ok(None),
+            Err(refusal) => Err(refusal),
+        };
+    }
+    if starts(tokens, Sign::Dot) {
+        return match field(tokens) {
+            Ok((name, rest)) => Ok(Some((NamePart::Field(name), rest))),
+            Err(ParseRefusal::NoProgram { .. }) => Ok(None),
+            Err(refusal) => Err(refusal),
+        };
+    }
+    Ok(None)
+}
+
+// Reads a field behind a dot.
+#[tactic(auto, unfolding(rules_model::specs::ExprReading::field_at))]
+fn field(tokens: &[Token]) -> Result<(Name, &[Token]), ParseRefusal>
+    ensures { Gives (λ x. (x.0, x.1.now)) result (field_at tokens.now) }
+{
+    let (_, rest) = read_sign(tokens, Sign::Dot)?;
+    read_name(rest)
+}
+
+/// Reads a list of arguments in its parentheses, in which `inner` levels are left.
+#[cycle(expr)]
+#[tactic(auto, unfolding(rules_model::specs::ExprReading::args_at))]
+pub fn read_args(
+    alloc: Global,
+    tokens: &[Token],
+    inner: usize,
+) -> Result<(List<Expr>, &[Token]), ParseRefusal>
+    ensures { Gives (λ x. (expr_trees x.0, x.1.now)) result (args_at inner (expr_at inner) tokens.now) }
+{
+    let (opened, rest) = read_sign(tokens, Sign::Open)?;
+    if inner == 0 {
+        return Err(ParseRefusal::TooDeep { at: opened });
+    }
+    if starts(rest, Sign::Close) {
+        let (_, rest) = read_sign(rest, Sign::Close)?;
+        return Ok((List::new(alloc), rest));
+    }
+    let (args, rest) = read_exprs(alloc, rest, inner, opened)?;
+    let (_, rest) = read_sign(rest, Sign::Close)?;
+    Ok((args, rest))
+}
+
+/// Reads expressions with commas between them, at least one, each as `read_expr` does.
+#[cycle(expr)]
+#[tactic(auto, unfolding(rules_model::specs::Reading::listed_at))]
+pub fn read_exprs(
+    alloc: Global,
+    tokens: &[Token],
+    room: usize,
+    opened: Pos,
+) -> Result<(List<Expr>, &[Token]), ParseRefusal>
+    ensures { Gives (λ x. (expr_trees x.0, x.1.now)) result (listed_at (expr_at room opened) tokens.now) }
+{
+    let (first, rest) = read_expr(alloc, tokens, room, opened)?;
+    let mut items = List::new(alloc);
+    items.push(first)?;
+    other_exprs(alloc, items, rest, room, opened, tokens.len())
+}
+
+// Reads further expressions, each behind a comma.
+#[cycle(expr)]
+#[tactic(auto, using(crate::proofs::Repeats::repeats))]
+fn other_exprs(
+    alloc: Global,
+    first: List<Expr>,
+    tokens: &[Token],
+    room: usize,
+    opened: Pos,
+    limit: usize,
+) -> Result<(List<Expr>, &[Token]), ParseRefusal>
+    ensures { Gives (λ x. (expr_trees x.0, x.1.now)) result (repeat (another_at (expr_at room opened)) push limit (expr_trees first) tokens.now) }
+{
+    let mut items = first;
+    let mut rest = tokens;
+    for _ in 0..limit {
+        let Some((item, after)) = another_expr(alloc, rest, room, opened)? else {
+            return Ok((items, rest));
+        };
+        items.push(item)?;
+        rest = after;
+    }
+    Ok((items, rest))
+}
+
+// Reads a comma and an expression, if the comma is there.
+#[cycle(expr)]
+#[tactic(auto, unfolding(rules_model::specs::Reading::another_at))]
+fn another_expr(
+    alloc: Global,
+    tokens: &[Token],
+    room: usize,
+    opened: Pos,
+) -> Result<Option<(Expr, &[Token])>, ParseRefusal>
+    ensures { Gives (option_map (λ x. (expr_tree x.0, x.1.now))) result (another_at (expr_at room opened) tokens.now) }
+{
+    if !starts(tokens, Sign::Comma) {
+        return Ok(None);
+    }
+    let (_, rest) = read_sign(tokens, Sign::Comma)?;
+    let (item, rest) = read_expr(alloc, rest, room, opened)?;
+    Ok(Some((item, rest)))
+}
+
+// Reads a tuple from its bracket on.
+#[cycle(expr)]
+#[tactic(auto, unfolding(rules_model::specs::ExprReading::tuple_at))]
+fn tuple(
+    alloc: Global,
+    mode: Option<Name>,
+    tokens: &[Token],
+    inner: usize,
+) -> Result<(Expr, &[Token]), ParseRefusal>
+    ensures { Gives (λ x. (expr_tree x.0, x.1.now)) result (tuple_at inner (expr_at inner) mode tokens.now) }
+{
+    let (bracket, rest) = read_sign(tokens, Sign::OpenBracket)?;
+    if inner == 0 {
+        return Err(ParseRefusal::TooDeep { at: bracket });
+    }
+    if starts_uniform(rest) {
+        return uniform(alloc, mode, bracket, rest, inner);
+    }
+    let (parts, rest) = tuple_parts(alloc, rest, inner, bracket)?;
+    let at = tuple_place(&mode, bracket);
+    Ok((Expr::tuple(at, mode, bracket, parts), rest))
+}
+
+// The place of a tuple's first token.
+fn tuple_place(mode: &Option<Name>, bracket: Pos) -> Pos
+    ensures { result ≡ grammar.tuple_place mode.now bracket }
+{
+    match mode {
+        Some(name) => name.at,
+        None => bracket,
+    }
+}
+
+// Whether a tuple goes on with a parenthesis and a `*`.
+fn starts_uniform(tokens: &[Token]) -> bool
+    ensures { result ≡ reading.begins_uniform tokens.now }
+{
+    match tokens {
+        [_, rest @ ..] => starts(tokens, Sign::Open) && starts(rest, Sign::Times),
+        [] => false,
+    }
+}
+
+// Reads a tuple whose elements all have one value, from behind its bracket on.
+#[cycle(expr)]
+#[tactic(auto, unfolding(rules_model::specs::ExprReading::uniform_at))]
+fn uniform(
+    alloc: Global,
+    mode: Option<Name>,
+    bracket: Pos,
+    tokens: &[Token],
+    inner: usize,
+) -> Result<(Expr, &[Token]), ParseRefusal>
+    ensures { Gives (λ x. (expr_tree x.0, x.1.now)) result (uniform_at inner (expr_at inner) mode bracket tokens.now) }
+{
+    let (opened, rest) = read_sign(tokens, Sign::Open)?;
+    if inner < 2 {
+        return Err(ParseRefusal::TooDeep { at: opened });
+    }
+    let (_, rest) = read_sign(rest, Sign::Times)?;
+    let (_, rest) = read_sign(rest, Sign::Close)?;
+    let (_, rest) = read_sign(rest, Sign::Colon)?;
+    let (value, rest) = read_expr(alloc, rest, inner, bracket)?;
+    let (_, rest) = read_sign(rest, Sign::CloseBracket)?;
+    let at = tuple_place(&mode, bracket);
+    Ok((Expr::uniform(alloc, at, mode, bracket, value)?, rest))
+}
+
+// Reads the parts of a tuple, and the bracket that closes it.
+#[cycle(expr)]
+#[tactic(auto, unfolding(rules_model::specs::ExprReading::ranges_at))]
+fn tuple_parts(
+    alloc: Global,
+    tokens: &[Token],
+    inner: usize,
+    bracket: Pos,
+) -> Result<(List<ValueRange>, &[Token]), ParseRefusal>
+    ensures { Gives (λ x. (range_trees x.0, x.1.now)) result (ranges_at (expr_at inner) bracket tokens.now) }
+{
+    if starts(tokens, Sign::CloseBracket) {
+        let (_, rest) = read_sign(tokens, Sign::CloseBracket)?;
+        return Ok((List::new(alloc), rest));
+    }
+    let (parts, rest) = read_ranges(alloc, tokens, inner, bracket)?;
+    let (_, rest) = read_sign(rest, Sign::CloseBracket)?;
+    Ok((parts, rest))
+}
+
+/// Reads expressions or ranges with commas between them, at least one, each as `read_range` does.
+#[cycle(expr)]
+#[tactic(auto, unfolding(rules_model::specs::Reading::listed_at))]
+pub fn read_ranges(
+    alloc: Global,
+    tokens: &[Token],
+    room: usize,
+    opened: Pos,
+) -> Result<(List<ValueRange>, &[Token]), ParseRefusal>
+    ensures { Gives (λ x. (range_trees x.0, x.1.now)) result (listed_at (range_at (expr_at room opened)) tokens.now) }
+{
+    let (first, rest) = read_range(alloc, tokens, room, opened)?;
+    let mut items = List::new(alloc);
+    items.push(first)?;
+    other_ranges(alloc, items, rest, room, opened, tokens.len())
+}
+
+// Reads further ranges, each behind a comma.
+#[cycle(expr)]
+#[tactic(auto, using(crate::proofs::Repeats::repeats))]
+fn other_ranges(
+    alloc: Global,
+    first: List<ValueRange>,
+    tokens: &[Token],
+    room: usize,
+    opened: Pos,
+    limit: usize,
+) -> Result<(List<ValueRange>, &[Token]), ParseRefusal>
+    ensures { Gives (λ x. (range_trees x.0, x.1.now)) result (repeat (another_at (range_at (expr_at room opened))) push limit (range_trees first) tokens.now) }
+{
+    let mut items = first;
+    let mut rest = tokens;
+    for _ in 0..limit {
+        let Some((item, after)) = another_range(alloc, rest, room, opened)? else {
+            return Ok((items, rest));
+        };
+        items.push(item)?;
+        rest = after;
+    }
+    Ok((items, rest))
+}
+
+// Reads a comma and a range, if the comma is there.
+#[cycle(expr)]
+#[tactic(auto, unfolding(rules_model::specs::Reading::another_at))]
+fn another_range(
+    alloc: Global,
+    tokens: &[Token],
+    room: usize,
+    opened: Pos,
+) -> Result<Option<(ValueRange, &[Token])>, ParseRefusal>
+    ensures { Gives (option_map (λ x. (range_tree x.0, x.1.now))) result (another_at (range_at (expr_at room opened)) tokens.now) }
+{
+    if !starts(tokens, Sign::Comma) {
+        return Ok(None);
+    }
+    let (_, rest) = read_sign(tokens, Sign::Comma)?;
+    let (item, rest) = read_range(alloc, rest, room, opened)?;
+    Ok(Some((item, rest)))
+}
+
+/// Reads an expression, or two with a colon between them, each as `read_expr` does.
+#[cycle(expr)]
+#[tactic(auto, unfolding(rules_model::specs::ExprReading::range_at))]
+pub fn read_range(
+    alloc: Global,
+    tokens: &[Token],
+    room: usize,
+    opened: Pos,
+) -> Result<(ValueRange, &[Token]), ParseRefusal>
+    ensures { Gives (λ x. (range_tree x.0, x.1.now)) result (range_at (expr_at room opened) tokens.now) }
+{
+    let (first, rest) = read_expr(alloc, tokens, room, opened)?;
+    if !starts(rest, Sign::Colon) {
+        return Ok((ValueRange::new(first, None), rest));
+    }
+    let (_, rest) = read_sign(rest, Sign::Colon)?;
+    let (last, rest) = read_expr(alloc, rest, room, opened)?;
+    Ok((ValueRange::new(first, Some(last)), rest))
+}

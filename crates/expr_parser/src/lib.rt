@@ -1,0 +1,20 @@
+//! Expressions are read from tokens: what `rules_model` says of reading from the front, and the longest expression
+//! from a place by its grammar.
+//!
+//! It stands on `rules_model`, and the parser of whole texts stands on it and takes its readers.
+#![tactic(auto)]
+
+mod expr;
+mod parse;
+mod reader;
+mod refusal;
+#[cfg(test)]
+mod tests;
+
+pub use expr::{read_args, read_expr, read_exprs, read_named, read_range, read_ranges, read_value};
+pub use parse::parse_expr;
+pub use reader::{
+    operator_of, place, read_name, read_names, read_sign, read_word, starts, starts_expr,
+    starts_with,
+};
+pub use refusal::ParseRefusal;
