@@ -1,5 +1,5 @@
 -- A refill where the buffer isn't of length 0, and a wait for anything but a region.
-use Rattle.std.proofs.Common.{◌≡◌, ◌≢◌, ℕ, zero, suc, refl, Option, Some, None}
+use Rattle.std.proofs.Common.{◌≡◌, ℕ, zero, suc, refl, Some}
 use Rattle.world_model.specs.declared.world.World.{World}
 use Rattle.world_model.specs.declared.waiting.Offer.{Offer}
 use Rattle.world_model.specs.World.{refilled_buffer, with_stored}

@@ -1,5 +1,5 @@
 -- Two journals by hand, and the worlds and ends that they come to.
-use Rattle.std.specs.Prelude.{◌≡◌, ℕ, false, List, [], ◌∷◌, pos, Some, None}
+use Rattle.std.specs.Prelude.{◌≡◌, false, List, [], ◌∷◌, pos, Some, None}
 use Rattle.chill_base.specs.declared.facts.Facts.{Facts}
 use Rattle.chill_base.specs.declared.ends.How.TheVariants.{Normal}
 use Rattle.chill_base.specs.declared.ends.Over.TheVariants.{AllEnded, Still}
@@ -8,7 +8,6 @@ use Rattle.chill_base.specs.declared.request.Alternative.{Alternative}
 use Rattle.chill_base.specs.declared.answer.Answer.TheVariants.{Done, Got, Instance, Stored, Chose}
 use Rattle.chill_base.specs.declared.event.Event.{Event}
 use Rattle.chill_base.specs.declared.event.Event.TheVariants.{Did, Waits, Goes}
-use Rattle.world_model.specs.declared.world.StoredValue.{StoredValue}
 use Rattle.world_model.specs.World.{world_of}
 use Rattle.world_model.specs.Over.{over_of}
 use Rattle.world_model.specs.Journal.{answers_of}

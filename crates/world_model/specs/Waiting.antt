@@ -8,7 +8,6 @@ use Rattle.chill_base.specs.declared.request.Alternative.{Alternative}
 use Rattle.chill_base.specs.declared.request.Request.TheVariants.{Delay, SendBuffer, ReceiveBuffer, ReceiveSignal}
 use Rattle.world_model.specs.declared.world.Phase.{Phase}
 use Rattle.world_model.specs.declared.world.Phase.TheVariants.{Active, Waiting, Ended}
-use Rattle.world_model.specs.declared.world.StoredValue.{StoredValue}
 use Rattle.world_model.specs.declared.waiting.Waiter.{Waiter}
 use Rattle.world_model.specs.declared.waiting.Offer.{Offer}
 use Rattle.world_model.specs.declared.world.World.{World}

@@ -1,4 +1,4 @@
-use Rattle.std.proofs.Common.{◌≡◌, ◌-◌, ◌≤◌, ◌+◌, ℕ, List, [], ◌∷◌, length, get_or, Some, arith, refl, sym, ap, ◌∙◌}
+use Rattle.std.proofs.Common.{◌≡◌, ◌-◌, ◌≤◌, ℕ, List, [], ◌∷◌, length, get_or, Some, arith, refl, sym, ap, ◌∙◌}
 use Rattle.world_model.specs.Lists.{last_of}
 use Rattle.world_model.proofs.changes.last.Goals as goal
 
