@@ -141,10 +141,10 @@ two_elses : IsStatement
     (word p words.If ∷ one ∷ word p words.Then ∷ word p words.Case ∷ one ∷ word p words.Of ∷ sign p signs.Open ∷ one ∷ sign p signs.Close ∷ sign p signs.Colon ∷ word p words.Else ∷ word p words.Esac ∷ sign p signs.Semicolon ∷ word p words.Else ∷ word p words.Fi ∷ sign p signs.Semicolon ∷ []) []
 two_elses =
     is_bracketed no_label
-        (is_if one_is
-            (then_statement no_statements (is_bracketed no_label (is_case one_is (then_case no_cases (one_range (is_alone one_is)) no_statements) (omega arith) (with_else no_statements)) no_handler left_open))
-            no_branches (with_else no_statements))
-        no_handler left_open
+    (is_if one_is
+    (then_statement no_statements (is_bracketed no_label (is_case one_is (then_case no_cases (one_range (is_alone one_is)) no_statements) (omega arith) (with_else no_statements)) no_handler left_open))
+    no_branches (with_else no_statements))
+    no_handler left_open
 
 -- ---- names at an end
 

@@ -8,6 +8,8 @@ mod changes;
 mod events;
 mod input;
 mod laws;
+#[cfg(test)]
+mod tests;
 mod waiting;
 mod world;
 
