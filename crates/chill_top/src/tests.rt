@@ -3,6 +3,7 @@ use crate::chill;
 use chill_base::{Answer, Event, Events, How, Item, Memory, Numbers, Over, Request, Text};
 use outside_ports::{File, Files, MemoryLibrary, MemorySink};
 use std::alloc::{AllocError, Global};
+use std::process::Abort;
 use std::test::Fail;
 
 const TEXT: &str = "M: MODULE PUT_INT(1 + 2); PUT_INT(40); END M;";
@@ -126,27 +127,32 @@ fn statuses_and_what_was_written(rt: HostRuntime) -> Result<(), Fail> {
     Ok(())
 }
 
+fn words_of(alloc: Global, text: &str) -> Result<Vec<String>, AllocError> {
+    let mut words = Vec::new(alloc);
+    for word in text.split(' ') {
+        words.push(String::from_str(alloc, word)?)?;
+    }
+    Ok(words)
+}
+
+fn answers_usage(rt: &impl Abort, alloc: Global, words: Vec<String>) -> Result<(), Fail> {
+    let mut library = library(alloc, TEXT, 0)?;
+    let mut out = MemorySink::new(alloc, 100, 100, fault(alloc, 0)?)?;
+    let mut err = MemorySink::new(alloc, 200, 200, fault(alloc, 0)?)?;
+    let outcome = chill(alloc, &words, &mut library, &mut out, &mut err);
+    assert_eq!(rt; outcome.status, 2);
+    assert_eq!(rt; out.taken(), b"".as_slice());
+    assert!(rt; err.taken().starts_with(b"usage: chill run FILE "));
+    Ok(())
+}
+
 #[test]
 fn other_words_are_usage(rt: HostRuntime) -> Result<(), Fail> {
     let alloc = rt.alloc();
-    for words in [
-        [].as_slice(),
-        ["run"].as_slice(),
-        ["run", "f", "f"].as_slice(),
-        ["runs", "f"].as_slice(),
-    ] {
-        let mut given = Vec::new(alloc);
-        for word in words {
-            given.push(String::from_str(alloc, word)?)?;
-        }
-        let mut library = library(alloc, TEXT, 0)?;
-        let mut out = MemorySink::new(alloc, 100, 100, fault(alloc, 0)?)?;
-        let mut err = MemorySink::new(alloc, 200, 200, fault(alloc, 0)?)?;
-        let outcome = chill(alloc, &given, &mut library, &mut out, &mut err);
-        assert_eq!(rt; outcome.status, 2);
-        assert_eq!(rt; out.taken(), b"".as_slice());
-        assert!(rt; err.taken().starts_with(b"usage: chill run FILE "));
-    }
+    answers_usage(&rt, alloc, Vec::new(alloc))?;
+    answers_usage(&rt, alloc, words_of(alloc, "run")?)?;
+    answers_usage(&rt, alloc, words_of(alloc, "run f f")?)?;
+    answers_usage(&rt, alloc, words_of(alloc, "runs f")?)?;
     Ok(())
 }
 
