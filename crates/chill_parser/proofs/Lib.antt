@@ -1,0 +1,8 @@
+pub mod ExprTaken
+pub mod ItemTaken
+pub mod LocalTaken
+pub mod ModeTaken
+pub mod Parsing
+pub mod SimpleTaken
+pub mod StatementTaken
+pub mod Taken

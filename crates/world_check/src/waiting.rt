@@ -1,0 +1,145 @@
+// Who waits for what. These repeat private functions of `world_model`, for instances of any number.
+ghost use Rattle.std.specs.Prelude.{◌≡◌, slice_index_or};
+ghost use Rattle.world_model.specs.Lists as lists;
+ghost use Rattle.world_model.specs.Waiting as waiting;
+
+use chill_base::{Alternative, Facts, Request};
+use world_model::{Phase, Waiter, World};
+
+/// The number of the first alternative that lists a thing.
+pub fn number_for(alternatives: &[Alternative], thing: u32) -> Option<u32>
+    ensures { result ≡ lists.number_for alternatives.now thing }
+{
+    for alternative in alternatives {
+        if alternative.thing == thing {
+            return Some(alternative.number);
+        }
+    }
+    None
+}
+
+fn waiter_for(alternative: Option<u32>, priority: u32, back: Option<u32>) -> Option<Waiter>
+    ensures { result ≡ waiting.waiter_for alternative priority back }
+{
+    match alternative {
+        Some(alternative) => Some(Waiter {
+            alternative,
+            priority,
+            back,
+        }),
+        None => None,
+    }
+}
+
+/// One that is delayed on an event.
+pub fn sleeper_in(event: u32, phase: &Phase) -> Option<Waiter>
+    ensures { result ≡ waiting.sleeper_in event phase.now }
+{
+    match phase {
+        Phase::Waiting {
+            request: Request::Delay { events, priority },
+            back,
+            ..
+        } => waiter_for(number_for(events.as_slice(), event), *priority, *back),
+        _ => None,
+    }
+}
+
+fn buffer_receiver_in(buffer: u32, phase: &Phase) -> Option<Waiter>
+    ensures { result ≡ waiting.buffer_receiver_in buffer phase.now }
+{
+    match phase {
+        Phase::Waiting {
+            request: Request::ReceiveBuffer { buffers, .. },
+            back,
+            ..
+        } => waiter_for(number_for(buffers.as_slice(), buffer), 0, *back),
+        _ => None,
+    }
+}
+
+fn signal_receiver_in(signal: u32, phase: &Phase) -> Option<Waiter>
+    ensures { result ≡ waiting.signal_receiver_in signal phase.now }
+{
+    match phase {
+        Phase::Waiting {
+            request: Request::ReceiveSignal { signals, .. },
+            back,
+            ..
+        } => waiter_for(number_for(signals.as_slice(), signal), 0, *back),
+        _ => None,
+    }
+}
+
+/// One that is delayed on an event.
+pub fn sleeper(world: &World, event: u32, who: usize) -> Option<Waiter>
+    ensures { result ≡ waiting.sleeper world.now event who }
+{
+    match world.phases.as_slice().get(who) {
+        Some(phase) => sleeper_in(event, phase),
+        None => None,
+    }
+}
+
+/// One that waits to receive from a buffer.
+pub fn buffer_receiver(world: &World, buffer: u32, who: usize) -> Option<Waiter>
+    ensures { result ≡ waiting.buffer_receiver world.now buffer who }
+{
+    match world.phases.as_slice().get(who) {
+        Some(phase) => buffer_receiver_in(buffer, phase),
+        None => None,
+    }
+}
+
+/// Whether an instance may receive a signal.
+pub fn may_receive(facts: &Facts, world: &World, signal: u32, to: Option<u32>, who: usize) -> bool
+    ensures { result ≡ waiting.may_receive facts.now world.now signal to who }
+{
+    match to {
+        Some(to) => who == to as usize,
+        None => match number_at(facts.signals.as_slice(), signal) {
+            Some(wanted) => process_of(world, who) == wanted,
+            None => true,
+        },
+    }
+}
+
+/// The number at a place, where there is one.
+pub fn number_at(numbers: &[Option<u32>], i: u32) -> Option<u32>
+    ensures { result ≡ slice_index_or numbers.now i None }
+{
+    if (i as usize) < numbers.len() {
+        numbers[i as usize]
+    } else {
+        None
+    }
+}
+
+fn process_of(world: &World, who: usize) -> u32
+    ensures { result ≡ slice_index_or world.now.processes who 0 }
+{
+    if who < world.processes.len() {
+        *world.processes.at(who)
+    } else {
+        0
+    }
+}
+
+/// One that waits for a signal and may receive it.
+pub fn signal_receiver(
+    facts: &Facts,
+    world: &World,
+    signal: u32,
+    to: Option<u32>,
+    who: usize,
+) -> Option<Waiter>
+    ensures { result ≡ waiting.signal_receiver facts.now world.now signal to who }
+{
+    if !may_receive(facts, world, signal, to, who) {
+        return None;
+    }
+    match world.phases.as_slice().get(who) {
+        Some(phase) => signal_receiver_in(signal, phase),
+        None => None,
+    }
+}
