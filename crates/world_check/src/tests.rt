@@ -19,6 +19,8 @@ fn the_opening_of_one_location_and_two_regions(rt: HostRuntime) -> Result<(), Fa
     let world = opening_world(alloc, &facts)?;
     assert_eq!(rt; world.occupants.len(), 2);
     assert_eq!(rt; world.phases.len(), 2);
+    assert_eq!(rt; world.store.len(), 1);
+    assert_eq!(rt; world.store.at(0).len(), 1);
     assert_eq!(rt; *world.store.at(0).at(0), 7);
     assert_eq!(rt; world.sends, 0);
     Ok(())

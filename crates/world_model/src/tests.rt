@@ -45,8 +45,12 @@ fn a_region_is_locked_by_the_one_who_enters_it(rt: HostRuntime) -> Result<(), Fa
         answer: Answer::Done,
         refill: None,
     };
+    assert_eq!(rt; world.sends, 0);
     world.apply(&facts(alloc), &event)?;
+    assert_eq!(rt; world.occupants.len(), 1);
     assert_eq!(rt; *world.occupants.at(0), Some(1));
+    assert_eq!(rt; world.held.len(), 2);
+    assert_eq!(rt; world.held.at(1).len(), 1);
     assert_eq!(rt; *world.held.at(1).at(0), 0);
     Ok(())
 }
