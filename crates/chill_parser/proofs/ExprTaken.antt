@@ -1,5 +1,5 @@
 -- What is read as an expression or a part of one is that.
-use Rattle.std.proofs.Common.{◌≡◌, ℕ, zero, suc, ◌+◌, ◌<◌, Bool, true, false, cond, eqb, List, [], ◌∷◌, ◌++◌, Option, Some, None, Result, Ok, Err, refl, sym, ap, ◌∙◌, subst, arith}
+use Rattle.std.proofs.Common.{◌≡◌, ℕ, zero, suc, ◌<◌, Bool, true, false, cond, eqb, List, [], ◌∷◌, Option, Some, None, Ok, refl, sym, ap, ◌∙◌, subst}
 use Rattle.std.proofs.lemmas.Bool.{eqb-true}
 use Rattle.chill_base.specs.declared.pos.Pos.{Pos}
 use Rattle.chill_tree.specs.declared.token.Word.TheVariants as words
@@ -10,14 +10,14 @@ use Rattle.chill_tree.specs.declared.token.TokenKind.TheVariants as kinds
 use Rattle.chill_tree.specs.declared.tree.name.Name.{Name}
 use Rattle.chill_tree.specs.declared.tree.expr.Operator.{Operator}
 use Rattle.chill_tree.specs.declared.tree.expr.Prefix.TheVariants as prefixes
-use Rattle.chill_tree.specs.ExprTree.{ExprTree, whole, character, text, this_instance, paren, receive, start, tuple, uniform, name, apply, field, prefixed, binary, RangeTree, alone, between, expr_nodes, range_nodes, place_of}
-use Rattle.rules_model.specs.Marks.{Toks, tok, sign, word, name_token, begins, begins_with, behind, operator_of, rank_of}
+use Rattle.chill_tree.specs.ExprTree.{ExprTree, whole, character, text, this_instance, paren, receive, start, tuple, uniform, name, apply, field, prefixed, RangeTree, alone, between, expr_nodes, range_nodes, place_of}
+use Rattle.rules_model.specs.Marks.{Toks, tok, sign, word, name_token, begins, begins_with, operator_of, rank_of}
 use Rattle.rules_model.specs.ExprGrammar.{IsTupleHead, bare, of_mode, tuple_place, IsNamed, a_name, with_args, with_field, AreArgs, no_args, some_args, AreExprs, one_expr, and_expr, IsRange, is_alone, is_between, AreRanges, one_range, and_range, AreParts, no_parts, some_parts, IsOperand, is_whole, is_character, is_text, is_this, is_paren, is_receive, is_start, is_tuple, is_uniform, is_named, IsRanked, is_plain, is_minus, is_not, is_chain, IsChain, first, turn, IsExpr}
 use Rattle.rules_model.specs.Nesting.{less}
-use Rattle.rules_model.specs.Reading.{Fault, Deep, Absent, Read, Piece, ◌>>=◌, chosen, roomy, repeat, listed_at}
+use Rattle.rules_model.specs.Reading.{Deep, Absent, Read, chosen, listed_at}
 use Rattle.rules_model.specs.ExprReading.{Sub, args_at, field_at, NamePart, Args, Field, with_part, part_at, parts_at, named_at, paren_at, range_at, begins_uniform, uniform_at, ranges_at, tuple_at, begun_at, operand_at, prefixed_at, ranked_operator, operator_at, turn_at, with_turn, ranked_at, expr_at}
 use Rattle.rules_model.specs.ModeReading.{value_at}
-use Rattle.chill_parser.proofs.Taken.{done, last_is, never, either, chosen_is, settled, roomy_is, sign_then, word_then, name_then, name_read, Sound, Was, read_then, IfThere, loop_counts, sound_list}
+use Rattle.chill_parser.proofs.Taken.{last_is, never, either, chosen_is, settled, roomy_is, sign_then, word_then, name_then, name_read, Sound, Was, read_then, IfThere, loop_counts, sound_list}
 
 -- a name with some number of parts
 pub data IsSomeNamed : ExprTree → Toks → Toks → Type 0 where

@@ -1,5 +1,5 @@
 -- What is read as an item, a modulion or a program is that.
-use Rattle.std.proofs.Common.{◌≡◌, ℕ, zero, suc, ◌+◌, ◌<◌, Bool, true, false, cond, List, [], ◌∷◌, ◌++◌, length, Option, Some, None, Result, Ok, Err, refl, sym, ap, ◌∙◌, subst, arith}
+use Rattle.std.proofs.Common.{◌≡◌, ℕ, zero, suc, ◌<◌, List, [], ◌∷◌, length, Option, Some, None, Ok}
 use Rattle.chill_base.specs.declared.pos.Pos.{Pos}
 use Rattle.chill_tree.specs.declared.token.Word.TheVariants as words
 use Rattle.chill_tree.specs.declared.token.Sign.TheVariants as signs
@@ -11,20 +11,18 @@ use Rattle.chill_tree.specs.declared.tree.item.Passed.TheVariants as passes
 use Rattle.chill_tree.specs.declared.tree.item.Passing.{Passing}
 use Rattle.chill_tree.specs.declared.tree.item.Passing.TheVariants as ways
 use Rattle.chill_tree.specs.ModeTree.{ModeTree}
-use Rattle.chill_tree.specs.LocalTree.{LocalTree}
-use Rattle.chill_tree.specs.StatementTree.{StatementTree, HandlerTree, BodyTree}
 use Rattle.chill_tree.specs.ItemTree.{SignalTree, ParamTree, ProcedureTree, FormalTree, ProcessTree, ItemTree, seize, grant, local_item, signals, procedure, process, action, ModulionTree, modulion_item, ProgramTree}
-use Rattle.rules_model.specs.Marks.{Toks, sign, word, name_token, begins, begins_with, front}
+use Rattle.rules_model.specs.Marks.{Toks, sign, word, name_token, begins, begins_with}
 use Rattle.rules_model.specs.ListGrammar.{AreListed, IsName, AreNames, IsClause, IsClosing}
 use Rattle.rules_model.specs.ModeGrammar.{IsMode}
 use Rattle.rules_model.specs.LocalGrammar.{IsLocal}
 use Rattle.rules_model.specs.StatementGrammar.{IsStatement, IsHandler, AreBody}
 use Rattle.rules_model.specs.ItemGrammar.{IsPassed, pass_names, pass_all, AreSignalParts, no_signal_parts, with_signal_parts, IsSignal, is_signal, IsPassing, no_passing, pass_in, pass_out, pass_in_out, IsParam, is_param, IsFormal, is_formal, AreWithin, none_within, some_within, IsResult, is_result, AreExceptions, are_exceptions, IsBlock, is_block, IsProcedure, is_procedure, IsProcess, is_process, IsKind, is_module, is_region, IsItem, is_seize, is_grant, is_local_item, are_signals, is_procedure_item, is_process_item, is_modulion_item, is_action, AreItems, no_items, then_item, IsModulion, is_modulion, AreModulions, no_modulions, then_modulion, IsTreeOf, is_tree}
 use Rattle.rules_model.specs.Nesting.{less}
-use Rattle.rules_model.specs.Reading.{Fault, Deep, Absent, Read, Piece, ◌>>=◌, push, name_at, many_at, listed_at}
+use Rattle.rules_model.specs.Reading.{Deep, Absent, Read, ◌>>=◌, push, name_at, many_at, listed_at}
 use Rattle.rules_model.specs.ModeReading.{mode_at, local_at}
 use Rattle.rules_model.specs.SimpleReading.{clause_at}
-use Rattle.rules_model.specs.StatementReading.{begins_label, begins_local, begins_statement, kept, handler_at, closing_at, statement_at, actions_at, body_at}
+use Rattle.rules_model.specs.StatementReading.{begins_label, begins_local, begins_statement, handler_at, closing_at, statement_at, actions_at, body_at}
 use Rattle.rules_model.specs.ItemReading.{passed_at, signal_parts_at, signal_at, passing_at, param_at, formal_at, within_at, result_at, exceptions_at, Block, block_at, procedure_rest_at, procedure_at, process_rest_at, process_at, kind_at, Items, modulion_at, begins_block, block_item_at, item_at, items_at, modulion_piece_at, nothing_left, program_at}
 use Rattle.chill_parser.proofs.Taken.{last_is, never, either, then_is, sign_then, word_then, name_then, Sound, Was, read_then, IfThere, sound_name, sound_listed, sound_names, sound_many, sound_clause}
 use Rattle.chill_parser.proofs.ModeTaken.{sound_mode}

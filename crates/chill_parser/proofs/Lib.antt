@@ -2,6 +2,7 @@ pub mod ExprTaken
 pub mod ItemTaken
 pub mod LocalTaken
 pub mod ModeTaken
+pub mod Nested
 pub mod Parsing
 pub mod SimpleTaken
 pub mod StatementTaken

@@ -1,9 +1,7 @@
 -- What is read as a definition is that definition.
-use Rattle.std.proofs.Common.{◌≡◌, ℕ, Bool, true, false, cond, List, [], ◌∷◌, Option, Some, None, Result, Ok, Err}
-use Rattle.chill_tree.specs.declared.token.Word.{Word}
+use Rattle.std.proofs.Common.{ℕ, true, false, Option, Some, None}
 use Rattle.chill_tree.specs.declared.token.Word.TheVariants as words
 use Rattle.chill_tree.specs.declared.token.Sign.TheVariants as signs
-use Rattle.chill_tree.specs.declared.tree.name.Name.{Name}
 use Rattle.chill_tree.specs.ModeTree.{ModeTree}
 use Rattle.chill_tree.specs.LocalTree.{SynonymTree, ModeDefinitionTree, InitialTree, DeclarationTree, LocalTree, synonyms, syn_modes, new_modes, locations}
 use Rattle.rules_model.specs.Marks.{Toks, begins, begins_with}

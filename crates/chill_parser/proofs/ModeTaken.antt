@@ -1,5 +1,5 @@
 -- What is read as a mode is that mode.
-use Rattle.std.proofs.Common.{◌≡◌, ℕ, zero, suc, ◌+◌, ◌<◌, ◌≤◌, Bool, true, false, cond, not, List, [], ◌∷◌, ◌++◌, length, Option, Some, None, Result, Ok, Err, refl, sym, ap, ◌∙◌, subst, arith}
+use Rattle.std.proofs.Common.{◌≡◌, ℕ, zero, suc, ◌≤◌, true, false, ◌∷◌, Option, Some, None, Ok, refl, sym, ◌∙◌, arith}
 use Rattle.chill_base.specs.declared.pos.Pos.{Pos}
 use Rattle.chill_tree.specs.declared.token.Word.TheVariants as words
 use Rattle.chill_tree.specs.declared.token.Sign.TheVariants as signs
@@ -9,16 +9,16 @@ use Rattle.chill_tree.specs.declared.tree.mode.Packing.TheVariants as packings
 use Rattle.chill_tree.specs.declared.tree.mode.PlaceForm.TheVariants as forms
 use Rattle.chill_tree.specs.ExprTree.{ExprTree, whole, character, text, this_instance, paren, receive, start, tuple, uniform, name, apply, field, prefixed, binary}
 use Rattle.chill_tree.specs.ModeTree.{DiscreteTree, named, bounded, set_of, IndexTree, index_named, index_bounded, PlaceTree, StepTree, SpreadTree, by_packing, by_step, BaseTree, discrete, powerset, chars, structure, array, FieldTree, field_nodes, ModeTree, base_mode, read_mode, event_mode, buffer_mode}
-use Rattle.rules_model.specs.Marks.{Toks, sign, word, name_token, begins, begins_with, front}
-use Rattle.rules_model.specs.ExprGrammar.{IsExpr, IsRanked, is_plain, is_chain, first, IsOperand, is_named, IsNamed, a_name}
-use Rattle.rules_model.specs.ListGrammar.{AreNames, IsName, IsLength, no_length, with_length}
-use Rattle.rules_model.specs.ModeGrammar.{IsDiscrete, is_named_mode, is_bounded, is_set, IsIndex, is_index_name, is_index_range, IsPlace, up_to, of_length, IsFieldPlace, no_place, with_place, IsStep, is_step, IsPacking, no_packing, packed, not_packed, IsSpread, no_spread, spread_packed, spread_not_packed, spread_by_step, is_bare_array, is_bare, leaves_word, arrays_in, IsBase, is_discrete, is_powerset, is_chars, is_structure, is_array, AreFields, one_field, and_field, IsField, is_field, IsMode, is_base_mode, is_read_mode, is_event_mode, is_buffer_mode}
+use Rattle.rules_model.specs.Marks.{Toks, name_token, begins, begins_with, front}
+use Rattle.rules_model.specs.ExprGrammar.{IsExpr, IsRanked, is_plain, is_chain, first, is_named, a_name}
+use Rattle.rules_model.specs.ListGrammar.{AreNames, IsLength, no_length, with_length}
+use Rattle.rules_model.specs.ModeGrammar.{IsDiscrete, is_named_mode, is_bounded, is_set, IsIndex, is_index_name, is_index_range, IsPlace, up_to, of_length, IsFieldPlace, no_place, with_place, IsStep, is_step, IsPacking, no_packing, packed, not_packed, IsSpread, no_spread, spread_packed, spread_not_packed, spread_by_step, leaves_word, arrays_in, IsBase, is_discrete, is_powerset, is_chars, is_structure, is_array, AreFields, one_field, and_field, IsField, is_field, IsMode, is_base_mode, is_read_mode, is_event_mode, is_buffer_mode}
 use Rattle.rules_model.specs.Nesting.{less}
-use Rattle.rules_model.specs.Reading.{Fault, Deep, Absent, Read, ◌>>=◌, sign_at, word_at, name_at, listed_at}
+use Rattle.rules_model.specs.Reading.{Deep, Absent, name_at, listed_at}
 use Rattle.rules_model.specs.ExprReading.{expr_at}
 use Rattle.rules_model.specs.ModeReading.{length_at, set_at, bounds_at, discrete_at, index_of, index_at, place_end_at, place_at, field_place_at, step_at, packing_at, spread_at, Fields, plain_base_at, arrays_at, one_field_at, fields_at, base_at, mode_at}
 use Rattle.chill_parser.proofs.Taken.{last_is, never, either, sign_then, word_then, name_then, Sound, Was, read_then, sound_list, sound_names}
-use Rattle.chill_parser.proofs.ExprTaken.{sound_expr, sound_value}
+use Rattle.chill_parser.proofs.ExprTaken.{sound_expr}
 
 pub sound_length : (n : ℕ) → Sound IsLength (length_at n)
 unfolding length_at

@@ -1,7 +1,6 @@
 -- A program is read exactly where there is one.
-use Rattle.std.proofs.Common.{◌≡◌, ℕ, zero, suc, ◌+◌, ◌<◌, List, [], ◌∷◌, Option, Some, None, Result, Ok, Err, arith}
+use Rattle.std.proofs.Common.{◌≡◌, ℕ, zero, suc, ◌<◌, [], ◌∷◌, Option, None, Ok, Err, arith}
 use Rattle.chill_base.specs.declared.pos.Pos.{Pos}
-use Rattle.chill_tree.specs.ItemTree.{ProgramTree}
 use Rattle.rules_model.specs.Marks.{Toks}
 use Rattle.rules_model.specs.ItemReading.{program_at}
 use Rattle.rules_model.specs.Nesting.{room_after, StaysBelow, deep_or, first_deep}

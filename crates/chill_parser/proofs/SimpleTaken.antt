@@ -1,5 +1,5 @@
 -- What is read as an action that holds no other, or as what controls a loop, is that.
-use Rattle.std.proofs.Common.{◌≡◌, ℕ, zero, suc, Bool, true, false, cond, List, [], ◌∷◌, ◌++◌, Option, Some, None, Result, Ok, Err, refl, sym, ap, ◌∙◌, subst}
+use Rattle.std.proofs.Common.{◌≡◌, ℕ, Bool, true, false, cond, List, [], ◌∷◌, Option, Some, None, Ok, refl, sym, ap, ◌∙◌, subst}
 use Rattle.chill_base.specs.declared.pos.Pos.{Pos}
 use Rattle.chill_tree.specs.declared.token.Word.{Word}
 use Rattle.chill_tree.specs.declared.token.Word.TheVariants as words
@@ -8,17 +8,17 @@ use Rattle.chill_tree.specs.declared.token.Token.{Token}
 use Rattle.chill_tree.specs.declared.token.TokenKind.{TokenKind}
 use Rattle.chill_tree.specs.declared.tree.name.Name.{Name}
 use Rattle.chill_tree.specs.declared.tree.expr.Operator.{Operator}
-use Rattle.chill_tree.specs.ExprTree.{ExprTree, name, apply, field, exprs_in, expr_nodes, place_of}
+use Rattle.chill_tree.specs.ExprTree.{ExprTree, exprs_in, expr_nodes, place_of}
 use Rattle.chill_tree.specs.SimpleTree.{SimpleTree, assign, update, call_of, exit, return_with, result_of, assert_that, cause, stop, start_of, delay, continue_event, send, ControlTree, while_holds, for_ever, for_members, for_steps}
-use Rattle.rules_model.specs.Marks.{Toks, tok, sign, word, name_token, begins, begins_with, begins_expr, behind, front, operator_of, may_update}
-use Rattle.rules_model.specs.ExprGrammar.{IsExpr, IsNamed, a_name, with_args, with_field, AreArgs, AreExprs, one_expr, and_expr, is_location, IsLocation, is_loc}
+use Rattle.rules_model.specs.Marks.{Toks, tok, word, name_token, begins, begins_with, begins_expr, behind, front, operator_of, may_update}
+use Rattle.rules_model.specs.ExprGrammar.{IsExpr, IsNamed, a_name, with_args, with_field, AreExprs, one_expr, and_expr, is_location, is_loc}
 use Rattle.rules_model.specs.ListGrammar.{IsClause, IsFlag}
-use Rattle.rules_model.specs.SimpleGrammar.{IsControl, is_while, is_ever, is_members, is_steps, IsValue, no_value, with_value, IsMessage, no_message, with_message, IsSimple, is_assign, is_update, is_call, is_call_word, is_exit, is_return, is_result, is_assert, is_cause, is_stop, is_start, is_delay, is_continue, is_send}
-use Rattle.rules_model.specs.Reading.{Fault, Absent, Read, ◌>>=◌, chosen, name_at, listed_at}
+use Rattle.rules_model.specs.SimpleGrammar.{IsControl, is_while, is_ever, is_members, is_steps, no_value, with_value, IsMessage, no_message, with_message, IsSimple, is_assign, is_update, is_call, is_call_word, is_exit, is_return, is_result, is_assert, is_cause, is_stop, is_start, is_delay, is_continue, is_send}
+use Rattle.rules_model.specs.Reading.{Absent, chosen, listed_at}
 use Rattle.rules_model.specs.ExprReading.{expr_at, args_at, named_at}
 use Rattle.rules_model.specs.ModeReading.{value_at}
-use Rattle.rules_model.specs.SimpleReading.{clause_at, flag_at, members_at, steps_at, for_at, control_at, update_of, called_name, call_in, called_at, assigned_at, updated_at, behind_name_at, named_action_at, call_at, return_at, start_at, delay_at, message_at, send_at, word_name_at, word_value_at, simple_at}
-use Rattle.chill_parser.proofs.Taken.{done, last_is, never, either, chosen_is, sign_then, word_then, name_then, Sound, Was, read_then, sound_list, sound_clause, sound_flag}
+use Rattle.rules_model.specs.SimpleReading.{clause_at, flag_at, members_at, steps_at, for_at, control_at, update_of, call_in, called_at, assigned_at, updated_at, behind_name_at, named_action_at, call_at, return_at, start_at, delay_at, message_at, send_at, word_name_at, word_value_at, simple_at}
+use Rattle.chill_parser.proofs.Taken.{last_is, never, either, chosen_is, sign_then, word_then, name_then, Sound, Was, read_then, sound_list, sound_clause, sound_flag}
 use Rattle.chill_parser.proofs.ExprTaken.{IsSomeNamed, some_named, AreInBrackets, in_brackets, sound_expr, sound_value, sound_named, sound_args}
 
 -- ---- what controls a loop

@@ -1,5 +1,5 @@
 -- What is read as a statement, a handler or a body is that.
-use Rattle.std.proofs.Common.{◌≡◌, ℕ, zero, suc, ◌+◌, ◌<◌, Bool, true, false, cond, eqb, List, [], ◌∷◌, ◌++◌, length, Option, Some, None, Result, Ok, Err, refl, sym, ap, ◌∙◌, subst, arith}
+use Rattle.std.proofs.Common.{◌≡◌, ℕ, zero, suc, ◌<◌, Bool, true, false, cond, eqb, List, [], ◌∷◌, length, Option, Some, None, Result, Ok, Err, refl, arith}
 use Rattle.std.proofs.lemmas.Bool.{eqb-true}
 use Rattle.chill_base.specs.declared.pos.Pos.{Pos}
 use Rattle.chill_tree.specs.declared.token.Word.TheVariants as words
@@ -7,24 +7,22 @@ use Rattle.chill_tree.specs.declared.token.Sign.TheVariants as signs
 use Rattle.chill_tree.specs.declared.token.TokenKind.{TokenKind}
 use Rattle.chill_tree.specs.declared.token.TokenKind.TheVariants as kinds
 use Rattle.chill_tree.specs.declared.tree.name.Name.{Name}
-use Rattle.chill_tree.specs.ExprTree.{ExprTree, RangeTree}
-use Rattle.chill_tree.specs.SimpleTree.{SimpleTree, ControlTree}
-use Rattle.chill_tree.specs.LocalTree.{LocalTree}
+use Rattle.chill_tree.specs.ExprTree.{ExprTree}
 use Rattle.chill_tree.specs.StatementTree.{StatementTree, empty, simple, bracketed, BracketedTree, if_then, case_of, do_loop, begin_end, delay_case, receive_case, ElsIfTree, CaseTree, NamedTree, ReceiveTree, HandlerTree, BodyTree, local_part, action_part, statement_nodes, branch_nodes, case_nodes, named_nodes, receive_nodes, otherwise_node, handler_node, body_nodes}
-use Rattle.rules_model.specs.Marks.{Toks, tok, sign, word, name_token, begins, begins_with, front}
+use Rattle.rules_model.specs.Marks.{Toks, tok, begins, begins_with, front}
 use Rattle.rules_model.specs.ExprGrammar.{IsExpr, IsRange, AreRanges, one_range, and_range, is_location, IsLocation, is_loc}
-use Rattle.rules_model.specs.ListGrammar.{AreListed, IsName, AreNames, IsClause, IsLabel, no_label, with_label, IsClosing, left_open, closed_by}
+use Rattle.rules_model.specs.ListGrammar.{AreNames, IsClause, IsLabel, no_label, with_label, IsClosing, left_open, closed_by}
 use Rattle.rules_model.specs.LocalGrammar.{IsLocal}
 use Rattle.rules_model.specs.SimpleGrammar.{IsControl, IsSimple, place_of_simple}
 use Rattle.rules_model.specs.StatementGrammar.{place_of_labelled, IsDelayHead, no_head, head_sets, head_ranks, IsReceiveHead, sets_none, sets_one, handles, IsStatement, is_empty, is_simple, is_bracketed, AreStatements, no_statements, then_statement, IsBracketed, is_if, is_case, is_do, is_begin, is_delay_case, is_receive_case, AreBranches, no_branches, then_branch, AreCases, no_cases, then_case, AreNamed, no_named, then_named, AreReceives, no_receives, then_receive, IsOtherwise, no_else, with_else, IsHandler, no_handler, with_handler, AreBody, no_parts, then_local, then_action}
 use Rattle.rules_model.specs.Nesting.{less}
-use Rattle.rules_model.specs.Reading.{Fault, Deep, Absent, Read, Piece, ◌>>=◌, push, name_at, many_at, listed_at}
+use Rattle.rules_model.specs.Reading.{Fault, Deep, Absent, push, name_at, many_at, listed_at}
 use Rattle.rules_model.specs.ExprReading.{expr_at, named_at, range_at}
 use Rattle.rules_model.specs.ModeReading.{value_at, local_at}
 use Rattle.rules_model.specs.SimpleReading.{clause_at, control_at, simple_at}
-use Rattle.rules_model.specs.StatementReading.{begins_label, begins_bracketed, begins_statement, begins_local, Acts, Body, kept, location_at, otherwise_at, branch_at, case_at, alternative_at, receipt_at, handler_at, same_name, closed_at, closing_at, if_at, case_of_at, do_at, begin_at, delay_head_at, delay_case_at, receive_head_at, receive_case_at, bracketed_at, holding_at, labelled_at, unlabelled_at, statement_at, action_at, body_part_at, deep_acts, deep_body, inside_at, actions_at, body_at}
+use Rattle.rules_model.specs.StatementReading.{begins_label, begins_bracketed, begins_statement, begins_local, Acts, Body, kept, location_at, otherwise_at, branch_at, case_at, alternative_at, receipt_at, handler_at, same_name, closing_at, if_at, case_of_at, do_at, begin_at, delay_head_at, delay_case_at, receive_head_at, receive_case_at, bracketed_at, holding_at, labelled_at, unlabelled_at, statement_at, action_at, body_part_at, inside_at, actions_at, body_at}
 use Rattle.chill_parser.proofs.Taken.{last_is, never, either, then_is, sign_then, word_then, name_then, Sound, Was, read_then, IfThere, sound_list, sound_names, sound_many, sound_clause}
-use Rattle.chill_parser.proofs.ExprTaken.{IsSomeNamed, some_named, sound_expr, sound_value, sound_named, sound_range}
+use Rattle.chill_parser.proofs.ExprTaken.{IsSomeNamed, some_named, sound_value, sound_named, sound_range}
 use Rattle.chill_parser.proofs.LocalTaken.{sound_local}
 use Rattle.chill_parser.proofs.SimpleTaken.{sound_value_clause, sound_control, sound_simple}
 

@@ -5,7 +5,9 @@
 //! of programs is to stand here.
 #![tactic(auto)]
 
+mod nesting;
 mod reading;
 
 pub use expr_parser::ParseRefusal;
+pub use nesting::{none_too_deep_law, too_deep_law};
 pub use reading::{none_read_law, read_law};
