@@ -58,7 +58,7 @@ fn no_signal_above(
     true
 }
 
-// Whether this is the value of a send number, a sender and scalars.
+/// Whether this is the value of a send number, a sender and scalars.
 pub fn is_value(value: &StoredValue, send: u32, scalars: &[i64], by: u32) -> bool
     ensures { IsTrue result ↔ (value.now ≡ record { send = send; sender = by; scalars = scalars.now; priority = value.now.priority }) }
 {

@@ -65,7 +65,8 @@ fn scalars_of(world: &World, place: Place) -> &[i64]
     )
 }
 
-fn is_value(answer: &Answer, wanted: &[i64]) -> bool
+/// Whether an answer is these scalars.
+pub fn tells_scalars(answer: &Answer, wanted: &[i64]) -> bool
     ensures { IsTrue result ↔ (answer.now ≡ answers.Value wanted.now) }
 {
     match answer {
@@ -78,7 +79,7 @@ fn is_value(answer: &Answer, wanted: &[i64]) -> bool
 pub fn reads(world: &World, place: Place, answer: &Answer) -> bool
     ensures { IsTrue result ↔ (answer.now ≡ answers.Value (scalars_at (slice_index_or world.now.store place.location []) place.first place.count)) }
 {
-    is_value(answer, scalars_of(world, place))
+    tells_scalars(answer, scalars_of(world, place))
 }
 
 /// Whether an answer says that it was done.

@@ -1,0 +1,5 @@
+pub mod Buffers
+pub mod Listed
+pub mod Digits
+pub mod Sends
+pub mod Fronts
