@@ -1,5 +1,4 @@
 pub mod Buffers
 pub mod Listed
 pub mod Digits
-pub mod Sends
 pub mod Fronts

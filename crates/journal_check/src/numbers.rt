@@ -7,37 +7,10 @@ ghost use Rattle.journal_check.specs.Numbers as numbers;
 
 use chill_base::{Answer, Exc};
 use world_check::{fails_with, tells_scalars};
+use world_model::{separators_len, word_len};
 
 // Above each number that may be answered, without its sign.
 const LIMIT: u64 = 4_294_967_296;
-
-fn is_separator(byte: u8) -> bool
-    ensures { result ≡ inputs.is_separator byte }
-{
-    byte == b' ' || byte == b'\t' || byte == b'\n' || byte == b'\r'
-}
-
-fn separators_len(bytes: &[u8]) -> usize
-    ensures { result ≡ prefix_len inputs.is_separator bytes.now }
-{
-    for i in 0..bytes.len() {
-        if !is_separator(bytes[i]) {
-            return i;
-        }
-    }
-    bytes.len()
-}
-
-fn word_len(bytes: &[u8]) -> usize
-    ensures { result ≡ prefix_len (λ b. not (inputs.is_separator b)) bytes.now }
-{
-    for i in 0..bytes.len() {
-        if is_separator(bytes[i]) {
-            return i;
-        }
-    }
-    bytes.len()
-}
 
 fn behind_separators(input: &[u8]) -> &[u8]
     ensures { result.now ≡ inputs.behind_separators input.now }

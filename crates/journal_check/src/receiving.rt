@@ -11,8 +11,8 @@ use crate::offers::{
     offered_priority, values_in,
 };
 use chill_base::{Alternative, Answer, Facts, Request};
-use world_check::{are_equal, is_value, number_at, number_for};
-use world_model::{Phase, StoredValue, World};
+use world_check::{are_equal, is_value};
+use world_model::{Phase, StoredValue, World, number_at, number_for};
 
 /// Whether no listed buffer has a value to take.
 pub fn nothing_to_take(facts: &Facts, world: &World, buffers: &[Alternative]) -> bool

@@ -22,7 +22,7 @@ powersets_of-Parts parts =
     ap (fold-Value (List (ℕ × List ℕ)) powersets_in) (sym (made.rolls-Parts parts)) ∙ fold-roll-Value (List (ℕ × List ℕ)) powersets_in (layer.Parts parts)
     ∙ flat_map-map (λ xs. xs) (fold-Value (List (ℕ × List ℕ)) powersets_in) parts
 
-pub few_members : (size : ℕ) (offsets : List ℕ) → HasFewMembersEach (made.Members size offsets) → length offsets < 2 ^ 32
+pub few_members : (size : ℕ) (offsets : List ℕ) → HasFewMembersEach (made.Members size offsets) → length offsets ≤ size
 few_members size offsets few = All-head HasFewMembers (size, offsets) [] (subst (All HasFewMembers) (powersets_of-Members size offsets) few)
 
 all_front : {X : Type 0} (P : X → Type 0) (xs ys : List X) → All P (xs ++ ys) → All P xs
@@ -61,9 +61,9 @@ pub numbers_here : (value : Value) (size : ℕ) (offsets members : List ℕ) (sc
 numbers_here value size offsets members scalars is same numbers =
     numbers ∙ ap (λ (xs : List ℕ). numbers_from xs 0 (count_of_numbers size)) same ∙ sym (ap scalars_of is ∙ scalars_of-Members size offsets)
 
-pub no_such_members : (value : Value) (size : ℕ) (offsets members : List ℕ) (scalars : List ℤ) → value ≡ made.Members size offsets → members ≡ offsets → 2 ^ 32 ≤ length members → HasFewMembersEach value → scalars ≡ scalars_of value
+pub no_such_members : (value : Value) (size : ℕ) (offsets members : List ℕ) (scalars : List ℤ) → value ≡ made.Members size offsets → members ≡ offsets → size < length members → HasFewMembersEach value → scalars ≡ scalars_of value
 no_such_members value size offsets members scalars is same many few =
-    let low : length offsets < 2 ^ 32 = few_members size offsets (subst HasFewMembersEach is few) in
+    let low : length offsets ≤ size = few_members size offsets (subst HasFewMembersEach is few) in
     let lengths : length members ≡ length offsets = ap length same in
     absurd (let no : ⊥ = omega arith in no)
 

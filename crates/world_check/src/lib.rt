@@ -7,20 +7,20 @@
 mod choices;
 mod flat;
 mod going;
+mod laws;
 mod opening;
 mod pending;
 mod ranges;
 mod requests;
 #[cfg(test)]
 mod tests;
-mod waiting;
 
 pub use choices::{continues, has_room, nobody_receives, sends_signal, sends_to_buffer};
 pub use going::{is_active, may_ask, may_go};
+pub use laws::sound_facts_law;
 pub use opening::opening_world;
 pub use pending::{is_value, no_signal_pends, receives_signal};
 pub use ranges::event_in_range;
 pub use requests::{
     are_equal, fails_with, is_done, is_full, is_taken, may_enter, reads, starts, tells_scalars,
 };
-pub use waiting::{number_at, number_for};

@@ -7,9 +7,8 @@ ghost use Rattle.world_model.specs.Waiting as waiting;
 ghost use Rattle.world_model.specs.World as worlds;
 ghost use Rattle.world_model.specs.Allowed as events;
 
-use crate::waiting::{number_at, sleeper_in};
 use chill_base::{Alternative, Answer, Exc, Facts, Item, Place};
-use world_model::{Phase, World};
+use world_model::{Phase, World, number_at, sleeper_in};
 
 fn front(scalars: &[i64], count: usize) -> &[i64]
     ensures { result.now ≡ take count scalars.now }

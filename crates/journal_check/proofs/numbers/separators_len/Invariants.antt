@@ -1,6 +1,0 @@
-use Rattle.std.proofs.Common.{◌≡◌, ◌<◌, ℕ, true, get_or}
-use Rattle.world_model.specs.Input.{is_separator}
-use Rattle.journal_check.proofs.numbers.separators_len.Given as goal
-
-abbrev pub invariant-loop-i : goal.invariant-loop-i
-invariant-loop-i l = (k : ℕ) → k < l.i → is_separator (get_or l.bytes k 0) ≡ true
