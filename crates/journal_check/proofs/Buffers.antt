@@ -1,10 +1,9 @@
 -- Offers and their priorities, and what may be received from a buffer by its length.
-use Rattle.std.proofs.Common.{◌≡◌, ℕ, zero, suc, ◌≤◌, ◌<◌, List, [], ◌∷◌, length, refl, sym, ap, ◌∙◌, subst, arith, Some, None, Bool, true, false, inl, inr}
+use Rattle.std.proofs.Common.{◌≡◌, ℕ, zero, suc, ◌≤◌, ◌<◌, List, [], ◌∷◌, length, refl, sym, ap, ◌∙◌, arith, Some, None, Bool, true, false, inl, inr}
 use Rattle.std.specs.Prelude.{slice_get, if◌then◌else◌, ◌==◌}
 use Rattle.std.specs.declared.option.Option.{Option}
 use Rattle.std.specs.Option.{option_and_then, option_map_or}
 use Rattle.std.proofs.lemmas.Bool.{cases_lt, eqb-true, eq-eqb}
-use Rattle.chill_base.specs.declared.facts.Facts.{Facts}
 use Rattle.chill_base.specs.declared.request.Request.TheVariants.{SendBuffer}
 use Rattle.world_model.specs.declared.world.Phase.{Phase}
 use Rattle.world_model.specs.declared.world.Phase.TheVariants.{Waiting}
@@ -13,7 +12,7 @@ use Rattle.world_model.specs.declared.world.World.{World}
 use Rattle.world_model.specs.declared.waiting.Offer.{Offer}
 use Rattle.world_model.specs.Waiting.{phase_of, offer, offer_in}
 use Rattle.world_model.specs.World.{stored_in}
-use Rattle.world_model.specs.Allowed.{IsOffered, IsStored, IsCandidateOf, NobodySends, IsRefillBy, IsRefill}
+use Rattle.world_model.specs.Allowed.{IsOffered, IsStored, IsCandidateOf, NobodySends, IsRefillBy}
 use Rattle.world_check.proofs.Waiters.{no_offer_behind, nothing_behind}
 use Rattle.journal_check.specs.Receiving.{priority_to, offered_priority, NoOfferAbove, NoStoredAbove, NothingStored, Offers}
 

@@ -1,5 +1,5 @@
 -- One event more of a journal.
-use Rattle.std.proofs.Common.{◌≡◌, ℕ, zero, suc, ◌+◌, ◌≤◌, ◌<◌, List, [], ◌∷◌, ◌++◌, take, refl, sym, ap, ◌∙◌, subst, arith, Some, None, add-one}
+use Rattle.std.proofs.Common.{◌≡◌, ℕ, zero, suc, ◌+◌, ◌≤◌, List, [], ◌∷◌, ◌++◌, take, refl, sym, ap, ◌∙◌, subst, arith, Some, add-one}
 use Rattle.std.specs.Prelude.{slice_get}
 use Rattle.chill_base.specs.declared.facts.Facts.{Facts}
 use Rattle.chill_base.specs.declared.event.Event.{Event}

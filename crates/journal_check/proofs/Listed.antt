@@ -9,7 +9,7 @@ use Rattle.world_model.specs.declared.world.StoredValue.{StoredValue}
 use Rattle.world_model.specs.declared.world.World.{World}
 use Rattle.world_model.specs.Lists.{number_for}
 use Rattle.world_model.specs.World.{stored_in}
-use Rattle.world_model.specs.Allowed.{IsCandidate, NothingToTake, TakesValue}
+use Rattle.world_model.specs.Allowed.{NothingToTake, TakesValue}
 use Rattle.world_check.proofs.Waiters.{nothing_behind}
 use Rattle.journal_check.specs.Receiving.{value_of, NoCandidate, NoCandidateAbove, NoValueAbove, MayTake, HasHighestStored, TakesFrom}
 

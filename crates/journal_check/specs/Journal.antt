@@ -1,5 +1,5 @@
 -- The first event that isn't allowed.
-use Rattle.std.specs.Prelude.{◌≡◌, ℕ, ◌+◌, ◌<◌, List, length, take, Some, None}
+use Rattle.std.specs.Prelude.{ℕ, ◌+◌, ◌<◌, List, length, take, Some, None}
 use Rattle.std.specs.declared.option.Option.{Option}
 use Rattle.chill_base.specs.declared.facts.Facts.{Facts}
 use Rattle.chill_base.specs.declared.event.Event.{Event}

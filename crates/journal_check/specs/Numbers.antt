@@ -1,5 +1,5 @@
 -- Numbers of any size, told by numbers that stop rising at a limit.
-use Rattle.std.specs.Prelude.{◌≡◌, ℕ, ◌^◌, ◌<◌, ◌≤◌, List, [], ◌∷◌, ℤ, Some, None}
+use Rattle.std.specs.Prelude.{◌≡◌, ℕ, ◌<◌, ◌≤◌, [], ◌∷◌, ℤ, Some, None}
 use Rattle.std.specs.declared.option.Option.{Option}
 use Rattle.chill_base.specs.declared.answer.Answer.{Answer}
 use Rattle.chill_base.specs.declared.answer.Answer.TheVariants.{Value, Fail}

@@ -9,6 +9,8 @@ mod journals;
 mod numbers;
 mod offers;
 mod receiving;
+#[cfg(test)]
+mod tests;
 
 pub use asking::is_allowed;
 pub use journals::allowed;

@@ -4,12 +4,10 @@ use Rattle.std.specs.Prelude.{All}
 use Rattle.std.specs.List.Sorted.{IsStrictlyIncreasing}
 use Rattle.std.proofs.lemmas.List.Elements.{All-nil, All-cons, All-head, All-tail, All-get_or, All-from_get_or}
 use Rattle.std.proofs.lemmas.Option.{slice_get-get_or}
-use Rattle.chill_base.specs.declared.facts.Facts.{Facts}
 use Rattle.chill_base.specs.declared.facts.Bits.{Bits}
-use Rattle.chill_base.specs.declared.value.Value.{Value}
 use Rattle.chill_base.specs.declared.value.Value.TheVariants as made
 use Rattle.chill_base.specs.Value.{powersets_of}
-use Rattle.chill_base.specs.Facts.{IsPowerset, IsLaidOut, IsSound}
+use Rattle.chill_base.specs.Facts.{IsPowerset, IsLaidOut}
 use Rattle.world_check.specs.Opening.{HasFewMembers, HasFewMembersEach, SoundFactsLaw}
 
 -- the number at place k of numbers that rise is at least k
@@ -39,8 +37,8 @@ sound_facts facts sound =
     let value_at = (λ (i : ℕ). get_or facts.store i (made.Number (pos 0))) in
     let none : List Bits = [] in
     All-from_get_or HasFewMembersEach facts.store (made.Number (pos 0)) (λ i low.
-      let same : length facts.layouts ≡ length facts.store = sound.locations in
-      let layout : List Bits = get_or facts.layouts i none in
-      let laid : IsLaidOut (value_at i) layout =
-      sound.laid_out i (value_at i) layout (slice_get-get_or facts.store i (made.Number (pos 0)) low) (slice_get-get_or facts.layouts i none (omega arith)) in
-      few_of_each (powersets_of (value_at i)) laid.powersets)
+    let same : length facts.layouts ≡ length facts.store = sound.locations in
+    let layout : List Bits = get_or facts.layouts i none in
+    let laid : IsLaidOut (value_at i) layout =
+    sound.laid_out i (value_at i) layout (slice_get-get_or facts.store i (made.Number (pos 0)) low) (slice_get-get_or facts.layouts i none (omega arith)) in
+    few_of_each (powersets_of (value_at i)) laid.powersets)

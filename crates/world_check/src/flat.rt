@@ -1,5 +1,5 @@
 // The flat scalars of a value (Z.200, chapter on modes).
-ghost use Rattle.std.specs.Prelude.{◌≡◌, ◌^◌, ◌<◌, ◌≤◌, ◌/◌, ◌%◌, ◌==◌, if◌then◌else◌, pos, length, IfOk};
+ghost use Rattle.std.specs.Prelude.{◌≡◌, ◌^◌, ◌<◌, ◌≤◌, ◌/◌, ◌%◌, ◌==◌, ◌↔◌, if◌then◌else◌, pos, length, IfOk, IsTrue};
 ghost use Rattle.chill_base.specs.Value as values;
 ghost use Rattle.world_check.specs.Opening.{HasFewMembersEach};
 
@@ -84,6 +84,24 @@ pub fn scalars_of(alloc: Global, value: &Value) -> Result<Scalars, Memory>
                 all.extend_from_slice(scalars.as_slice())?;
             }
             Ok(List::from_vec(all))
+        }
+    }
+}
+
+/// Whether no powerset of a value has more members than its member mode has values.
+pub fn has_few_members(value: &Value) -> bool
+    ensures { IsTrue result ↔ HasFewMembersEach value.now }
+{
+    match value {
+        Value::Number(_) => true,
+        Value::Members { size, offsets } => offsets.len() <= *size as usize,
+        Value::Parts(parts) => {
+            for part in parts.as_slice() {
+                if !has_few_members(part) {
+                    return false;
+                }
+            }
+            true
         }
     }
 }

@@ -18,7 +18,7 @@ mod tests;
 pub use choices::{continues, has_room, nobody_receives, sends_signal, sends_to_buffer};
 pub use going::{is_active, may_ask, may_go};
 pub use laws::sound_facts_law;
-pub use opening::opening_world;
+pub use opening::{have_few_members, opening_world};
 pub use pending::{is_value, no_signal_pends, receives_signal};
 pub use ranges::event_in_range;
 pub use requests::{

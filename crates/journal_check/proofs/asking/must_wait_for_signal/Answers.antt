@@ -1,4 +1,3 @@
-use Rattle.std.proofs.lemmas.Bool.{not-true}
 use Rattle.journal_check.proofs.asking.must_wait_for_signal.Goals as goal
 
 pub returns-then-not-otherwise : goal.returns-then-not-otherwise

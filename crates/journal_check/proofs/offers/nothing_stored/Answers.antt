@@ -1,4 +1,4 @@
-use Rattle.std.proofs.Common.{sym, ◌∙◌, ap, length, arith}
+use Rattle.std.proofs.Common.{sym, ◌∙◌, ap, length}
 use Rattle.std.proofs.lemmas.Bool.{eqb-true, eq-eqb}
 use Rattle.journal_check.proofs.Buffers.{nobody_stored, empty_stored, none_of_length}
 use Rattle.journal_check.proofs.offers.nothing_stored.Goals as goal

@@ -1,5 +1,5 @@
 use Rattle.std.proofs.Common.{arith}
-use Rattle.world_check.proofs.Waiters.{refuted, granted}
+use Rattle.world_check.proofs.Waiters.{refuted}
 use Rattle.journal_check.proofs.Listed.{takes_none}
 use Rattle.journal_check.proofs.receiving.takes_value.Goals as goal
 
