@@ -1,6 +1,6 @@
 // What GET_INT answers (our own choice). Digits have no bound: a number that is too large is read as one that is.
-ghost use Rattle.std.specs.Prelude.{◌≡◌, ◌+◌, ◌-◌, ◌*◌, ◌≤◌, ◌<◌, ◌↔◌, IsTrue, not, pos, neg_ℤ, drop, take, Some, None};
-ghost use Rattle.std.specs.List.{list_all, prefix_len, take_while};
+ghost use Rattle.std.specs.Prelude.{◌≡◌, ◌+◌, ◌-◌, ◌*◌, ◌≤◌, ◌↔◌, IsTrue, not, pos, neg_ℤ};
+ghost use Rattle.std.specs.List.{list_all, take_while};
 ghost use Rattle.std.specs.Option.{option_map};
 ghost use Rattle.world_model.specs.Input as inputs;
 ghost use Rattle.journal_check.specs.Numbers as numbers;

@@ -1,5 +1,5 @@
 // The values that may be received from one buffer: those that lie in it, or those whose senders wait.
-ghost use Rattle.std.specs.Prelude.{◌≡◌, ◌≤◌, ◌↔◌, ℕ, IsTrue, Some, None};
+ghost use Rattle.std.specs.Prelude.{◌≡◌, ◌↔◌, ℕ, IsTrue};
 ghost use Rattle.world_model.specs.World as worlds;
 ghost use Rattle.world_model.specs.Waiting as waiting;
 ghost use Rattle.world_model.specs.Allowed as events;

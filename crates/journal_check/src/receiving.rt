@@ -1,5 +1,5 @@
 // What is received from buffers, and the sender that is chosen with it.
-ghost use Rattle.std.specs.Prelude.{◌≡◌, ◌≤◌, ◌↔◌, ℕ, IsTrue, IsFalse, Some, None};
+ghost use Rattle.std.specs.Prelude.{◌≡◌, ◌↔◌, ℕ, IsTrue};
 ghost use Rattle.world_model.specs.Lists as lists;
 ghost use Rattle.world_model.specs.World as worlds;
 ghost use Rattle.world_model.specs.Waiting as waiting;
