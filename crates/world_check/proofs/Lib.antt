@@ -1,3 +1,4 @@
 pub mod Members
 pub mod Waiters
 pub mod Signals
+pub mod Sound

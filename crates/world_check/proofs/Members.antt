@@ -1,5 +1,5 @@
 -- The members of a value's powersets, part by part, and the next number of a powerset.
-use Rattle.std.proofs.Common.{◌≡◌, ℕ, zero, suc, ◌+◌, ◌-◌, ◌<◌, ◌≤◌, ◌^◌, List, [], ◌∷◌, ◌++◌, ℤ, pos, length, get_or, take, sym, ap, ◌∙◌, subst, arith, add-one, append_assoc}
+use Rattle.std.proofs.Common.{◌≡◌, ℕ, zero, suc, ◌+◌, ◌-◌, ◌<◌, ◌≤◌, List, [], ◌∷◌, ◌++◌, ℤ, pos, length, get_or, take, sym, ap, ◌∙◌, subst, arith, add-one, append_assoc}
 use Rattle.std.specs.Prelude.{All}
 use Rattle.std.specs.List.{flat_map}
 use Rattle.std.proofs.lemmas.Grind.{common_steps}
@@ -22,7 +22,7 @@ powersets_of-Parts parts =
     ap (fold-Value (List (ℕ × List ℕ)) powersets_in) (sym (made.rolls-Parts parts)) ∙ fold-roll-Value (List (ℕ × List ℕ)) powersets_in (layer.Parts parts)
     ∙ flat_map-map (λ xs. xs) (fold-Value (List (ℕ × List ℕ)) powersets_in) parts
 
-pub few_members : (size : ℕ) (offsets : List ℕ) → HasFewMembersEach (made.Members size offsets) → length offsets < 2 ^ 32
+pub few_members : (size : ℕ) (offsets : List ℕ) → HasFewMembersEach (made.Members size offsets) → length offsets ≤ size
 few_members size offsets few = All-head HasFewMembers (size, offsets) [] (subst (All HasFewMembers) (powersets_of-Members size offsets) few)
 
 all_front : {X : Type 0} (P : X → Type 0) (xs ys : List X) → All P (xs ++ ys) → All P xs
@@ -61,9 +61,9 @@ pub numbers_here : (value : Value) (size : ℕ) (offsets members : List ℕ) (sc
 numbers_here value size offsets members scalars is same numbers =
     numbers ∙ ap (λ (xs : List ℕ). numbers_from xs 0 (count_of_numbers size)) same ∙ sym (ap scalars_of is ∙ scalars_of-Members size offsets)
 
-pub no_such_members : (value : Value) (size : ℕ) (offsets members : List ℕ) (scalars : List ℤ) → value ≡ made.Members size offsets → members ≡ offsets → 2 ^ 32 ≤ length members → HasFewMembersEach value → scalars ≡ scalars_of value
+pub no_such_members : (value : Value) (size : ℕ) (offsets members : List ℕ) (scalars : List ℤ) → value ≡ made.Members size offsets → members ≡ offsets → size < length members → HasFewMembersEach value → scalars ≡ scalars_of value
 no_such_members value size offsets members scalars is same many few =
-    let low : length offsets < 2 ^ 32 = few_members size offsets (subst HasFewMembersEach is few) in
+    let low : length offsets ≤ size = few_members size offsets (subst HasFewMembersEach is few) in
     let lengths : length members ≡ length offsets = ap length same in
     absurd (let no : ⊥ = omega arith in no)
 
@@ -72,3 +72,30 @@ parts_here value parts items scalars is same all = all ∙ ap (λ (vs : List Val
 
 pub parts_more : (items : List Value) (i : ℕ) (part : Value) (all scalars more : List ℤ) → i < length items → part ≡ get_or items i part → all ≡ flat_map scalars_of (take i items) → scalars ≡ scalars_of part → more ≡ all ++ scalars → more ≡ flat_map scalars_of (take (i + 1) items)
 parts_more items i part all scalars more low here before is appended = grind (arith, common_steps)
+
+powersets_of-Number : (number : ℤ) → powersets_of (made.Number number) ≡ []
+unfolding powersets_of
+powersets_of-Number number = ap (fold-Value (List (ℕ × List ℕ)) powersets_in) (sym (made.rolls-Number number)) ∙ fold-roll-Value (List (ℕ × List ℕ)) powersets_in (layer.Number number)
+
+pub few_of_number : (number : ℤ) → HasFewMembersEach (made.Number number)
+few_of_number number = subst (All HasFewMembers) (sym (powersets_of-Number number)) (All-nil HasFewMembers)
+
+pub few_of_members : (size : ℕ) (offsets : List ℕ) → length offsets ≤ size → HasFewMembersEach (made.Members size offsets)
+few_of_members size offsets low = subst (All HasFewMembers) (sym (powersets_of-Members size offsets)) (All-cons HasFewMembers (size, offsets) [] low (All-nil HasFewMembers))
+
+all_joined : {X : Type 0} (P : X → Type 0) (xs ys : List X) → All P xs → All P ys → All P (xs ++ ys)
+all_joined P [] ys all more = more
+all_joined P (x ∷ xs) ys all more = All-cons P x (xs ++ ys) (All-head P x xs all) (all_joined P xs ys (All-tail P x xs all) more)
+
+few_by_place : (parts : List Value) → ((i : ℕ) (d : Value) → i < length parts → HasFewMembersEach (get_or parts i d)) → All HasFewMembers (flat_map powersets_of parts)
+few_by_place [] each = All-nil HasFewMembers
+few_by_place (part ∷ parts) each =
+    all_joined HasFewMembers (powersets_of part) (flat_map powersets_of parts) (each 0 part (omega arith)) (few_by_place parts (λ i d low. each (suc i) d (omega arith)))
+
+-- the parts that a loop has gone through are all
+pub few_of_parts : (value : Value) (parts items : List Value) (count : ℕ) → value ≡ made.Parts parts → items ≡ parts → length items ≤ count
+    → ((i : ℕ) (d : Value) → i < count → HasFewMembersEach (get_or items i d)) → HasFewMembersEach value
+few_of_parts value parts items count is same low each =
+    let all : All HasFewMembers (flat_map powersets_of items) = few_by_place items (λ i d below. each i d (omega arith)) in
+    let made_of : HasFewMembersEach (made.Parts items) = subst (All HasFewMembers) (sym (powersets_of-Parts items)) all in
+    subst HasFewMembersEach (ap made.Parts same ∙ sym is) made_of

@@ -1,11 +1,17 @@
--- Values whose scalars are numbers of 64 bits.
-use Rattle.std.specs.Prelude.{ℕ, ◌^◌, ◌<◌, List, length, All}
+-- Values whose scalars are numbers of 64 bits, and that those of sound facts are such.
+use Rattle.std.specs.Prelude.{ℕ, ◌≤◌, List, length, All}
+use Rattle.chill_base.specs.declared.facts.Facts.{Facts}
 use Rattle.chill_base.specs.declared.value.Value.{Value}
 use Rattle.chill_base.specs.Value.{powersets_of}
+use Rattle.chill_base.specs.Facts.{IsSound}
 
--- fewer members than offsets of 32 bits can tell, as each powerset has whose offsets rise
+-- no more members than the member mode has values
 abbrev pub HasFewMembers : ℕ × List ℕ → Type 0
-HasFewMembers powerset = length powerset.1 < 2 ^ 32
+HasFewMembers powerset = length powerset.1 ≤ powerset.0
 
 abbrev pub HasFewMembersEach : Value → Type 0
 HasFewMembersEach value = All HasFewMembers (powersets_of value)
+
+-- Each powerset in the store of sound facts has no more members than its member mode has values.
+abbrev pub SoundFactsLaw : Type 0
+SoundFactsLaw = (facts : Facts) → IsSound facts → All HasFewMembersEach facts.store

@@ -6,9 +6,8 @@ ghost use Rattle.world_model.specs.World as worlds;
 ghost use Rattle.world_model.specs.Allowed as events;
 
 use crate::requests::{fails_with, refusal};
-use crate::waiting::{buffer_receiver, number_at, signal_receiver, sleeper};
 use chill_base::{Answer, Facts};
-use world_model::{Waiter, World};
+use world_model::{Waiter, World, buffer_receiver, number_at, signal_receiver, sleeper};
 
 fn is_there(found: Option<Waiter>) -> bool
     ensures { IsTrue result ↔ ((waiter : Waiter) × (found ≡ Some waiter)) }

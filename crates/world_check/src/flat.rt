@@ -1,5 +1,5 @@
 // The flat scalars of a value (Z.200, chapter on modes).
-ghost use Rattle.std.specs.Prelude.{◌≡◌, ◌^◌, ◌<◌, ◌≤◌, ◌/◌, ◌%◌, ◌==◌, if◌then◌else◌, pos, length, IfOk};
+ghost use Rattle.std.specs.Prelude.{◌≡◌, ◌^◌, ◌<◌, ◌≤◌, ◌/◌, ◌%◌, ◌==◌, ◌↔◌, if◌then◌else◌, pos, length, IfOk, IsTrue};
 ghost use Rattle.chill_base.specs.Value as values;
 ghost use Rattle.world_check.specs.Opening.{HasFewMembersEach};
 
@@ -57,7 +57,7 @@ fn numbers(alloc: Global, size: u32, offsets: &[u32]) -> Result<Scalars, Memory>
     Ok(List::from_vec(numbers))
 }
 
-/// The flat scalars of a value, in order. A powerset of 2 ^ 32 members or more, which no mode has, counts for none.
+/// The flat scalars of a value, in order. A powerset of more members than its member mode has values counts for none.
 #[tactic(auto, using(crate::proofs::Members::one_scalar, crate::proofs::Members::numbers_here, crate::proofs::Members::no_such_members))]
 pub fn scalars_of(alloc: Global, value: &Value) -> Result<Scalars, Memory>
     ensures { IfOk result (λ scalars. HasFewMembersEach value.now → scalars ≡ values.scalars_of value.now) }
@@ -70,7 +70,7 @@ pub fn scalars_of(alloc: Global, value: &Value) -> Result<Scalars, Memory>
         }
         Value::Members { size, offsets } => {
             let members = offsets.as_slice();
-            if members.len() as u64 <= u64::from(u32::MAX) {
+            if members.len() <= *size as usize {
                 let scalars = numbers(alloc, *size, members)?;
                 Ok(scalars)
             } else {
@@ -84,6 +84,24 @@ pub fn scalars_of(alloc: Global, value: &Value) -> Result<Scalars, Memory>
                 all.extend_from_slice(scalars.as_slice())?;
             }
             Ok(List::from_vec(all))
+        }
+    }
+}
+
+/// Whether no powerset of a value has more members than its member mode has values.
+pub fn has_few_members(value: &Value) -> bool
+    ensures { IsTrue result ↔ HasFewMembersEach value.now }
+{
+    match value {
+        Value::Number(_) => true,
+        Value::Members { size, offsets } => offsets.len() <= *size as usize,
+        Value::Parts(parts) => {
+            for part in parts.as_slice() {
+                if !has_few_members(part) {
+                    return false;
+                }
+            }
+            true
         }
     }
 }

@@ -1,18 +1,26 @@
-//! Which lists of events are allowed: the opening world, whether an event is allowed in a world, and the first event of
-//! a list that isn't.
+//! The opening world in code, and the parts of the decision whether an event is allowed in a world: the ranges of its
+//! numbers, who may ask and go on, and the answers to each kind of request but the receipt from buffers and GET_INT.
 //!
-//! It decides what `world_model` defines. Tests and a checker of given journals stand on it.
+//! It decides what `world_model` defines. `journal_check` puts the decisions together.
 #![tactic(auto)]
 
 mod choices;
 mod flat;
 mod going;
+mod laws;
 mod opening;
 mod pending;
 mod ranges;
 mod requests;
 #[cfg(test)]
 mod tests;
-mod waiting;
 
-pub use opening::opening_world;
+pub use choices::{continues, has_room, nobody_receives, sends_signal, sends_to_buffer};
+pub use going::{is_active, may_ask, may_go};
+pub use laws::sound_facts_law;
+pub use opening::{have_few_members, opening_world};
+pub use pending::{is_value, no_signal_pends, receives_signal};
+pub use ranges::event_in_range;
+pub use requests::{
+    are_equal, fails_with, is_done, is_full, is_taken, may_enter, reads, starts, tells_scalars,
+};

@@ -1,10 +1,10 @@
 // The world in which a run begins.
-ghost use Rattle.std.specs.Prelude.{◌≡◌, IfOk, All, map, replicate, None, []};
+ghost use Rattle.std.specs.Prelude.{◌≡◌, ◌↔◌, IfOk, IsTrue, All, map, replicate, None, []};
 ghost use Rattle.chill_base.specs.Value as values;
 ghost use Rattle.world_model.specs.World as worlds;
 ghost use Rattle.world_check.specs.Opening.{HasFewMembersEach};
 
-use crate::flat::scalars_of;
+use crate::flat::{has_few_members, scalars_of};
 use chill_base::{Facts, How, Item, List, Memory, Scalars, Value};
 use std::alloc::Global;
 use world_model::{Phase, World};
@@ -38,6 +38,18 @@ fn empty_lists<T: Drop>(alloc: Global, count: usize) -> Result<List<List<T>>, Me
         all.push(List::new(alloc))?;
     }
     Ok(List::from_vec(all))
+}
+
+/// Whether no powerset of the store has more members than its member mode has values, as those of sound facts.
+pub fn have_few_members(facts: &Facts) -> bool
+    ensures { IsTrue result ↔ All HasFewMembersEach facts.now.store }
+{
+    for value in facts.store.as_slice() {
+        if !has_few_members(value) {
+            return false;
+        }
+    }
+    true
 }
 
 /// The world before the first event: instance 1 is active on process 0, and nothing is held, stored, pending or put.

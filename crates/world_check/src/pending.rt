@@ -4,9 +4,8 @@ ghost use Rattle.world_model.specs.Allowed as events;
 ghost use Rattle.world_check.specs.Pending as pending;
 
 use crate::requests::are_equal;
-use crate::waiting::{may_receive, number_for};
 use chill_base::{Alternative, Answer, Facts};
-use world_model::{PendingSignal, StoredValue, World};
+use world_model::{PendingSignal, StoredValue, World, may_receive, number_for};
 
 // The alternative through which an instance may receive a pending signal.
 fn alternative_for(
@@ -58,7 +57,7 @@ fn no_signal_above(
     true
 }
 
-// Whether this is the value of a send number, a sender and scalars.
+/// Whether this is the value of a send number, a sender and scalars.
 pub fn is_value(value: &StoredValue, send: u32, scalars: &[i64], by: u32) -> bool
     ensures { IsTrue result ↔ (value.now ≡ record { send = send; sender = by; scalars = scalars.now; priority = value.now.priority }) }
 {

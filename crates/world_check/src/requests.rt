@@ -7,9 +7,8 @@ ghost use Rattle.world_model.specs.Waiting as waiting;
 ghost use Rattle.world_model.specs.World as worlds;
 ghost use Rattle.world_model.specs.Allowed as events;
 
-use crate::waiting::{number_at, sleeper_in};
 use chill_base::{Alternative, Answer, Exc, Facts, Item, Place};
-use world_model::{Phase, World};
+use world_model::{Phase, World, number_at, sleeper_in};
 
 fn front(scalars: &[i64], count: usize) -> &[i64]
     ensures { result.now ≡ take count scalars.now }
@@ -65,7 +64,8 @@ fn scalars_of(world: &World, place: Place) -> &[i64]
     )
 }
 
-fn is_value(answer: &Answer, wanted: &[i64]) -> bool
+/// Whether an answer is these scalars.
+pub fn tells_scalars(answer: &Answer, wanted: &[i64]) -> bool
     ensures { IsTrue result ↔ (answer.now ≡ answers.Value wanted.now) }
 {
     match answer {
@@ -78,7 +78,7 @@ fn is_value(answer: &Answer, wanted: &[i64]) -> bool
 pub fn reads(world: &World, place: Place, answer: &Answer) -> bool
     ensures { IsTrue result ↔ (answer.now ≡ answers.Value (scalars_at (slice_index_or world.now.store place.location []) place.first place.count)) }
 {
-    is_value(answer, scalars_of(world, place))
+    tells_scalars(answer, scalars_of(world, place))
 }
 
 /// Whether an answer says that it was done.

@@ -16,6 +16,7 @@ fn the_opening_of_two_regions(rt: HostRuntime) -> Result<(), Fail> {
         input: List::new(alloc),
         units: 1000,
     };
+    assert!(rt; have_few_members(&facts));
     let world = opening_world(alloc, &facts)?;
     assert_eq!(rt; world.occupants.len(), 2);
     assert_eq!(rt; world.phases.len(), 2);

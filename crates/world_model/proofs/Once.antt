@@ -114,6 +114,14 @@ step_sends facts w (Waits who ticks request) = waits_sends w who request
 step_sends facts w (Goes who answer) = omega (arith, back_sends w who (back_in (phase_of w who)))
 step_sends facts w (Runs who ticks) = omega arith
 
+at_most_one : (sent : Option Message) → count_of sent ≤ 1
+at_most_one None = omega arith
+at_most_one (Some message) = omega arith
+
+-- an event draws at most one number
+pub sends_rise : (facts : Facts) (w : World) (event : Event) → (after facts w event).sends ≤ w.sends + 1
+sends_rise facts w event = omega (arith, step_sends facts w event, at_most_one (sent_in w event))
+
 abbrev number_in : Option Message → ℕ
 number_in None = 0
 number_in (Some message) = message.number

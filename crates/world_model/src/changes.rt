@@ -195,7 +195,7 @@ pub fn end(world: &mut World, who: u32, how: How) -> Result<(), Memory>
 pub fn wake(world: &mut World, p: u32, event: u32, by: u32)
     ensures { world.new ≡ chosen world.old p (waiting.sleeper world.old event p) (λ alternative. Woken alternative by) }
 {
-    if let Some(waiter) = sleeper(world, event, p) {
+    if let Some(waiter) = sleeper(world, event, p as usize) {
         set_phase(
             world,
             p,
@@ -221,7 +221,7 @@ pub fn hand_over(
 ) -> Result<(), Memory>
     ensures { OnOk result (world.new ≡ chosen world.old p (waiting.buffer_receiver world.old buffer p) (λ alternative. Got alternative send scalars.now by)) }
 {
-    match buffer_receiver(world, buffer, p) {
+    match buffer_receiver(world, buffer, p as usize) {
         Some(waiter) => {
             choose_receiver(world, p, waiter, send, scalars.copy()?, by);
             Ok(())
@@ -243,7 +243,7 @@ pub fn hand_signal(
 ) -> Result<(), Memory>
     ensures { OnOk result (world.new ≡ chosen world.old p (waiting.signal_receiver facts.now world.old signal to p) (λ alternative. Got alternative send scalars.now by)) }
 {
-    match signal_receiver(facts, world, signal, to, p) {
+    match signal_receiver(facts, world, signal, to, p as usize) {
         Some(waiter) => {
             choose_receiver(world, p, waiter, send, scalars.copy()?, by);
             Ok(())

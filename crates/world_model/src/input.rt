@@ -12,7 +12,8 @@ fn is_separator(byte: u8) -> bool
     byte == b' ' || byte == b'\t' || byte == b'\n' || byte == b'\r'
 }
 
-fn separators_len(bytes: &[u8]) -> usize
+/// How many separators come first.
+pub fn separators_len(bytes: &[u8]) -> usize
     ensures { result ≡ prefix_len inputs.is_separator bytes.now }
 {
     for i in 0..bytes.len() {
@@ -23,7 +24,8 @@ fn separators_len(bytes: &[u8]) -> usize
     bytes.len()
 }
 
-fn word_len(bytes: &[u8]) -> usize
+/// How many bytes come before the first separator.
+pub fn word_len(bytes: &[u8]) -> usize
     ensures { result ≡ prefix_len (λ b. not (inputs.is_separator b)) bytes.now }
 {
     for i in 0..bytes.len() {

@@ -13,9 +13,13 @@ mod tests;
 mod waiting;
 mod world;
 
+pub use input::{separators_len, word_len};
 pub use laws::{
     each_value_once_law, freed_region_law, given_answers_law, one_occupant_law, over_law,
     prefix_law, priority_law, worked_journals,
 };
-pub use waiting::{Offer, Waiter};
+pub use waiting::{
+    Offer, Waiter, buffer_receiver, may_receive, number_at, number_for, signal_receiver, sleeper,
+    sleeper_in,
+};
 pub use world::{PendingSignal, Phase, StoredValue, World};

@@ -47,7 +47,8 @@ fn waiter_for(alternative: Option<u32>, priority: u32, back: Option<u32>) -> Opt
     }
 }
 
-fn sleeper_in(event: u32, phase: &Phase) -> Option<Waiter>
+/// One that is delayed on an event, by its phase.
+pub fn sleeper_in(event: u32, phase: &Phase) -> Option<Waiter>
     ensures { result ≡ waiting.sleeper_in event phase.now }
 {
     match phase {
@@ -87,31 +88,31 @@ fn signal_receiver_in(signal: u32, phase: &Phase) -> Option<Waiter>
 }
 
 /// One that is delayed on an event.
-pub fn sleeper(world: &World, event: u32, who: u32) -> Option<Waiter>
+pub fn sleeper(world: &World, event: u32, who: usize) -> Option<Waiter>
     ensures { result ≡ waiting.sleeper world.now event who }
 {
-    match world.phases.as_slice().get(who as usize) {
+    match world.phases.as_slice().get(who) {
         Some(phase) => sleeper_in(event, phase),
         None => None,
     }
 }
 
 /// One that waits to receive from a buffer.
-pub fn buffer_receiver(world: &World, buffer: u32, who: u32) -> Option<Waiter>
+pub fn buffer_receiver(world: &World, buffer: u32, who: usize) -> Option<Waiter>
     ensures { result ≡ waiting.buffer_receiver world.now buffer who }
 {
-    match world.phases.as_slice().get(who as usize) {
+    match world.phases.as_slice().get(who) {
         Some(phase) => buffer_receiver_in(buffer, phase),
         None => None,
     }
 }
 
 /// Whether an instance may receive a signal.
-pub fn may_receive(facts: &Facts, world: &World, signal: u32, to: Option<u32>, who: u32) -> bool
+pub fn may_receive(facts: &Facts, world: &World, signal: u32, to: Option<u32>, who: usize) -> bool
     ensures { result ≡ waiting.may_receive facts.now world.now signal to who }
 {
     match to {
-        Some(to) => who == to,
+        Some(to) => who == to as usize,
         None => match number_at(facts.signals.as_slice(), signal) {
             Some(wanted) => process_of(world, who) == wanted,
             None => true,
@@ -119,7 +120,8 @@ pub fn may_receive(facts: &Facts, world: &World, signal: u32, to: Option<u32>, w
     }
 }
 
-fn number_at(numbers: &[Option<u32>], i: u32) -> Option<u32>
+/// The number at a place, where there is one.
+pub fn number_at(numbers: &[Option<u32>], i: u32) -> Option<u32>
     ensures { result ≡ slice_index_or numbers.now i None }
 {
     if (i as usize) < numbers.len() {
@@ -129,11 +131,11 @@ fn number_at(numbers: &[Option<u32>], i: u32) -> Option<u32>
     }
 }
 
-fn process_of(world: &World, who: u32) -> u32
+fn process_of(world: &World, who: usize) -> u32
     ensures { result ≡ slice_index_or world.now.processes who 0 }
 {
-    if (who as usize) < world.processes.len() {
-        *world.processes.at(who as usize)
+    if who < world.processes.len() {
+        *world.processes.at(who)
     } else {
         0
     }
@@ -145,14 +147,14 @@ pub fn signal_receiver(
     world: &World,
     signal: u32,
     to: Option<u32>,
-    who: u32,
+    who: usize,
 ) -> Option<Waiter>
     ensures { result ≡ waiting.signal_receiver facts.now world.now signal to who }
 {
     if !may_receive(facts, world, signal, to, who) {
         return None;
     }
-    match world.phases.as_slice().get(who as usize) {
+    match world.phases.as_slice().get(who) {
         Some(phase) => signal_receiver_in(signal, phase),
         None => None,
     }

@@ -15,8 +15,8 @@ loop-part-preserved t c =
     let appended : c.extend_from_slice.new.self.items ≡ c.loop-part.all.items ++ c.in_ok-scalars-in-Parts.scalars = grind (arith, common_steps) in
     parts_more items c.loop-part.part-index c.part-item.result c.loop-part.all.items c.in_ok-scalars-in-Parts.scalars c.extend_from_slice.new.self.items c.loop-part-test.true c.part-item.is (c.loop-part.invariant few) scalars appended
 
-pub returns-else-members-from : goal.returns-else-members-from
-returns-else-members-from t c =
+pub returns-else-members-size : goal.returns-else-members-size
+returns-else-members-size t c =
     λ few. no_such_members c.args.value.now c.in-Members.size c.in-Members.offsets c.as_slice-members.result.now c.new.result c.in-Members.is c.as_slice-members.ensures (omega arith) few
 
 pub returns-after-loop-part : goal.returns-after-loop-part

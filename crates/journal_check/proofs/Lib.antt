@@ -1,0 +1,4 @@
+pub mod Buffers
+pub mod Listed
+pub mod Digits
+pub mod Fronts
