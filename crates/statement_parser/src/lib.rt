@@ -10,7 +10,7 @@ ghost use Rattle.rules_model.specs.StatementReading as reading;
 use chill_base::{List, Pos};
 use chill_tree::tree::{BodyPart, Handler, Name, Statement};
 use chill_tree::{Sign, Token, TokenKind, Word};
-use expr_parser::{ParseRefusal, starts};
+use expr_parser::{ParseRefusal, starts, starts_with};
 use std::alloc::Global;
 
 /// Reads a statement.
@@ -37,6 +37,7 @@ pub fn read_body(
 }
 
 /// Reads a handler, if one is there.
+#[tactic(auto, unfolding(rules_model::specs::StatementReading::handler_at))]
 pub fn read_handler(
     alloc: Global,
     tokens: &[Token],
@@ -44,17 +45,27 @@ pub fn read_handler(
 ) -> Result<(Option<Handler>, &[Token]), ParseRefusal>
     ensures { Gives (λ x. (option_map handler_tree x.0, x.1.now)) result (handler_at (actions_at inner) tokens.now) }
 {
+    if !starts_with(tokens, Word::On) {
+        return Ok((None, tokens));
+    }
     Err(ParseRefusal::Memory)
 }
 
 /// Reads the name at an end, if one is there: it has to be the name at the start.
+#[tactic(auto, unfolding(rules_model::specs::StatementReading::closing_at))]
 pub fn read_closing<'a>(
     tokens: &'a [Token],
     name: Option<&Name>,
 ) -> Result<(Option<Name>, &'a [Token]), ParseRefusal>
     ensures { Gives (λ x. (x.0, x.1.now)) result (closing_at (option_map (λ n. n.now) name.entry) tokens.now) }
 {
-    Err(ParseRefusal::Memory)
+    match tokens {
+        [token, ..] => match &token.kind {
+            TokenKind::Name(_) => Err(ParseRefusal::Memory),
+            _ => Ok((None, tokens)),
+        },
+        [] => Ok((None, tokens)),
+    }
 }
 
 /// Whether a label stands at the front: a name and a colon.
