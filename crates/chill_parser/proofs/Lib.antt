@@ -1,9 +1,11 @@
 pub mod ExprTaken
 pub mod ItemTaken
+pub mod Lists
 pub mod LocalTaken
 pub mod ModeTaken
 pub mod Nested
 pub mod Parsing
+pub mod Places
 pub mod SimpleTaken
 pub mod StatementTaken
 pub mod Taken
