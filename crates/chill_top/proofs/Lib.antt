@@ -1,4 +1,3 @@
-pub mod OneList
-pub mod Tokens
-pub mod Readings
 pub mod Pieces
+pub mod TellingLemmas
+pub mod SumsLemmas

@@ -1,9 +1,11 @@
 -- Texts that are read and written piece by piece.
-use Rattle.std.proofs.Common.{◌≡◌, ℕ, ◌+◌, ◌-◌, ◌<◌, ◌≤◌, List, ◌++◌, length, take, drop, refl, sym, ap, ◌∙◌, subst, inl, inr, min, arith, append_assoc, length-append, length-take, IfOk}
+use Rattle.std.proofs.Common.{◌≡◌, ℕ, ◌+◌, ◌-◌, ◌<◌, ◌≤◌, List, ◌++◌, length, take, drop, refl, sym, ap, ◌∙◌, subst, inl, inr, arith, append_assoc, length-append, length-take, IfOk}
 use Rattle.std.specs.Prelude.{None, Some, Ok, Err}
 use Rattle.std.specs.declared.result.Result.{Result}
 use Rattle.chill_base.specs.declared.memory.Memory.{Memory}
-use Rattle.chill_top.specs.Sums.{Sums, IsNoSums}
+use Rattle.chill_base.specs.declared.diagnostic.Diagnostic.{Diagnostic}
+use Rattle.rules_model.specs.Diagnoses.{IsShort, too_long, no_token, too_deep, no_program}
+use Rattle.chill_top.specs.Telling.{Sums, Refuses, broken, not_built}
 use Rattle.chill_top.specs.Plan.{IsTextOf, IsReadingOf, IsPlanFor, sums_plan, refusal_plan}
 use Rattle.chill_top.specs.declared.plan.Plan.{Plan}
 use Rattle.std.specs.declared.option.Option.{Option}
@@ -49,32 +51,34 @@ reading-front None read long front = (read, tt, record { front = sym (take_all 2
 reading-front (Some text) read long front = (text, refl, record { front = sym front ∙ ap (λ (n : ℕ). take n text) long })
 
 -- what is no longer than a text may be was read whole
-reading-short : (text read : List ℕ) → IsReadingOf text read → length read ≤ 262144 → length text ≤ 262145
-reading-short text read of short = omega (arith, short, ap length of.front, length-take 262145 text)
+pub reading-short : (text read : List ℕ) → IsReadingOf text read → length read ≤ 262144 → read ≡ text
+reading-short text read of short =
+    of.front ∙ take_all 262145 text (omega (arith, short, ap length of.front, length-take 262145 text))
 
--- a text that has this form was read whole
-pub reading-sums : (text read sums : List ℕ) → IsReadingOf text read → Sums read sums → Sums text sums
-reading-sums text read sums of s =
-    let same : read ≡ text = of.front ∙ take_all 262145 text (reading-short text read of s.short) in
-    subst (λ (t : List ℕ). Sums t sums) same s
+-- what is longer is the front of a longer text
+pub reading-long : (text read : List ℕ) → IsReadingOf text read → 262144 < length read → 262144 < length text
+reading-long text read of long = omega (arith, long, ap length of.front, length-take 262145 text)
 
--- a text that hasn't this form hasn't it either where only its front was read
-pub reading-none : (text read : List ℕ) → IsReadingOf text read → IsNoSums read → IsNoSums text
-reading-none text read of none sums s =
-    let same : read ≡ text = of.front ∙ take_all 262145 text (omega (arith, s.short)) in
-    none sums (subst (λ (t : List ℕ). Sums t sums) (sym same) s)
+-- what is told of what was read is told of the text
+pub Sums-reading : (text read sums : List ℕ) → IsReadingOf text read → Sums read sums → Sums text sums
+Sums-reading text read sums of s = subst (λ (t : List ℕ). Sums t sums) (reading-short text read of s.has.short) s
 
--- the plan for a text whose sums were read, or were not there
-pub plan-sums : (read sums : List ℕ) (plan : Plan) → Sums read sums → plan ≡ sums_plan sums → (text : List ℕ) → IsReadingOf text read → IsPlanFor text plan
-plan-sums read sums plan s is text of = inl (sums, reading-sums text read sums of s, is)
+Refuses-short : (text read : List ℕ) (told : Diagnostic) → IsReadingOf text read → IsShort read → Refuses read told → Refuses text told
+Refuses-short text read told of short r = subst (λ (t : List ℕ). Refuses t told) (reading-short text read of short) r
 
-pub plan-none : (read : List ℕ) (plan : Plan) → IsNoSums read → plan ≡ refusal_plan → (text : List ℕ) → IsReadingOf text read → IsPlanFor text plan
-plan-none read plan none is text of = inr (reading-none text read of none, is)
+pub Refuses-reading : (text read : List ℕ) (told : Diagnostic) → IsReadingOf text read → Refuses read told → Refuses text told
+Refuses-reading text read told of (broken (too_long long)) = broken (too_long (reading-long text read of long))
+Refuses-reading text read told of (broken (no_token {at = at} short bad)) = Refuses-short text read _ of short (broken (no_token short bad))
+Refuses-reading text read told of (broken (too_deep {at = at} short are deep)) = Refuses-short text read _ of short (broken (too_deep short are deep))
+Refuses-reading text read told of (broken (no_program {at = at} short are shallow none place)) =
+    Refuses-short text read _ of short (broken (no_program short are shallow none place))
+Refuses-reading text read told of (not_built has none) = Refuses-short text read _ of has.short (not_built has none)
 
+-- the plan for a text whose sums were read, or that is refused
 pub ok-plan-sums : (read sums : List ℕ) (made : Result Plan Memory) → Sums read sums → IfOk made (λ plan. plan ≡ sums_plan sums) → IfOk made (λ plan. (text : List ℕ) → IsReadingOf text read → IsPlanFor text plan)
-ok-plan-sums read sums (Ok plan) s is = plan-sums read sums plan s is
+ok-plan-sums read sums (Ok plan) s is = λ text of. inl (sums, Sums-reading text read sums of s, is)
 ok-plan-sums read sums (Err e) s is = tt
 
-pub ok-plan-none : (read : List ℕ) (made : Result Plan Memory) → IsNoSums read → IfOk made (λ plan. plan ≡ refusal_plan) → IfOk made (λ plan. (text : List ℕ) → IsReadingOf text read → IsPlanFor text plan)
-ok-plan-none read (Ok plan) none is = plan-none read plan none is
-ok-plan-none read (Err e) none is = tt
+pub ok-plan-refused : (read : List ℕ) (told : Diagnostic) (made : Result Plan Memory) → Refuses read told → IfOk made (λ plan. plan ≡ refusal_plan told) → IfOk made (λ plan. (text : List ℕ) → IsReadingOf text read → IsPlanFor text plan)
+ok-plan-refused read told (Ok plan) r is = λ text of. inr (told, Refuses-reading text read told of r, is)
+ok-plan-refused read told (Err e) r is = tt

@@ -6,7 +6,8 @@ use Rattle.outside_ports.specs.Faults.{Rose}
 use Rattle.chill_base.specs.declared.ends.Over.{Over}
 use Rattle.chill_base.specs.declared.ends.Over.TheVariants.{AllEnded}
 use Rattle.chill_base.specs.declared.event.Event.{Event}
-use Rattle.chill_top.specs.Sums.{Sums, IsNoSums}
+use Rattle.chill_base.specs.declared.diagnostic.Diagnostic.{Diagnostic}
+use Rattle.chill_top.specs.Telling.{Sums, Refuses}
 use Rattle.chill_top.specs.Run.{run_of}
 use Rattle.chill_top.specs.Plan.{IsTextNamed, file_of}
 use Rattle.chill_top.specs.declared.plan.Plan.{Plan}
@@ -24,11 +25,11 @@ pub record IsRunOf (words : List (List ℕ)) (bytes : List ℕ → Option (List 
   pub run : events ≡ run_of sums
   pub ended : over ≡ AllEnded
 
--- the text that the words name isn't of the form
-pub record IsRefused (words : List (List ℕ)) (bytes : List ℕ → Option (List ℕ)) : Type 0 where
+-- the diagnostic is told of the text that the words name
+pub record IsRefused (words : List (List ℕ)) (bytes : List ℕ → Option (List ℕ)) (told : Diagnostic) : Type 0 where
   pub text : List ℕ
   pub named : IsTextNamed words bytes text
-  pub broken : IsNoSums text
+  pub refused : Refuses text told
 
 -- the library's count for the file that the words name rose
 pub record IsReadFault (words : List (List ℕ)) (before now : List ℕ → ℕ) : Type 0 where

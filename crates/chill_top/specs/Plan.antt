@@ -1,9 +1,11 @@
 -- What a call has to answer and to write, by its words and the text that they name.
-use Rattle.std.specs.Prelude.{◌≡◌, ◌⊎◌, ℕ, List, [], ◌∷◌, ◌++◌, take, if◌then◌else◌, None, Some, IfSome, MatchOption, codes}
+use Rattle.std.specs.Prelude.{◌≡◌, ◌⊎◌, ℕ, List, [], ◌∷◌, take, if◌then◌else◌, None, Some, IfSome, MatchOption, codes}
 use Rattle.std.specs.declared.option.Option.{Option}
 use Rattle.std.specs.Str.{bytes_eq}
 use Rattle.chill_base.specs.declared.ends.Over.TheVariants.{AllEnded}
-use Rattle.chill_top.specs.Sums.{Sums, IsNoSums}
+use Rattle.chill_base.specs.declared.diagnostic.Diagnostic.{Diagnostic}
+use Rattle.listing.specs.Diagnostics.{line_of}
+use Rattle.chill_top.specs.Telling.{Sums, Refuses}
 use Rattle.chill_top.specs.Run.{run_of, output_of}
 use Rattle.chill_top.specs.declared.plan.Plan.{Plan}
 
@@ -15,16 +17,13 @@ file_of _ = None
 abbrev pub usage_line : List ℕ
 usage_line = codes "usage: chill run FILE [--workers N] [--units N] [--watch] | check FILE | list FILE | format FILE | make N\n"
 
-abbrev pub refusal_line : List ℕ
-refusal_line = codes "1:1: T2 no program\n"
-
 -- for words that are no command
 abbrev pub usage_plan : Plan
 usage_plan = record { status = 2; over = None; events = []; out = []; err = usage_line }
 
--- for a text that is refused
-abbrev pub refusal_plan : Plan
-refusal_plan = record { status = 3; over = None; events = []; out = []; err = refusal_line }
+-- for a text that is refused: the diagnostic's line
+abbrev pub refusal_plan : Diagnostic → Plan
+refusal_plan told = record { status = 3; over = None; events = []; out = []; err = line_of told }
 
 -- for a text with these sums: its run, and that run's output
 abbrev pub sums_plan : List ℕ → Plan
@@ -44,11 +43,11 @@ pub record IsTextNamed (words : List (List ℕ)) (bytes : List ℕ → Option (L
   pub named : file_of words ≡ Some file
   pub told : IsTextOf (bytes file) text
 
--- the plan for a text: it has the form and these sums, or it hasn't
+-- the plan for a text: it has a tree with these sums, or it is refused
 abbrev pub IsPlanFor : List ℕ → Plan → Type 0
 IsPlanFor text plan =
     ((sums : List ℕ) × Sums text sums × (plan ≡ sums_plan sums))
-    ⊎ (IsNoSums text × (plan ≡ refusal_plan))
+    ⊎ ((told : Diagnostic) × Refuses text told × (plan ≡ refusal_plan told))
 
 -- the plan for words: they are no command, or they name a file with some text
 abbrev pub IsPlan : List (List ℕ) → (List ℕ → Option (List ℕ)) → Plan → Type 0

@@ -3,20 +3,19 @@ ghost use Rattle.std.specs.Prelude.{◌≡◌, ℕ, List, IfOk, IsErrOf, map, st
 ghost use Rattle.chill_top.specs.Plan.{IsPlan, IsPlanFor, IsReadingOf, IsTextOf, usage_plan, refusal_plan, sums_plan};
 ghost use Rattle.chill_top.specs.Causes.{IsReadFault};
 ghost use Rattle.outside_ports.specs.Faults.{Rose};
+ghost use Rattle.listing.specs.Diagnostics.{line_of};
 
 use crate::read::{ReadRefusal, read_text};
 use crate::run::{output, run};
-use crate::sums::read_sums;
-use chill_base::{Events, Memory, Over, Text};
+use crate::told::{Told, tell};
+use chill_base::{Diagnostic, Diagnostics, Events, Memory, Over, Text};
+use listing::diagnostics_text;
 use outside_ports::Library;
 use std::alloc::Global;
 
 // The line for words that are no command.
 const USAGE: &str =
     "usage: chill run FILE [--workers N] [--units N] [--watch] | check FILE | list FILE | format FILE | make N\n";
-
-// The line for a text that isn't a program.
-const NO_PROGRAM: &str = "1:1: T2 no program\n";
 
 /// A status, the run that it comes from, and what is to be written with it.
 #[derive(Drop)]
@@ -46,15 +45,24 @@ fn plan_for_usage(alloc: Global) -> Result<Plan, Memory>
     })
 }
 
-fn plan_for_refusal(alloc: Global) -> Result<Plan, Memory>
-    ensures { IfOk result (λ plan. plan ≡ refusal_plan) }
+// The line of a diagnostic.
+fn line_of(alloc: Global, told: Diagnostic) -> Result<Text, Memory>
+    ensures { IfOk result (λ line. line ≡ line_of told) }
+{
+    let mut list = Diagnostics::new(alloc);
+    list.push(told)?;
+    diagnostics_text(alloc, &list)
+}
+
+fn plan_for_refusal(alloc: Global, told: Diagnostic) -> Result<Plan, Memory>
+    ensures { IfOk result (λ plan. plan ≡ refusal_plan told) }
 {
     Ok(Plan {
         status: 3,
         over: None,
         events: Events::new(alloc),
         out: Text::new(alloc),
-        err: text_of(alloc, NO_PROGRAM)?,
+        err: line_of(alloc, told)?,
     })
 }
 
@@ -76,9 +84,9 @@ fn plan_for_sums(alloc: Global, sums: &[u32]) -> Result<Plan, Memory>
 fn plan_for_text(alloc: Global, read: &[u8]) -> Result<Plan, Memory>
     ensures { IfOk result (λ plan. (text : List ℕ) → IsReadingOf text read.now → IsPlanFor text plan) }
 {
-    match read_sums(alloc, read)? {
-        Some(sums) => plan_for_sums(alloc, &sums),
-        None => plan_for_refusal(alloc),
+    match tell(alloc, read)? {
+        Told::Sums(sums) => plan_for_sums(alloc, &sums),
+        Told::Refused(diagnostic) => plan_for_refusal(alloc, diagnostic),
     }
 }
 

@@ -1,131 +1,252 @@
-// The reader of sums. It takes one token at a time.
-ghost use Rattle.std.specs.Prelude.{◌≡◌, ◌↔◌, ◌+◌, ◌<◌, ◌≤◌, ◌^◌, [], ◌∷◌, length, ℕ, IsTrue, IfSome, IfNone, IfOk, MatchOption};
-ghost use Rattle.chill_top.specs.Sums.{form_tokens, end_tokens, Sums, IsNoSums};
-ghost use Rattle.chill_top.specs.Reading.{IsMoreAt, IsFurtherAt, IsActionAt, IsBodyAt, IsHeadAt, AreActionsAt, Alone, Nowhere};
+// The sums of a tree, where it has the form "sums".
+ghost use Rattle.std.specs.Prelude.{◌≡◌, ◌+◌, option_map, IfOk};
+ghost use Rattle.chill_tree.specs.ExprTree.{expr_tree, expr_trees};
+ghost use Rattle.chill_tree.specs.SimpleTree.{simple_tree};
+ghost use Rattle.chill_tree.specs.StatementTree.{statement_tree};
+ghost use Rattle.chill_tree.specs.ItemTree.{item_tree, item_trees, modulion_tree, program_tree};
+ghost use Rattle.chill_top.specs.Sums as form;
 
-use crate::read::MAX_BYTES;
-use crate::words::{expect, is_letter, next_token, whole};
 use chill_base::Memory;
+use chill_tree::tree::{Expr, Item, Modulion, ModulionKind, Operator, Simple, Statement, Tree};
 use std::alloc::Global;
 
-// A sum has at most this many wholes.
-const MAX_WHOLES: u32 = 33;
-
 // No sum is above this.
-const MAX_SUM: u32 = 2_147_483_647;
+const MAX_SUM: u64 = 2_147_483_647;
 
-// A plus and a whole behind a sum so far.
-fn one_more(text: &[u8], total: u32) -> Option<(u32, &[u8])>
-    ensures some { IfSome result (λ r. IsMoreAt total (form_tokens text.now) r.0 (form_tokens r.1.now)) }
-    ensures none { IfNone result (Nowhere (IsMoreAt total (form_tokens text.now))) }
-    ensures shorter { IfSome result (λ r. length r.1.now < length text.now) }
+// A sum, unless it is too great.
+fn small(sum: u64) -> Option<u32>
+    ensures { result ≡ form.small sum }
 {
-    let rest = expect(text, b"+")?;
-    let (value, rest) = whole(rest)?;
-    let total = total.checked_add(value)?;
-    if total > MAX_SUM {
+    if sum > MAX_SUM {
         return None;
     }
-    Some((total, rest))
+    Some(sum as u32)
 }
 
-// The wholes behind the first of a sum, to the end of the action.
-fn further(text: &[u8], first: u32) -> Option<(u32, &[u8])>
-    requires { first ≤ MAX_SUM }
-    ensures some { IfSome result (λ r. Alone (IsFurtherAt first 33 (form_tokens text.now)) r.0 (form_tokens r.1.now)) }
-    ensures none { IfNone result (Nowhere (IsFurtherAt first 33 (form_tokens text.now))) }
-    ensures shorter { IfSome result (λ r. length r.1.now < length text.now) }
+// A front of a sum, and a whole more.
+fn plus(front: u32, whole: u64) -> Option<u32>
+    ensures { result ≡ form.small (front + whole) }
 {
-    let mut total = first;
-    let mut rest = text;
-    'turns: for _turn in 0..MAX_WHOLES {
-        if let Some(behind) = expect(rest, b")") {
-            return Some((total, expect(behind, b";")?));
+    small(u64::from(front).checked_add(whole)?)
+}
+
+fn is_plus(operator: Operator) -> bool
+    ensures { result ≡ form.is_plus operator }
+{
+    match operator {
+        Operator::Plus => true,
+        Operator::Or
+        | Operator::Xor
+        | Operator::OrIf
+        | Operator::And
+        | Operator::AndIf
+        | Operator::Equal
+        | Operator::NotEqual
+        | Operator::Less
+        | Operator::LessOrEqual
+        | Operator::Greater
+        | Operator::GreaterOrEqual
+        | Operator::In
+        | Operator::Minus
+        | Operator::Times
+        | Operator::Divide
+        | Operator::Mod
+        | Operator::Rem => false,
+    }
+}
+
+// The value of a whole literal.
+#[tactic(auto, using(chill_tree::proofs::ExprViews::expr_built))]
+fn whole_of(expr: &Expr) -> Option<u64>
+    ensures { result ≡ form.whole_of (expr_tree expr.now) }
+{
+    match expr {
+        Expr::Whole { value, .. } => Some(*value),
+        Expr::Char { .. }
+        | Expr::Text { .. }
+        | Expr::This { .. }
+        | Expr::Paren { .. }
+        | Expr::Receive { .. }
+        | Expr::Start { .. }
+        | Expr::Tuple { .. }
+        | Expr::Uniform { .. }
+        | Expr::Name(_)
+        | Expr::Apply { .. }
+        | Expr::Field { .. }
+        | Expr::Prefixed { .. }
+        | Expr::Binary { .. } => None,
+    }
+}
+
+// What a sum of whole literals comes to.
+#[tactic(auto, using(chill_tree::proofs::ExprViews::expr_built))]
+fn sum_of(expr: &Expr) -> Option<u32>
+    ensures { result ≡ form.sum_of (expr_tree expr.now) }
+{
+    match expr {
+        Expr::Whole { value, .. } => small(*value),
+        Expr::Binary {
+            left,
+            operator,
+            right,
+            ..
+        } => {
+            if !is_plus(*operator) {
+                return None;
+            }
+            let front = sum_of(left)?;
+            plus(front, whole_of(right)?)
         }
-        (total, rest) = one_more(rest, total)?;
+        Expr::Char { .. }
+        | Expr::Text { .. }
+        | Expr::This { .. }
+        | Expr::Paren { .. }
+        | Expr::Receive { .. }
+        | Expr::Start { .. }
+        | Expr::Tuple { .. }
+        | Expr::Uniform { .. }
+        | Expr::Name(_)
+        | Expr::Apply { .. }
+        | Expr::Field { .. }
+        | Expr::Prefixed { .. } => None,
     }
-    None
 }
 
-// An action, but for its first word.
-fn action(text: &[u8]) -> Option<(u32, &[u8])>
-    ensures some { IfSome result (λ r. Alone (IsActionAt (form_tokens text.now)) r.0 (form_tokens r.1.now)) }
-    ensures none { IfNone result (Nowhere (IsActionAt (form_tokens text.now))) }
-    ensures shorter { IfSome result (λ r. length r.1.now < length text.now) }
+// The sum that stands alone in brackets.
+fn sum_of_args(args: &[Expr]) -> Option<u32>
+    ensures { result ≡ form.sum_of_args (expr_trees args.now) }
 {
-    let rest = expect(text, b"(")?;
-    let (first, rest) = whole(rest)?;
-    if first > MAX_SUM {
-        return None;
+    match args {
+        [only] => sum_of(only),
+        _ => None,
     }
-    further(rest, first)
 }
 
-// The head of a module that is named by one letter: its name, and what stands behind its head.
-fn head(text: &[u8]) -> Option<(u8, &[u8])>
-    ensures some { IfSome result (λ r. IsHeadAt (form_tokens text.now) r.0 (form_tokens r.1.now)) }
-    ensures none { IfNone result (Nowhere (IsHeadAt (form_tokens text.now))) }
+// The sum on which an action calls PUT_INT.
+fn sum_of_simple(action: &Simple) -> Option<u32>
+    ensures { result ≡ form.sum_of_simple (simple_tree action.now) }
 {
-    let (token, rest) = next_token(text)?;
-    let [name] = token else {
-        return None;
-    };
-    if !is_letter(*name) {
-        return None;
+    match action {
+        Simple::Call {
+            call,
+            name,
+            args,
+            ..
+        } => {
+            if *call || name.text.as_slice() != b"PUT_INT".as_slice() {
+                return None;
+            }
+            sum_of_args(args.as_slice())
+        }
+        Simple::Assign { .. }
+        | Simple::Update { .. }
+        | Simple::Exit { .. }
+        | Simple::Return { .. }
+        | Simple::Result { .. }
+        | Simple::Assert { .. }
+        | Simple::Cause { .. }
+        | Simple::Stop { .. }
+        | Simple::Start { .. }
+        | Simple::Delay { .. }
+        | Simple::Continue { .. }
+        | Simple::Send { .. } => None,
     }
-    let rest = expect(rest, b":")?;
-    Some((*name, expect(rest, b"MODULE")?))
 }
 
-// Whether the end of the module of this name stands here, and nothing behind it.
-fn is_end(text: &[u8], name: u8) -> bool
-    ensures { IsTrue result ↔ (form_tokens text.now ≡ end_tokens name) }
+// The sum of a statement that is such a call, and has no handler.
+#[tactic(auto, using(chill_tree::proofs::StatementViews::statement_built))]
+fn sum_of_statement(statement: &Statement) -> Option<u32>
+    ensures { result ≡ form.sum_of_statement (statement_tree statement.now) }
 {
-    let Some(rest) = expect(text, b"END") else {
-        return false;
-    };
-    let Some(rest) = expect(rest, &[name]) else {
-        return false;
-    };
-    let Some(rest) = expect(rest, b";") else {
-        return false;
-    };
-    next_token(rest).is_none()
+    match statement {
+        Statement::Simple {
+            action,
+            handler,
+            ..
+        } => match handler {
+            None => sum_of_simple(action),
+            Some(_) => None,
+        },
+        Statement::Empty { .. } | Statement::Bracketed { .. } => None,
+    }
 }
 
-// The sums of the actions that stand here, and what stands behind them.
-fn actions(alloc: Global, text: &[u8]) -> Result<Option<(Vec<u32>, &[u8])>, Memory>
-    ensures { IfOk result (λ found. MatchOption found
-        ((name : ℕ) → IsBodyAt (form_tokens text.now) name → ⊥)
-        (λ r. AreActionsAt (form_tokens text.now) r.0.items (form_tokens r.1.now))) }
+// The sum of an item that is such a statement.
+#[tactic(auto, using(chill_tree::proofs::ItemViews::item_built))]
+fn sum_of_item(item: &Item) -> Option<u32>
+    ensures { result ≡ form.sum_of_item (item_tree item.now) }
+{
+    match item {
+        Item::Statement(statement) => sum_of_statement(statement),
+        Item::Seize { .. }
+        | Item::Grant { .. }
+        | Item::Local(_)
+        | Item::Signals { .. }
+        | Item::Procedure(_)
+        | Item::Process(_)
+        | Item::Modulion(_) => None,
+    }
+}
+
+// The sums of items, each of which has one.
+fn sums_of_items(alloc: Global, items: &[Item]) -> Result<Option<Vec<u32>>, Memory>
+    ensures { IfOk result (λ found. option_map (λ sums. sums.items) found ≡ form.sums_of_items (item_trees items.now)) }
 {
     let mut sums = Vec::new(alloc);
-    let mut rest = text;
-    'actions: while let Some(behind) = expect(rest, b"PUT_INT") {
-        let Some((sum, behind)) = action(behind) else {
+    for item in items {
+        let Some(sum) = sum_of_item(item) else {
             return Ok(None);
         };
         sums.push(sum)?;
-        rest = behind;
-    }
-    Ok(Some((sums, rest)))
-}
-
-/// The sums of a text, or none where it isn't of the form "sums".
-pub(crate) fn read_sums(alloc: Global, text: &[u8]) -> Result<Option<Vec<u32>>, Memory>
-    ensures { IfOk result (λ found. MatchOption found (IsNoSums text.now) (λ sums. Sums text.now sums.items)) }
-{
-    if text.len() > MAX_BYTES {
-        return Ok(None);
-    }
-    let Some((name, body)) = head(text) else {
-        return Ok(None);
-    };
-    let Some((sums, rest)) = actions(alloc, body)? else {
-        return Ok(None);
-    };
-    if !is_end(rest, name) {
-        return Ok(None);
     }
     Ok(Some(sums))
+}
+
+fn is_one_letter(name: &[u8]) -> bool
+    ensures { result ≡ form.is_one_letter name.now }
+{
+    match name {
+        [letter] => letter.is_ascii_alphabetic(),
+        _ => false,
+    }
+}
+
+fn is_module(kind: ModulionKind) -> bool
+    ensures { result ≡ form.is_module kind }
+{
+    match kind {
+        ModulionKind::Module => true,
+        ModulionKind::Region => false,
+    }
+}
+
+// Whether one letter names a module, and it has no handler.
+#[tactic(auto, using(crate::proofs::SumsLemmas::modulion_views))]
+fn is_plain(modulion: &Modulion) -> bool
+    ensures { result ≡ form.is_plain (modulion_tree modulion.now) }
+{
+    is_one_letter(modulion.name.text.as_slice())
+        && is_module(modulion.kind)
+        && modulion.handler.is_none()
+}
+
+// The sums of such a module.
+#[tactic(auto, using(crate::proofs::SumsLemmas::modulion_views))]
+fn sums_of_modulion(alloc: Global, modulion: &Modulion) -> Result<Option<Vec<u32>>, Memory>
+    ensures { IfOk result (λ found. option_map (λ sums. sums.items) found ≡ form.sums_of_modulion (modulion_tree modulion.now)) }
+{
+    if !is_plain(modulion) {
+        return Ok(None);
+    }
+    sums_of_items(alloc, modulion.items.as_slice())
+}
+
+/// The sums of a program, or none where it isn't of the form "sums".
+pub(crate) fn sums_of(alloc: Global, program: &Tree) -> Result<Option<Vec<u32>>, Memory>
+    ensures { IfOk result (λ found. option_map (λ sums. sums.items) found ≡ form.sums_of (program_tree program.now)) }
+{
+    match program.modulions.as_slice() {
+        [only] => sums_of_modulion(alloc, only),
+        _ => Ok(None),
+    }
 }

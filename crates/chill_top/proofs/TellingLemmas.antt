@@ -1,0 +1,144 @@
+-- What is told of a text is one, but for the place where no tree exists.
+use Rattle.std.proofs.Common.{◌≡◌, ◌⊎◌, inl, inr, ℕ, ◌<◌, ◌≤◌, List, [], length, Option, Some, None, Result, Ok, Err, refl, sym, ap, subst, ◌∙◌, arith, IfOk}
+use Rattle.std.proofs.lemmas.Bool.{cases_lt}
+use Rattle.chill_base.specs.declared.pos.Pos.{Pos}
+use Rattle.chill_base.specs.declared.memory.Memory.{Memory}
+use Rattle.chill_base.specs.declared.rule.Rule.TheVariants as rules
+use Rattle.chill_base.specs.declared.diagnostic.Diagnostic.{Diagnostic}
+use Rattle.chill_tree.specs.declared.token.Token.{Token}
+use Rattle.chill_tree.specs.ItemTree.{ProgramTree}
+use Rattle.rules_model.specs.TokensCut.{AreTokensOf, IsBadAt, behind_all, first_place}
+use Rattle.rules_model.specs.Nesting.{first_deep}
+use Rattle.rules_model.specs.Reading.{Fault}
+use Rattle.rules_model.specs.ItemReading.{program_at}
+use Rattle.rules_model.specs.ItemGrammar.{IsTreeOf}
+use Rattle.rules_model.specs.Diagnoses.{plain, IsShort, IsPlaceIn, HasTree, Diagnoses, too_long, no_token, too_deep, no_program}
+use Rattle.rules_model.proofs.OneTree.{one_tree_lem}
+use Rattle.rules_model.proofs.TokensLaws.{one_list, one_place, not_both, some_reading}
+use Rattle.chill_parser.specs.Parsing.{HasNoTree, TokenAt}
+use Rattle.chill_parser.proofs.ItemTaken.{program_is}
+use Rattle.chill_parser.proofs.Parsing.{no_tree}
+use Rattle.chill_top.specs.Sums.{sums_of}
+use Rattle.chill_top.specs.Telling.{Sums, Refuses, broken, not_built, SameButForPlace, TellsTree, Tells}
+use Rattle.chill_top.specs.declared.told.Told.{Told}
+use Rattle.chill_top.specs.declared.told.Told.TheVariants as tellings
+
+-- one value isn't there and not there
+none_some : {X : Type 0} {x : X} → Some x ≡ None → ⊥
+none_some e = cc
+
+some_is : {X : Type 0} (x y : X) → Some x ≡ Some y → x ≡ y
+some_is x y e = cc
+
+-- a text has one tree
+pub one_tree_of_text : (text : List ℕ) (tree other : ProgramTree) → HasTree text tree → HasTree text other → tree ≡ other
+one_tree_of_text text tree other x y =
+    one_tree_lem x.tokens tree other x.tree_of (subst (λ (toks : List Token). IsTreeOf toks other) (one_list text y.tokens x.tokens y.are x.are) y.tree_of)
+
+-- a text with a tree breaks none of the rules
+pub has_no_tree : (text : List ℕ) (tree : ProgramTree) (told : Diagnostic) → HasTree text tree → Diagnoses text told → ⊥
+has_no_tree text tree told has (too_long long) = omega (arith, long, has.short)
+has_no_tree text tree told has (no_token {at = at} short bad) = not_both text has.tokens at has.are bad
+has_no_tree text tree told has (too_deep {tokens = tokens} {at = at} short are deep) =
+    none_some (sym deep ∙ ap (first_deep 65) (one_list text tokens has.tokens are has.are) ∙ has.shallow)
+has_no_tree text tree told has (no_program {tokens = tokens} {at = at} short are shallow none place) =
+    none tree (subst (λ (toks : List Token). IsTreeOf toks tree) (one_list text has.tokens tokens has.are are) has.tree_of)
+
+-- a text has one list of sums
+pub one_sums : (text sums others : List ℕ) → Sums text sums → Sums text others → sums ≡ others
+one_sums text sums others s t =
+    some_is sums others (sym s.are ∙ ap sums_of (one_tree_of_text text s.tree t.tree s.has t.has) ∙ t.are)
+
+-- a text with sums isn't refused
+pub sums_or_refused : (text sums : List ℕ) (told : Diagnostic) → Sums text sums → Refuses text told → ⊥
+sums_or_refused text sums told s (broken breaks) = has_no_tree text s.tree told s.has breaks
+sums_or_refused text sums told s (not_built {tree = tree} has none) =
+    none_some (sym s.are ∙ ap sums_of (one_tree_of_text text s.tree tree s.has has) ∙ none)
+
+-- the first rule that a text breaks is one
+pub one_broken : (text : List ℕ) (told other : Diagnostic) → Diagnoses text told → Diagnoses text other → SameButForPlace told other
+one_broken text told other (too_long long) (too_long longer) = inl refl
+one_broken text told other (too_long long) (no_token short bad) = absurd (omega (arith, long, short))
+one_broken text told other (too_long long) (too_deep short are deep) = absurd (omega (arith, long, short))
+one_broken text told other (too_long long) (no_program short are shallow none place) = absurd (omega (arith, long, short))
+one_broken text told other (no_token short bad) (too_long long) = absurd (omega (arith, long, short))
+one_broken text told other (no_token {at = at} short bad) (no_token {at = place} short' bad') =
+    inl (ap (λ (p : Pos). plain p rules.T1) (one_place text at place bad bad'))
+one_broken text told other (no_token {at = at} short bad) (too_deep {tokens = tokens} short' are deep) = absurd (not_both text tokens at are bad)
+one_broken text told other (no_token {at = at} short bad) (no_program {tokens = tokens} short' are shallow none place) = absurd (not_both text tokens at are bad)
+one_broken text told other (too_deep short are deep) (too_long long) = absurd (omega (arith, long, short))
+one_broken text told other (too_deep {tokens = tokens} short are deep) (no_token {at = at} short' bad) = absurd (not_both text tokens at are bad)
+one_broken text told other (too_deep {tokens = tokens} {at = at} short are deep) (too_deep {tokens = others} {at = place} short' are' deep') =
+    inl (ap (λ (p : Pos). plain p rules.L2) (some_is at place (sym deep ∙ ap (first_deep 65) (one_list text tokens others are are') ∙ deep')))
+one_broken text told other (too_deep {tokens = tokens} short are deep) (no_program {tokens = others} short' are' shallow none place) =
+    absurd (none_some (sym deep ∙ ap (first_deep 65) (one_list text tokens others are are') ∙ shallow))
+one_broken text told other (no_program short are shallow none place) (too_long long) = absurd (omega (arith, long, short))
+one_broken text told other (no_program {tokens = tokens} short are shallow none place) (no_token {at = at} short' bad) = absurd (not_both text tokens at are bad)
+one_broken text told other (no_program {tokens = tokens} short are shallow none place) (too_deep {tokens = others} short' are' deep) =
+    absurd (none_some (sym deep ∙ ap (first_deep 65) (one_list text others tokens are' are) ∙ shallow))
+one_broken text told other (no_program short are shallow none place) (no_program short' are' shallow' none' place') = inr (refl, refl)
+
+-- one diagnostic is told of a text that isn't run
+pub one_refusal : (text : List ℕ) (told other : Diagnostic) → Refuses text told → Refuses text other → SameButForPlace told other
+one_refusal text told other (broken breaks) (broken breaks') = one_broken text told other breaks breaks'
+one_refusal text told other (broken breaks) (not_built {tree = tree} has none) = absurd (has_no_tree text tree told has breaks)
+one_refusal text told other (not_built {tree = tree} has none) (broken breaks) = absurd (has_no_tree text tree other has breaks)
+one_refusal text told other (not_built has none) (not_built has' none') = inl refl
+
+-- each text has sums or is refused
+abbrev IsAnswered : List ℕ → Type 0
+IsAnswered text = ((sums : List ℕ) × Sums text sums) ⊎ ((told : Diagnostic) × Refuses text told)
+
+tree_answered : (text : List ℕ) (tree : ProgramTree) (o : Option (List ℕ)) → sums_of tree ≡ o → HasTree text tree → IsAnswered text
+tree_answered text tree (Some sums) is has = inl (sums, record { tree = tree; has = has; are = is })
+tree_answered text tree None is has = inr (plain first_place rules.B1, not_built has is)
+
+read_answered : (text : List ℕ) (tokens : List Token) (r : Result ProgramTree Fault) → program_at 64 tokens ≡ r → IsShort text → AreTokensOf text tokens → first_deep 65 tokens ≡ None → IsAnswered text
+read_answered text tokens (Ok tree) is short are shallow =
+    tree_answered text tree (sums_of tree) refl (record { tokens = tokens; short = short; are = are; shallow = shallow; tree_of = program_is 64 tokens tree is })
+read_answered text tokens (Err fault) is short are shallow =
+    inr (plain (behind_all first_place text) rules.T2, broken (no_program short are shallow (no_tree tokens fault shallow is) (inr refl)))
+
+tokens_answered : (text : List ℕ) (tokens : List Token) (o : Option Pos) → first_deep 65 tokens ≡ o → IsShort text → AreTokensOf text tokens → IsAnswered text
+tokens_answered text tokens (Some at) deep short are = inr (plain at rules.L2, broken (too_deep short are deep))
+tokens_answered text tokens None shallow short are = read_answered text tokens (program_at 64 tokens) refl short are shallow
+
+short_answered : (text : List ℕ) → IsShort text → ((tokens : List Token) × AreTokensOf text tokens) ⊎ ((at : Pos) × IsBadAt text at) → IsAnswered text
+short_answered text short (inl h) = tokens_answered text h.0 (first_deep 65 h.0) refl short h.1
+short_answered text short (inr h) = inr (plain h.0 rules.T1, broken (no_token short h.1))
+
+some_answer_by : (text : List ℕ) → (262144 < length text) ⊎ (length text ≤ 262144) → IsAnswered text
+some_answer_by text (inl long) = inr (plain first_place rules.L1, broken (too_long long))
+some_answer_by text (inr short) = short_answered text short (some_reading text)
+
+pub some_answer : (text : List ℕ) → IsAnswered text
+some_answer text = some_answer_by text (cases_lt 262144 (length text))
+
+-- ---- what the code tells
+
+pub long_refused : (text : List ℕ) (told : Diagnostic) → 262144 < length text → told ≡ plain first_place rules.L1 → Refuses text told
+long_refused text told long is = subst (λ (d : Diagnostic). Refuses text d) (sym is) (broken (too_long long))
+
+pub bad_refused : (text : List ℕ) (told : Diagnostic) → IsShort text → IsBadAt text told.at → told.rule ≡ rules.T1 → told.first ≡ [] → told.second ≡ [] → Refuses text told
+bad_refused text told short bad rule first second =
+    let is : told ≡ plain told.at rules.T1 = λ i. record { at = told.at; rule = rule i; first = first i; second = second i } in
+    subst (λ (d : Diagnostic). Refuses text d) (sym is) (broken (no_token short bad))
+
+pub deep_refused : (text : List ℕ) (tokens : List Token) (at : Pos) (told : Diagnostic) → IsShort text → AreTokensOf text tokens → first_deep 65 tokens ≡ Some at → told ≡ plain at rules.L2 → Refuses text told
+deep_refused text tokens at told short are deep is = subst (λ (d : Diagnostic). Refuses text d) (sym is) (broken (too_deep short are deep))
+
+pub nowhere_refused : (text : List ℕ) (tokens : List Token) (at : Pos) (told : Diagnostic) → IsShort text → AreTokensOf text tokens → first_deep 65 tokens ≡ None → HasNoTree tokens → IsPlaceIn text tokens at → told ≡ plain at rules.T2
+    → Refuses text told
+nowhere_refused text tokens at told short are shallow none place is = subst (λ (d : Diagnostic). Refuses text d) (sym is) (broken (no_program short are shallow none place))
+
+-- the place of a token, for the parser, is one for the text
+pub place_of_token : (text : List ℕ) (tokens : List Token) (at : Pos) → TokenAt tokens at → IsPlaceIn text tokens at
+place_of_token text tokens at h = inl (h.index, h.token, h.here, h.place)
+
+pub tree_told : (text : List ℕ) (tokens : List Token) (tree : ProgramTree) (made : Result Told Memory) → IsShort text → AreTokensOf text tokens → first_deep 65 tokens ≡ None → IsTreeOf tokens tree
+    → IfOk made (λ t. TellsTree tree t) → IfOk made (λ t. Tells text t)
+tree_told text tokens tree (Ok (tellings.Sums sums)) short are shallow tree_of h =
+    record { tree = tree; has = record { tokens = tokens; short = short; are = are; shallow = shallow; tree_of = tree_of }; are = h }
+tree_told text tokens tree (Ok (tellings.Refused diagnostic)) short are shallow tree_of h =
+    subst (λ (d : Diagnostic). Refuses text d) (sym h.1) (not_built (record { tokens = tokens; short = short; are = are; shallow = shallow; tree_of = tree_of }) h.0)
+tree_told text tokens tree (Err e) short are shallow tree_of h = tt

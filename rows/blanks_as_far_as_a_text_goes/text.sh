@@ -1,0 +1,1 @@
+head -c 262144 /dev/zero | tr '\0' ' '

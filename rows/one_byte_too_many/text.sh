@@ -1,0 +1,1 @@
+head -c 262145 /dev/zero | tr '\0' ' '
