@@ -12,8 +12,6 @@ mod param;
 mod program;
 mod reading;
 mod signal;
-#[cfg(test)]
-mod tests;
 
 pub use expr_parser::ParseRefusal;
 pub use nesting::{none_too_deep_law, too_deep_law};

@@ -1,0 +1,3 @@
+pub mod Labels
+pub mod Levels
+pub mod Nodes

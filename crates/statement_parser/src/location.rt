@@ -1,0 +1,99 @@
+// Names with their parts, as targets of assignments and as calls.
+ghost use Rattle.std.specs.Prelude.{◌≡◌, option_map};
+ghost use Rattle.chill_base.specs.declared.pos.Pos.{Pos};
+ghost use Rattle.chill_tree.specs.ExprTree.{expr_tree, expr_trees, expr_nodes, exprs_in};
+ghost use Rattle.expr_parser.specs.Giving.{Gives};
+ghost use Rattle.rules_model.specs.ExprGrammar as grammar;
+ghost use Rattle.rules_model.specs.SimpleReading as reading;
+ghost use Rattle.rules_model.specs.StatementReading.{location_at};
+
+use chill_base::List;
+use chill_tree::Token;
+use chill_tree::tree::{Expr, Name};
+use expr_parser::{ParseRefusal, place, read_named};
+use std::alloc::Global;
+
+/// Reads a location; `inner` levels of nesting are left behind an opening token.
+#[tactic(auto, unfolding(rules_model::specs::StatementReading::location_at))]
+pub fn read_location(
+    alloc: Global,
+    tokens: &[Token],
+    inner: usize,
+) -> Result<(Expr, &[Token]), ParseRefusal>
+    ensures { Gives (λ x. (expr_tree x.0, x.1.now)) result (location_at inner tokens.now) }
+{
+    let (found, rest) = read_named(alloc, tokens, inner)?;
+    if !is_location(&found) {
+        return Err(ParseRefusal::NoProgram { at: place(tokens) });
+    }
+    Ok((found, rest))
+}
+
+/// Whether a name with parts has one expression in each pair of brackets.
+#[tactic(auto, using(chill_tree::proofs::ExprViews::expr_built))]
+pub fn is_location(expr: &Expr) -> bool
+    ensures { result ≡ grammar.is_location (expr_tree expr.now) }
+{
+    match expr {
+        Expr::Name(_) => true,
+        Expr::Field { of, .. } => is_location(of),
+        Expr::Apply { of, args, .. } => args.len() == 1 && is_location(of),
+        Expr::Whole { .. } => false,
+        Expr::Char { .. } => false,
+        Expr::Text { .. } => false,
+        Expr::This { .. } => false,
+        Expr::Paren { .. } => false,
+        Expr::Receive { .. } => false,
+        Expr::Start { .. } => false,
+        Expr::Tuple { .. } => false,
+        Expr::Uniform { .. } => false,
+        Expr::Prefixed { .. } => false,
+        Expr::Binary { .. } => false,
+    }
+}
+
+/// The name and the arguments of a name with one part in brackets.
+#[tactic(auto, using(chill_tree::proofs::ExprViews::expr_built))]
+pub fn call_in(expr: Expr) -> Option<(Name, List<Expr>)>
+    ensures { option_map (λ c. (c.0, expr_trees c.1)) result ≡ reading.call_in (expr_tree expr) }
+{
+    match expr {
+        Expr::Apply { of, args, .. } => named_call(Box::into_inner(of), args),
+        Expr::Whole { .. } => None,
+        Expr::Char { .. } => None,
+        Expr::Text { .. } => None,
+        Expr::This { .. } => None,
+        Expr::Paren { .. } => None,
+        Expr::Receive { .. } => None,
+        Expr::Start { .. } => None,
+        Expr::Tuple { .. } => None,
+        Expr::Uniform { .. } => None,
+        Expr::Name(_) => None,
+        Expr::Field { .. } => None,
+        Expr::Prefixed { .. } => None,
+        Expr::Binary { .. } => None,
+    }
+}
+
+// A name with its arguments.
+#[tactic(auto, using(chill_tree::proofs::ExprViews::expr_built, crate::proofs::Nodes::exprs_kept))]
+fn named_call(expr: Expr, args: List<Expr>) -> Option<(Name, List<Expr>)>
+    ensures { (at : Pos) → option_map (λ c. (c.0, expr_trees c.1)) result ≡ reading.called_name at (expr_tree expr) (exprs_in (expr_nodes (expr_trees args))) }
+{
+    match expr {
+        Expr::Name(name) => Some((name, args)),
+        Expr::Whole { .. } => None,
+        Expr::Char { .. } => None,
+        Expr::Text { .. } => None,
+        Expr::This { .. } => None,
+        Expr::Paren { .. } => None,
+        Expr::Receive { .. } => None,
+        Expr::Start { .. } => None,
+        Expr::Tuple { .. } => None,
+        Expr::Uniform { .. } => None,
+        Expr::Apply { .. } => None,
+        Expr::Field { .. } => None,
+        Expr::Prefixed { .. } => None,
+        Expr::Binary { .. } => None,
+    }
+}
