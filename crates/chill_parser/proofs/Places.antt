@@ -4,7 +4,7 @@ use Rattle.chill_base.specs.declared.pos.Pos.{Pos}
 use Rattle.chill_tree.specs.declared.token.Token.{Token}
 use Rattle.rules_model.specs.Diagnoses as diagnoses
 use Rattle.rules_model.specs.TokensCut.{behind_all, first_place}
-use Rattle.chill_parser.specs.Parsing.{TokenAt, IsPlaceIn}
+use Rattle.chill_parser.specs.Parsing.{IsPlaceIn}
 
 -- the place of a token may be told
 pub token_told : (text : List ℕ) (toks : List Token) (p : Pos) → IsPlaceIn toks (Some p) → diagnoses.IsPlaceIn text toks p

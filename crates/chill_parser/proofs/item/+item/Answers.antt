@@ -1,4 +1,4 @@
-use Rattle.std.proofs.Common.{◌≡◌, ◌-◌}
+use Rattle.std.proofs.Common.{◌≡◌}
 use Rattle.std.proofs.lemmas.List.{map_push}
 use Rattle.chill_tree.specs.ItemTree.{item_tree, item_trees}
 use Rattle.rules_model.specs.Reading.{push}

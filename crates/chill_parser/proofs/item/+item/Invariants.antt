@@ -1,4 +1,4 @@
-use Rattle.std.proofs.Common.{◌≡◌, ℕ, ◌-◌, ◌+◌, ◌*◌, []}
+use Rattle.std.proofs.Common.{◌≡◌, ◌-◌, ◌+◌, ◌*◌, []}
 use Rattle.chill_tree.specs.ItemTree.{item_trees}
 use Rattle.rules_model.specs.Reading.{repeat, push}
 use Rattle.rules_model.specs.ItemReading.{item_at, items_at}
