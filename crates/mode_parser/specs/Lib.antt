@@ -1,0 +1,4 @@
+pub mod BaseParts
+pub mod LocalParts
+pub mod ModeParts
+pub mod PlaceParts
