@@ -16,4 +16,4 @@ mod signal;
 pub use expr_parser::ParseRefusal;
 pub use nesting::{none_too_deep_law, too_deep_law};
 pub use program::parse;
-pub use reading::{none_read_law, read_law};
+pub use reading::{none_read_law, one_tree_law, read_law};

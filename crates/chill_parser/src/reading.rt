@@ -2,7 +2,7 @@
 ghost use Rattle.std.specs.Prelude.{◌≡◌, ℕ, List, Ok, Err, None};
 ghost use Rattle.chill_tree.specs.declared.token.Token.{Token};
 ghost use Rattle.chill_tree.specs.ItemTree.{ProgramTree};
-ghost use Rattle.rules_model.specs.ItemGrammar.{IsTreeOf};
+ghost use Rattle.rules_model.specs.ItemGrammar.{HasOneTree, IsTreeOf};
 ghost use Rattle.rules_model.specs.ItemReading.{program_at};
 ghost use Rattle.rules_model.specs.Nesting.{first_deep};
 ghost use Rattle.rules_model.specs.Reading.{Fault};
@@ -18,4 +18,9 @@ pub fn read_law()
 pub fn none_read_law()
     ensures { (tokens : List Token) (fault : Fault)
         → first_deep 65 tokens ≡ None → program_at 64 tokens ≡ Err fault → HasNoTree tokens }
+{}
+
+/// A list of tokens has at most one tree: the one that is parsed.
+pub fn one_tree_law()
+    ensures { (tokens : List Token) → HasOneTree tokens }
 {}
