@@ -1,6 +1,6 @@
 // Calls over ports in memory, with ample memory: what they answer, and what was written.
 use crate::chill;
-use chill_base::{Memory, Numbers, Text};
+use chill_base::{Answer, Event, Events, How, Item, Memory, Numbers, Over, Request, Text};
 use outside_ports::{File, Files, MemoryLibrary, MemorySink};
 use std::alloc::{AllocError, Global};
 use std::process::Abort;
@@ -38,7 +38,39 @@ struct Case {
     err: &'static str,
 }
 
-const CASES: [Case; 2] = [
+const CASES: [Case; 10] = [
+    Case {
+        text: TEXT,
+        read: 0,
+        put: 0,
+        status: 0,
+        out: "340",
+        err: "",
+    },
+    Case {
+        text: "M: MODULE END M;",
+        read: 0,
+        put: 0,
+        status: 0,
+        out: "",
+        err: "",
+    },
+    Case {
+        text: "",
+        read: 0,
+        put: 0,
+        status: 3,
+        out: "",
+        err: "1:1: T2 no program\n",
+    },
+    Case {
+        text: "M: MODULE",
+        read: 0,
+        put: 0,
+        status: 3,
+        out: "",
+        err: "1:10: T2 no program\n",
+    },
     Case {
         text: "M: MODULE # END M;",
         read: 0,
@@ -48,11 +80,43 @@ const CASES: [Case; 2] = [
         err: "1:11: T1 no token\n",
     },
     Case {
+        text: "M: MODULE ; END M;",
+        read: 0,
+        put: 0,
+        status: 3,
+        out: "",
+        err: "1:1: B1 not built yet\n",
+    },
+    Case {
         text: TEXT,
         read: 2,
         put: 0,
         status: 4,
         out: "",
+        err: "",
+    },
+    Case {
+        text: TEXT,
+        read: 0,
+        put: 1,
+        status: 5,
+        out: "",
+        err: "",
+    },
+    Case {
+        text: TEXT,
+        read: 0,
+        put: 2,
+        status: 5,
+        out: "3",
+        err: "",
+    },
+    Case {
+        text: TEXT,
+        read: 0,
+        put: 4,
+        status: 0,
+        out: "340",
         err: "",
     },
 ];
@@ -103,5 +167,40 @@ fn other_words_are_usage(rt: HostRuntime) -> Result<(), Fail> {
     answers_usage(&rt, alloc, words_of(alloc, "run")?)?;
     answers_usage(&rt, alloc, words_of(alloc, "run f f")?)?;
     answers_usage(&rt, alloc, words_of(alloc, "runs f")?)?;
+    Ok(())
+}
+
+// The event of a request that the outermost process made.
+fn done(request: Request) -> Event {
+    Event::Did {
+        who: 1,
+        ticks: 0,
+        request,
+        answer: Answer::Done,
+        refill: None,
+    }
+}
+
+#[test]
+fn the_journal_of_a_run(rt: HostRuntime) -> Result<(), Fail> {
+    let alloc = rt.alloc();
+    let words = vec![in alloc;
+        String::from_str(alloc, "run")?,
+        String::from_str(alloc, "f")?,
+    ]?;
+    let mut library = library(alloc, TEXT, 0)?;
+    let mut out = MemorySink::new(alloc, 100, 100, fault(alloc, 0)?)?;
+    let mut err = MemorySink::new(alloc, 100, 100, fault(alloc, 0)?)?;
+    let outcome = chill(alloc, &words, &mut library, &mut out, &mut err);
+    assert_eq!(rt; outcome.over, Some(Over::AllEnded));
+    let mut wanted = Events::new(alloc);
+    wanted.push(done(Request::Put {
+        bytes: text(alloc, "3")?,
+    }))?;
+    wanted.push(done(Request::Put {
+        bytes: text(alloc, "40")?,
+    }))?;
+    wanted.push(done(Request::End { how: How::Normal }))?;
+    assert!(rt; outcome.events.equals(&wanted));
     Ok(())
 }
