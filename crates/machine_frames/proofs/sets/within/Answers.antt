@@ -1,0 +1,17 @@
+use Rattle.std.proofs.Common.{◌≡◌, ℤ, pos, w64, length, Option, Some, None, refl, ap, sym, ◌∙◌, arith, rules}
+use mir.Val.{SFits}
+use Rattle.std.proofs.lemmas.Int.{ints, to_z-of_z}
+use Rattle.code_types.specs.Numbers.{truth_number}
+use Rattle.code_types.specs.Powersets.{members_of, is_included, span_of, first_of_list, last_of_list}
+use Rattle.machine_frames.proofs.Pushed.{one_pushed, two_pushed, member_pushed, no_member}
+use Rattle.machine_frames.proofs.sets.within.Goals as goal
+
+pub returns-clause-does : goal.returns-clause-does
+returns-clause-does c =
+    let fits_x : SFits w64 c.two-x.result.0 = search rules in
+    let fits_y : SFits w64 c.two-x.result.1 = search rules in
+    let fits : SFits w64 c.truth_from.result = search rules in
+    let included : c.includes.result ≡ is_included c.two-x.result.0 c.two-x.result.1 = simp to_z-of_z at c.includes.ensures in
+    let number : c.truth_from.result ≡ truth_number (is_included c.two-x.result.0 c.two-x.result.1) = c.truth_from.ensures ∙ ap truth_number included in
+    let frame = simp to_z-of_z at c.replace.ensures.frame in
+    λ s. two_pushed c.args.top.now c.replace.new.self c.two-x.result.0 c.two-x.result.1 c.truth_from.result (λ x y. truth_number (is_included x y)) c.two-x.ensures frame number

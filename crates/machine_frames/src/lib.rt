@@ -1,0 +1,15 @@
+//! The frames of the machine, and the instructions that stay in their frame.
+//!
+//! Each call is the action that the definitions of `code_types` give its instruction. The machine stands on it.
+#![tactic(auto)]
+
+mod acting;
+mod activation;
+mod arithmetic;
+mod leading;
+mod moving;
+mod sets;
+mod testing;
+
+pub use acting::act;
+pub use activation::{Acted, Activation};

@@ -1,0 +1,133 @@
+// Arithmetic of the code: a result, or none where the operator raises its exception.
+ghost use Rattle.std.specs.Prelude.{◌≡◌, ◌+ℤ◌, ◌-ℤ◌, ◌*ℤ◌, neg_ℤ, pos, int_le, None, Some, if◌then◌else◌};
+ghost use Rattle.code_types.specs.Numbers.{int_result, is_between, is_scalar, magnitude, modulus, quotient, remainder, where_true};
+
+/// The number, where it is a value of INT.
+pub fn int_or_none(z: i64) -> Option<i64>
+    ensures { result ≡ int_result z }
+{
+    if -2147483648 <= z && z <= 2147483647 {
+        Some(z)
+    } else {
+        None
+    }
+}
+
+/// The sum, where it is a value of INT.
+pub fn sum(x: i64, y: i64) -> Option<i64>
+    ensures { result ≡ int_result (x +ℤ y) }
+{
+    match x.checked_add(y) {
+        Some(z) => int_or_none(z),
+        None => None,
+    }
+}
+
+/// The difference, where it is a value of INT.
+pub fn difference(x: i64, y: i64) -> Option<i64>
+    ensures { result ≡ int_result (x -ℤ y) }
+{
+    match x.checked_sub(y) {
+        Some(z) => int_or_none(z),
+        None => None,
+    }
+}
+
+/// The product, where it is a value of INT.
+pub fn product(x: i64, y: i64) -> Option<i64>
+    ensures { result ≡ int_result (x *ℤ y) }
+{
+    match x.checked_mul(y) {
+        Some(z) => int_or_none(z),
+        None => None,
+    }
+}
+
+/// The quotient, which truncates towards zero; none by zero.
+pub fn quotient_of(x: i64, y: i64) -> Option<i64>
+    ensures { result ≡ quotient x y }
+{
+    if y == 0 {
+        return None;
+    }
+    match x.checked_div(y) {
+        Some(z) => int_or_none(z),
+        None => None,
+    }
+}
+
+/// What the quotient leaves, with the sign of the dividend; none by zero.
+pub fn remainder_of(x: i64, y: i64) -> Option<i64>
+    ensures { result ≡ remainder x y }
+{
+    if y == 0 {
+        return None;
+    }
+    int_or_none(x.wrapping_rem(y))
+}
+
+/// From 0 to the divisor less 1; none by a number below 1.
+pub fn modulus_of(x: i64, y: i64) -> Option<i64>
+    ensures { result ≡ modulus x y }
+{
+    if y < 1 {
+        return None;
+    }
+    int_or_none(x.rem_euclid(y))
+}
+
+/// The number with the other sign, where that is a value of INT.
+pub fn negation(x: i64) -> Option<i64>
+    ensures { result ≡ int_result (neg_ℤ x) }
+{
+    match x.checked_neg() {
+        Some(z) => int_or_none(z),
+        None => None,
+    }
+}
+
+/// The magnitude, where it is a value of INT.
+pub fn magnitude_of(x: i64) -> Option<i64>
+    ensures { result ≡ int_result (magnitude x) }
+{
+    match x.checked_abs() {
+        Some(z) => int_or_none(z),
+        None => None,
+    }
+}
+
+/// The successor; none at or past the bound.
+pub fn successor(bound: i64, x: i64) -> Option<i64>
+    ensures { result ≡ (if int_le bound x then None else Some (x +ℤ pos 1)) }
+{
+    if bound <= x { None } else { Some(x + 1) }
+}
+
+/// The predecessor; none at or past the bound.
+pub fn predecessor(bound: i64, x: i64) -> Option<i64>
+    ensures { result ≡ (if int_le x bound then None else Some (x -ℤ pos 1)) }
+{
+    if x <= bound { None } else { Some(x - 1) }
+}
+
+/// The number, where it is from the first bound to the second.
+pub fn within_bounds(low: i64, high: i64, x: i64) -> Option<i64>
+    ensures { result ≡ where_true (is_between low high x) x }
+{
+    if low <= x && x <= high { Some(x) } else { None }
+}
+
+/// The offset of an element with this index, where it is from the first bound to the second.
+pub fn index_offset(low: i64, high: i64, size: u32, x: i64) -> Option<i64>
+    ensures { result ≡ (if is_between low high x then where_true (is_scalar ((x -ℤ low) *ℤ pos size)) ((x -ℤ low) *ℤ pos size) else None) }
+{
+    if low <= x && x <= high {
+        match x.checked_sub(low) {
+            Some(distance) => distance.checked_mul(size as i64),
+            None if size == 0 => Some(0),
+            None => None,
+        }
+    } else {
+        None
+    }
+}
