@@ -1,4 +1,4 @@
-use Rattle.std.proofs.Common.{◌≡◌, ◌-◌}
+use Rattle.std.proofs.Common.{◌≡◌}
 use Rattle.std.proofs.lemmas.List.{map_push}
 use Rattle.chill_tree.specs.ModeTree.{field_tree, field_trees}
 use Rattle.rules_model.specs.Reading.{push, another_at}

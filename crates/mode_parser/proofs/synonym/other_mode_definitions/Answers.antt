@@ -1,4 +1,4 @@
-use Rattle.std.proofs.Common.{◌≡◌, ◌-◌, map}
+use Rattle.std.proofs.Common.{◌≡◌, map}
 use Rattle.std.proofs.lemmas.List.{map_push}
 use Rattle.chill_tree.specs.LocalTree.{mode_definition_tree}
 use Rattle.rules_model.specs.Reading.{push, another_at}
