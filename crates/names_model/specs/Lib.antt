@@ -1,0 +1,12 @@
+pub mod Kinds
+pub mod Identifiers
+pub mod Parts
+pub mod Sizes
+pub mod ExprMentions
+pub mod ModeMentions
+pub mod StatementParts
+pub mod ItemParts
+pub mod Definitions
+pub mod Entries
+pub mod Seeing
+pub mod NameRules
