@@ -10,3 +10,5 @@ pub mod Definitions
 pub mod Entries
 pub mod Seeing
 pub mod NameRules
+pub mod Dependence
+pub mod Resolving
