@@ -21,7 +21,7 @@ use Rattle.names_model.specs.NameRules.{Node, nodes, tell}
 abbrev pub uses_in : List Mention → List Identifier
 uses_in [] = []
 uses_in (Use n need ∷ ms) = n ∷ uses_in ms
-uses_in (Argument n routine ∷ ms) = n ∷ uses_in ms
+uses_in (Argument n callee ∷ ms) = n ∷ uses_in ms
 uses_in (Element n ∷ ms) = uses_in ms
 
 -- all definitions that are seen under the names in a text

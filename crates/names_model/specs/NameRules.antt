@@ -102,11 +102,11 @@ told_use n seen fit = if is_empty seen then tell n.at rules.N2 n.spelling ∷ []
 
 -- an argument of UPPER, LOWER or SIZE may be a mode
 abbrev pub fits_argument : List Definition → List ℕ → List ℕ → Bool
-fits_argument all routine seen = any_kind (fits needs.Value) all seen || (any_kind is_measuring all routine && any_kind (fits needs.Mode) all seen)
+fits_argument all callee seen = any_kind (fits needs.Value) all seen || (any_kind is_measuring all callee && any_kind (fits needs.Mode) all seen)
 
 abbrev pub told_mention : List Definition → Reach → Mention → List Diagnostic
 told_mention text r (Use n need) = told_use n (sees text r n.spelling) (any_kind (fits need) (with_predefined text) (sees text r n.spelling))
-told_mention text r (Argument n routine) = told_use n (sees text r n.spelling) (fits_argument (with_predefined text) (sees text r routine.spelling) (sees text r n.spelling))
+told_mention text r (Argument n callee) = told_use n (sees text r n.spelling) (fits_argument (with_predefined text) (sees text r callee.spelling) (sees text r n.spelling))
 told_mention text r (Element n) = []
 
 abbrev pub told_mentions : List Definition → Reach → List Mention → List Diagnostic

@@ -31,7 +31,7 @@ pub record AreBroken (ps : PartNodes) (list : List Diagnostic) : Type 0 where
 -- a use stands for the definition that is seen
 abbrev pub resolved_mention : List Definition → Reach → Mention → List Resolved
 resolved_mention text r (Use n need) = record { at = n.at; to = slice_index_or (sees text r n.spelling) 0 0 } ∷ []
-resolved_mention text r (Argument n routine) = record { at = n.at; to = slice_index_or (sees text r n.spelling) 0 0 } ∷ []
+resolved_mention text r (Argument n callee) = record { at = n.at; to = slice_index_or (sees text r n.spelling) 0 0 } ∷ []
 resolved_mention text r (Element n) = []
 
 abbrev pub resolved_mentions : List Definition → Reach → List Mention → List Resolved

@@ -10,7 +10,7 @@ use Rattle.names_model.specs.Parts.{PartTree, PartNodes, define, mention, seize,
 abbrev pub elements_in : List Mention → List Identifier
 elements_in [] = []
 elements_in (Use n need ∷ ms) = elements_in ms
-elements_in (Argument n routine ∷ ms) = elements_in ms
+elements_in (Argument n callee ∷ ms) = elements_in ms
 elements_in (Element n ∷ ms) = n ∷ elements_in ms
 
 -- the names of a clause, and its elements

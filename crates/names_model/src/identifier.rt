@@ -4,7 +4,6 @@ ghost use Rattle.std.proofs.Common.{rules};
 ghost use Rattle.std.specs.Str.{bytes_eq};
 ghost use Rattle.std.specs.Cmp.Rules.{comparing, hashing};
 ghost use Rattle.std.specs.Hash as fed;
-ghost use Rattle.names_model.specs.Identifiers.{identifier};
 
 use chill_base::{Memory, Pos};
 use chill_tree::tree::Name;
@@ -19,6 +18,8 @@ pub struct Spelling {
 }
 
 impl Model for Spelling {
+    ghost use Rattle.std.specs.Prelude.{List, ℕ};
+
     ghost Value = { List ℕ };
 
     ghost view = { λ s. s.bytes.items };
@@ -81,6 +82,9 @@ pub struct Identifier {
 }
 
 impl Identifier {
+    ghost use Rattle.std.specs.Prelude.{◌≡◌, IfOk};
+    ghost use Rattle.names_model.specs.Identifiers.{identifier};
+
     /// The name of a tree.
     pub fn of(alloc: Global, name: &Name) -> Result<Identifier, Memory>
         ensures { IfOk result (λ i. i ≡ identifier name.now) }

@@ -1,0 +1,13 @@
+//! What each name of a program stands for, or the rules on names that it breaks.
+//!
+//! `resolve` meets the definitions of `names_model`. It stands on `reach_parts`, which finds the parts of the reaches, and
+//! below the checks of the later phases: they have the numbers of definitions from it. Its walk goes once over all parts
+//! with the tables of the reaches around.
+#![tactic(auto)]
+
+mod book;
+mod entries;
+mod scope;
+mod table;
+
+pub use book::Book;
