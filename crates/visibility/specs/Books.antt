@@ -1,0 +1,12 @@
+-- How definitions are kept by their numbers.
+use Rattle.std.specs.Prelude.{◌≡◌, ℕ, List, [], length}
+use Rattle.names_model.specs.declared.definition.Definition.{Definition}
+use Rattle.names_model.specs.Definitions.{with_predefined, predefined_under}
+use Rattle.visibility.specs.declared.book.Book.{Book}
+use Rattle.visibility.specs.Held.{held}
+
+-- the book has the definitions of the text with the predefined ones behind them
+pub record Keeps (book : Book) (text : List Definition) : Type 0 where
+  pub all : book.all.items ≡ with_predefined text
+  pub predefined : (n : List ℕ) → held book.predefined n ≡ predefined_under text n
+  pub nameless : book.nameless ≡ []

@@ -1,0 +1,75 @@
+// The reaches around a place, by their tables.
+ghost use Rattle.std.specs.Prelude.{◌≡◌, ℕ, List};
+ghost use Rattle.names_model.specs.declared.definition.Definition.{Definition};
+ghost use Rattle.names_model.specs.Seeing.{Reach, sees, seen_around};
+ghost use Rattle.visibility.specs.Books.{Keeps};
+ghost use Rattle.visibility.specs.Scopes.{Stands};
+
+use crate::book::Book;
+use crate::table::Table;
+use names_model::Spelling;
+
+/// The table of a reach, and the reaches around it.
+#[derive(Drop)]
+pub enum Scope<'a> {
+    Outermost {
+        table: Table,
+    },
+    Modulion {
+        table: Table,
+        takes_all: bool,
+        outer: &'a Scope<'a>,
+    },
+    Block {
+        table: Table,
+        outer: &'a Scope<'a>,
+    },
+}
+
+/// The definitions that a reach sees under a name.
+pub fn sees<'a>(book: &'a Book, scope: &'a Scope<'a>, name: &Spelling) -> &'a [u32]
+    ensures { (text : List Definition) (r : Reach) → Keeps book.now text → Stands text r scope.now → result.now ≡ sees text r name.now }
+{
+    match scope {
+        Scope::Outermost { table } => or_else(table.find(name), book.predefined.find(name)),
+        Scope::Modulion {
+            table,
+            takes_all,
+            outer,
+        } => {
+            let own = table.find(name);
+            if !own.is_empty() {
+                return own;
+            }
+            if *takes_all {
+                return sees(book, outer, name);
+            }
+            book.predefined.find(name)
+        }
+        Scope::Block { table, outer } => {
+            let own = table.find(name);
+            if !own.is_empty() {
+                return own;
+            }
+            sees(book, outer, name)
+        }
+    }
+}
+
+// The first numbers, or the second where there are none.
+fn or_else<'a>(first: &'a [u32], second: &'a [u32]) -> &'a [u32]
+    ensures { result.now ≡ or_else first.now second.now }
+{
+    if first.is_empty() { second } else { first }
+}
+
+/// The definitions that are seen around a reach under a name.
+pub fn seen_around<'a>(book: &'a Book, scope: &'a Scope<'a>, name: &Spelling) -> &'a [u32]
+    ensures { (text : List Definition) (r : Reach) → Keeps book.now text → Stands text r scope.now → result.now ≡ seen_around text r name.now }
+{
+    match scope {
+        Scope::Outermost { .. } => &[],
+        Scope::Modulion { outer, .. } => sees(book, outer, name),
+        Scope::Block { outer, .. } => sees(book, outer, name),
+    }
+}
