@@ -1,0 +1,28 @@
+-- What depends on what.
+use Rattle.std.specs.Prelude.{◌≡◌, ℕ, ◌<◌, Bool, true, false, List, ◌⊎◌, slice_index_or, All, Contains}
+use Rattle.self_dependence.specs.declared.edge.Edge.{Edge}
+
+-- v depends on w over one or more edges
+pub data Depends (edges : List Edge) : ℕ → ℕ → Type 0 where
+  directly : {v w : ℕ} → Contains edges (record { from = v; to = w }) → Depends edges v w
+  through : {v w u : ℕ} → Contains edges (record { from = v; to = w }) → Depends edges w u → Depends edges v u
+
+-- both ends of each edge are nodes
+abbrev pub EndsBelow : ℕ → List Edge → Type 0
+EndsBelow count = All (λ e. (e.from < count) × (e.to < count))
+
+-- the list tells of the node that it has been reached
+abbrev pub IsReached : List Bool → ℕ → Type 0
+IsReached reached v = slice_index_or reached v false ≡ true
+
+-- only what the node depends on has been reached
+abbrev pub OnlyDepended : List Edge → ℕ → List Bool → Type 0
+OnlyDepended edges start reached = (v : ℕ) → IsReached reached v → Depends edges start v
+
+-- the edges of a node are to be followed: it is the start, or it has been reached
+abbrev pub IsSource : ℕ → List Bool → ℕ → Type 0
+IsSource start reached v = (v ≡ start) ⊎ IsReached reached v
+
+-- if the edge is to be followed, it leads to what has been reached
+abbrev pub LeadsNowhereNew : ℕ → List Bool → Edge → Type 0
+LeadsNowhereNew start reached e = IsSource start reached e.from → IsReached reached e.to
