@@ -3,8 +3,9 @@ use Rattle.std.specs.Prelude.{◌≡◌, ◌↔◌, ℕ, suc, ◌+◌, ◌<◌, 
 use Rattle.std.specs.List.{filter}
 use Rattle.chill_base.specs.declared.rule.Rule.TheVariants as rules
 use Rattle.chill_base.specs.declared.diagnostic.Diagnostic.{Diagnostic}
-use Rattle.self_dependence.specs.declared.edge.Edge.{Edge}
-use Rattle.self_dependence.specs.Depends.{Depends}
+use Rattle.self_dependence.specs.Depends.{Depends, IsReached}
+use Rattle.group_dependence.specs.declared.group.Group.{Group}
+use Rattle.group_dependence.specs.Groups.{edges_of}
 use Rattle.names_model.specs.declared.identifier.Identifier.{Identifier}
 use Rattle.names_model.specs.declared.definition.Definition.{Definition}
 use Rattle.names_model.specs.declared.part.Mention.{Mention}
@@ -28,45 +29,45 @@ uses_in (Element n ∷ ms) = uses_in ms
 abbrev pub named_in : List Definition → Reach → List Mention → List ℕ
 named_in text r ms = flat_map (λ n. sees text r n.spelling) (uses_in ms)
 
-abbrev pub edge : ℕ → ℕ → Edge
-edge from to = record { from = from; to = to }
-
--- a definition depends on others
-abbrev pub edges_to : List ℕ → ℕ → List Edge
-edges_to others d = map (λ o. edge d o) others
+abbrev pub group : List ℕ → List ℕ → Group
+group from to = record { from = from; to = to }
 
 -- each name of a clause depends on what is named in the clause's text
-abbrev pub clause_edges : List Definition → Reach → ℕ → Clause → List Edge
-clause_edges text r from c = flat_map (edges_to (named_in text r c.text)) (numbers_on from (length c.names))
+abbrev pub clause_group : List Definition → Reach → ℕ → Clause → Group
+clause_group text r from c = group (numbers_on from (length c.names)) (named_in text r c.text)
 
-abbrev pub clauses_edges : List Definition → Reach → ℕ → List Clause → List Edge
-clauses_edges text r from [] = []
-clauses_edges text r from (c ∷ cs) = clause_edges text r from c ++ clauses_edges text r (from + clause_size c) cs
+abbrev pub param_groups : List Definition → Reach → ℕ → List Clause → List Group
+param_groups text r from [] = []
+param_groups text r from (c ∷ cs) = clause_group text r from c ∷ param_groups text r (from + clause_size c) cs
 
 -- a procedure depends on the mode of its result alone, and no definition on initial values or bodies
-abbrev pub edges_of : List Definition → Reach → ℕ → PartTree → List Edge
-edges_of text r from (define c) = clause_edges text r from c
-edges_of text r from (routine n kind params result size ps) = edges_to (named_in text r result) from ++ clauses_edges text r (suc from) params
-edges_of text r from (mention m) = []
-edges_of text r from (seize n) = []
-edges_of text r from (seize_all at) = []
-edges_of text r from (grant n) = []
-edges_of text r from (grant_all at) = []
-edges_of text r from (stray n) = []
-edges_of text r from (modulion n region size ps) = []
-edges_of text r from (block size ps) = []
+abbrev pub groups_of : List Definition → Reach → ℕ → PartTree → List Group
+groups_of text r from (define c) = clause_group text r from c ∷ []
+groups_of text r from (routine n kind params result size ps) = group (from ∷ []) (named_in text r result) ∷ param_groups text r (suc from) params
+groups_of text r from (mention m) = []
+groups_of text r from (seize n) = []
+groups_of text r from (seize_all at) = []
+groups_of text r from (grant n) = []
+groups_of text r from (grant_all at) = []
+groups_of text r from (stray n) = []
+groups_of text r from (modulion n region size ps) = []
+groups_of text r from (block size ps) = []
 
 -- what depends on what in a reach and in those inside it
-abbrev pub edges_in : List Definition → Reach → ℕ → PartNodes → List Edge
-edges_in text r from ps = flat_map (λ k. edges_of text k.reach k.from k.part) (nodes r from ps)
+abbrev pub groups_in : List Definition → Reach → ℕ → PartNodes → List Group
+groups_in text r from ps = flat_map (λ k. groups_of text k.reach k.from k.part) (nodes r from ps)
 
--- the edges between locations
-abbrev pub among_locations : List Definition → List Edge → List Edge
-among_locations text edges = filter (λ e. is_kind_at is_location text e.from && is_kind_at is_location text e.to) edges
+-- the locations among some definitions
+abbrev pub locations_in : List Definition → List ℕ → List ℕ
+locations_in text ds = filter (is_kind_at is_location text) ds
 
--- the marks tell which of the first definitions depend on themselves
-abbrev pub TellSelves : List Edge → ℕ → List Bool → Type 0
-TellSelves edges count marks = (d : ℕ) → d < count → (slice_index_or marks d false ≡ true) ↔ Depends edges d d
+-- what depends on what among locations alone
+abbrev pub among_locations : List Definition → List Group → List Group
+among_locations text gs = map (λ g. group (locations_in text g.from) (locations_in text g.to)) gs
+
+-- the marks tell which definitions depend on themselves
+abbrev pub TellSelves : List Group → List Bool → Type 0
+TellSelves gs marks = (d : ℕ) → IsReached marks d ↔ Depends (edges_of gs) d d
 
 -- ---- N6: a synonym or mode depends on itself, or a location through locations alone
 

@@ -2,6 +2,7 @@
 use Rattle.std.specs.Prelude.{◌≡◌, ℕ, Bool, List, [], ◌∷◌, ◌++◌, flat_map, length, slice_index_or}
 use Rattle.chill_base.specs.declared.diagnostic.Diagnostic.{Diagnostic}
 use Rattle.chill_tree.specs.ItemTree.{ProgramTree}
+use Rattle.group_dependence.specs.declared.group.Group.{Group}
 use Rattle.rule_lists.specs.Listing.{listed}
 use Rattle.rule_lists.specs.Order.{diagnostic_cmp}
 use Rattle.names_model.specs.declared.definition.Definition.{Definition}
@@ -14,16 +15,20 @@ use Rattle.names_model.specs.ItemParts.{program_parts}
 use Rattle.names_model.specs.Definitions.{text_definitions, with_predefined}
 use Rattle.names_model.specs.Seeing.{Reach, outermost, sees}
 use Rattle.names_model.specs.NameRules.{Node, nodes, told_in, told_surplus}
-use Rattle.names_model.specs.Dependence.{edges_in, among_locations, TellSelves, told_selves}
+use Rattle.names_model.specs.Dependence.{groups_in, among_locations, TellSelves, told_selves}
 
 -- ---- the list of the phase
+
+-- all groups of a program
+abbrev pub program_groups : PartNodes → List Group
+program_groups ps = groups_in (text_definitions ps) (outermost ps) 0 ps
 
 -- The rules on names that the parts of a program break, in order and once.
 pub record AreBroken (ps : PartNodes) (list : List Diagnostic) : Type 0 where
   pub through : List Bool
-  pub tells : TellSelves (edges_in (text_definitions ps) (outermost ps) 0 ps) (length (text_definitions ps)) through
+  pub tells : TellSelves (program_groups ps) through
   pub among : List Bool
-  pub tells_among : TellSelves (among_locations (text_definitions ps) (edges_in (text_definitions ps) (outermost ps) 0 ps)) (length (text_definitions ps)) among
+  pub tells_among : TellSelves (among_locations (text_definitions ps) (program_groups ps)) among
   pub are : list ≡ listed diagnostic_cmp (told_in (text_definitions ps) (outermost ps) 0 ps ++ (told_selves through among (text_definitions ps) ++ told_surplus (text_definitions ps)))
 
 -- ---- the names

@@ -1,0 +1,4 @@
+pub mod Members
+pub mod Between
+pub mod Bounds
+pub mod Cut

@@ -1,0 +1,16 @@
+//! What depends on itself where groups of nodes depend on groups, each node on each.
+//!
+//! `selves` meets `self_dependence`'s definition on all edges of the groups, in a time that is linear in the groups. It stands
+//! on `self_dependence`, and below the definitions of names, whose groups are the names that one text defines and those that
+//! it uses.
+#![tactic(auto)]
+
+mod cycles;
+mod group;
+mod stars;
+
+
+pub use cycles::selves;
+pub use group::Group;
+
+
