@@ -7,10 +7,12 @@
 
 mod cycles;
 mod group;
+mod law;
 mod stars;
 
 
 pub use cycles::selves;
 pub use group::Group;
+pub use law::testing_law;
 
 

@@ -1,11 +1,11 @@
 -- Which definitions depend on which, and what is told of those that depend on themselves.
-use Rattle.std.specs.Prelude.{◌≡◌, ◌↔◌, ℕ, suc, ◌+◌, ◌<◌, Bool, true, false, ◌&&◌, ◌||◌, List, [], ◌∷◌, ◌++◌, map, flat_map, length, slice_get, slice_index_or, Option, Some, None, if◌then◌else◌}
+use Rattle.std.specs.Prelude.{ℕ, suc, ◌+◌, Bool, ◌&&◌, ◌||◌, List, [], ◌∷◌, map, flat_map, length, slice_get, Option, Some, None, if◌then◌else◌}
 use Rattle.std.specs.List.{filter}
 use Rattle.chill_base.specs.declared.rule.Rule.TheVariants as rules
 use Rattle.chill_base.specs.declared.diagnostic.Diagnostic.{Diagnostic}
-use Rattle.self_dependence.specs.Depends.{Depends, IsReached}
 use Rattle.group_dependence.specs.declared.group.Group.{Group}
 use Rattle.group_dependence.specs.Groups.{edges_of}
+use Rattle.group_dependence.specs.Testing.{depends_on}
 use Rattle.names_model.specs.declared.identifier.Identifier.{Identifier}
 use Rattle.names_model.specs.declared.definition.Definition.{Definition}
 use Rattle.names_model.specs.declared.part.Mention.{Mention}
@@ -65,19 +65,14 @@ locations_in text ds = filter (is_kind_at is_location text) ds
 abbrev pub among_locations : List Definition → List Group → List Group
 among_locations text gs = map (λ g. group (locations_in text g.from) (locations_in text g.to)) gs
 
--- the marks tell which definitions depend on themselves
-abbrev pub TellSelves : List Group → List Bool → Type 0
-TellSelves gs marks = (d : ℕ) → IsReached marks d ↔ Depends (edges_of gs) d d
-
 -- ---- N6: a synonym or mode depends on itself, or a location through locations alone
 
-abbrev pub is_self : List Bool → List Bool → List Definition → ℕ → Bool
-is_self through among text d = (is_kind_at is_constant text d && slice_index_or through d false) || (is_kind_at is_location text d && slice_index_or among d false)
+abbrev pub is_self : List Definition → List Group → ℕ → Bool
+is_self text gs d = (is_kind_at is_constant text d && depends_on (edges_of gs) d d) || (is_kind_at is_location text d && depends_on (edges_of (among_locations text gs)) d d)
 
 abbrev pub told_self : Bool → Option Definition → List Diagnostic
 told_self self None = []
 told_self self (Some d) = if self then tell d.name.at rules.N6 d.name.spelling ∷ [] else []
 
--- where `through` tells which definitions depend on themselves, and `among` which do so through locations alone
-abbrev pub told_selves : List Bool → List Bool → List Definition → List Diagnostic
-told_selves through among text = flat_map (λ d. told_self (is_self through among text d) (slice_get text d)) (numbers_on 0 (length text))
+abbrev pub told_selves : List Definition → List Group → List Diagnostic
+told_selves text gs = flat_map (λ d. told_self (is_self text gs d) (slice_get text d)) (numbers_on 0 (length text))

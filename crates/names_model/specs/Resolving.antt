@@ -1,8 +1,7 @@
 -- What the phase of names gives of a program: the names, or the list of the rules that are broken.
-use Rattle.std.specs.Prelude.{◌≡◌, ℕ, Bool, List, [], ◌∷◌, ◌++◌, flat_map, length, slice_index_or}
+use Rattle.std.specs.Prelude.{ℕ, List, [], ◌∷◌, ◌++◌, flat_map, slice_index_or}
 use Rattle.chill_base.specs.declared.diagnostic.Diagnostic.{Diagnostic}
 use Rattle.chill_tree.specs.ItemTree.{ProgramTree}
-use Rattle.group_dependence.specs.declared.group.Group.{Group}
 use Rattle.rule_lists.specs.Listing.{listed}
 use Rattle.rule_lists.specs.Order.{diagnostic_cmp}
 use Rattle.names_model.specs.declared.definition.Definition.{Definition}
@@ -15,21 +14,17 @@ use Rattle.names_model.specs.ItemParts.{program_parts}
 use Rattle.names_model.specs.Definitions.{text_definitions, with_predefined}
 use Rattle.names_model.specs.Seeing.{Reach, outermost, sees}
 use Rattle.names_model.specs.NameRules.{Node, nodes, told_in, told_surplus}
-use Rattle.names_model.specs.Dependence.{groups_in, among_locations, TellSelves, told_selves}
+use Rattle.names_model.specs.Dependence.{groups_in, told_selves}
 
 -- ---- the list of the phase
 
--- all groups of a program
-abbrev pub program_groups : PartNodes → List Group
-program_groups ps = groups_in (text_definitions ps) (outermost ps) 0 ps
+-- all that is told of the names of a program: N1 to N5 in the order of the text, N6 and L3
+abbrev pub told_of_names : PartNodes → List Diagnostic
+told_of_names ps = told_in (text_definitions ps) (outermost ps) 0 ps ++ told_selves (text_definitions ps) (groups_in (text_definitions ps) (outermost ps) 0 ps) ++ told_surplus (text_definitions ps)
 
--- The rules on names that the parts of a program break, in order and once.
-pub record AreBroken (ps : PartNodes) (list : List Diagnostic) : Type 0 where
-  pub through : List Bool
-  pub tells : TellSelves (program_groups ps) through
-  pub among : List Bool
-  pub tells_among : TellSelves (among_locations (text_definitions ps) (program_groups ps)) among
-  pub are : list ≡ listed diagnostic_cmp (told_in (text_definitions ps) (outermost ps) 0 ps ++ (told_selves through among (text_definitions ps) ++ told_surplus (text_definitions ps)))
+-- the list of the phase: in order, each once
+abbrev pub broken_names : PartNodes → List Diagnostic
+broken_names ps = listed diagnostic_cmp (told_of_names ps)
 
 -- ---- the names
 
