@@ -1,3 +1,4 @@
 pub mod Members
 pub mod Passing
 pub mod Ups
+pub mod Seen
