@@ -2,3 +2,5 @@ pub mod Members
 pub mod Passing
 pub mod Ups
 pub mod Seen
+pub mod Predefined
+pub mod GivingBack

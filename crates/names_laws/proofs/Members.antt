@@ -68,6 +68,19 @@ flat_map_in f (x ∷ xs) d c = elim (Contains-append_cases (f x) (flat_map f xs)
   | inr there ↦ (let h = flat_map_in f xs d there in (h.0, later_in x xs h.0 h.1, h.2))
 ]
 
+-- ---- tests of some member
+
+pub any_at : {X : Type 0} (p : X → Bool) (xs : List X) (d : X) → Contains xs d → p d ≡ true → list_any p xs ≡ true
+any_at p [] d c e = absurd (none_in d c)
+any_at p (x ∷ xs) d c e = elim (in_cases x xs d c) [
+  | inl is ↦ (let t : p x ≡ true = ap p is ∙ e in rw t refl)
+  | inr there ↦ rw (any_at p xs d there e) (or-true (p x))
+]
+  where
+    or-true : (b : Bool) → (b || true) ≡ true
+    or-true true = refl
+    or-true false = refl
+
 -- ---- numbers, each once
 
 pub among_in : (d : ℕ) (xs : List ℕ) → is_among d xs ≡ true → Contains xs d
@@ -79,15 +92,7 @@ among_in d (x ∷ xs) e = by (x == d) refl e (among_in d xs)
     by false t h rest = later_in x xs d (rest h)
 
 pub in_among : (d : ℕ) (xs : List ℕ) → Contains xs d → is_among d xs ≡ true
-in_among d [] c = absurd (none_in d c)
-in_among d (x ∷ xs) c = elim (in_cases x xs d c) [
-  | inl is ↦ (let t : (x == d) ≡ true = eq-eqb x d is in rw t refl)
-  | inr there ↦ (let h = in_among d xs there in rw h (or-true (x == d)))
-]
-  where
-    or-true : (b : Bool) → (b || true) ≡ true
-    or-true true = refl
-    or-true false = refl
+in_among d xs c = any_at (λ e. e == d) xs d c (eq-eqb d d refl)
 
 pub once_in : (xs ys : List ℕ) (d : ℕ) → Contains (once_behind xs ys) d → Contains xs d ⊎ Contains ys d
 once_in xs [] d c = inl c

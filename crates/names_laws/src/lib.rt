@@ -7,4 +7,4 @@
 
 mod laws;
 
-pub use laws::seeing_law;
+pub use laws::{granting_back_law, one_definition_law, seeing_law};
