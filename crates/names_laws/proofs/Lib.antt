@@ -4,3 +4,5 @@ pub mod Ups
 pub mod Seen
 pub mod Predefined
 pub mod GivingBack
+pub mod Agreeing
+pub mod OneSeen

@@ -196,7 +196,7 @@ inherited_tells text around Around ps tells = by (seizes_all ps) refl
 
 -- ---- the reaches
 
-nothing_tells : (all : List Definition) → Tells all nothing NoneAround
+pub nothing_tells : (all : List Definition) → Tells all nothing NoneAround
 nothing_tells all = record { listed = λ n d h e. absurd h; told = λ n d c. none_in d c; named = λ n d c. absurd (none_in d c) }
 
 pub seen_tells : (text : List Definition) (r : Reach) → Tells (with_predefined text) (sees text r) (Sees text r)

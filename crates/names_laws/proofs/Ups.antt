@@ -23,7 +23,7 @@ module _ (all : List Definition) where
 
   -- ---- what is had is listed
 
-  own_listed : (from d : ℕ) (ps : PartNodes) → Contains (own_numbers from ps) d → Contains (numbers_of (up_entries all from ps)) d
+  pub own_listed : (from d : ℕ) (ps : PartNodes) → Contains (own_numbers from ps) d → Contains (numbers_of (up_entries all from ps)) d
   own_listed from d no_parts c = c
   own_listed from d (more_parts p ps) c = elim (Contains-append_cases (numbers_of (own_entries from p)) (own_numbers (from + size_of p) ps) d c) [
     | inl here ↦ numbers_left (own_entries from p ++ given_entries all from p) (up_entries all (from + size_of p) ps) d (numbers_left (own_entries from p) (given_entries all from p) d here)
@@ -44,10 +44,10 @@ module _ (all : List Definition) where
       in_flat_map (λ (e : Entry). e.numbers) (given_by number region inner) h.0 d (in_flat_map (granted_entries all region (found all (up_entries all (suc number) inner)) (own_numbers (suc number) inner)) (parts_in inner) q h.0 there h.1) h.2
 
   -- the definitions that are listed
-  abbrev Listed : ℕ → PartNodes → ℕ → Type 0
+  abbrev pub Listed : ℕ → PartNodes → ℕ → Type 0
   Listed from ps d = Contains (numbers_of (up_entries all from ps)) d
 
-  tells_listed : (from : ℕ) (ps : PartNodes) → Tells all (found all (up_entries all from ps)) (Listed from ps)
+  pub tells_listed : (from : ℕ) (ps : PartNodes) → Tells all (found all (up_entries all from ps)) (Listed from ps)
   tells_listed from ps = record {
     listed = λ n d h e. in_found all (up_entries all from ps) n d h e;
     told = λ n d c. (found_in all (up_entries all from ps) n d c).0;
