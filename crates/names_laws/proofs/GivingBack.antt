@@ -1,17 +1,16 @@
 -- What a modulion gives doesn't depend on what it seizes.
-use Rattle.std.proofs.Common.{◌≡◌, ℕ, zero, suc, ◌+◌, Bool, List, [], ◌∷◌, ◌++◌, refl, sym, ap, ◌∙◌, subst, arith, Contains}
+use Rattle.std.proofs.Common.{◌≡◌, ℕ, suc, ◌+◌, Bool, List, [], ◌∷◌, ◌++◌, refl, sym, ap, ◌∙◌}
 use Rattle.std.specs.Prelude.{flat_map}
 use Rattle.std.proofs.Math.Nat.{add-zero}
 use Rattle.names_model.specs.declared.identifier.Identifier.{Identifier}
 use Rattle.names_model.specs.declared.definition.Definition.{Definition}
-use Rattle.names_model.specs.declared.entry.Entry.{Entry}
-use Rattle.names_model.specs.Parts.{PartTree, PartNodes, define, mention, seize, seize_all, grant, grant_all, stray, modulion, routine, block, no_parts, more_parts, parts_in}
+use Rattle.names_model.specs.Parts.{PartTree, PartNodes, seize, seize_all, grant, modulion, no_parts, more_parts, parts_in}
 use Rattle.names_model.specs.Sizes.{size_of}
 use Rattle.names_model.specs.Definitions.{spelling_at}
 use Rattle.names_model.specs.Entries.{entry, numbers_of, own_entries, own_numbers, along, found, granted_entries, given_entries, up_entries}
 use Rattle.names_laws.specs.Visible.{Up}
 use Rattle.names_laws.specs.Laws.{without_seizes_in, without_seizes}
-use Rattle.names_laws.proofs.Members.{here_in, found_in}
+use Rattle.names_laws.proofs.Members.{none_listed, found_in}
 use Rattle.names_laws.proofs.Ups.{given_by, listed_up}
 
 -- a part stays where it is
@@ -84,10 +83,6 @@ pub given_without : (all : List Definition) (from : ℕ) (n : Identifier) (regio
 given_without all from n region size ps = modulion_same all from region ps (up_same all ps (suc from))
 
 -- ---- a name that the modulion hasn't from its parts
-
-none_listed : (xs : List ℕ) → ((d : ℕ) → ¬ Contains xs d) → xs ≡ []
-none_listed [] none = refl
-none_listed (x ∷ xs) none = absurd (none x (here_in x xs x refl))
 
 pub nothing_granted : (all : List Definition) (number : ℕ) (region : Bool) (ps : PartNodes) (n : Identifier)
     → ((d : ℕ) → Up all (suc number) ps d → ¬ (spelling_at all d ≡ n.spelling))

@@ -6,3 +6,4 @@ pub mod Predefined
 pub mod GivingBack
 pub mod Agreeing
 pub mod OneSeen
+pub mod Telling

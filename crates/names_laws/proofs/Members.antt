@@ -1,5 +1,5 @@
 -- Members of lists, and of the lists that entries are looked up in.
-use Rattle.std.proofs.Common.{◌≡◌, ℕ, zero, suc, ◌+◌, ◌<◌, ◌≤◌, ◌==◌, Bool, true, false, cond, ◌||◌, List, [], ◌∷◌, ◌++◌, length, ◌⊎◌, inl, inr, refl, sym, ap, ◌∙◌, subst, arith, ◌↔◌, Contains}
+use Rattle.std.proofs.Common.{◌≡◌, ℕ, zero, suc, ◌<◌, ◌==◌, Bool, true, false, cond, ◌||◌, List, [], ◌∷◌, ◌++◌, length, ◌⊎◌, inl, inr, refl, sym, ap, ◌∙◌, subst, arith, Contains}
 use Rattle.std.specs.Prelude.{flat_map, slice_index_or, if◌then◌else◌}
 use Rattle.std.specs.List.{filter, list_any}
 use Rattle.std.specs.Str.{bytes_eq}
@@ -27,6 +27,11 @@ in_cases x xs d c = by c.0 c.1 c.2
     by : (k : ℕ) → k < length (x ∷ xs) → slice_index_or (x ∷ xs) k d ≡ d → (x ≡ d) ⊎ Contains xs d
     by zero lt e = inl e
     by (suc k) lt e = inr (k, omega arith, e)
+
+-- a list without members is empty
+pub none_listed : {X : Type 0} (xs : List X) → ((x : X) → ¬ Contains xs x) → xs ≡ []
+none_listed [] none = refl
+none_listed (x ∷ xs) none = absurd (none x (here_in x xs x refl))
 
 -- ---- filters
 

@@ -1,14 +1,13 @@
 -- Where N1 is told nowhere, each reach sees at most one definition under a name.
-use Rattle.std.proofs.Common.{◌≡◌, ℕ, zero, suc, ◌+◌, ◌<◌, ◌≤◌, Bool, true, false, ◌&&◌, List, [], ◌∷◌, ◌++◌, length, ◌⊎◌, inl, inr, refl, sym, ap, ◌∙◌, subst, arith, Contains}
-use Rattle.std.specs.Prelude.{flat_map, not, if◌then◌else◌}
+use Rattle.std.proofs.Common.{◌≡◌, ℕ, suc, ◌+◌, ◌≤◌, Bool, true, false, ◌&&◌, List, [], ◌∷◌, ◌++◌, length, ◌⊎◌, inl, inr, refl, sym, subst, arith, Contains}
+use Rattle.std.specs.Prelude.{not, if◌then◌else◌}
 use Rattle.std.proofs.lemmas.List.Elements.{Contains-append_left, Contains-append_right, Contains-append_cases}
-use Rattle.chill_base.specs.declared.pos.Pos.{Pos}
 use Rattle.names_model.specs.declared.identifier.Identifier.{Identifier}
 use Rattle.names_model.specs.declared.definition.Definition.{Definition}
 use Rattle.names_model.specs.declared.entry.Entry.{Entry}
 use Rattle.names_model.specs.declared.part.Clause.{Clause}
 use Rattle.names_model.specs.Kinds.{is_location}
-use Rattle.names_model.specs.Parts.{PartTree, PartNodes, define, mention, seize, seize_all, grant, grant_all, stray, modulion, routine, block, no_parts, more_parts, parts_in}
+use Rattle.names_model.specs.Parts.{PartTree, PartNodes, define, seize, grant, grant_all, modulion, routine, block, no_parts, more_parts, parts_in}
 use Rattle.names_model.specs.Sizes.{elements_in, clause_size, clauses_size, head_size, size_of}
 use Rattle.names_model.specs.Definitions.{with_predefined, predefined_under, spelling_at, is_kind_at}
 use Rattle.names_model.specs.Entries.{entry, numbers_of, named_entries, param_elements, param_names, own_entries, own_numbers, found, passed, given_all, granted_entries, given_entries, up_entries}
@@ -16,7 +15,7 @@ use Rattle.names_model.specs.Seeing.{Reach, outermost, in_modulion, in_block, se
 use Rattle.names_model.specs.NameRules.{body_reach, told_behind, told_twice}
 use Rattle.names_laws.specs.Visible.{NoneAround, Sees}
 use Rattle.names_laws.specs.Laws.{IsInside, StandsIn, IsReachOf, NoneToldTwice}
-use Rattle.names_laws.proofs.Members.{none_in, here_in, in_cases, filter_in, flat_map_in, numbers_left, numbers_right, numbers_cases}
+use Rattle.names_laws.proofs.Members.{none_in, filter_in, flat_map_in}
 use Rattle.names_laws.proofs.Passing.{Tells, passed_is}
 use Rattle.names_laws.proofs.Ups.{given_by, Listed, tells_listed, own_listed}
 use Rattle.names_laws.proofs.Seen.{nothing_tells, seen_tells}

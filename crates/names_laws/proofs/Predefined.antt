@@ -1,12 +1,12 @@
 -- The predefined names differ, so that each is seen once.
-use Rattle.std.proofs.Common.{◌≡◌, ℕ, zero, suc, ◌+◌, ◌<◌, ◌≤◌, Bool, true, false, cond, ◌&&◌, List, [], ◌∷◌, ◌++◌, length, refl, sym, ap, ◌∙◌, subst, arith, Contains, append_assoc}
-use Rattle.std.specs.Prelude.{not, slice_get}
+use Rattle.std.proofs.Common.{◌≡◌, ℕ, suc, ◌≤◌, Bool, true, false, cond, ◌&&◌, List, [], ◌∷◌, ◌++◌, length, refl, sym, ap, ◌∙◌, subst, arith, Contains, append_assoc}
+use Rattle.std.specs.Prelude.{not}
 use Rattle.std.specs.List.{filter, list_any}
 use Rattle.std.specs.Str.{bytes_eq}
 use Rattle.std.proofs.lemmas.List.{length-append}
 use Rattle.std.proofs.lemmas.Slice.Eq.{bytes_eq-Decides}
 use Rattle.names_model.specs.declared.definition.Definition.{Definition}
-use Rattle.names_model.specs.Definitions.{predefined, predefined_under, numbers_on, spelling_at, under, with_predefined}
+use Rattle.names_model.specs.Definitions.{predefined, predefined_under, numbers_on, spelling_at, under}
 use Rattle.names_laws.proofs.Members.{here_in, later_in, any_at}
 
 -- no two of the definitions have one name

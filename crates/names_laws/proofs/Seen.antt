@@ -1,22 +1,19 @@
 -- What a reach sees is what its lists have.
-use Rattle.std.proofs.Common.{◌≡◌, ℕ, zero, suc, ◌+◌, ◌<◌, ◌≤◌, Bool, true, false, ◌||◌, List, [], ◌∷◌, ◌++◌, length, ◌⊎◌, inl, inr, refl, sym, ap, ◌∙◌, subst, arith, Contains}
+use Rattle.std.proofs.Common.{◌≡◌, ℕ, zero, suc, ◌+◌, ◌<◌, ◌≤◌, Bool, true, false, ◌||◌, List, [], ◌∷◌, ◌++◌, length, ◌⊎◌, inl, inr, refl, sym, ◌∙◌, subst, arith, Contains}
 use Rattle.std.specs.Prelude.{if◌then◌else◌, ◌↔◌}
-use Rattle.std.specs.List.{list_any}
 use Rattle.std.proofs.lemmas.Bool.{cases_eq}
 use Rattle.std.proofs.lemmas.List.{length-append}
-use Rattle.std.proofs.lemmas.List.Elements.{Contains-append_left, Contains-append_right, Contains-append_cases}
 use Rattle.chill_base.specs.declared.pos.Pos.{Pos}
-use Rattle.names_model.specs.declared.identifier.Identifier.{Identifier}
 use Rattle.names_model.specs.declared.definition.Definition.{Definition}
 use Rattle.names_model.specs.declared.entry.Entry.{Entry}
-use Rattle.names_model.specs.Parts.{PartTree, PartNodes, define, mention, seize, seize_all, grant, grant_all, stray, modulion, routine, block, no_parts, more_parts, parts_in}
+use Rattle.names_model.specs.Parts.{PartTree, PartNodes, seize, seize_all, no_parts, more_parts, parts_in}
 use Rattle.names_model.specs.Sizes.{size_of}
 use Rattle.names_model.specs.Definitions.{with_predefined, predefined, predefined_under, numbers_on, spelling_at}
 use Rattle.names_model.specs.Entries.{entry, numbers_of, own_entries, found, passed, given_entries, up_entries}
 use Rattle.names_model.specs.Seeing.{Reach, outermost, in_modulion, in_block, is_seize_all, seizes_all, seized_entries, entries_in, or_else, nothing, sees}
-use Rattle.names_laws.specs.Visible.{Up, Seized, seized, seized_along, Entered, by_head, by_parts, by_name, Had, at_once, failing, IsPredefined, Inherited, from_around, from_language, NoneAround, Sees}
+use Rattle.names_laws.specs.Visible.{Seized, seized, seized_along, Entered, by_head, by_parts, by_name, Had, at_once, failing, IsPredefined, Inherited, from_around, from_language, NoneAround, Sees}
 use Rattle.names_laws.proofs.Members.{none_in, here_in, later_in, in_cases, in_under, under_in, in_found, found_in, numbers_left, numbers_right, numbers_cases, in_one, one_in}
-use Rattle.names_laws.proofs.Passing.{Tells, Along, passes, passes_along, passed_is}
+use Rattle.names_laws.proofs.Passing.{Tells, passes, passes_along, passed_is}
 use Rattle.names_laws.proofs.Ups.{up_listed, listed_up}
 
 -- a part enters the definition by seizing

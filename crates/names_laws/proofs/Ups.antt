@@ -1,20 +1,17 @@
 -- What parts have from themselves is what their entries list.
-use Rattle.std.proofs.Common.{◌≡◌, ℕ, zero, suc, ◌+◌, ◌<◌, ◌≤◌, Bool, true, false, ◌&&◌, List, [], ◌∷◌, ◌++◌, ◌⊎◌, inl, inr, refl, sym, ap, ◌∙◌, subst, arith, Contains, IsTrue}
+use Rattle.std.proofs.Common.{◌≡◌, ℕ, suc, ◌+◌, Bool, true, false, ◌&&◌, List, ◌++◌, inl, inr, refl, subst, Contains, IsTrue}
 use Rattle.std.specs.Prelude.{flat_map, not}
-use Rattle.std.proofs.lemmas.Grind.{flat_map-append}
 use Rattle.std.proofs.lemmas.List.Elements.{Contains-append_left, Contains-append_right, Contains-append_cases}
-use Rattle.chill_base.specs.declared.pos.Pos.{Pos}
-use Rattle.names_model.specs.declared.identifier.Identifier.{Identifier}
 use Rattle.names_model.specs.declared.definition.Definition.{Definition}
 use Rattle.names_model.specs.declared.entry.Entry.{Entry}
 use Rattle.names_model.specs.Kinds.{is_location}
-use Rattle.names_model.specs.Parts.{PartTree, PartNodes, define, mention, seize, seize_all, grant, grant_all, stray, modulion, routine, block, no_parts, more_parts, parts_in}
+use Rattle.names_model.specs.Parts.{PartTree, PartNodes, grant, grant_all, modulion, no_parts, more_parts, parts_in}
 use Rattle.names_model.specs.Sizes.{size_of}
-use Rattle.names_model.specs.Definitions.{spelling_at, elements_at, is_kind_at}
+use Rattle.names_model.specs.Definitions.{is_kind_at}
 use Rattle.names_model.specs.Entries.{entry, numbers_of, own_entries, own_numbers, found, passed, given_all, granted_entries, given_entries, up_entries}
 use Rattle.names_laws.specs.Visible.{HasModulion, first, later, Up, own, granted, granted_along, granted_all}
 use Rattle.names_laws.proofs.Members.{none_in, in_filter, filter_in, in_flat_map, flat_map_in, in_found, found_in, numbers_left, numbers_right, numbers_cases, in_one, one_in}
-use Rattle.names_laws.proofs.Passing.{Tells, Along, passes, passes_along, passed_is}
+use Rattle.names_laws.proofs.Passing.{Tells, passes, passes_along, passed_is}
 
 module _ (all : List Definition) where
   -- the entries that a modulion makes around it

@@ -1,6 +1,8 @@
 -- The laws of what is seen.
 use Rattle.std.specs.Prelude.{◌≡◌, ◌↔◌, ◌≤◌, ◌⊎◌, ℕ, suc, ◌+◌, Bool, List, [], ◌∷◌, length}
 use Rattle.std.specs.List.{Contains}
+use Rattle.chill_base.specs.declared.rule.Rule.TheVariants as rules
+use Rattle.chill_base.specs.declared.diagnostic.Diagnostic.{Diagnostic}
 use Rattle.names_model.specs.declared.identifier.Identifier.{Identifier}
 use Rattle.names_model.specs.declared.definition.Definition.{Definition}
 use Rattle.names_model.specs.Parts.{PartTree, PartNodes, define, mention, seize, seize_all, grant, grant_all, stray, modulion, routine, block, no_parts, more_parts}
@@ -8,7 +10,7 @@ use Rattle.names_model.specs.Sizes.{head_size, size_of}
 use Rattle.names_model.specs.Definitions.{with_predefined, spelling_at}
 use Rattle.names_model.specs.Entries.{entry, found, own_numbers, granted_entries, given_entries, up_entries}
 use Rattle.names_model.specs.Seeing.{Reach, outermost, in_modulion, in_block, sees}
-use Rattle.names_model.specs.NameRules.{body_reach, told_twice}
+use Rattle.names_model.specs.NameRules.{body_reach, told_twice, told_in}
 use Rattle.names_laws.specs.Visible.{Up, Sees}
 
 -- The list of what is seen under a name has exactly the definitions of that name that the reach sees. A number at which no
@@ -44,6 +46,10 @@ IsReachOf ps q = (q ≡ outermost ps) ⊎ StandsIn (outermost ps) 0 ps q
 -- N1 is told in no reach of a program
 abbrev pub NoneToldTwice : List Definition → PartNodes → Type 0
 NoneToldTwice text ps = (r : Reach) → IsReachOf ps r → told_twice text r ≡ []
+
+-- N1 is told in no reach of a program exactly where it isn't among what is told of the program's names.
+abbrev pub ToldLaw : Type 0
+ToldLaw = (text : List Definition) (ps : PartNodes) → NoneToldTwice text ps ↔ ((d : Diagnostic) → Contains (told_in text (outermost ps) 0 ps) d → ¬ (d.rule ≡ rules.N1))
 
 -- Where N1 is told nowhere in a program, each of its reaches sees at most one definition under a name.
 abbrev pub OneDefinitionLaw : Type 0
