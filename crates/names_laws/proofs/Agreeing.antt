@@ -22,7 +22,7 @@ use Rattle.names_laws.proofs.Members.{none_in, here_in, later_in, in_cases, any_
 pub short_one : (xs : List ℕ) (d e : ℕ) → length xs ≤ 1 → Contains xs d → Contains xs e → d ≡ e
 short_one [] d e short c k = absurd (none_in d c)
 short_one (x ∷ []) d e short c k = elim (in_cases x [] d c) [
-  | inl is ↦ (elim (in_cases x [] e k) [ | inl same ↦ sym is ∙ same | inr none ↦ absurd (none_in e none) ])
+  | inl is ↦ (elim (in_cases x [] e k) [ inl same ↦ sym is ∙ same | inr none ↦ absurd (none_in e none) ])
   | inr none ↦ absurd (none_in d none)
 ]
 short_one (x ∷ y ∷ xs) d e short c k = let f : ⊥ = omega arith in absurd f

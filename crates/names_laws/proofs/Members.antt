@@ -112,6 +112,7 @@ once_in xs (y ∷ ys) d c = elim (once_in (if is_among y xs then xs else xs ++ y
       | inl is ↦ inr (here_in y ys d is)
       | inr none ↦ absurd (none_in d none)
     ]
+
     by : (b : Bool) → Contains (if b then xs else xs ++ y ∷ []) d → Contains xs d ⊎ Contains (y ∷ ys) d
     by true h = inl h
     by false h = pushed (Contains-append_cases xs (y ∷ []) d h)

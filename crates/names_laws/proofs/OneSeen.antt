@@ -51,9 +51,6 @@ module _ (all : List Definition) where
   agree_one : (k : ℕ) → Agree all (k ∷ [])
   agree_one k d e c h same = short_one (k ∷ []) d e (omega arith) c h
 
-  agree_none : Agree all []
-  agree_none d e c h same = absurd (none_in d c)
-
   each_named : (ns : List Identifier) (from : ℕ) → EachAgrees all (named_entries from ns)
   each_named [] from = each_none all
   each_named (n ∷ ns) from = each_cons all (entry n.at (from ∷ [])) (named_entries (suc from) ns) (agree_one from) (each_named ns (suc from))
@@ -73,7 +70,7 @@ module _ (all : List Definition) where
       let elements = param_elements (suc from) params in
       let results = named_entries (suc from + clauses_size params) (elements_in result) in
       each_cons all (entry n.at (from ∷ [])) (elements ++ results) (agree_one from)
-        (each_append all elements results (each_param_elements params (suc from)) (each_named (elements_in result) (suc from + clauses_size params)))
+      (each_append all elements results (each_param_elements params (suc from)) (each_named (elements_in result) (suc from + clauses_size params)))
   each_own p from = each_none all
 
   -- ---- what passes a border
@@ -94,9 +91,9 @@ module _ (all : List Definition) where
   -- what a modulion enters around it, where it has one definition of each name
   each_granted : (number : ℕ) (region : Bool) (inner : PartNodes) → Agree all (numbers_of (up_entries all (suc number) inner)) → (p : PartTree) → EachAgrees all (granted_entries all region (found all (up_entries all (suc number) inner)) (own_numbers (suc number) inner) p)
   each_granted number region inner agree (grant n) = each_cons all (entry n.at (passed all (found all (up_entries all (suc number) inner)) n.spelling)) []
-    (agree_passed (found all (up_entries all (suc number) inner)) (Listed all (suc number) inner) (tells_listed all (suc number) inner) agree n.spelling) (each_none all)
+      (agree_passed (found all (up_entries all (suc number) inner)) (Listed all (suc number) inner) (tells_listed all (suc number) inner) agree n.spelling) (each_none all)
   each_granted number region inner agree (grant_all at) = each_cons all (entry at (given_all all region (own_numbers (suc number) inner))) []
-    (λ d e c k same. agree d e (listed d c) (listed e k) same) (each_none all)
+      (λ d e c k same. agree d e (listed d c) (listed e k) same) (each_none all)
     where
       listed : (x : ℕ) → Contains (given_all all region (own_numbers (suc number) inner)) x → Contains (numbers_of (up_entries all (suc number) inner)) x
       listed x c = own_listed all (suc number) x inner (filter_in (λ k. not (region && is_kind_at is_location all k)) (own_numbers (suc number) inner) x c).0
@@ -143,17 +140,17 @@ module _ (text : List Definition) where
     each_part : (p : PartTree) (r : Reach) (from : ℕ) → ((q : Reach) → IsInside r from p q → told_twice text q ≡ []) → AllEach (given_entries (with_predefined text) from p)
     each_part (modulion n region size ps) r from untold =
         each_given (with_predefined text) from region ps (agree_all (with_predefined text) (up_entries (with_predefined text) (suc from) ps)
-          (apart_kept (with_predefined text) (kept_up (with_predefined text) (sees text r) ps (suc from))
-            (untold_apart (with_predefined text) (entries_in (with_predefined text) (sees text r) (suc from) ps) [] (untold (in_modulion r (suc from) ps) (inl refl))))
-          (each_up ps (in_modulion r (suc from) ps) (suc from) (λ q s. untold q (inr s))))
+        (apart_kept (with_predefined text) (kept_up (with_predefined text) (sees text r) ps (suc from))
+        (untold_apart (with_predefined text) (entries_in (with_predefined text) (sees text r) (suc from) ps) [] (untold (in_modulion r (suc from) ps) (inl refl))))
+        (each_up ps (in_modulion r (suc from) ps) (suc from) (λ q s. untold q (inr s))))
     each_part p r from untold = each_none (with_predefined text)
 
     each_up : (ps : PartNodes) (r : Reach) (from : ℕ) → Untold r from ps → AllEach (up_entries (with_predefined text) from ps)
     each_up no_parts r from untold = each_none (with_predefined text)
     each_up (more_parts p ps) r from untold =
         each_append (with_predefined text) (own_entries from p ++ given_entries (with_predefined text) from p) (up_entries (with_predefined text) (from + size_of p) ps)
-          (each_append (with_predefined text) (own_entries from p) (given_entries (with_predefined text) from p) (each_own (with_predefined text) p from) (each_part p r from (λ q s. untold q (inl s))))
-          (each_up ps r (from + size_of p) (λ q s. untold q (inr s)))
+        (each_append (with_predefined text) (own_entries from p) (given_entries (with_predefined text) from p) (each_own (with_predefined text) p from) (each_part p r from (λ q s. untold q (inl s))))
+        (each_up ps r (from + size_of p) (λ q s. untold q (inr s)))
 
   -- one definition at most is there under each name
   abbrev One : (List ℕ → List ℕ) → Type 0
@@ -168,26 +165,26 @@ module _ (text : List Definition) where
   each_in has Has tells one (more_parts p ps) r from untold =
       let all = with_predefined text in
       each_append all (own_entries from p ++ seized_entries all has p ++ given_entries all from p) (entries_in all has (from + size_of p) ps)
-        (each_append all (own_entries from p ++ seized_entries all has p) (given_entries all from p)
-          (each_append all (own_entries from p) (seized_entries all has p) (each_own all p from) (each_seized all has Has tells (one_had has Has tells one) p))
-          (each_part p r from (λ q s. untold q (inl s))))
-        (each_in has Has tells one ps r (from + size_of p) (λ q s. untold q (inr s)))
+      (each_append all (own_entries from p ++ seized_entries all has p) (given_entries all from p)
+      (each_append all (own_entries from p) (seized_entries all has p) (each_own all p from) (each_seized all has Has tells (one_had has Has tells one) p))
+      (each_part p r from (λ q s. untold q (inl s))))
+      (each_in has Has tells one ps r (from + size_of p) (λ q s. untold q (inr s)))
 
   -- what such entries have under a name, or else what is there otherwise
   one_found : (es : List Entry) (rest : List ℕ → List ℕ) → told_behind (with_predefined text) [] es ≡ [] → AllEach es → One rest → One (λ n. or_else (found (with_predefined text) es n) (rest n))
   one_found es rest untold each one n =
       or_else_short (found (with_predefined text) es n) (rest n)
-        (found_short (with_predefined text) es n (agree_all (with_predefined text) es (untold_apart (with_predefined text) es [] untold) each)) (one n)
+      (found_short (with_predefined text) es n (agree_all (with_predefined text) es (untold_apart (with_predefined text) es [] untold) each)) (one n)
 
   one_outermost : (ps : PartNodes) → told_twice text (outermost ps) ≡ [] → Untold (outermost ps) 0 ps → One (sees text (outermost ps))
   one_outermost ps untold inside =
       one_found (entries_in (with_predefined text) nothing 0 ps) (predefined_under text) untold
-        (each_in nothing NoneAround (nothing_tells (with_predefined text)) (λ n. omega arith) ps (outermost ps) 0 inside) (predefined_once text)
+      (each_in nothing NoneAround (nothing_tells (with_predefined text)) (λ n. omega arith) ps (outermost ps) 0 inside) (predefined_once text)
 
   one_modulion : (r : Reach) (from : ℕ) (ps : PartNodes) → One (sees text r) → told_twice text (in_modulion r from ps) ≡ [] → Untold (in_modulion r from ps) from ps → One (sees text (in_modulion r from ps))
   one_modulion r from ps one untold inside =
       one_found (entries_in (with_predefined text) (sees text r) from ps) (λ n. if seizes_all ps then sees text r n else predefined_under text n) untold
-        (each_in (sees text r) (Sees text r) (seen_tells text r) one ps (in_modulion r from ps) from inside) (λ n. by n (seizes_all ps))
+      (each_in (sees text r) (Sees text r) (seen_tells text r) one ps (in_modulion r from ps) from inside) (λ n. by n (seizes_all ps))
     where
       by : (n : List ℕ) (b : Bool) → length (if b then sees text r n else predefined_under text n) ≤ 1
       by n true = one n
@@ -196,8 +193,8 @@ module _ (text : List Definition) where
   one_block : (r : Reach) (head : List Entry) (from : ℕ) (ps : PartNodes) → AllEach head → One (sees text r) → told_twice text (in_block r head from ps) ≡ [] → Untold (in_block r head from ps) from ps → One (sees text (in_block r head from ps))
   one_block r head from ps each one untold inside =
       one_found (head ++ entries_in (with_predefined text) (sees text r) from ps) (sees text r) untold
-        (each_append (with_predefined text) head (entries_in (with_predefined text) (sees text r) from ps) each
-          (each_in (sees text r) (Sees text r) (seen_tells text r) one ps (in_block r head from ps) from inside)) one
+      (each_append (with_predefined text) head (entries_in (with_predefined text) (sees text r) from ps) each
+      (each_in (sees text r) (Sees text r) (seen_tells text r) one ps (in_block r head from ps) from inside)) one
 
   -- a reach that is the opened one, or stands in it
   either : (opened q : Reach) (Inside : Type 0) → (q ≡ opened) ⊎ Inside → One (sees text opened) → (Inside → One (sees text q)) → One (sees text q)

@@ -30,7 +30,7 @@ module _ (all : List Definition) (has : List ℕ → List ℕ) (Has : ℕ → Ty
       let among = in_among d (has (spelling_at all d)) (tells.listed (spelling_at all d) d a.has refl) in
       let kept : Contains (along all has a.mode) d = in_filter (λ e. is_among e (has (spelling_at all e))) (elements_at all a.mode) d a.element among in
       Contains-append_right (has n) (flat_map (along all has) (has n)) d
-        (in_flat_map (along all has) (has n) a.mode d (tells.listed n a.mode a.has_mode a.named) kept)
+      (in_flat_map (along all has) (has n) a.mode d (tells.listed n a.mode a.has_mode a.named) kept)
 
   pub passed_is : (n : List ℕ) (d : ℕ) → Contains (passed all has n) d → (Has d × (spelling_at all d ≡ n)) ⊎ Along all Has n d
   passed_is n d c = elim (Contains-append_cases (has n) (flat_map (along all has) (has n)) d c) [

@@ -28,13 +28,15 @@ under_behind (d ∷ ds) front n = by (bytes_eq (spelling_at (front ++ d ∷ ds) 
   where
     long : length (front ++ d ∷ []) ≡ suc (length front)
     long = length-append front (d ∷ []) ∙ omega arith
+
     rest : length (under ((front ++ d ∷ []) ++ ds) n (numbers_on (length (front ++ d ∷ [])) (length ds))) ≡ length (filter (λ e. bytes_eq e.name.spelling n) ds)
-      → length (under (front ++ d ∷ ds) n (numbers_on (suc (length front)) (length ds))) ≡ length (filter (λ e. bytes_eq e.name.spelling n) ds)
+        → length (under (front ++ d ∷ ds) n (numbers_on (suc (length front)) (length ds))) ≡ length (filter (λ e. bytes_eq e.name.spelling n) ds)
     rest h =
         subst (λ k. length (under (front ++ d ∷ ds) n (numbers_on k (length ds))) ≡ length (filter (λ e. bytes_eq e.name.spelling n) ds)) long
-          (subst (λ all. length (under all n (numbers_on (length (front ++ d ∷ [])) (length ds))) ≡ length (filter (λ e. bytes_eq e.name.spelling n) ds)) (append_assoc front (d ∷ []) ds) h)
+        (subst (λ all. length (under all n (numbers_on (length (front ++ d ∷ [])) (length ds))) ≡ length (filter (λ e. bytes_eq e.name.spelling n) ds)) (append_assoc front (d ∷ []) ds) h)
+
     by : (a b : Bool) → a ≡ b → length (under (front ++ d ∷ ds) n (numbers_on (suc (length front)) (length ds))) ≡ length (filter (λ e. bytes_eq e.name.spelling n) ds)
-      → length (cond a (length front ∷ under (front ++ d ∷ ds) n (numbers_on (suc (length front)) (length ds))) (under (front ++ d ∷ ds) n (numbers_on (suc (length front)) (length ds))))
+        → length (cond a (length front ∷ under (front ++ d ∷ ds) n (numbers_on (suc (length front)) (length ds))) (under (front ++ d ∷ ds) n (numbers_on (suc (length front)) (length ds))))
         ≡ length (cond b (d ∷ filter (λ e. bytes_eq e.name.spelling n) ds) (filter (λ e. bytes_eq e.name.spelling n) ds))
     by true true e h = ap suc h
     by true false e h = cc
@@ -54,14 +56,14 @@ one_distinct [] n e = omega arith
 one_distinct (d ∷ ds) n e = by (bytes_eq d.name.spelling n) refl (list_any (λ k. bytes_eq d.name.spelling k.name.spelling) ds) refl e (one_distinct ds n)
   where
     by : (b : Bool) → bytes_eq d.name.spelling n ≡ b → (a : Bool) → list_any (λ k. bytes_eq d.name.spelling k.name.spelling) ds ≡ a → (not a && distinct ds) ≡ true
-      → (distinct ds ≡ true → length (filter (λ k. bytes_eq k.name.spelling n) ds) ≤ 1)
-      → length (cond b (d ∷ filter (λ k. bytes_eq k.name.spelling n) ds) (filter (λ k. bytes_eq k.name.spelling n) ds)) ≤ 1
+        → (distinct ds ≡ true → length (filter (λ k. bytes_eq k.name.spelling n) ds) ≤ 1)
+        → length (cond b (d ∷ filter (λ k. bytes_eq k.name.spelling n) ds) (filter (λ k. bytes_eq k.name.spelling n) ds)) ≤ 1
     by b t true any h rest = let f : ⊥ = cc in absurd f
     by true t false any h rest =
         let none = filter_none (λ k. bytes_eq k.name.spelling n) ds (λ k there same.
-            let is : d.name.spelling ≡ k.name.spelling = (bytes_eq-Decides d.name.spelling n).0 t ∙ sym ((bytes_eq-Decides k.name.spelling n).0 same) in
-            let hit = any_at (λ (j : Definition). bytes_eq d.name.spelling j.name.spelling) ds k there ((bytes_eq-Decides d.name.spelling k.name.spelling).1 is) in
-            let f : ⊥ = cc (hit, any) in f) in
+        let is : d.name.spelling ≡ k.name.spelling = (bytes_eq-Decides d.name.spelling n).0 t ∙ sym ((bytes_eq-Decides k.name.spelling n).0 same) in
+        let hit = any_at (λ (j : Definition). bytes_eq d.name.spelling j.name.spelling) ds k there ((bytes_eq-Decides d.name.spelling k.name.spelling).1 is) in
+        let f : ⊥ = cc (hit, any) in f) in
         omega (arith, none)
     by false t false any h rest = rest h
 

@@ -31,9 +31,9 @@ module _ (all : List Definition) (around : List ℕ → List ℕ) where
   up_entered no_parts from d c = c
   up_entered (more_parts p ps) from d c = elim (numbers_cases (own_entries from p ++ given_entries all from p) (up_entries all (from + size_of p) ps) d c) [
     | inl here ↦ numbers_left (entries_of from p) (entries_in all around (from + size_of p) ps) d (elim (numbers_cases (own_entries from p) (given_entries all from p) d here) [
-        | inl mine ↦ numbers_left (own_entries from p ++ seized_entries all around p) (given_entries all from p) d (numbers_left (own_entries from p) (seized_entries all around p) d mine)
-        | inr given ↦ numbers_right (own_entries from p ++ seized_entries all around p) (given_entries all from p) d given
-      ])
+      | inl mine ↦ numbers_left (own_entries from p ++ seized_entries all around p) (given_entries all from p) d (numbers_left (own_entries from p) (seized_entries all around p) d mine)
+      | inr given ↦ numbers_right (own_entries from p ++ seized_entries all around p) (given_entries all from p) d given
+    ])
     | inr there ↦ numbers_right (entries_of from p) (entries_in all around (from + size_of p) ps) d (up_entered ps (from + size_of p) d there)
   ]
 
@@ -48,16 +48,16 @@ module _ (all : List Definition) (around : List ℕ → List ℕ) where
   entered_cases no_parts from d c = inl c
   entered_cases (more_parts p ps) from d c = elim (numbers_cases (entries_of from p) (entries_in all around (from + size_of p) ps) d c) [
     | inl here ↦ (elim (numbers_cases (own_entries from p ++ seized_entries all around p) (given_entries all from p) d here) [
-        | inl front ↦ (elim (numbers_cases (own_entries from p) (seized_entries all around p) d front) [
-            | inl mine ↦ inl (numbers_left (own_entries from p ++ given_entries all from p) (up_entries all (from + size_of p) ps) d (numbers_left (own_entries from p) (given_entries all from p) d mine))
-            | inr taken ↦ inr (record { part = p; stands = here_in p (parts_in ps) p refl; enters = taken })
-          ])
-        | inr given ↦ inl (numbers_left (own_entries from p ++ given_entries all from p) (up_entries all (from + size_of p) ps) d (numbers_right (own_entries from p) (given_entries all from p) d given))
+      | inl front ↦ (elim (numbers_cases (own_entries from p) (seized_entries all around p) d front) [
+        | inl mine ↦ inl (numbers_left (own_entries from p ++ given_entries all from p) (up_entries all (from + size_of p) ps) d (numbers_left (own_entries from p) (given_entries all from p) d mine))
+        | inr taken ↦ inr (record { part = p; stands = here_in p (parts_in ps) p refl; enters = taken })
       ])
+      | inr given ↦ inl (numbers_left (own_entries from p ++ given_entries all from p) (up_entries all (from + size_of p) ps) d (numbers_right (own_entries from p) (given_entries all from p) d given))
+    ])
     | inr there ↦ (elim (entered_cases ps (from + size_of p) d there) [
-        | inl up ↦ inl (numbers_right (own_entries from p ++ given_entries all from p) (up_entries all (from + size_of p) ps) d up)
-        | inr taken ↦ inr (record { part = taken.part; stands = later_in p (parts_in ps) taken.part taken.stands; enters = taken.enters })
-      ])
+      | inl up ↦ inl (numbers_right (own_entries from p ++ given_entries all from p) (up_entries all (from + size_of p) ps) d up)
+      | inr taken ↦ inr (record { part = taken.part; stands = later_in p (parts_in ps) taken.part taken.stands; enters = taken.enters })
+    ])
   ]
 
   module _ (Around : ℕ → Type 0) (tells : Tells all around Around) where
@@ -71,7 +71,7 @@ module _ (all : List Definition) (around : List ℕ → List ℕ) where
     seized_listed : (ps : PartNodes) (from d : ℕ) → Seized all Around ps d → Contains (numbers_of (entries_in all around from ps)) d
     seized_listed ps from d (seized n there e a) = seized_entered ps from d (seize n) there (in_one (entry n.at (passed all around n.spelling)) d (passes all around Around tells n.spelling d a e))
     seized_listed ps from d (seized_along n there mode e am element a) = seized_entered ps from d (seize n) there (in_one (entry n.at (passed all around n.spelling)) d
-      (passes_along all around Around tells n.spelling d (record { mode = mode; named = e; has_mode = am; element = element; has = a })))
+        (passes_along all around Around tells n.spelling d (record { mode = mode; named = e; has_mode = am; element = element; has = a })))
 
     entered_listed : (head : List Entry) (from : ℕ) (ps : PartNodes) (d : ℕ) → Entered all Around head from ps d → Contains (numbers_of (head ++ entries_in all around from ps)) d
     entered_listed head from ps d (by_head c) = numbers_left head (entries_in all around from ps) d c
@@ -82,9 +82,9 @@ module _ (all : List Definition) (around : List ℕ → List ℕ) where
     listed_entered head from ps d c = elim (numbers_cases head (entries_in all around from ps) d c) [
       | inl here ↦ by_head here
       | inr there ↦ (elim (entered_cases ps from d there) [
-          | inl up ↦ by_parts (listed_up all ps from d up)
-          | inr taken ↦ by_name (seizing_is ps d taken.part taken.stands taken.enters)
-        ])
+        | inl up ↦ by_parts (listed_up all ps from d up)
+        | inr taken ↦ by_name (seizing_is ps d taken.part taken.stands taken.enters)
+      ])
     ]
 
 -- ---- what is entered, or else what is there otherwise
@@ -140,10 +140,10 @@ all_length text = length-append text predefined
 predefined_tells : (text : List Definition) → Tells (with_predefined text) (predefined_under text) (IsPredefined text)
 predefined_tells text = record {
   listed = λ n d h e. in_under (with_predefined text) n (numbers_on (length text) (length predefined)) d
-    (in_numbers (length predefined) (length text) d h.behind (subst (λ k. d < k) (all_length text) h.within)) e;
+      (in_numbers (length predefined) (length text) d h.behind (subst (λ k. d < k) (all_length text) h.within)) e;
   told = λ n d c.
-    let h = numbers_in (length predefined) (length text) d (under_in (with_predefined text) n (numbers_on (length text) (length predefined)) d c).0 in
-    record { behind = h.0; within = subst (λ k. d < k) (sym (all_length text)) h.1 };
+      let h = numbers_in (length predefined) (length text) d (under_in (with_predefined text) n (numbers_on (length text) (length predefined)) d c).0 in
+      record { behind = h.0; within = subst (λ k. d < k) (sym (all_length text)) h.1 };
   named = λ n d c. (under_in (with_predefined text) n (numbers_on (length text) (length predefined)) d c).1;
 }
 
@@ -173,12 +173,15 @@ inherited_tells text around Around ps tells = by (seizes_all ps) refl
   where
     pre : Tells (with_predefined text) (predefined_under text) (IsPredefined text)
     pre = predefined_tells text
+
     by_all : seizes_all ps ≡ true → (n : List ℕ) (d : ℕ) → Inherited text Around ps d → Around d
     by_all t n d (from_around at there a) = a
     by_all t n d (from_language none p) = let s = all_seized ps t in absurd (none s.0 s.1)
+
     by_none : seizes_all ps ≡ false → (n : List ℕ) (d : ℕ) → Inherited text Around ps d → IsPredefined text d
     by_none t n d (from_around at there a) = absurd (none_seized ps t at there)
     by_none t n d (from_language none p) = p
+
     by : (b : Bool) → seizes_all ps ≡ b → Tells (with_predefined text) (λ n. if b then around n else predefined_under text n) (Inherited text Around ps)
     by true t = record {
       listed = λ n d h e. tells.listed n d (by_all t n d h) e;
@@ -200,21 +203,21 @@ pub seen_tells : (text : List Definition) (r : Reach) → Tells (with_predefined
 seen_tells text (outermost ps) =
     let all = with_predefined text in
     had_tells all (entries_in all nothing 0 ps) (λ d. Entered all NoneAround [] 0 ps d)
-      (entered_listed all nothing NoneAround (nothing_tells all) [] 0 ps)
-      (listed_entered all nothing NoneAround (nothing_tells all) [] 0 ps)
-      (predefined_under text) (IsPredefined text) (predefined_tells text)
+    (entered_listed all nothing NoneAround (nothing_tells all) [] 0 ps)
+    (listed_entered all nothing NoneAround (nothing_tells all) [] 0 ps)
+    (predefined_under text) (IsPredefined text) (predefined_tells text)
 seen_tells text (in_modulion r from ps) =
     let all = with_predefined text in
     had_tells all (entries_in all (sees text r) from ps) (λ d. Entered all (Sees text r) [] from ps d)
-      (entered_listed all (sees text r) (Sees text r) (seen_tells text r) [] from ps)
-      (listed_entered all (sees text r) (Sees text r) (seen_tells text r) [] from ps)
-      (λ n. if seizes_all ps then sees text r n else predefined_under text n) (Inherited text (Sees text r) ps) (inherited_tells text (sees text r) (Sees text r) ps (seen_tells text r))
+    (entered_listed all (sees text r) (Sees text r) (seen_tells text r) [] from ps)
+    (listed_entered all (sees text r) (Sees text r) (seen_tells text r) [] from ps)
+    (λ n. if seizes_all ps then sees text r n else predefined_under text n) (Inherited text (Sees text r) ps) (inherited_tells text (sees text r) (Sees text r) ps (seen_tells text r))
 seen_tells text (in_block r head from ps) =
     let all = with_predefined text in
     had_tells all (head ++ entries_in all (sees text r) from ps) (λ d. Entered all (Sees text r) head from ps d)
-      (entered_listed all (sees text r) (Sees text r) (seen_tells text r) head from ps)
-      (listed_entered all (sees text r) (Sees text r) (seen_tells text r) head from ps)
-      (sees text r) (Sees text r) (seen_tells text r)
+    (entered_listed all (sees text r) (Sees text r) (seen_tells text r) head from ps)
+    (listed_entered all (sees text r) (Sees text r) (seen_tells text r) head from ps)
+    (sees text r) (Sees text r) (seen_tells text r)
 
 pub seeing : (text : List Definition) (r : Reach) (n : List ℕ) (d : ℕ) → Contains (sees text r n) d ↔ (Sees text r d × (spelling_at (with_predefined text) d ≡ n))
 seeing text r n d =

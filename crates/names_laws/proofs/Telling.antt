@@ -155,9 +155,9 @@ module _ (text : List Definition) where
     no_standing (more_parts p ps) r from untold =
         let inside = no_inside p r from (λ q at. untold q (inl at)) in
         no_append (told text (node r from p)) (flat_map (told text) (nodes_inside r from p ++ nodes r (from + size_of p) ps))
-          (no_append (told_here text r p) (twice_inside text r from p) (no_here r p) inside.0)
-          (subst (λ list. NoN1 list) (sym (flat_map-append (told text) (nodes_inside r from p) (nodes r (from + size_of p) ps)))
-            (no_append (flat_map (told text) (nodes_inside r from p)) (flat_map (told text) (nodes r (from + size_of p) ps)) inside.1 (no_standing ps r (from + size_of p) (λ q at. untold q (inr at)))))
+        (no_append (told_here text r p) (twice_inside text r from p) (no_here r p) inside.0)
+        (subst (λ list. NoN1 list) (sym (flat_map-append (told text) (nodes_inside r from p) (nodes r (from + size_of p) ps)))
+        (no_append (flat_map (told text) (nodes_inside r from p)) (flat_map (told text) (nodes r (from + size_of p) ps)) inside.1 (no_standing ps r (from + size_of p) (λ q at. untold q (inr at)))))
 
 pub told_nowhere : (text : List Definition) (ps : PartNodes) → NoneToldTwice text ps ↔ ((d : Diagnostic) → Contains (told_in text (outermost ps) 0 ps) d → ¬ (d.rule ≡ rules.N1))
 told_nowhere text ps = (there, back)
@@ -165,5 +165,6 @@ told_nowhere text ps = (there, back)
     there : NoneToldTwice text ps → NoN1 (told_in text (outermost ps) 0 ps)
     there untold = no_append text (told_twice text (outermost ps)) (flat_map (told text) (nodes (outermost ps) 0 ps))
         (no_twice text (outermost ps) (untold (outermost ps) (inl refl))) (no_standing text ps (outermost ps) 0 (λ q at. untold q (inr at)))
+
     back : NoN1 (told_in text (outermost ps) 0 ps) → NoneToldTwice text ps
     back unlisted q at = none_listed (told_twice text q) (λ d c. unlisted d (program_told text ps q d at c) (of_twice text q d c))

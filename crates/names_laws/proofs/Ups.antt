@@ -63,14 +63,14 @@ module _ (all : List Definition) where
   up_listed (own {from} {d} {ps} c) = own_listed from d ps c
   up_listed (granted {from} {number} {d} {region} {ps} {inner} h n there e u) =
       given_listed d h (by_part number d region inner (grant n) there (in_one (entry n.at (passed all (found all (up_entries all (suc number) inner)) n.spelling)) d
-        (passes all (found all (up_entries all (suc number) inner)) (Listed (suc number) inner) (tells_listed (suc number) inner) n.spelling d (up_listed u) e)))
+      (passes all (found all (up_entries all (suc number) inner)) (Listed (suc number) inner) (tells_listed (suc number) inner) n.spelling d (up_listed u) e)))
   up_listed (granted_along {from} {number} {d} {region} {ps} {inner} h n there mode e um element u) =
       given_listed d h (by_part number d region inner (grant n) there (in_one (entry n.at (passed all (found all (up_entries all (suc number) inner)) n.spelling)) d
-        (passes_along all (found all (up_entries all (suc number) inner)) (Listed (suc number) inner) (tells_listed (suc number) inner) n.spelling d
-          (record { mode = mode; named = e; has_mode = up_listed um; element = element; has = up_listed u }))))
+      (passes_along all (found all (up_entries all (suc number) inner)) (Listed (suc number) inner) (tells_listed (suc number) inner) n.spelling d
+      (record { mode = mode; named = e; has_mode = up_listed um; element = element; has = up_listed u }))))
   up_listed (granted_all {from} {number} {d} {region} {ps} {inner} h at there c none) =
       given_listed d h (by_part number d region inner (grant_all at) there (in_one (entry at (given_all all region (own_numbers (suc number) inner))) d
-        (in_filter (λ k. not (region && is_kind_at is_location all k)) (own_numbers (suc number) inner) d c (kept_given region d none))))
+      (in_filter (λ k. not (region && is_kind_at is_location all k)) (own_numbers (suc number) inner) d c (kept_given region d none))))
 
   -- ---- what is listed is had
 
@@ -116,8 +116,8 @@ module _ (all : List Definition) where
     listed_up no_parts from d c = absurd (none_in d c)
     listed_up (more_parts p ps) from d c = elim (numbers_cases (own_entries from p ++ given_entries all from p) (up_entries all (from + size_of p) ps) d c) [
       | inl here ↦ (elim (numbers_cases (own_entries from p) (given_entries all from p) d here) [
-          | inl mine ↦ own (Contains-append_left (numbers_of (own_entries from p)) (own_numbers (from + size_of p) ps) d mine)
-          | inr given ↦ part_up p from d ps given
-        ])
+        | inl mine ↦ own (Contains-append_left (numbers_of (own_entries from p)) (own_numbers (from + size_of p) ps) d mine)
+        | inr given ↦ part_up p from d ps given
+      ])
       | inr there ↦ behind p from (listed_up ps (from + size_of p) d there) refl
     ]
