@@ -16,26 +16,49 @@ use Rattle.names_model.specs.Seeing.{Reach, outermost, in_modulion, in_block}
 -- a modulion stands among parts whose first definition has the number `from`: its own number, whether it is a region, and
 -- its parts
 pub data HasModulion : ℕ → PartNodes → ℕ → Bool → PartNodes → Type 0 where
-  first : {name : Identifier} {from size : ℕ} {region : Bool} {inner ps : PartNodes} → HasModulion from (more_parts (modulion name region size inner) ps) from region inner
-  later : {p : PartTree} {from number : ℕ} {region : Bool} {inner ps : PartNodes} → HasModulion (from + size_of p) ps number region inner → HasModulion from (more_parts p ps) number region inner
+  -- it is the first of them
+  first : {name : Identifier} {from size : ℕ} {region : Bool} {inner ps : PartNodes}
+      → HasModulion from (more_parts (modulion name region size inner) ps) from region inner
+  -- it stands behind the first
+  later : {p : PartTree} {from number : ℕ} {region : Bool} {inner ps : PartNodes}
+      → HasModulion (from + size_of p) ps number region inner
+      → HasModulion from (more_parts p ps) number region inner
 
 -- parts whose first definition has the number `from` have a definition from themselves, without what is seen around them
 pub data Up (all : List Definition) : ℕ → PartNodes → ℕ → Type 0 where
   -- it is defined directly in them
   own : {from d : ℕ} {ps : PartNodes} → Contains (own_numbers from ps) d → Up all from ps d
   -- a modulion among them grants its name, and has it
-  granted : {from number d : ℕ} {region : Bool} {ps inner : PartNodes} → HasModulion from ps number region inner → (n : Identifier) → Contains (parts_in inner) (grant n) → spelling_at all d ≡ n.spelling → Up all (suc number) inner d → Up all from ps d
+  granted : {from number d : ℕ} {region : Bool} {ps inner : PartNodes}
+      → HasModulion from ps number region inner
+      → (n : Identifier) → Contains (parts_in inner) (grant n)
+      → spelling_at all d ≡ n.spelling → Up all (suc number) inner d
+      → Up all from ps d
   -- it goes along as an element of a mode that a modulion among them grants by name, where the modulion has both
-  granted_along : {from number d : ℕ} {region : Bool} {ps inner : PartNodes} → HasModulion from ps number region inner → (n : Identifier) → Contains (parts_in inner) (grant n) → (mode : ℕ) → spelling_at all mode ≡ n.spelling → Up all (suc number) inner mode → Contains (elements_at all mode) d → Up all (suc number) inner d → Up all from ps d
+  granted_along : {from number d : ℕ} {region : Bool} {ps inner : PartNodes}
+      → HasModulion from ps number region inner
+      → (n : Identifier) → Contains (parts_in inner) (grant n)
+      → (mode : ℕ) → spelling_at all mode ≡ n.spelling → Up all (suc number) inner mode
+      → Contains (elements_at all mode) d → Up all (suc number) inner d
+      → Up all from ps d
   -- a modulion among them grants ALL, and it is defined directly there, and is no location of a region
-  granted_all : {from number d : ℕ} {region : Bool} {ps inner : PartNodes} → HasModulion from ps number region inner → (at : Pos) → Contains (parts_in inner) (grant_all at) → Contains (own_numbers (suc number) inner) d → ¬ (IsTrue region × IsTrue (is_kind_at is_location all d)) → Up all from ps d
+  granted_all : {from number d : ℕ} {region : Bool} {ps inner : PartNodes}
+      → HasModulion from ps number region inner
+      → (at : Pos) → Contains (parts_in inner) (grant_all at)
+      → Contains (own_numbers (suc number) inner) d → ¬ (IsTrue region × IsTrue (is_kind_at is_location all d))
+      → Up all from ps d
 
 -- parts seize a definition by a name, where some are seen around them
 pub data Seized (all : List Definition) (around : ℕ → Type 0) (ps : PartNodes) (d : ℕ) : Type 0 where
   -- they seize its name
-  seized : (n : Identifier) → Contains (parts_in ps) (seize n) → spelling_at all d ≡ n.spelling → around d → Seized all around ps d
+  seized : (n : Identifier) → Contains (parts_in ps) (seize n)
+      → spelling_at all d ≡ n.spelling → around d
+      → Seized all around ps d
   -- it goes along as an element of a mode that they seize, where both are seen around them
-  seized_along : (n : Identifier) → Contains (parts_in ps) (seize n) → (mode : ℕ) → spelling_at all mode ≡ n.spelling → around mode → Contains (elements_at all mode) d → around d → Seized all around ps d
+  seized_along : (n : Identifier) → Contains (parts_in ps) (seize n)
+      → (mode : ℕ) → spelling_at all mode ≡ n.spelling → around mode
+      → Contains (elements_at all mode) d → around d
+      → Seized all around ps d
 
 -- a reach enters a definition: by the head of its block, from its parts, or by seizing its name
 pub data Entered (all : List Definition) (around : ℕ → Type 0) (head : List Entry) (from : ℕ) (ps : PartNodes) (d : ℕ) : Type 0 where
@@ -46,7 +69,8 @@ pub data Entered (all : List Definition) (around : ℕ → Type 0) (head : List 
 -- a definition is entered; or none of its name is, and it is there otherwise
 pub data Had (all : List Definition) (entered otherwise : ℕ → Type 0) (d : ℕ) : Type 0 where
   at_once : entered d → Had all entered otherwise d
-  failing : ((e : ℕ) → entered e → ¬ (spelling_at all e ≡ spelling_at all d)) → otherwise d → Had all entered otherwise d
+  failing : ((e : ℕ) → entered e → ¬ (spelling_at all e ≡ spelling_at all d)) → otherwise d
+      → Had all entered otherwise d
 
 -- the predefined definitions stand behind those of the text
 pub record IsPredefined (text : List Definition) (d : ℕ) : Type 0 where
