@@ -1,0 +1,10 @@
+//! What a reach of a program sees (Z.200, chapter on general semantic properties, visibility), said as a relation, and the
+//! laws of visibility.
+//!
+//! It stands on `names_model`, whose definitions of visibility are lists that compute. The definitions to be read are the
+//! files of `specs/`; the functions here have no body, and their contracts are the laws.
+#![tactic(auto)]
+
+mod laws;
+
+pub use laws::{granting_back_law, one_definition_law, seeing_law};
