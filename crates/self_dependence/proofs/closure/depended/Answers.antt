@@ -10,4 +10,4 @@ returns-clause-exact c =
     let new = c.follow.new.reached in
     let closed = at_member edges (LeadsNowhereNew start new) (c.follow.ensures.closed c.rounds-test.false) in
     rw (lent_back c.rounds.reached.len new c.rounds.reached.items (omega arith))
-      (λ v. (c.follow.ensures.sound (rw c.deref_mut.ensures.value c.rounds.invariant.0) v, λ d. complete edges start new closed start v (inl refl) d))
+    (λ v. (c.follow.ensures.sound (rw c.deref_mut.ensures.value c.rounds.invariant.0) v, λ d. complete edges start new closed start v (inl refl) d))

@@ -15,12 +15,12 @@ loop-edge-preserved c =
     let new = c.follow_edge.new.reached in
     let so_far = c.loop-edge.invariant in
     elim c.if-follow_edge.branch [
-    | then-follow_edge w ↦ let one = w.if-follow_edge.ensures in record {
+      | then-follow_edge w ↦ let one = w.if-follow_edge.ensures in record {
         sound = λ s. sound_more edges start old new edge (Contains-get_or edges i _ c.loop-edge-test.true) (one.source refl) (one.grown refl) (so_far.sound s);
         closed = λ none. let is = w.grew-is in absurd cc;
         grew = rw w.grew-is (count_more _ old new edge.to c.loop-edge.grew (omega (arith, (c.requires i edge c.loop-edge-test.true).1)) (one.unreached refl) (one.grown refl) so_far.grew);
       }
-    | else-follow_edge w ↦ let one = w.if-follow_edge.ensures.still refl in record {
+      | else-follow_edge w ↦ let one = w.if-follow_edge.ensures.still refl in record {
         sound = λ s. rw one.0 (so_far.sound s);
         closed = λ none. edges_more edges (LeadsNowhereNew start new) i (record { from = 0; to = 0 }) c.loop-edge-test.true (rw one.0 one.1) (rw one.0 (so_far.closed (sym w.grew-is ∙ none)));
         grew = rw (w.grew-is, one.0) so_far.grew;
