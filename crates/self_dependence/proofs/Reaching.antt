@@ -1,11 +1,11 @@
 -- What following edges reaches is what a node depends on.
-use Rattle.std.proofs.Common.{◌≡◌, ℕ, ◌+◌, ◌<◌, ◌≤◌, Bool, true, false, cond, List, ◌++◌, ◌⊎◌, inl, inr, arith, refl, sym, ap, ◌∙◌, subst, Contains, get_or, slice_set, length, take, drop, count_by}
+use Rattle.std.proofs.Common.{◌≡◌, ℕ, ◌+◌, ◌<◌, ◌≤◌, Bool, true, false, cond, List, ◌++◌, ◌⊎◌, inl, inr, arith, sym, ap, ◌∙◌, subst, Contains, get_or, slice_set, length, take, drop, count_by}
 use Rattle.std.specs.List.{All}
 use Rattle.std.proofs.lemmas.Bool.{cases_eq, cases_lt}
-use Rattle.std.proofs.lemmas.List.{get_or-set_same, get_or-set_other, get_or_default, take-append-le, take_all}
+use Rattle.std.proofs.lemmas.List.{get_or-set_other, get_or_default, take-append-le, take_all}
 use Rattle.std.proofs.lemmas.List.Sums.{sum_by-set}
 use Rattle.self_dependence.specs.declared.edge.Edge.{Edge}
-use Rattle.self_dependence.specs.Depends.{Depends, directly, through, IsReached, IsSource, OnlyDepended, LeadsNowhereNew}
+use Rattle.self_dependence.specs.Depends.{Depends, directly, through, IsSet, IsSource, OnlyDepended, LeadsNowhereNew}
 
 abbrev edge_of : ℕ → ℕ → Edge
 edge_of v w = record { from = v; to = w }
@@ -20,16 +20,16 @@ module _ (edges : List Edge) where
   from_source start reached e sound at (inl is) = directly (subst (λ v. Contains edges (edge_of v e.to)) is at)
   from_source start reached e sound at (inr been) = then_edge (sound e.from been) at
 
-  reached_by : (start : ℕ) (old : List Bool) (e : Edge) (v : ℕ) → OnlyDepended edges start old → Depends edges start e.to → IsReached (slice_set old e.to true) v → (v ≡ e.to) ⊎ (v ≡ e.to → ⊥) → Depends edges start v
+  reached_by : (start : ℕ) (old : List Bool) (e : Edge) (v : ℕ) → OnlyDepended edges start old → Depends edges start e.to → IsSet (slice_set old e.to true) v → (v ≡ e.to) ⊎ (v ≡ e.to → ⊥) → Depends edges start v
   reached_by start old e v sound d been (inl is) = subst (λ w. Depends edges start w) (sym is) d
   reached_by start old e v sound d been (inr isnt) = sound v (sym (get_or-set_other old e.to v true false isnt) ∙ been)
 
   -- what a followed edge reaches is depended on
   pub sound_more : (start : ℕ) (old new : List Bool) (e : Edge) → Contains edges e → IsSource start old e.from → new ≡ slice_set old e.to true → OnlyDepended edges start old → OnlyDepended edges start new
-  sound_more start old new e at source is sound v been = reached_by start old e v sound (from_source start old e sound at source) (subst (λ xs. IsReached xs v) is been) (cases_eq v e.to)
+  sound_more start old new e at source is sound v been = reached_by start old e v sound (from_source start old e sound at source) (subst (λ xs. IsSet xs v) is been) (cases_eq v e.to)
 
   -- where no edge leads on, all that is depended on has been reached
-  pub complete : (start : ℕ) (reached : List Bool) → ((e : Edge) → Contains edges e → LeadsNowhereNew start reached e) → (v u : ℕ) → IsSource start reached v → Depends edges v u → IsReached reached u
+  pub complete : (start : ℕ) (reached : List Bool) → ((e : Edge) → Contains edges e → LeadsNowhereNew start reached e) → (v u : ℕ) → IsSource start reached v → Depends edges v u → IsSet reached u
   complete start reached closed _ _ source (directly {v} {w} e) = closed (edge_of v w) e source
   complete start reached closed _ _ source (through {v} {w} {u} e d) = complete start reached closed w u (inr (closed (edge_of v w) e source)) d
 

@@ -1,5 +1,5 @@
 -- Marks that pass the check tell exactly what depends on itself.
-use Rattle.std.proofs.Common.{◌≡◌, ℕ, zero, suc, ◌<◌, ◌≤◌, Bool, true, false, List, ◌⊎◌, inl, inr, arith, refl, sym, ap, ◌∙◌, subst, Contains, length}
+use Rattle.std.proofs.Common.{◌≡◌, ℕ, zero, suc, ◌<◌, ◌≤◌, true, false, List, ◌⊎◌, inl, inr, arith, refl, sym, ap, ◌∙◌, subst, Contains, length}
 use Rattle.std.proofs.lemmas.List.{get_or_past}
 use Rattle.std.proofs.lemmas.Bool.{cases_lt}
 use Rattle.self_dependence.specs.declared.edge.Edge.{Edge}

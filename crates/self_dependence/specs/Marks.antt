@@ -1,5 +1,5 @@
 -- Marks on nodes that show which of them depend on themselves.
-use Rattle.std.specs.Prelude.{◌≡◌, ℕ, ◌+◌, ◌-◌, ◌*◌, ◌^◌, ◌<◌, Bool, true, false, List, ◌⊎◌, slice_index_or, Contains}
+use Rattle.std.specs.Prelude.{◌≡◌, ℕ, ◌+◌, ◌-◌, ◌*◌, ◌^◌, ◌<◌, true, false, List, ◌⊎◌, slice_index_or, Contains}
 use Rattle.self_dependence.specs.declared.edge.Edge.{Edge}
 use Rattle.self_dependence.specs.declared.marks.Mark.{Mark}
 

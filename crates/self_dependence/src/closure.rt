@@ -1,7 +1,7 @@
 // All that one node depends on, found by following edges until nothing new is reached.
 ghost use Rattle.std.specs.Prelude.{◌≡◌, ℕ, ◌+◌, ◌<◌, ◌≤◌, ◌↔◌, IsTrue, IfOk, false, true, length, count_by, All, if◌then◌else◌, slice_set, slice_index_or};
 ghost use Rattle.std.specs.Vec.{vec_len};
-ghost use Rattle.self_dependence.specs.Depends.{Depends, EndsBelow, IsReached, IsSource, OnlyDepended, LeadsNowhereNew};
+ghost use Rattle.self_dependence.specs.Depends.{Depends, EndsBelow, IsSet, IsSource, OnlyDepended, LeadsNowhereNew};
 
 use crate::Edge;
 use chill_base::Memory;
@@ -11,7 +11,7 @@ use std::alloc::Global;
 pub fn depended(alloc: Global, count: u32, edges: &[Edge], start: u32) -> Result<Vec<bool>, Memory>
     requires { EndsBelow count edges.now }
     ensures len { IfOk result (λ reached. vec_len reached ≡ count) }
-    ensures exact { IfOk result (λ reached. (v : ℕ) → IsReached reached.items v ↔ Depends edges.now start v) }
+    ensures exact { IfOk result (λ reached. (v : ℕ) → IsSet reached.items v ↔ Depends edges.now start v) }
 {
     let mut reached = vec![in alloc; false; count as usize]?;
     'rounds: while follow(&mut reached, edges, start) {}

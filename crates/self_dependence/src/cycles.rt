@@ -1,7 +1,7 @@
 // Which nodes depend on themselves.
 ghost use Rattle.std.specs.Prelude.{◌≡◌, ℕ, ◌<◌, ◌↔◌, IfOk, false, slice_index_or};
 ghost use Rattle.std.specs.Vec.{vec_len};
-ghost use Rattle.self_dependence.specs.Depends.{Depends, EndsBelow, IsReached};
+ghost use Rattle.self_dependence.specs.Depends.{Depends, EndsBelow, IsSet};
 ghost use Rattle.self_dependence.specs.Marks.{mark};
 
 use crate::Edge;
@@ -16,7 +16,7 @@ use std::alloc::Global;
 pub fn on_cycles(alloc: Global, count: u32, edges: &[Edge]) -> Result<Vec<bool>, Memory>
     requires { EndsBelow count edges.now }
     ensures len { IfOk result (λ cyclic. vec_len cyclic ≡ count) }
-    ensures exact { IfOk result (λ cyclic. (v : ℕ) → v < count → IsReached cyclic.items v ↔ Depends edges.now v v) }
+    ensures exact { IfOk result (λ cyclic. (v : ℕ) → v < count → IsSet cyclic.items v ↔ Depends edges.now v v) }
 {
     let marks = found_marks(alloc, count, edges)?;
     if shows_cycles(count, &marks, edges) {
@@ -42,7 +42,7 @@ fn told_by_marks(alloc: Global, count: u32, marks: &[Mark]) -> Result<Vec<bool>,
 fn told_by_following(alloc: Global, count: u32, edges: &[Edge]) -> Result<Vec<bool>, Memory>
     requires { EndsBelow count edges.now }
     ensures len { IfOk result (λ cyclic. vec_len cyclic ≡ count) }
-    ensures exact { IfOk result (λ cyclic. (v : ℕ) → v < count → IsReached cyclic.items v ↔ Depends edges.now v v) }
+    ensures exact { IfOk result (λ cyclic. (v : ℕ) → v < count → IsSet cyclic.items v ↔ Depends edges.now v v) }
 {
     let mut cyclic = Vec::with_capacity(alloc, count as usize)?;
     for node in 0..count {

@@ -1,5 +1,5 @@
-use Rattle.std.proofs.Common.{◌≡◌, refl, sym, ◌∙◌, inl, arith, subst}
-use Rattle.self_dependence.specs.Depends.{IsReached, LeadsNowhereNew, OnlyDepended}
+use Rattle.std.proofs.Common.{refl, inl, arith}
+use Rattle.self_dependence.specs.Depends.{LeadsNowhereNew}
 use Rattle.self_dependence.proofs.Reaching.{complete, at_member, lent_back}
 use Rattle.self_dependence.proofs.closure.depended.Goals as goal
 

@@ -1,5 +1,4 @@
 use Rattle.std.proofs.Common.{◌≡◌, ◌-◌, count_by, length}
-use Rattle.std.specs.Vec.{vec_len}
 use Rattle.self_dependence.specs.Depends.{OnlyDepended}
 use Rattle.self_dependence.proofs.closure.depended.Given as goal
 

@@ -1,4 +1,4 @@
-use Rattle.std.proofs.Common.{refl, sym, subst, arith, ◌<◌}
+use Rattle.std.proofs.Common.{refl, arith}
 use Rattle.self_dependence.specs.Marks.{EdgePasses}
 use Rattle.self_dependence.proofs.Reaching.{at_member}
 use Rattle.self_dependence.proofs.Shown.{all_pass, complete_marks, sound_marks}
