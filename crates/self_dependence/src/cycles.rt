@@ -1,6 +1,8 @@
 // Which nodes depend on themselves.
 ghost use Rattle.std.specs.Prelude.{◌≡◌, ℕ, ◌<◌, ◌↔◌, IfOk, false, slice_index_or};
+ghost use Rattle.std.specs.List.Sorted.{IsNonDecreasingBy, IsPermutation};
 ghost use Rattle.std.specs.Vec.{vec_len};
+ghost use Rattle.self_dependence.specs.declared.edge.Edge.{Edge};
 ghost use Rattle.self_dependence.specs.Depends.{Depends, EndsBelow, IsSet};
 ghost use Rattle.self_dependence.specs.Marks.{mark};
 
@@ -38,9 +40,31 @@ fn told_by_marks(alloc: Global, count: u32, marks: &[Mark]) -> Result<Vec<bool>,
     Ok(cyclic)
 }
 
-// What following edges from each node tells.
-fn told_by_following(alloc: Global, count: u32, edges: &[Edge]) -> Result<Vec<bool>, Memory>
+/// What following edges from each node tells, of the nodes below `count`. It takes time in proportion to the nodes times
+/// the nodes and edges.
+pub fn told_by_following(alloc: Global, count: u32, edges: &[Edge]) -> Result<Vec<bool>, Memory>
     requires { EndsBelow count edges.now }
+    ensures len { IfOk result (λ cyclic. vec_len cyclic ≡ count) }
+    ensures exact { IfOk result (λ cyclic. (v : ℕ) → v < count → IsSet cyclic.items v ↔ Depends edges.now v v) }
+{
+    let sorted = by_source(alloc, edges)?;
+    told_in_order(alloc, count, &sorted)
+}
+
+// The edges in the order of the nodes that they lead from.
+fn by_source(alloc: Global, edges: &[Edge]) -> Result<Vec<Edge>, Memory>
+    ensures sorted { IfOk result (λ sorted. IsNonDecreasingBy (λ (e : Edge). e.from) sorted.items) }
+    ensures same { IfOk result (λ sorted. IsPermutation edges.now sorted.items) }
+{
+    let mut sorted = edges.to_vec(alloc)?;
+    sorted.sort_unstable_by_key(|edge| edge.from);
+    Ok(sorted)
+}
+
+// What following edges from each node tells, where the edges are in the order of the nodes that they lead from.
+fn told_in_order(alloc: Global, count: u32, edges: &[Edge]) -> Result<Vec<bool>, Memory>
+    requires sorted { IsNonDecreasingBy (λ (e : Edge). e.from) edges.now }
+    requires ends { EndsBelow count edges.now }
     ensures len { IfOk result (λ cyclic. vec_len cyclic ≡ count) }
     ensures exact { IfOk result (λ cyclic. (v : ℕ) → v < count → IsSet cyclic.items v ↔ Depends edges.now v v) }
 {

@@ -1,4 +1,6 @@
-// Small graphs whose answers were worked out by hand, and that the marks of the search pass the check.
+// Small graphs whose answers were worked out by hand. That the marks of the search pass the check. That following edges
+// answers, too.
+use crate::cycles::told_by_following;
 use crate::marks::shows_cycles;
 use crate::search::found_marks;
 use crate::{Edge, on_cycles};
@@ -109,5 +111,23 @@ fn marks_of_large_graphs_pass(rt: HostRuntime) -> Result<(), Fail> {
     }
     let marks = found_marks(rt.alloc(), count, &edges)?;
     assert!(rt; shows_cycles(count, &marks, &edges));
+    Ok(())
+}
+
+#[test]
+fn following_edges_answers(rt: HostRuntime) -> Result<(), Fail> {
+    let edges = [
+        Edge { from: 4, to: 3 },
+        Edge { from: 0, to: 1 },
+        Edge { from: 1, to: 0 },
+        Edge { from: 3, to: 4 },
+        Edge { from: 1, to: 2 },
+        Edge { from: 2, to: 3 },
+    ];
+    let cyclic = told_by_following(rt.alloc(), 6, &edges)?;
+    assert_eq!(rt;
+        cyclic.as_slice(),
+        [true, true, false, true, true, false].as_slice()
+    );
     Ok(())
 }

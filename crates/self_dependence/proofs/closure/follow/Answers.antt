@@ -1,28 +1,26 @@
-use Rattle.std.proofs.Common.{refl, sym, ◌∙◌, arith, slice_index_or}
-use Rattle.std.proofs.lemmas.List.Elements.{Contains-get_or}
-use Rattle.self_dependence.specs.Depends.{LeadsNowhereNew}
-use Rattle.self_dependence.proofs.Reaching.{sound_more, count_more, edges_more}
+use Rattle.std.proofs.Common.{arith, slice_index_or}
+use Rattle.self_dependence.specs.Depends.{IsSet}
+use Rattle.self_dependence.proofs.Reaching.{grown_twice, sound_more, source_kept, edges_more, at_member}
 use Rattle.self_dependence.proofs.closure.follow.Goals as goal
-use Rattle.self_dependence.proofs.closure.follow.Goals.{then-follow_edge, else-follow_edge}
 
 pub loop-edge-preserved : goal.loop-edge-preserved
 loop-edge-preserved c =
     let edges = c.args.edges.now in
-    let start = c.args.start in
+    let out = c.edges_out_of-edge-items.result.now in
     let i = c.loop-edge.edge-index in
-    let edge = slice_index_or edges i (record { from = 0; to = 0 }) in
-    let old = c.loop-edge.reached in
-    let new = c.follow_edge.new.reached in
+    let edge = slice_index_or out i (record { from = 0; to = 0 }) in
+    let old = c.loop-edge.reached.items in
+    let new = c.reach.new.reached.items in
     let so_far = c.loop-edge.invariant in
-    elim c.if-follow_edge.branch [
-      | then-follow_edge w ↦ let one = w.if-follow_edge.ensures in record {
-        sound = λ s. sound_more edges start old new edge (Contains-get_or edges i _ c.loop-edge-test.true) (one.source refl) (one.grown refl) (so_far.sound s);
-        closed = λ none. let is = w.grew-is in absurd cc;
-        grew = rw w.grew-is (count_more _ old new edge.to c.loop-edge.grew (omega (arith, (c.requires i edge c.loop-edge-test.true).1)) (one.unreached refl) (one.grown refl) so_far.grew);
-      }
-      | else-follow_edge w ↦ let one = w.if-follow_edge.ensures.still refl in record {
-        sound = λ s. rw one.0 (so_far.sound s);
-        closed = λ none. edges_more edges (LeadsNowhereNew start new) i (record { from = 0; to = 0 }) c.loop-edge-test.true (rw one.0 one.1) (rw one.0 (so_far.closed (sym w.grew-is ∙ none)));
-        grew = rw (w.grew-is, one.0) so_far.grew;
-      }
-    ]
+    let one = c.in_ok-reach.ensures in
+    let at = c.edges_out_of-edge-items.ensures.from i (record { from = 0; to = 0 }) c.loop-edge-test.true in
+    record {
+      grown = grown_twice _ _ _ _ _ _ so_far.grown one.grown;
+      sound = λ start sound source. sound_more edges start old new edge c.args.node at.0 at.1 (source_kept start _ old c.args.node so_far.grown.set source) (so_far.sound start sound source) one.only;
+      set = edges_more out (λ e. IsSet new e.to) i (record { from = 0; to = 0 }) c.loop-edge-test.true one.set (λ k d low. one.grown.set _ (so_far.set k d low));
+    }
+
+pub returns-clause-followed : goal.returns-clause-followed
+returns-clause-followed c = λ e at from.
+    let out = c.edges_out_of-edge-items.result.now in
+    at_member out (λ x. IsSet c.loop-edge.reached.items x.to) (λ k d low. c.loop-edge.invariant.set k d (omega (arith, low))) e (c.edges_out_of-edge-items.ensures.each e at from)

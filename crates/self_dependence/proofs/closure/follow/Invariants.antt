@@ -1,12 +1,13 @@
-use Rattle.std.proofs.Common.{◌≡◌, ℕ, ◌+◌, ◌<◌, ◌≤◌, false, count_by, if◌then◌else◌, slice_index_or}
+use Rattle.std.proofs.Common.{ℕ, ◌<◌, slice_index_or}
 use Rattle.self_dependence.specs.declared.edge.Edge.{Edge}
-use Rattle.self_dependence.specs.Depends.{OnlyDepended, LeadsNowhereNew}
+use Rattle.self_dependence.specs.Depends.{IsSet}
+use Rattle.self_dependence.specs.Following.{OnlyDepended, IsSource, Grown}
 use Rattle.self_dependence.proofs.closure.follow.Given as goal
 
--- what the function ensures, as far as the edges have been followed
+-- what the function ensures, as far as the edges out of the node have been followed
 abbrev pub invariant-loop-edge : goal.invariant-loop-edge
 invariant-loop-edge l = record {
-  sound : OnlyDepended l.edges l.start l.initial.reached → OnlyDepended l.edges l.start l.reached;
-  closed : l.grew ≡ false → (k : ℕ) (d : Edge) → k < l.edge-index → LeadsNowhereNew l.start l.reached (slice_index_or l.edges k d);
-  grew : count_by (λ b. b) l.initial.reached + (if l.grew then 1 else 0) ≤ count_by (λ b. b) l.reached;
+  grown : Grown l.initial.reached.items l.reached.items l.initial.waiting.items l.waiting.items;
+  sound : (start : ℕ) → OnlyDepended l.edges start l.initial.reached.items → IsSource start l.initial.reached.items l.node → OnlyDepended l.edges start l.reached.items;
+  set : (k : ℕ) (d : Edge) → k < l.edge-index → IsSet l.reached.items (slice_index_or l.edge-items k d).to;
 }

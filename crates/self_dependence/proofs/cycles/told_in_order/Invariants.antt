@@ -1,7 +1,7 @@
 use Rattle.std.proofs.Common.{◌≡◌, ℕ, ◌<◌, ◌↔◌}
 use Rattle.std.specs.Vec.{vec_len}
 use Rattle.self_dependence.specs.Depends.{Depends, IsSet}
-use Rattle.self_dependence.proofs.cycles.told_by_following.Given as goal
+use Rattle.self_dependence.proofs.cycles.told_in_order.Given as goal
 
 -- the nodes so far have their answers
 abbrev pub invariant-loop-node : goal.invariant-loop-node
