@@ -18,45 +18,52 @@ pub fn depended(alloc: Global, count: u32, edges: &[Edge], start: u32) -> Result
     ensures len { IfOk result (λ reached. vec_len reached ≡ count) }
     ensures exact { IfOk result (λ reached. (v : ℕ) → IsSet reached.items v ↔ Depends edges.now start v) }
 {
-    let mut reached = vec![in alloc; false; count as usize]?;
-    let mut waiting = vec![in alloc; start]?;
-    'nodes: while let Some(node) = waiting.pop() {
-        follow(&mut reached, &mut waiting, edges, node)?;
+    let mut closure = Closure {
+        reached: vec![in alloc; false; count as usize]?,
+        waiting: vec![in alloc; start]?,
+    };
+    'nodes: while let Some(node) = closure.waiting.pop() {
+        closure.follow(edges, node)?;
     }
+    let Closure { reached, .. } = closure;
     Ok(reached)
 }
 
-// Follows the edges out of a node.
-fn follow(
-    reached: &mut Vec<bool>,
-    waiting: &mut Vec<u32>,
-    edges: &[Edge],
-    node: u32,
-) -> Result<(), Memory>
-    requires sorted { IsNonDecreasingBy (λ (e : Edge). e.from) edges.now }
-    requires ends { EndsBelow (vec_len reached.old) edges.now }
-    ensures grown { OnOk result (Grown reached.old.items reached.new.items waiting.old.items waiting.new.items) }
-    ensures followed { OnOk result (IsFollowed edges.now reached.new.items node) }
-    ensures sound { OnOk result ((start : ℕ) → OnlyDepended edges.now start reached.old.items → IsSource start reached.old.items node → OnlyDepended edges.now start reached.new.items) }
-{
-    for edge in edges_out_of(edges, node) {
-        reach(reached, waiting, edge.to)?;
-    }
-    Ok(())
+// Which nodes have been reached, and those of them out of which edges are still to be followed.
+#[derive(Drop)]
+struct Closure {
+    reached: Vec<bool>,
+    waiting: Vec<u32>,
 }
 
-// Notes that a node has been reached. If it hadn't been before, it waits for its edges to be followed.
-fn reach(reached: &mut Vec<bool>, waiting: &mut Vec<u32>, node: u32) -> Result<(), Memory>
-    requires { node < vec_len reached.old }
-    ensures grown { OnOk result (Grown reached.old.items reached.new.items waiting.old.items waiting.new.items) }
-    ensures only { OnOk result ((v : ℕ) → IsSet reached.new.items v → IsSet reached.old.items v ⊎ (v ≡ node)) }
-    ensures set { OnOk result (IsSet reached.new.items node) }
-{
-    if !reached[node as usize] {
-        reached[node as usize] = true;
-        waiting.push(node)?;
+impl Closure {
+    // Follows the edges out of a node.
+    fn follow(&mut self, edges: &[Edge], node: u32) -> Result<(), Memory>
+        requires sorted { IsNonDecreasingBy (λ (e : Edge). e.from) edges.now }
+        requires ends { EndsBelow (vec_len self.old.reached) edges.now }
+        ensures grown { OnOk result (Grown self.old.reached.items self.new.reached.items self.old.waiting.items self.new.waiting.items) }
+        ensures followed { OnOk result (IsFollowed edges.now self.new.reached.items node) }
+        ensures sound { OnOk result ((start : ℕ) → OnlyDepended edges.now start self.old.reached.items → IsSource start self.old.reached.items node → OnlyDepended edges.now start self.new.reached.items) }
+    {
+        for edge in edges_out_of(edges, node) {
+            self.reach(edge.to)?;
+        }
+        Ok(())
     }
-    Ok(())
+
+    // Notes that a node has been reached. If it hadn't been before, it waits for its edges to be followed.
+    fn reach(&mut self, node: u32) -> Result<(), Memory>
+        requires { node < vec_len self.old.reached }
+        ensures grown { OnOk result (Grown self.old.reached.items self.new.reached.items self.old.waiting.items self.new.waiting.items) }
+        ensures only { OnOk result ((v : ℕ) → IsSet self.new.reached.items v → IsSet self.old.reached.items v ⊎ (v ≡ node)) }
+        ensures set { OnOk result (IsSet self.new.reached.items node) }
+    {
+        if !self.reached[node as usize] {
+            self.reached[node as usize] = true;
+            self.waiting.push(node)?;
+        }
+        Ok(())
+    }
 }
 
 // The edges out of a node.

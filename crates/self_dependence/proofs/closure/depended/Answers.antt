@@ -9,10 +9,10 @@ nodes-preserved c =
     let edges = c.args.edges.now in
     let start = c.args.start in
     let node = c.in-Some.node in
-    let reached = c.nodes.reached.items in
-    let new = c.follow.new.reached.items in
+    let reached = c.nodes.closure.reached.items in
+    let new = c.follow.new.self.reached.items in
     let rest = c.pop.new.self.items in
-    let later = c.follow.new.waiting.items in
+    let later = c.follow.new.self.waiting.items in
     let done = c.in_ok-follow.ensures in
     let sources = rw c.in-Some.ensures.items at c.nodes.invariant.sources in
     let followed = rw c.in-Some.ensures.items at c.nodes.invariant.followed in
@@ -27,6 +27,6 @@ pub returns-clause-exact : goal.returns-clause-exact
 returns-clause-exact c = λ v.
     let edges = c.args.edges.now in
     let start = c.args.start in
-    let reached = c.nodes.reached.items in
-    let none : length c.nodes.waiting.items ≡ 0 = omega (arith, c.in_default.ensures.cases.0) in
-    (c.nodes.invariant.sound v, λ d. complete edges start reached (all_followed edges start reached c.nodes.waiting.items none c.nodes.invariant.followed) start v (inl refl) d)
+    let reached = c.nodes.closure.reached.items in
+    let none : length c.nodes.closure.waiting.items ≡ 0 = omega (arith, c.in_default.ensures.cases.0) in
+    (c.nodes.invariant.sound v, λ d. complete edges start reached (all_followed edges start reached c.nodes.closure.waiting.items none c.nodes.invariant.followed) start v (inl refl) d)

@@ -1,7 +1,7 @@
 use Rattle.std.proofs.Common.{arith, slice_index_or}
 use Rattle.self_dependence.specs.Depends.{IsSet}
 use Rattle.self_dependence.proofs.Reaching.{grown_twice, sound_more, source_kept, edges_more, at_member}
-use Rattle.self_dependence.proofs.closure.follow.Goals as goal
+use Rattle.self_dependence.proofs.closure.Closure.follow.Goals as goal
 
 pub loop-edge-preserved : goal.loop-edge-preserved
 loop-edge-preserved c =
@@ -9,8 +9,8 @@ loop-edge-preserved c =
     let out = c.edges_out_of-edge-items.result.now in
     let i = c.loop-edge.edge-index in
     let edge = slice_index_or out i (record { from = 0; to = 0 }) in
-    let old = c.loop-edge.reached.items in
-    let new = c.reach.new.reached.items in
+    let old = c.loop-edge.self.reached.items in
+    let new = c.reach.new.self.reached.items in
     let so_far = c.loop-edge.invariant in
     let one = c.in_ok-reach.ensures in
     let at = c.edges_out_of-edge-items.ensures.from i (record { from = 0; to = 0 }) c.loop-edge-test.true in
@@ -23,4 +23,4 @@ loop-edge-preserved c =
 pub returns-clause-followed : goal.returns-clause-followed
 returns-clause-followed c = λ e at from.
     let out = c.edges_out_of-edge-items.result.now in
-    at_member out (λ x. IsSet c.loop-edge.reached.items x.to) (λ k d low. c.loop-edge.invariant.set k d (omega (arith, low))) e (c.edges_out_of-edge-items.ensures.each e at from)
+    at_member out (λ x. IsSet c.loop-edge.self.reached.items x.to) (λ k d low. c.loop-edge.invariant.set k d (omega (arith, low))) e (c.edges_out_of-edge-items.ensures.each e at from)
