@@ -1,5 +1,5 @@
 -- What depends on what.
-use Rattle.std.specs.Prelude.{◌≡◌, ℕ, ◌<◌, Bool, true, false, List, ◌⊎◌, slice_index_or, All, Contains}
+use Rattle.std.specs.Prelude.{◌≡◌, ℕ, ◌<◌, Bool, true, false, List, slice_index_or, All, Contains}
 use Rattle.self_dependence.specs.declared.edge.Edge.{Edge}
 
 -- v depends on w over one or more edges
@@ -11,18 +11,6 @@ pub data Depends (edges : List Edge) : ℕ → ℕ → Type 0 where
 abbrev pub EndsBelow : ℕ → List Edge → Type 0
 EndsBelow count = All (λ e. (e.from < count) × (e.to < count))
 
--- the list tells of the node that it has been reached
-abbrev pub IsReached : List Bool → ℕ → Type 0
-IsReached reached v = slice_index_or reached v false ≡ true
-
--- only what the node depends on has been reached
-abbrev pub OnlyDepended : List Edge → ℕ → List Bool → Type 0
-OnlyDepended edges start reached = (v : ℕ) → IsReached reached v → Depends edges start v
-
--- the edges of a node are to be followed: it is the start, or it has been reached
-abbrev pub IsSource : ℕ → List Bool → ℕ → Type 0
-IsSource start reached v = (v ≡ start) ⊎ IsReached reached v
-
--- if the edge is to be followed, it leads to what has been reached
-abbrev pub LeadsNowhereNew : ℕ → List Bool → Edge → Type 0
-LeadsNowhereNew start reached e = IsSource start reached e.from → IsReached reached e.to
+-- the flag of the node is set
+abbrev pub IsSet : List Bool → ℕ → Type 0
+IsSet flags v = slice_index_or flags v false ≡ true

@@ -1,51 +1,79 @@
-// All that one node depends on, found by following edges until nothing new is reached.
-ghost use Rattle.std.specs.Prelude.{◌≡◌, ℕ, ◌+◌, ◌<◌, ◌≤◌, ◌↔◌, IsTrue, IfOk, false, true, length, count_by, All, if◌then◌else◌, slice_set, slice_index_or};
+// All that one node depends on, found by following edges until no node waits.
+ghost use Rattle.std.specs.Prelude.{◌≡◌, ℕ, ◌<◌, ◌↔◌, ◌⊎◌, IfOk, OnOk, length, All, Contains};
+ghost use Rattle.std.specs.List.Sorted.{IsNonDecreasingBy};
 ghost use Rattle.std.specs.Vec.{vec_len};
-ghost use Rattle.self_dependence.specs.Depends.{Depends, EndsBelow, IsReached, IsSource, OnlyDepended, LeadsNowhereNew};
+ghost use Rattle.self_dependence.specs.declared.edge.Edge.{Edge};
+ghost use Rattle.self_dependence.specs.Depends.{Depends, EndsBelow, IsSet};
+ghost use Rattle.self_dependence.specs.Following.{OnlyDepended, IsSource, IsFollowed, Grown};
 
 use crate::Edge;
 use chill_base::Memory;
 use std::alloc::Global;
 
-/// For each node below `count`, whether `start` depends on it.
+/// For each node below `count`, whether `start` depends on it. The edges stand in the order of the nodes that they
+/// lead from.
 pub fn depended(alloc: Global, count: u32, edges: &[Edge], start: u32) -> Result<Vec<bool>, Memory>
-    requires { EndsBelow count edges.now }
+    requires sorted { IsNonDecreasingBy (λ (e : Edge). e.from) edges.now }
+    requires ends { EndsBelow count edges.now }
     ensures len { IfOk result (λ reached. vec_len reached ≡ count) }
-    ensures exact { IfOk result (λ reached. (v : ℕ) → IsReached reached.items v ↔ Depends edges.now start v) }
+    ensures exact { IfOk result (λ reached. (v : ℕ) → IsSet reached.items v ↔ Depends edges.now start v) }
 {
-    let mut reached = vec![in alloc; false; count as usize]?;
-    'rounds: while follow(&mut reached, edges, start) {}
+    let mut closure = Closure {
+        reached: vec![in alloc; false; count as usize]?,
+        waiting: vec![in alloc; start]?,
+    };
+    'nodes: while let Some(node) = closure.waiting.pop() {
+        closure.follow(edges, node)?;
+    }
+    let Closure { reached, .. } = closure;
     Ok(reached)
 }
 
-// Follows each edge once that leads from `start` or from what has been reached. Whether something new was reached.
-fn follow(reached: &mut [bool], edges: &[Edge], start: u32) -> bool
-    requires { EndsBelow (length reached.old) edges.now }
-    ensures sound { OnlyDepended edges.now start reached.old → OnlyDepended edges.now start reached.new }
-    ensures closed { result ≡ false → All (LeadsNowhereNew start reached.new) edges.now }
-    ensures grew { count_by (λ b. b) reached.old + (if result then 1 else 0) ≤ count_by (λ b. b) reached.new }
-{
-    let mut grew = false;
-    for edge in edges {
-        if follow_edge(reached, *edge, start) {
-            grew = true;
-        }
-    }
-    grew
+// Which nodes have been reached, and those of them out of which edges are still to be followed.
+#[derive(Drop)]
+struct Closure {
+    reached: Vec<bool>,
+    waiting: Vec<u32>,
 }
 
-// Follows an edge, if it leads from `start` or from what has been reached. Whether something new was reached.
-fn follow_edge(reached: &mut [bool], edge: Edge, start: u32) -> bool
-    requires { (edge.from < length reached.old) × (edge.to < length reached.old) }
-    ensures still { result ≡ false → (reached.new ≡ reached.old) × LeadsNowhereNew start reached.old edge }
-    ensures source { IsTrue result → IsSource start reached.old edge.from }
-    ensures unreached { IsTrue result → slice_index_or reached.old edge.to false ≡ false }
-    ensures grown { IsTrue result → reached.new ≡ slice_set reached.old edge.to true }
-{
-    let follows = edge.from == start || reached[edge.from as usize];
-    if !follows || reached[edge.to as usize] {
-        return false;
+impl Closure {
+    // Follows the edges out of a node.
+    fn follow(&mut self, edges: &[Edge], node: u32) -> Result<(), Memory>
+        requires sorted { IsNonDecreasingBy (λ (e : Edge). e.from) edges.now }
+        requires ends { EndsBelow (vec_len self.old.reached) edges.now }
+        ensures grown { OnOk result (Grown self.old.reached.items self.new.reached.items self.old.waiting.items self.new.waiting.items) }
+        ensures followed { OnOk result (IsFollowed edges.now self.new.reached.items node) }
+        ensures sound { OnOk result ((start : ℕ) → OnlyDepended edges.now start self.old.reached.items → IsSource start self.old.reached.items node → OnlyDepended edges.now start self.new.reached.items) }
+    {
+        for edge in edges_out_of(edges, node) {
+            self.reach(edge.to)?;
+        }
+        Ok(())
     }
-    reached[edge.to as usize] = true;
-    true
+
+    // Notes that a node has been reached. If it hadn't been before, it waits for its edges to be followed.
+    fn reach(&mut self, node: u32) -> Result<(), Memory>
+        requires { node < vec_len self.old.reached }
+        ensures grown { OnOk result (Grown self.old.reached.items self.new.reached.items self.old.waiting.items self.new.waiting.items) }
+        ensures only { OnOk result ((v : ℕ) → IsSet self.new.reached.items v → IsSet self.old.reached.items v ⊎ (v ≡ node)) }
+        ensures set { OnOk result (IsSet self.new.reached.items node) }
+    {
+        if !self.reached[node as usize] {
+            self.reached[node as usize] = true;
+            self.waiting.push(node)?;
+        }
+        Ok(())
+    }
+}
+
+// The edges out of a node.
+fn edges_out_of(edges: &[Edge], node: u32) -> &[Edge]
+    requires { IsNonDecreasingBy (λ (e : Edge). e.from) edges.now }
+    ensures from { All (λ e. Contains edges.now e × (e.from ≡ node)) result.now }
+    ensures each { (e : Edge) → Contains edges.now e → e.from ≡ node → Contains result.now e }
+{
+    let begin = edges.partition_point(|edge| edge.from < node);
+    let behind = &edges[begin..];
+    let count = behind.partition_point(|edge| edge.from <= node);
+    &behind[..count]
 }

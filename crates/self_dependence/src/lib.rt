@@ -6,6 +6,11 @@
 mod closure;
 mod cycles;
 mod edge;
+mod marks;
+mod search;
 
 pub use cycles::on_cycles;
 pub use edge::Edge;
+
+#[cfg(test)]
+mod tests;

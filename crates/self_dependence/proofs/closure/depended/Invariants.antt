@@ -1,12 +1,17 @@
-use Rattle.std.proofs.Common.{◌≡◌, ◌-◌, count_by, length}
+use Rattle.std.proofs.Common.{◌≡◌, ℕ, ◌+◌, ◌-◌, ◌*◌, ◌⊎◌, Contains, count_by}
 use Rattle.std.specs.Vec.{vec_len}
-use Rattle.self_dependence.specs.Depends.{OnlyDepended}
+use Rattle.self_dependence.specs.Following.{OnlyDepended, IsSource, IsFollowed}
 use Rattle.self_dependence.proofs.closure.depended.Given as goal
 
--- only what the start depends on has been reached
-abbrev pub invariant-rounds : goal.invariant-rounds
-invariant-rounds l = OnlyDepended l.edges l.start l.reached.items × (length l.reached.items ≡ l.count)
+-- what has been reached is depended on, and waits or has been followed
+abbrev pub invariant-nodes : goal.invariant-nodes
+invariant-nodes l = record {
+  size : vec_len l.closure.reached ≡ l.count;
+  sound : OnlyDepended l.edges l.start l.closure.reached.items;
+  sources : (v : ℕ) → Contains l.closure.waiting.items v → IsSource l.start l.closure.reached.items v;
+  followed : (v : ℕ) → IsSource l.start l.closure.reached.items v → Contains l.closure.waiting.items v ⊎ IsFollowed l.edges l.closure.reached.items v;
+}
 
--- each round reaches something new
-abbrev pub decreases-rounds : goal.decreases-rounds
-decreases-rounds l = l.count - count_by (λ b. b) l.reached.items
+-- a node that waits is taken out, and each that comes in is reached for the first time
+abbrev pub decreases-nodes : goal.decreases-nodes
+decreases-nodes l = vec_len l.closure.waiting + 2 * (l.count - count_by (λ b. b) l.closure.reached.items)

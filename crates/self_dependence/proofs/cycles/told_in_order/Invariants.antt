@@ -1,11 +1,11 @@
 use Rattle.std.proofs.Common.{◌≡◌, ℕ, ◌<◌, ◌↔◌}
 use Rattle.std.specs.Vec.{vec_len}
-use Rattle.self_dependence.specs.Depends.{Depends, IsReached}
-use Rattle.self_dependence.proofs.cycles.on_cycles.Given as goal
+use Rattle.self_dependence.specs.Depends.{Depends, IsSet}
+use Rattle.self_dependence.proofs.cycles.told_in_order.Given as goal
 
 -- the nodes so far have their answers
 abbrev pub invariant-loop-node : goal.invariant-loop-node
 invariant-loop-node l = record {
   len : vec_len l.cyclic ≡ l.node;
-  exact : (v : ℕ) → v < l.node → IsReached l.cyclic.items v ↔ Depends l.edges v v;
+  exact : (v : ℕ) → v < l.node → IsSet l.cyclic.items v ↔ Depends l.edges v v;
 }
