@@ -5,7 +5,7 @@
 
 mod order;
 
-pub use order::{list_once, same_list_law};
+pub use order::{list_once, listed_law, same_list_law};
 
 #[cfg(test)]
 mod tests;

@@ -1,5 +1,6 @@
 // The order of diagnostics, and the list in that order.
 ghost use Rattle.std.specs.Prelude.{◌≡◌, List};
+ghost use Rattle.std.specs.List.Sorted.{IsStrictlySortedBy};
 ghost use Rattle.chill_base.specs.declared.diagnostic.Diagnostic.{Diagnostic};
 ghost use Rattle.rule_lists.specs.Listing.{SameMembers, listed};
 ghost use Rattle.rule_lists.specs.Order.{diagnostic_cmp, rule_number};
@@ -37,4 +38,10 @@ pub fn list_once(diagnostics: &mut Vec<Diagnostic>)
 /// Diagnostics that were collected in another order, or more than once, have the same list.
 pub fn same_list_law()
     ensures { (xs ys : List Diagnostic) → SameMembers xs ys → listed diagnostic_cmp xs ≡ listed diagnostic_cmp ys }
+{}
+
+/// The list of diagnostics is strictly in order, and has the members that were collected and no others.
+pub fn listed_law()
+    ensures ordered { (xs : List Diagnostic) → IsStrictlySortedBy diagnostic_cmp (listed diagnostic_cmp xs) }
+    ensures members { (xs : List Diagnostic) → SameMembers xs (listed diagnostic_cmp xs) }
 {}
