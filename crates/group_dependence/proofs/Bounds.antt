@@ -5,7 +5,7 @@ use Rattle.std.specs.List.{All}
 use Rattle.std.proofs.lemmas.List.{take_all, get_or_default}
 use Rattle.std.proofs.lemmas.List.Elements.{All-more, All-contains, Contains-append_left, Contains-append_right, Contains-append_cases}
 use Rattle.self_dependence.specs.declared.edge.Edge.{Edge}
-use Rattle.self_dependence.specs.Depends.{EndsBelow, Depends, IsReached}
+use Rattle.self_dependence.specs.Depends.{EndsBelow, Depends, IsSet}
 use Rattle.group_dependence.specs.declared.group.Group.{Group}
 use Rattle.group_dependence.specs.Groups.{edge, edges_of}
 use Rattle.group_dependence.specs.Stars.{star, stars, LieBelow}

@@ -1,6 +1,6 @@
 // Which nodes of groups depend on themselves.
 ghost use Rattle.std.specs.Prelude.{◌≡◌, ℕ, ◌+◌, ◌<◌, ◌^◌, ◌↔◌, IfOk, length};
-ghost use Rattle.self_dependence.specs.Depends.{Depends, IsReached};
+ghost use Rattle.self_dependence.specs.Depends.{Depends, IsSet};
 ghost use Rattle.group_dependence.specs.Groups.{edges_of};
 ghost use Rattle.group_dependence.specs.Stars.{LieBelow};
 
@@ -14,7 +14,7 @@ use std::alloc::Global;
 fn selves_below(alloc: Global, base: u32, groups: &[Group]) -> Result<Vec<bool>, Memory>
     requires low { LieBelow base groups.now }
     requires fits { base + length groups.now < 2 ^ 32 }
-    ensures { IfOk result (λ marks. (v : ℕ) → IsReached marks.items v ↔ Depends (edges_of groups.now) v v) }
+    ensures { IfOk result (λ marks. (v : ℕ) → IsSet marks.items v ↔ Depends (edges_of groups.now) v v) }
 {
     let edges = star_edges(alloc, base, groups)?;
     let mut marks = on_cycles(alloc, base + groups.len() as u32, &edges)?;
@@ -24,7 +24,7 @@ fn selves_below(alloc: Global, base: u32, groups: &[Group]) -> Result<Vec<bool>,
 
 /// For each node up to the last that is marked, whether it depends on itself; any other doesn't.
 pub fn selves(alloc: Global, groups: &[Group]) -> Result<Vec<bool>, Memory>
-    ensures { IfOk result (λ marks. (v : ℕ) → IsReached marks.items v ↔ Depends (edges_of groups.now) v v) }
+    ensures { IfOk result (λ marks. (v : ℕ) → IsSet marks.items v ↔ Depends (edges_of groups.now) v v) }
 {
     match bound(groups) {
         Some(base) if groups.len() <= (u32::MAX - base) as usize => {

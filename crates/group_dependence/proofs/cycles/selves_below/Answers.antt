@@ -1,6 +1,6 @@
 use Rattle.std.proofs.Common.{◌≡◌, ℕ, ◌+◌, ◌<◌, ◌↔◌, Bool, List, ◌∙◌, sym, subst, length}
 use Rattle.self_dependence.specs.declared.edge.Edge.{Edge}
-use Rattle.self_dependence.specs.Depends.{EndsBelow, IsReached, Depends}
+use Rattle.self_dependence.specs.Depends.{EndsBelow, IsSet, Depends}
 use Rattle.group_dependence.specs.Groups.{edges_of}
 use Rattle.group_dependence.proofs.Between.{ends_below}
 use Rattle.group_dependence.proofs.Cut.{cut_exact}
@@ -12,5 +12,5 @@ on_cycles-requires c = subst (EndsBelow (c.args.base + length c.args.groups.now)
 pub returns : goal.returns
 returns c =
     let gs = c.args.groups.now in
-    let exact = subst (λ (es : List Edge). (v : ℕ) → v < c.args.base + length gs → IsReached c.in_ok-marks.marks.items v ↔ Depends es v v) (c.deref.ensures.value ∙ c.in_ok-edges.ensures) c.in_ok-marks.ensures.exact in
-    subst (λ (marks : List Bool). (v : ℕ) → IsReached marks v ↔ Depends (edges_of gs) v v) (sym c.truncate.ensures.items) (cut_exact c.args.base gs c.in_ok-marks.marks.items c.requires.low exact)
+    let exact = subst (λ (es : List Edge). (v : ℕ) → v < c.args.base + length gs → IsSet c.in_ok-marks.marks.items v ↔ Depends es v v) (c.deref.ensures.value ∙ c.in_ok-edges.ensures) c.in_ok-marks.ensures.exact in
+    subst (λ (marks : List Bool). (v : ℕ) → IsSet marks v ↔ Depends (edges_of gs) v v) (sym c.truncate.ensures.items) (cut_exact c.args.base gs c.in_ok-marks.marks.items c.requires.low exact)
