@@ -1,0 +1,7 @@
+//! The parts of the reaches of a program are found in its tree: what it defines, uses, seizes and grants, in the order of
+//! the text.
+//!
+//! It stands on `names_model`, which says which parts a tree has.
+#![tactic(auto)]
+
+mod expr;
