@@ -5,3 +5,4 @@
 #![tactic(auto)]
 
 mod expr;
+mod mode;
