@@ -4,5 +4,7 @@
 //! It stands on `names_model`, which says which parts a tree has.
 #![tactic(auto)]
 
+mod clause;
 mod expr;
+mod local;
 mod mode;
