@@ -5,6 +5,10 @@
 #![tactic(auto)]
 
 mod clause;
+mod control;
 mod expr;
+mod labels;
 mod local;
 mod mode;
+mod simple;
+mod statement;
