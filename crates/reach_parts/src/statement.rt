@@ -2,12 +2,12 @@
 ghost use Rattle.std.specs.Prelude.{◌≡◌, ◌++◌, [], ◌∷◌, Some, OnOk, map, flat_map, option_map};
 ghost use Rattle.chill_tree.specs.ExprTree.{expr_tree};
 ghost use Rattle.chill_tree.specs.SimpleTree.{control_tree};
-ghost use Rattle.chill_tree.specs.StatementTree.{statement_tree, bracketed_tree, branch_tree, case_tree, named_tree, receive_tree, handler_tree, body_tree, statement_trees, body_trees, statement_nodes, branch_nodes, case_nodes, named_nodes, receive_nodes, otherwise_node, handler_node, body_nodes};
+ghost use Rattle.chill_tree.specs.StatementTree.{statement_tree, bracketed_tree, branch_tree, case_tree, named_tree, receive_tree, handler_tree, body_tree, statement_trees, body_trees, statement_nodes, branch_nodes, case_nodes, named_nodes, receive_nodes, handler_node, body_nodes};
 ghost use Rattle.names_model.specs.declared.kind.Need.TheVariants as needs;
 ghost use Rattle.names_model.specs.Parts.{part_trees};
 ghost use Rattle.names_model.specs.Sizes.{block_of};
 ghost use Rattle.names_model.specs.ExprMentions.{used, mentions_of, mentions_of_some, mentions_of_ranges};
-ghost use Rattle.names_model.specs.StatementParts.{mentioned, control_parts, turn_parts, received_parts, statement_parts, bracketed_parts, action_parts, branch_parts, case_parts, event_parts, receive_parts, otherwise_parts, handler_parts, exception_parts, body_parts};
+ghost use Rattle.names_model.specs.StatementParts.{mentioned, control_parts, turn_parts, received_parts, statement_parts, bracketed_parts, action_parts, branch_parts, case_parts, event_parts, receive_parts, handler_parts, exception_parts, body_parts};
 ghost use Rattle.reach_parts.specs.Labels.{labels_in};
 
 use crate::clause::{
@@ -158,7 +158,10 @@ fn add_bracketed(
             mention_expr(alloc, condition, out)?;
             add_actions(alloc, actions.as_slice(), labels, out)?;
             add_branches(alloc, branches.as_slice(), labels, out)?;
-            add_otherwise(alloc, otherwise, labels, out)
+            if let Some(actions) = otherwise {
+                add_actions(alloc, actions.as_slice(), labels, out)?;
+            }
+            Ok(())
         }
         Bracketed::Case {
             selector,
@@ -168,7 +171,10 @@ fn add_bracketed(
         } => {
             mention_expr(alloc, selector, out)?;
             add_cases(alloc, alternatives.as_slice(), labels, out)?;
-            add_otherwise(alloc, otherwise, labels, out)
+            if let Some(actions) = otherwise {
+                add_actions(alloc, actions.as_slice(), labels, out)?;
+            }
+            Ok(())
         }
         Bracketed::Do {
             control, actions, ..
@@ -191,7 +197,10 @@ fn add_bracketed(
         } => {
             mention_some_expr(alloc, set, out)?;
             add_receipts(alloc, alternatives.as_slice(), labels, out)?;
-            add_otherwise(alloc, otherwise, labels, out)
+            if let Some(actions) = otherwise {
+                add_actions(alloc, actions.as_slice(), labels, out)?;
+            }
+            Ok(())
         }
     }
 }
@@ -357,22 +366,6 @@ fn add_receipt(
     add_block(parts, out)
 }
 
-// Adds the parts of an ELSE that may be written.
-#[cycle(statement)]
-fn add_otherwise(
-    alloc: Global,
-    actions: &Option<List<Statement>>,
-    labels: &Labels,
-    out: &mut List<Part>,
-) -> Result<(), Memory>
-    ensures { OnOk result (part_trees out.new ≡ part_trees out.old ++ otherwise_parts (labels_in labels.now) (otherwise_node (option_map statement_trees actions.now))) }
-{
-    match actions {
-        None => Ok(()),
-        Some(actions) => add_actions(alloc, actions.as_slice(), labels, out),
-    }
-}
-
 /// Adds a handler that may be written.
 #[cycle(statement)]
 pub(crate) fn add_some_handler(
@@ -402,7 +395,9 @@ fn add_handler(
 {
     let mut parts = List::new(alloc);
     add_exceptions(alloc, handler.alternatives.as_slice(), labels, &mut parts)?;
-    add_otherwise(alloc, &handler.otherwise, labels, &mut parts)?;
+    if let Some(actions) = &handler.otherwise {
+        add_actions(alloc, actions.as_slice(), labels, &mut parts)?;
+    }
     add_block(parts, out)
 }
 
