@@ -7,8 +7,13 @@
 mod clause;
 mod control;
 mod expr;
+mod item;
 mod labels;
 mod local;
 mod mode;
+mod routine;
+mod signal;
 mod simple;
 mod statement;
+
+pub use item::program_parts;
