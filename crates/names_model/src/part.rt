@@ -4,17 +4,23 @@ ghost use Rattle.std.specs.Prelude.{◌≡◌, ◌+◌, [], ◌∷◌, length, I
 ghost use Rattle.names_model.specs.Parts.{define, mention, seize, seize_all, grant, grant_all, stray, modulion, routine, part_nodes, part_tree, part_trees};
 ghost use Rattle.names_model.specs.Sizes.{elements_in, clause_size, clauses_size, head_size, size_of, sizes_of, block_of};
 
+use crate::identifier::Identifier;
 use crate::kind::{Kind, Need};
 use chill_base::{List, Memory, Pos};
-use crate::identifier::Identifier;
 
 /// A name in a mode or an expression.
 #[derive(Debug, Drop)]
 pub enum Mention {
     /// It is used, where something is needed of it.
-    Use { name: Identifier, need: Need },
+    Use {
+        name: Identifier,
+        need: Need,
+    },
     /// It is the whole argument of what is called.
-    Argument { name: Identifier, routine: Identifier },
+    Argument {
+        name: Identifier,
+        routine: Identifier,
+    },
     /// It is defined, as an element of a SET.
     Element(Identifier),
 }
@@ -61,11 +67,14 @@ pub enum Part {
         parts: List<Part>,
     },
     /// A block, and how many definitions stand in it.
-    Block { size: u32, parts: List<Part> },
+    Block {
+        size: u32,
+        parts: List<Part>,
+    },
 }
 
 impl Mention {
-    /// How many elements of a SET it defines.
+    // How many elements of a SET it defines.
     fn size(&self) -> u32
         ensures { result ≡ length (elements_in (self.now ∷ [])) }
     {

@@ -54,9 +54,9 @@ pub if_grown : (labels : List Name) (action : Bracketed) (at : Pos) (c : Expr) (
     → p4 ≡ p ++ bracketed_parts labels (bracketed_tree action)
 if_grown labels action at c ss ss' some some' bs bs' o p p1 p2 p3 p4 is same_ss same_bs has same_some one two three four =
     let tree : if_then at (expr_tree c) (statement_nodes (statement_trees ss')) (branch_nodes (map branch_tree bs')) (otherwise (statement_nodes (statement_trees some'))) ≡ bracketed_tree action =
-        (λ i. if_then at (expr_tree c) (statement_nodes (statement_trees (same_ss i))) (branch_nodes (map branch_tree (same_bs i))) (otherwise (statement_nodes (statement_trees (same_some i)))))
-        ∙ ap (λ (x : Option (List Statement)). if_then at (expr_tree c) (statement_nodes (statement_trees ss)) (branch_nodes (map branch_tree bs)) (otherwise_node (option_map statement_trees x))) (sym has)
-        ∙ sym (tree-if_then at c ss bs o) ∙ ap bracketed_tree (sym is) in
+    (λ i. if_then at (expr_tree c) (statement_nodes (statement_trees (same_ss i))) (branch_nodes (map branch_tree (same_bs i))) (otherwise (statement_nodes (statement_trees (same_some i)))))
+    ∙ ap (λ (x : Option (List Statement)). if_then at (expr_tree c) (statement_nodes (statement_trees ss)) (branch_nodes (map branch_tree bs)) (otherwise_node (option_map statement_trees x))) (sym has)
+    ∙ sym (tree-if_then at c ss bs o) ∙ ap bracketed_tree (sym is) in
     four ∙ ap (λ z. z ++ action_parts labels (statement_nodes (statement_trees some'))) (grown p p1 p2 p3 _ _ _ one two three)
     ∙ append_assoc p (mentioned (mentions_of (expr_tree c)) ++ action_parts labels (statement_nodes (statement_trees ss')) ++ branch_parts labels (branch_nodes (map branch_tree bs'))) (action_parts labels (statement_nodes (statement_trees some')))
     ∙ ap (λ t. p ++ bracketed_parts labels t) tree
@@ -67,9 +67,9 @@ pub case_grown : (labels : List Name) (action : Bracketed) (at : Pos) (c : Expr)
     → p3 ≡ p ++ bracketed_parts labels (bracketed_tree action)
 case_grown labels action at c some some' cs cs' o p p1 p2 p3 is same_cs has same_some one two three =
     let tree : case_of at (expr_tree c) (case_nodes (map case_tree cs')) (otherwise (statement_nodes (statement_trees some'))) ≡ bracketed_tree action =
-        (λ i. case_of at (expr_tree c) (case_nodes (map case_tree (same_cs i))) (otherwise (statement_nodes (statement_trees (same_some i)))))
-        ∙ ap (λ (x : Option (List Statement)). case_of at (expr_tree c) (case_nodes (map case_tree cs)) (otherwise_node (option_map statement_trees x))) (sym has)
-        ∙ sym (tree-case_of at c cs o) ∙ ap bracketed_tree (sym is) in
+    (λ i. case_of at (expr_tree c) (case_nodes (map case_tree (same_cs i))) (otherwise (statement_nodes (statement_trees (same_some i)))))
+    ∙ ap (λ (x : Option (List Statement)). case_of at (expr_tree c) (case_nodes (map case_tree cs)) (otherwise_node (option_map statement_trees x))) (sym has)
+    ∙ sym (tree-case_of at c cs o) ∙ ap bracketed_tree (sym is) in
     grown p p1 p2 p3 _ _ _ one two three ∙ ap (λ t. p ++ bracketed_parts labels t) tree
 
 pub receive_grown : (labels : List Name) (action : Bracketed) (at : Pos) (set : Option Expr) (some some' : List Statement) (rs rs' : List ReceiveAlternative) (o : Option (List Statement)) (p p1 p2 p3 : List PartTree)
@@ -78,9 +78,9 @@ pub receive_grown : (labels : List Name) (action : Bracketed) (at : Pos) (set : 
     → p3 ≡ p ++ bracketed_parts labels (bracketed_tree action)
 receive_grown labels action at set some some' rs rs' o p p1 p2 p3 is same_rs has same_some one two three =
     let tree : receive_case at (option_map expr_tree set) (receive_nodes (map receive_tree rs')) (otherwise (statement_nodes (statement_trees some'))) ≡ bracketed_tree action =
-        (λ i. receive_case at (option_map expr_tree set) (receive_nodes (map receive_tree (same_rs i))) (otherwise (statement_nodes (statement_trees (same_some i)))))
-        ∙ ap (λ (x : Option (List Statement)). receive_case at (option_map expr_tree set) (receive_nodes (map receive_tree rs)) (otherwise_node (option_map statement_trees x))) (sym has)
-        ∙ sym (tree-receive_case at set rs o) ∙ ap bracketed_tree (sym is) in
+    (λ i. receive_case at (option_map expr_tree set) (receive_nodes (map receive_tree (same_rs i))) (otherwise (statement_nodes (statement_trees (same_some i)))))
+    ∙ ap (λ (x : Option (List Statement)). receive_case at (option_map expr_tree set) (receive_nodes (map receive_tree rs)) (otherwise_node (option_map statement_trees x))) (sym has)
+    ∙ sym (tree-receive_case at set rs o) ∙ ap bracketed_tree (sym is) in
     grown p p1 p2 p3 _ _ _ one two three ∙ ap (λ t. p ++ bracketed_parts labels t) tree
 
 -- the parts of a body are those of its first part, and those of the others

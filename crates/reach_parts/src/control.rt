@@ -6,9 +6,7 @@ ghost use Rattle.names_model.specs.Parts.{part_trees};
 ghost use Rattle.names_model.specs.ExprMentions.{mentions_of, mentions_of_some};
 ghost use Rattle.names_model.specs.StatementParts.{mentioned, counter_part, control_parts, turn_parts};
 
-use crate::clause::{
-    add_mentioned, add_part, clause_of_one, mention_expr, mention_some_expr,
-};
+use crate::clause::{add_mentioned, add_part, clause_of_one, mention_expr, mention_some_expr};
 use crate::expr::{add_expr, add_some_expr};
 use chill_base::{List, Memory};
 use chill_tree::tree::{Control, Expr, Name};
@@ -44,7 +42,10 @@ pub(crate) fn add_control(
         Control::While { .. } | Control::Forever { .. } => Ok(()),
         Control::Members { set, .. } => mention_expr(alloc, set, out),
         Control::Steps {
-            start, step, end, ..
+            start,
+            step,
+            end,
+            ..
         } => add_steps(alloc, start, step, end, out),
     }
 }
@@ -71,10 +72,14 @@ pub(crate) fn add_turn(alloc: Global, control: &Control, out: &mut List<Part>) -
         Control::While { condition, .. } => mention_expr(alloc, condition, out),
         Control::Forever { .. } => Ok(()),
         Control::Members {
-            counter, condition, ..
+            counter,
+            condition,
+            ..
         } => add_counter(alloc, counter, condition, out),
         Control::Steps {
-            counter, condition, ..
+            counter,
+            condition,
+            ..
         } => add_counter(alloc, counter, condition, out),
     }
 }

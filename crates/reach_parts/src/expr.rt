@@ -24,11 +24,7 @@ pub(crate) fn add_used(
 }
 
 // Adds the name of a mode before a tuple.
-fn add_tuple_mode(
-    alloc: Global,
-    mode: &Option<Name>,
-    out: &mut List<Mention>,
-) -> Result<(), Memory>
+fn add_tuple_mode(alloc: Global, mode: &Option<Name>, out: &mut List<Mention>) -> Result<(), Memory>
     ensures { OnOk result (out.new ≡ out.old ++ tuple_mode mode.now) }
 {
     match mode {

@@ -17,3 +17,6 @@ mod simple;
 mod statement;
 
 pub use item::program_parts;
+
+#[cfg(test)]
+mod tests;

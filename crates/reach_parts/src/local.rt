@@ -62,11 +62,7 @@ fn add_mode_definitions(
 }
 
 // Adds the names in what locations hold at first.
-fn add_initial(
-    alloc: Global,
-    initial: &Option<Initial>,
-    out: &mut List<Part>,
-) -> Result<(), Memory>
+fn add_initial(alloc: Global, initial: &Option<Initial>, out: &mut List<Part>) -> Result<(), Memory>
     ensures { OnOk result (part_trees out.new ≡ part_trees out.old ++ initial_parts (option_map initial_tree initial.now)) }
 {
     match initial {

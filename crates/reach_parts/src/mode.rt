@@ -68,11 +68,7 @@ fn add_some_place(
 }
 
 // Adds the names in what is written of how the elements of an array lie.
-fn add_spread(
-    alloc: Global,
-    spread: &Option<Spread>,
-    out: &mut List<Mention>,
-) -> Result<(), Memory>
+fn add_spread(alloc: Global, spread: &Option<Spread>, out: &mut List<Mention>) -> Result<(), Memory>
     ensures { OnOk result (out.new ≡ out.old ++ mentions_of_spread (option_map spread_tree spread.now)) }
 {
     match spread {

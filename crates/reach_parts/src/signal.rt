@@ -25,11 +25,7 @@ fn add_seized_names(alloc: Global, names: &[Name], out: &mut List<Part>) -> Resu
 }
 
 /// Adds what is seized.
-pub(crate) fn add_seized(
-    alloc: Global,
-    passed: &Passed,
-    out: &mut List<Part>,
-) -> Result<(), Memory>
+pub(crate) fn add_seized(alloc: Global, passed: &Passed, out: &mut List<Part>) -> Result<(), Memory>
     ensures { OnOk result (part_trees out.new ≡ part_trees out.old ++ seized passed.now) }
 {
     match passed {
@@ -87,11 +83,7 @@ fn add_some_modes(
 }
 
 // Adds the process that a signal is for.
-fn add_receiver(
-    alloc: Global,
-    process: &Option<Name>,
-    out: &mut List<Part>,
-) -> Result<(), Memory>
+fn add_receiver(alloc: Global, process: &Option<Name>, out: &mut List<Part>) -> Result<(), Memory>
     ensures { OnOk result (part_trees out.new ≡ part_trees out.old ++ receiver_parts process.now) }
 {
     match process {

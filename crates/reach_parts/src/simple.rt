@@ -35,12 +35,7 @@ fn add_exit(
 }
 
 // Adds the names in a call.
-fn add_call(
-    alloc: Global,
-    name: &Name,
-    args: &[Expr],
-    out: &mut List<Part>,
-) -> Result<(), Memory>
+fn add_call(alloc: Global, name: &Name, args: &[Expr], out: &mut List<Part>) -> Result<(), Memory>
     ensures { OnOk result (part_trees out.new ≡ part_trees out.old ++ mentioned (used needs.Action name.now ++ mentions_of_args (Some name.now) (expr_trees args.now))) }
 {
     let mut mentions = List::new(alloc);
@@ -132,7 +127,9 @@ pub(crate) fn add_simple(
         Simple::Cause { .. } | Simple::Stop { .. } => Ok(()),
         Simple::Start { process, args, .. } => add_start(alloc, process, args.as_slice(), out),
         Simple::Delay {
-            event, priority, ..
+            event,
+            priority,
+            ..
         } => add_delay(alloc, event, priority, out),
         Simple::Continue { event, .. } => mention_used(alloc, Need::Location, event, out),
         Simple::Send {

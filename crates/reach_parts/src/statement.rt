@@ -84,7 +84,9 @@ pub(crate) fn add_statement(
     match statement {
         Statement::Empty { .. } => Ok(()),
         Statement::Simple {
-            action, handler, ..
+            action,
+            handler,
+            ..
         } => {
             add_simple(alloc, labels, action, out)?;
             add_some_handler(alloc, handler, labels, out)
@@ -177,7 +179,9 @@ fn add_bracketed(
             Ok(())
         }
         Bracketed::Do {
-            control, actions, ..
+            control,
+            actions,
+            ..
         } => add_loop(alloc, control, actions.as_slice(), labels, out),
         Bracketed::Begin { body, .. } => add_begin(alloc, body.as_slice(), labels, out),
         Bracketed::DelayCase {
