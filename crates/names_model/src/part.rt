@@ -1,18 +1,26 @@
 // The parts of reaches (Z.200, chapter on general semantic properties, visibility): what a text defines, uses, seizes and
 // grants, in the order of the text.
-ghost use Rattle.std.specs.Prelude.{◌≡◌};
+ghost use Rattle.std.specs.Prelude.{◌≡◌, ◌+◌, [], ◌∷◌, length, IfOk, IfSome};
+ghost use Rattle.names_model.specs.Parts.{define, mention, seize, seize_all, grant, grant_all, stray, modulion, routine, part_nodes, part_tree, part_trees};
+ghost use Rattle.names_model.specs.Sizes.{elements_in, clause_size, clauses_size, head_size, size_of, sizes_of, block_of};
 
-use crate::kind::{Kind, Need};
-use chill_base::{List, Pos};
 use crate::identifier::Identifier;
+use crate::kind::{Kind, Need};
+use chill_base::{List, Memory, Pos};
 
 /// A name in a mode or an expression.
 #[derive(Debug, Drop)]
 pub enum Mention {
     /// It is used, where something is needed of it.
-    Use { name: Identifier, need: Need },
+    Use {
+        name: Identifier,
+        need: Need,
+    },
     /// It is the whole argument of what is called.
-    Argument { name: Identifier, routine: Identifier },
+    Argument {
+        name: Identifier,
+        routine: Identifier,
+    },
     /// It is defined, as an element of a SET.
     Element(Identifier),
 }
@@ -59,5 +67,198 @@ pub enum Part {
         parts: List<Part>,
     },
     /// A block, and how many definitions stand in it.
-    Block { size: u32, parts: List<Part> },
+    Block {
+        size: u32,
+        parts: List<Part>,
+    },
+}
+
+impl Mention {
+    // How many elements of a SET it defines.
+    fn size(&self) -> u32
+        ensures { result ≡ length (elements_in (self.now ∷ [])) }
+    {
+        match self {
+            Mention::Use { .. } | Mention::Argument { .. } => 0,
+            Mention::Element(_) => 1,
+        }
+    }
+}
+
+impl Clause {
+    /// How many names it defines, with the elements of the SETs in its text; none where no `u32` holds that number.
+    pub fn size(&self) -> Option<u32>
+        ensures { IfSome result (λ n. n ≡ clause_size self.now) }
+    {
+        let names = u32::try_from(self.names.len()).ok()?;
+        names.checked_add(mentions_size(self.text.as_slice())?)
+    }
+}
+
+impl Part {
+    /// A definition of names.
+    #[tactic(auto, using(crate::proofs::PartViews::part_built))]
+    pub fn define(own: Clause) -> Part
+        ensures { part_tree result ≡ define own }
+    {
+        Part::Define(own)
+    }
+
+    /// A name that is used.
+    #[tactic(auto, using(crate::proofs::PartViews::part_built))]
+    pub fn mention(own: Mention) -> Part
+        ensures { part_tree result ≡ mention own }
+    {
+        Part::Mention(own)
+    }
+
+    /// A name that is seized.
+    #[tactic(auto, using(crate::proofs::PartViews::part_built))]
+    pub fn seize(name: Identifier) -> Part
+        ensures { part_tree result ≡ seize name }
+    {
+        Part::Seize(name)
+    }
+
+    /// All that is seized.
+    #[tactic(auto, using(crate::proofs::PartViews::part_built))]
+    pub fn seize_all(at: Pos) -> Part
+        ensures { part_tree result ≡ seize_all at }
+    {
+        Part::SeizeAll(at)
+    }
+
+    /// A name that is granted.
+    #[tactic(auto, using(crate::proofs::PartViews::part_built))]
+    pub fn grant(name: Identifier) -> Part
+        ensures { part_tree result ≡ grant name }
+    {
+        Part::Grant(name)
+    }
+
+    /// All that is granted.
+    #[tactic(auto, using(crate::proofs::PartViews::part_built))]
+    pub fn grant_all(at: Pos) -> Part
+        ensures { part_tree result ≡ grant_all at }
+    {
+        Part::GrantAll(at)
+    }
+
+    /// The label of an EXIT that no action of that label encloses.
+    #[tactic(auto, using(crate::proofs::PartViews::part_built))]
+    pub fn stray(label: Identifier) -> Part
+        ensures { part_tree result ≡ stray label }
+    {
+        Part::Stray(label)
+    }
+
+    /// A module or a region of these parts. It answers `Memory` where no `u32` holds their size.
+    #[tactic(auto, using(crate::proofs::PartViews::part_built))]
+    pub fn modulion(name: Identifier, region: bool, parts: List<Part>) -> Result<Part, Memory>
+        ensures { IfOk result (λ p. part_tree p ≡ modulion name region (sizes_of (part_nodes (part_trees parts))) (part_nodes (part_trees parts))) }
+    {
+        let size = Part::sizes(parts.as_slice()).ok_or(Memory)?;
+        Ok(Part::Modulion {
+            name,
+            region,
+            size,
+            parts,
+        })
+    }
+
+    /// A procedure or a process whose body has these parts. It answers `Memory` where no `u32` holds their size.
+    #[tactic(auto, using(crate::proofs::PartViews::part_built))]
+    pub fn routine(
+        name: Identifier,
+        kind: Kind,
+        params: List<Clause>,
+        returned: List<Mention>,
+        parts: List<Part>,
+    ) -> Result<Part, Memory>
+        ensures { IfOk result (λ p. part_tree p ≡ routine name kind params returned (sizes_of (part_nodes (part_trees parts))) (part_nodes (part_trees parts))) }
+    {
+        let size = Part::sizes(parts.as_slice()).ok_or(Memory)?;
+        Ok(Part::Routine {
+            name,
+            kind,
+            params,
+            result: returned,
+            size,
+            parts,
+        })
+    }
+
+    /// A block of these parts. It answers `Memory` where no `u32` holds their size.
+    #[tactic(auto, using(crate::proofs::PartViews::part_built))]
+    pub fn block(parts: List<Part>) -> Result<Part, Memory>
+        ensures { IfOk result (λ p. part_tree p ≡ block_of (part_trees parts)) }
+    {
+        let size = Part::sizes(parts.as_slice()).ok_or(Memory)?;
+        Ok(Part::Block { size, parts })
+    }
+
+    /// How many definitions stand in it; none where no `u32` holds that number.
+    #[tactic(auto, using(crate::proofs::PartViews::part_built))]
+    pub fn size(&self) -> Option<u32>
+        ensures { IfSome result (λ n. n ≡ size_of (part_tree self.now)) }
+    {
+        match self {
+            Part::Define(clause) => clause.size(),
+            Part::Modulion { size, .. } => size.checked_add(1),
+            Part::Routine {
+                params,
+                result,
+                size,
+                ..
+            } => routine_head_size(params.as_slice(), result.as_slice())?.checked_add(*size),
+            Part::Block { size, .. } => Some(*size),
+            Part::Mention(_)
+            | Part::Seize(_)
+            | Part::SeizeAll(_)
+            | Part::Grant(_)
+            | Part::GrantAll(_)
+            | Part::Stray(_) => Some(0),
+        }
+    }
+
+    /// How many definitions stand in parts; none where no `u32` holds that number.
+    pub fn sizes(parts: &[Part]) -> Option<u32>
+        ensures { IfSome result (λ n. n ≡ sizes_of (part_nodes (part_trees parts.now))) }
+    {
+        let mut sum: u32 = 0;
+        for part in parts {
+            sum = sum.checked_add(part.size()?)?;
+        }
+        Some(sum)
+    }
+}
+
+// How many elements the SETs among mentions define.
+fn mentions_size(mentions: &[Mention]) -> Option<u32>
+    ensures { IfSome result (λ n. n ≡ length (elements_in mentions.now)) }
+{
+    let mut sum: u32 = 0;
+    for mention in mentions {
+        sum = sum.checked_add(mention.size())?;
+    }
+    Some(sum)
+}
+
+// How many definitions stand in clauses.
+fn clauses_total(clauses: &[Clause]) -> Option<u32>
+    ensures { IfSome result (λ n. n ≡ clauses_size clauses.now) }
+{
+    let mut sum: u32 = 0;
+    for clause in clauses {
+        sum = sum.checked_add(clause.size()?)?;
+    }
+    Some(sum)
+}
+
+// How many definitions a procedure or process has before those in its body.
+fn routine_head_size(params: &[Clause], returned: &[Mention]) -> Option<u32>
+    ensures { IfSome result (λ n. n ≡ head_size params.now returned.now) }
+{
+    let sum = clauses_total(params)?.checked_add(mentions_size(returned)?)?;
+    sum.checked_add(1)
 }
