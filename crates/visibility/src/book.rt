@@ -1,29 +1,28 @@
 // The definitions of a program by their numbers.
-ghost use Rattle.std.specs.Prelude.{◌≡◌, ℕ, List, [], IfOk, length, slice_get};
-ghost use Rattle.names_model.specs.Kinds.{fits, is_location, is_measuring};
-ghost use Rattle.names_model.specs.Definitions.{elements_of, is_kind_at, predefined_under, spelling_at, with_predefined};
-ghost use Rattle.visibility.specs.Books.{Keeps};
+ghost use Rattle.std.specs.Prelude.{◌≡◌, []};
 
 use crate::table::Table;
-use chill_base::Memory;
 use names_model::{Definition, Kind, Spelling};
-use std::alloc::Global;
 
 /// The definitions of a text with the predefined ones behind them, and the numbers of the predefined ones by name.
 #[derive(Drop)]
 pub struct Book {
     pub all: Vec<Definition>,
     pub predefined: Table,
+    /// The name of a number that no definition has.
     pub nameless: Spelling,
+    pub ghost nameless_is: { nameless ≡ [] },
 }
 
 impl Book {
+    ghost use Rattle.std.specs.Prelude.{◌≡◌, slice_get};
+    ghost use Rattle.names_model.specs.Definitions.{elements_of, kind_of, spelling_at};
+
     /// The name of a definition.
-    pub fn spelling(&self, number: u32) -> &Spelling
-        requires { self.now.nameless ≡ [] }
+    pub fn spelling(&self, number: usize) -> &Spelling
         ensures { result.now ≡ spelling_at self.now.all.items number }
     {
-        match self.all.get(number as usize) {
+        match self.all.get(number) {
             Some(definition) => &definition.name.spelling,
             None => &self.nameless,
         }

@@ -6,8 +6,8 @@
 #![tactic(auto)]
 
 mod book;
-mod entries;
 mod scope;
+mod source;
 mod table;
 
 pub use book::Book;

@@ -1,9 +1,9 @@
 // The reaches around a place, by their tables.
-ghost use Rattle.std.specs.Prelude.{◌≡◌, ℕ, List};
+ghost use Rattle.std.specs.Prelude.{◌≡◌, List};
 ghost use Rattle.names_model.specs.declared.definition.Definition.{Definition};
-ghost use Rattle.names_model.specs.Seeing.{Reach, sees, seen_around};
+ghost use Rattle.names_model.specs.Seeing.{Reach, or_else, sees, seen_around};
 ghost use Rattle.visibility.specs.Books.{Keeps};
-ghost use Rattle.visibility.specs.Scopes.{Stands};
+ghost use Rattle.visibility.specs.Scopes.{Stands, shown, shown_around};
 
 use crate::book::Book;
 use crate::table::Table;
@@ -28,7 +28,7 @@ pub enum Scope<'a> {
 
 /// The definitions that a reach sees under a name.
 pub fn sees<'a>(book: &'a Book, scope: &'a Scope<'a>, name: &Spelling) -> &'a [u32]
-    ensures { (text : List Definition) (r : Reach) → Keeps book.now text → Stands text r scope.now → result.now ≡ sees text r name.now }
+    ensures { result.now ≡ shown book.now scope.now name.now }
 {
     match scope {
         Scope::Outermost { table } => or_else(table.find(name), book.predefined.find(name)),
@@ -65,7 +65,7 @@ fn or_else<'a>(first: &'a [u32], second: &'a [u32]) -> &'a [u32]
 
 /// The definitions that are seen around a reach under a name.
 pub fn seen_around<'a>(book: &'a Book, scope: &'a Scope<'a>, name: &Spelling) -> &'a [u32]
-    ensures { (text : List Definition) (r : Reach) → Keeps book.now text → Stands text r scope.now → result.now ≡ seen_around text r name.now }
+    ensures { result.now ≡ shown_around book.now scope.now name.now }
 {
     match scope {
         Scope::Outermost { .. } => &[],
