@@ -1,3 +1,4 @@
 pub mod Held
 pub mod Books
 pub mod Scopes
+pub mod Offsets

@@ -8,7 +8,8 @@ use Rattle.names_model.specs.Seeing.{Reach, outermost, in_modulion, in_block, en
 use Rattle.visibility.specs.Held.{Holdings, held}
 use Rattle.visibility.specs.declared.book.Book.{Book}
 use Rattle.visibility.specs.declared.scope.Scope.{Scope, Outermost, Modulion', Block'}
-use Rattle.visibility.specs.declared.source.Source.{Source, Nothing, Table', Around}
+use Rattle.visibility.specs.declared.source.Source.{Source}
+use Rattle.visibility.specs.declared.source.Source.TheVariants.{Nothing, Table, Around}
 
 -- the table holds what entries have under each name
 pub record Holds (t : Holdings) (all : List Definition) (es : List Entry) : Type 0 where
@@ -41,5 +42,5 @@ shown_around b (Block' t p o) n = shown b o n
 -- the definitions of which a source tells under a name
 abbrev pub told_by : Source → List ℕ → List ℕ
 told_by Nothing n = []
-told_by (Table' p t) n = held t n
-told_by (Around pb b ps s) n = shown b s n
+told_by (Table t) n = held t n
+told_by (Around b s) n = shown b s n

@@ -6,6 +6,8 @@
 #![tactic(auto)]
 
 mod book;
+mod entries;
+mod offsets;
 mod scope;
 mod source;
 mod table;
