@@ -42,5 +42,5 @@ shown_around b (Block' t p o) n = shown b o n
 -- the definitions of which a source tells under a name
 abbrev pub told_by : Source → List ℕ → List ℕ
 told_by Nothing n = []
-told_by (Table t) n = held t n
-told_by (Around b s) n = shown b s n
+told_by (Table t) n = held t.now n
+told_by (Around b s) n = shown b.now s.now n

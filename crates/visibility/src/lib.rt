@@ -7,6 +7,7 @@
 
 mod book;
 mod entries;
+mod founds;
 mod offsets;
 mod scope;
 mod source;
