@@ -1,2 +1,3 @@
 pub mod PartLists
 pub mod Once
+pub mod Appends

@@ -126,7 +126,7 @@ fn enter_routine(
 }
 
 /// Enters what a part defines directly in its reach.
-#[tactic(auto, using(names_model::proofs::PartViews::part_built))]
+#[tactic(auto, using(names_model::proofs::PartViews::part_built, crate::proofs::Appends::nothing_more))]
 pub fn own_entries(
     alloc: Global,
     from: u32,
