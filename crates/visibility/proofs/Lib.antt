@@ -1,3 +1,5 @@
 pub mod PartLists
 pub mod Once
 pub mod Appends
+pub mod Elements
+pub mod Granting

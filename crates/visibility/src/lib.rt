@@ -8,7 +8,10 @@
 mod book;
 mod entries;
 mod founds;
+mod given;
 mod offsets;
+mod passing;
+mod reached;
 mod scope;
 mod source;
 mod table;

@@ -7,6 +7,7 @@ use crate::table::Table;
 use names_model::Spelling;
 
 /// What tells of the definitions on the other side.
+#[derive(Drop)]
 pub enum Source<'a> {
     /// Nothing is around.
     Nothing,
