@@ -2,3 +2,4 @@ pub mod Held
 pub mod Books
 pub mod Scopes
 pub mod Offsets
+pub mod Earliers

@@ -6,6 +6,7 @@
 #![tactic(auto)]
 
 mod book;
+mod earlier;
 mod entries;
 mod founds;
 mod given;
@@ -15,5 +16,7 @@ mod reached;
 mod scope;
 mod source;
 mod table;
+mod told;
+mod twice;
 
 pub use book::Book;
