@@ -3,3 +3,4 @@ pub mod Once
 pub mod Appends
 pub mod Elements
 pub mod Granting
+pub mod Noting
