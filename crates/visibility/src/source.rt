@@ -2,7 +2,7 @@
 ghost use Rattle.std.specs.Prelude.{◌≡◌};
 
 use crate::book::Book;
-use crate::scope::{Scope, sees};
+use crate::scope::{Scope, shown};
 use crate::table::Table;
 use names_model::Spelling;
 
@@ -31,7 +31,7 @@ impl<'a> Source<'a> {
         match self {
             Source::Nothing => &[],
             Source::Table(table) => table.find(name),
-            Source::Around { book, scope } => sees(book, scope, name),
+            Source::Around { book, scope } => shown(book, scope, name),
         }
     }
 }
