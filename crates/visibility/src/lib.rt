@@ -17,6 +17,7 @@ mod scope;
 mod source;
 mod table;
 mod told;
+mod walk;
 mod twice;
 
 pub use book::Book;
