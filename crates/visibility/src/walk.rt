@@ -8,7 +8,7 @@ ghost use Rattle.names_model.specs.Seeing.{Reach, in_block, in_modulion, outermo
 ghost use Rattle.names_model.specs.NameRules.{nodes, nodes_inside, told, told_behind, told_in, twice_inside};
 ghost use Rattle.visibility.specs.Books.{Keeps};
 ghost use Rattle.visibility.specs.Offsets.{Fits, FitsInside, nodes_of};
-ghost use Rattle.visibility.specs.Scopes.{Holds, Shows, told_by};
+ghost use Rattle.visibility.specs.Scopes.{Holds, Shows, shown, told_by};
 
 use crate::book::Book;
 use crate::entries::enter_params;
@@ -50,6 +50,23 @@ fn params_of(alloc: Global, from: u32, params: &List<Clause>) -> Result<Vec<Entr
     let mut head = Vec::new(alloc);
     enter_params(alloc, from, params.as_slice(), &mut head)?;
     Ok(head)
+}
+
+// The same of a reach inside another.
+fn open_inner<'a>(
+    alloc: Global,
+    book: &'a Book,
+    scope: &'a Scope<'a>,
+    head: Vec<Entry>,
+    from: u32,
+    parts: &[Part],
+    out: &mut Vec<Diagnostic>,
+) -> Result<Table, Memory>
+    ensures table { Fits from (nodes_of parts.now) → IfOk result (λ t. Holds t book.now.all.items (head.items ++ entries_in book.now.all.items (shown book.now scope.now) from (nodes_of parts.now))) }
+    ensures told { Fits from (nodes_of parts.now) → OnOk result (out.new.items ≡ out.old.items ++ told_behind book.now.all.items [] (head.items ++ entries_in book.now.all.items (shown book.now scope.now) from (nodes_of parts.now))) }
+{
+    let around = Source::Around { book, scope };
+    open_reach(alloc, book, &around, head, from, parts, out)
 }
 
 /// Tells what is broken in the parts of a reach and in those inside it.
@@ -126,8 +143,7 @@ fn walk_modulion(
     ensures { (text : List Definition) (r : Reach) → Shows book.now scope.now text r → Fits from (nodes_of parts.now) → OnOk result (out.new.items ≡ out.old.items ++ told_in text (in_modulion r from (nodes_of parts.now)) from (nodes_of parts.now)) }
 {
     let parts = parts.as_slice();
-    let around = Source::Around { book, scope };
-    let table = open_reach(alloc, book, &around, Vec::new(alloc), from, parts, out)?;
+    let table = open_inner(alloc, book, scope, Vec::new(alloc), from, parts, out)?;
     let inner = Scope::Modulion {
         table,
         takes_all: seizes_all(parts),
@@ -151,8 +167,7 @@ fn walk_block(
     ensures { (text : List Definition) (r : Reach) → Shows book.now scope.now text r → Fits from (nodes_of parts.now) → OnOk result (out.new.items ≡ out.old.items ++ told_in text (in_block r head.items from (nodes_of parts.now)) from (nodes_of parts.now)) }
 {
     let parts = parts.as_slice();
-    let around = Source::Around { book, scope };
-    let table = open_reach(alloc, book, &around, head, from, parts, out)?;
+    let table = open_inner(alloc, book, scope, head, from, parts, out)?;
     let inner = Scope::Block {
         table,
         outer: scope,
