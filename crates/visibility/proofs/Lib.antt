@@ -4,3 +4,5 @@ pub mod Appends
 pub mod Elements
 pub mod Granting
 pub mod Noting
+pub mod Showing
+pub mod Walking

@@ -71,10 +71,10 @@ fn open_inner<'a>(
 
 /// Tells what is broken in the parts of a reach and in those inside it.
 #[cycle(walk)]
-fn walk(
+fn walk<'a>(
     alloc: Global,
-    book: &Book,
-    scope: &Scope,
+    book: &'a Book,
+    scope: &'a Scope<'a>,
     from: u32,
     parts: &[Part],
     out: &mut Vec<Diagnostic>,
@@ -93,10 +93,10 @@ fn walk(
 /// Tells what is broken in the reach that a part opens.
 #[tactic(auto, using(names_model::proofs::PartViews::part_built, crate::proofs::Appends::nothing_more))]
 #[cycle(walk)]
-fn walk_inside(
+fn walk_inside<'a>(
     alloc: Global,
-    book: &Book,
-    scope: &Scope,
+    book: &'a Book,
+    scope: &'a Scope<'a>,
     from: u32,
     part: &Part,
     out: &mut Vec<Diagnostic>,
@@ -132,10 +132,10 @@ fn walk_inside(
 
 // Tells what is broken in the reach of a modulion.
 #[cycle(walk)]
-fn walk_modulion(
+fn walk_modulion<'a>(
     alloc: Global,
-    book: &Book,
-    scope: &Scope,
+    book: &'a Book,
+    scope: &'a Scope<'a>,
     from: u32,
     parts: &List<Part>,
     out: &mut Vec<Diagnostic>,
@@ -149,16 +149,16 @@ fn walk_modulion(
         takes_all: seizes_all(parts),
         outer: scope,
     };
-    walk(alloc, book, &inner, from, parts, out)?;
+    walk(alloc, &*book, &inner, from, parts, out)?;
     Ok(())
 }
 
 // Tells what is broken in the reach of a block with a head.
 #[cycle(walk)]
-fn walk_block(
+fn walk_block<'a>(
     alloc: Global,
-    book: &Book,
-    scope: &Scope,
+    book: &'a Book,
+    scope: &'a Scope<'a>,
     head: Vec<Entry>,
     from: u32,
     parts: &List<Part>,
@@ -172,7 +172,7 @@ fn walk_block(
         table,
         outer: scope,
     };
-    walk(alloc, book, &inner, from, parts, out)?;
+    walk(alloc, &*book, &inner, from, parts, out)?;
     Ok(())
 }
 
