@@ -3,3 +3,4 @@ pub mod Books
 pub mod Scopes
 pub mod Offsets
 pub mod Earliers
+pub mod Named

@@ -6,6 +6,7 @@
 #![tactic(auto)]
 
 mod book;
+mod definitions;
 mod earlier;
 mod entries;
 mod founds;
