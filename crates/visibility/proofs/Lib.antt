@@ -6,3 +6,4 @@ pub mod Granting
 pub mod Noting
 pub mod Showing
 pub mod Walking
+pub mod Defining

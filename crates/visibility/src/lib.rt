@@ -13,6 +13,7 @@ mod founds;
 mod given;
 mod offsets;
 mod passing;
+mod predefined;
 mod reached;
 mod scope;
 mod source;
