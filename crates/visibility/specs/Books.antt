@@ -9,4 +9,3 @@ use Rattle.visibility.specs.Held.{held}
 pub record Keeps (book : Book) (text : List Definition) : Type 0 where
   pub all : book.all.items ≡ with_predefined text
   pub predefined : (n : List ℕ) → held book.predefined n ≡ predefined_under text n
-  pub nameless : book.nameless ≡ []

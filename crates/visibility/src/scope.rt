@@ -1,9 +1,8 @@
 // The reaches around a place, by their tables.
-ghost use Rattle.std.specs.Prelude.{◌≡◌, ℕ, List};
+ghost use Rattle.std.specs.Prelude.{◌≡◌, List};
 ghost use Rattle.names_model.specs.declared.definition.Definition.{Definition};
-ghost use Rattle.names_model.specs.Seeing.{Reach, sees, seen_around};
-ghost use Rattle.visibility.specs.Books.{Keeps};
-ghost use Rattle.visibility.specs.Scopes.{Stands};
+ghost use Rattle.names_model.specs.Seeing.{Reach, or_else, seen_around, sees};
+ghost use Rattle.visibility.specs.Scopes.{Shows, shown, shown_around};
 
 use crate::book::Book;
 use crate::table::Table;
@@ -26,9 +25,9 @@ pub enum Scope<'a> {
     },
 }
 
-/// The definitions that a reach sees under a name.
-pub fn sees<'a>(book: &'a Book, scope: &'a Scope<'a>, name: &Spelling) -> &'a [u32]
-    ensures { (text : List Definition) (r : Reach) → Keeps book.now text → Stands text r scope.now → result.now ≡ sees text r name.now }
+/// The definitions that the tables show under a name. They are lent, and no look-up takes memory.
+pub fn shown<'a>(book: &'a Book, scope: &'a Scope<'a>, name: &Spelling) -> &'a [u32]
+    ensures { result.now ≡ shown book.now scope.now name.now }
 {
     match scope {
         Scope::Outermost { table } => or_else(table.find(name), book.predefined.find(name)),
@@ -42,7 +41,7 @@ pub fn sees<'a>(book: &'a Book, scope: &'a Scope<'a>, name: &Spelling) -> &'a [u
                 return own;
             }
             if *takes_all {
-                return sees(book, outer, name);
+                return shown(book, outer, name);
             }
             book.predefined.find(name)
         }
@@ -51,7 +50,7 @@ pub fn sees<'a>(book: &'a Book, scope: &'a Scope<'a>, name: &Spelling) -> &'a [u
             if !own.is_empty() {
                 return own;
             }
-            sees(book, outer, name)
+            shown(book, outer, name)
         }
     }
 }
@@ -63,13 +62,20 @@ fn or_else<'a>(first: &'a [u32], second: &'a [u32]) -> &'a [u32]
     if first.is_empty() { second } else { first }
 }
 
+/// The definitions that a reach sees under a name.
+pub fn sees<'a>(book: &'a Book, scope: &'a Scope<'a>, name: &Spelling) -> &'a [u32]
+    ensures { (text : List Definition) (r : Reach) → Shows book.now scope.now text r → result.now ≡ sees text r name.now }
+{
+    shown(book, scope, name)
+}
+
 /// The definitions that are seen around a reach under a name.
 pub fn seen_around<'a>(book: &'a Book, scope: &'a Scope<'a>, name: &Spelling) -> &'a [u32]
-    ensures { (text : List Definition) (r : Reach) → Keeps book.now text → Stands text r scope.now → result.now ≡ seen_around text r name.now }
+    ensures { (text : List Definition) (r : Reach) → Shows book.now scope.now text r → result.now ≡ seen_around text r name.now }
 {
     match scope {
         Scope::Outermost { .. } => &[],
-        Scope::Modulion { outer, .. } => sees(book, outer, name),
-        Scope::Block { outer, .. } => sees(book, outer, name),
+        Scope::Modulion { outer, .. } => shown(book, outer, name),
+        Scope::Block { outer, .. } => shown(book, outer, name),
     }
 }
