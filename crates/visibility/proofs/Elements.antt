@@ -34,3 +34,11 @@ along_first-on all has d count e old out out' is before pushed = pushed ∙ ap (
   where
     here : List ℕ
     here = if is_among e (has (spelling_at all e)) then e ∷ [] else []
+
+-- a step of the loop over numbers
+pub numbers_on-on : (from count e : ℕ) (old out out' : List ℕ) → e ≡ from + count → out ≡ old ++ numbers_on from count → out' ≡ out ++ e ∷ [] → out' ≡ old ++ numbers_on from (count + 1)
+numbers_on-on from count e old out out' is before pushed = pushed ∙ ap (λ r. r ++ e ∷ []) before ∙ append_assoc old (numbers_on from count) (e ∷ [])
+  ∙ ap (λ d. old ++ (numbers_on from count ++ d ∷ [])) is ∙ ap (λ r. old ++ r) (sym (numbers_on-more from count)) ∙ ap (λ k. old ++ numbers_on from k) (plus count)
+  where
+    plus : (n : ℕ) → suc n ≡ n + 1
+    plus n = omega arith

@@ -7,3 +7,4 @@ pub mod Noting
 pub mod Showing
 pub mod Walking
 pub mod Defining
+pub mod Fresh

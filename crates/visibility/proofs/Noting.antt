@@ -16,7 +16,8 @@ or-assoc : (a b c : Bool) → (a || (b || c)) ≡ ((a || b) || c)
 or-assoc true b c = refl
 or-assoc false b c = refl
 
-any-behind : {X : Type 0} (p : X → Bool) (xs : List X) (x : X) → list_any p (xs ++ x ∷ []) ≡ (list_any p xs || p x)
+-- one more item
+pub any-behind : {X : Type 0} (p : X → Bool) (xs : List X) (x : X) → list_any p (xs ++ x ∷ []) ≡ (list_any p xs || p x)
 any-behind p [] x = or-false (p x)
 any-behind p (y ∷ ys) x = ap (λ b. p y || b) (any-behind p ys x) ∙ or-assoc (p y) (list_any p ys) (p x)
 

@@ -11,8 +11,8 @@ use chill_base::Memory;
 use names_model::Entry;
 use std::alloc::Global;
 
-// Adds definitions, each under its own name.
-fn add_all(
+/// Adds definitions, each under its own name.
+pub fn add_all(
     alloc: Global,
     table: &mut Table,
     book: &Book,

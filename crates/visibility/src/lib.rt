@@ -6,6 +6,7 @@
 #![tactic(auto)]
 
 mod book;
+mod collect;
 mod definitions;
 mod earlier;
 mod entries;

@@ -5,11 +5,18 @@ ghost use Rattle.names_model.specs.Sizes.{clause_size, clauses_size, elements_in
 
 use names_model::{Clause, Identifier, Mention, Part};
 
+/// A number of things, up to the greatest number.
+pub fn up_to_greatest(count: usize) -> u32
+    ensures { result ≡ min count 4294967295 }
+{
+    count.min(u32::MAX as usize) as u32
+}
+
 /// How many names these are.
 pub fn names_size(names: &[Identifier]) -> u32
     ensures { result ≡ min (length names.now) 4294967295 }
 {
-    names.len().min(u32::MAX as usize) as u32
+    up_to_greatest(names.len())
 }
 
 /// How many elements the SETs among mentions define.

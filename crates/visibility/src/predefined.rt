@@ -7,6 +7,9 @@ use chill_base::{Memory, Pos};
 use names_model::{Definition, Identifier, Inside, Kind, Spelling};
 use std::alloc::Global;
 
+/// How many predefined definitions there are.
+pub const COUNT: u32 = 42;
+
 const PREDEFINED: [(&str, &str, Kind); 21] = [
     ("INT", "int", Kind::PredefinedMode),
     ("BOOL", "bool", Kind::PredefinedMode),
