@@ -1,10 +1,12 @@
 -- The test of dependence is the relation.
 use Rattle.std.proofs.Common.{◌≡◌, ℕ, Bool, true, false, ◌&&◌, ◌||◌, List, [], ◌∷◌, ◌⊎◌, inl, inr, refl, sym, ap, subst, Contains}
 use Rattle.std.specs.Bool.{Decides}
-use Rattle.std.specs.Prelude.{◌==◌}
+use Rattle.std.specs.Prelude.{◌==◌, ◌↔◌, IfOk, Result, Ok, Err, slice_index_or}
+use Rattle.std.specs.Global.{Vec}
+use Rattle.chill_base.specs.declared.memory.Memory.{Memory}
 use Rattle.std.proofs.lemmas.Bool.Decides.{Decides-and, Decides-or, Decides-eqb, Decides-like}
 use Rattle.self_dependence.specs.declared.edge.Edge.{Edge}
-use Rattle.self_dependence.specs.Depends.{Depends, directly, through}
+use Rattle.self_dependence.specs.Depends.{Depends, IsSet, directly, through}
 use Rattle.group_dependence.specs.Groups.{edge}
 use Rattle.group_dependence.specs.Testing.{depends_on, TestingLaw}
 use Rattle.group_dependence.proofs.Members.{none_in, first_in, later_in, in_cases}
@@ -79,3 +81,18 @@ tests (e ∷ es) v w =
     let goes : Decides (e.to == w || depends_on es e.to w) (Comes es e.to w) = Decides-or _ _ (Decides-eqb e.to w) (tests es e.to w) in
     let parted : Decides (depends_on (e ∷ es) v w) (Parted e es v w) = Decides-or _ _ (tests es v w) (Decides-and _ _ comes goes) in
     Decides-like (depends_on (e ∷ es) v w) (whole e es v w) (parts e es v w) parted
+
+same_truth : (b c : Bool) {P : Type 0} → (b ≡ true) ↔ P → Decides c P → b ≡ c
+same_truth true true h k = refl
+same_truth true false h k = sym (k.1 (h.0 refl))
+same_truth false true h k = h.1 (k.0 refl)
+same_truth false false h k = refl
+
+-- a truth value that tells what depends on what is the test's
+pub is_tested : (b : Bool) (es : List Edge) (v w : ℕ) → (b ≡ true) ↔ Depends es v w → b ≡ depends_on es v w
+is_tested b es v w h = same_truth b (depends_on es v w) h (tests es v w)
+
+-- of all marks, where there are any
+pub all_tested : (es : List Edge) (made : Result (Vec Bool) Memory) → IfOk made (λ marks. (v : ℕ) → IsSet marks.items v ↔ Depends es v v) → IfOk made (λ marks. (v : ℕ) → slice_index_or marks.items v false ≡ depends_on es v v)
+all_tested es (Ok marks) h = λ v. is_tested (slice_index_or marks.items v false) es v v (h v)
+all_tested es (Err e) h = tt

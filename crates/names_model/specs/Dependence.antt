@@ -57,22 +57,22 @@ groups_of text r from (block size ps) = []
 abbrev pub groups_in : List Definition → Reach → ℕ → PartNodes → List Group
 groups_in text r from ps = flat_map (λ k. groups_of text k.reach k.from k.part) (nodes r from ps)
 
--- the locations among some definitions
+-- the locations among some definitions, where `all` are those of the text and the predefined ones
 abbrev pub locations_in : List Definition → List ℕ → List ℕ
-locations_in text ds = filter (is_kind_at is_location text) ds
+locations_in all ds = filter (is_kind_at is_location all) ds
 
 -- what depends on what among locations alone
 abbrev pub among_locations : List Definition → List Group → List Group
-among_locations text gs = map (λ g. group (locations_in text g.from) (locations_in text g.to)) gs
+among_locations all gs = map (λ g. group (locations_in all g.from) (locations_in all g.to)) gs
 
 -- ---- N6: a synonym or mode depends on itself, or a location through locations alone
 
 abbrev pub is_self : List Definition → List Group → ℕ → Bool
-is_self text gs d = (is_kind_at is_constant text d && depends_on (edges_of gs) d d) || (is_kind_at is_location text d && depends_on (edges_of (among_locations text gs)) d d)
+is_self all gs d = (is_kind_at is_constant all d && depends_on (edges_of gs) d d) || (is_kind_at is_location all d && depends_on (edges_of (among_locations all gs)) d d)
 
 abbrev pub told_self : Bool → Option Definition → List Diagnostic
 told_self self None = []
 told_self self (Some d) = if self then tell d.name.at rules.N6 d.name.spelling ∷ [] else []
 
 abbrev pub told_selves : List Definition → List Group → List Diagnostic
-told_selves text gs = flat_map (λ d. told_self (is_self text gs d) (slice_get text d)) (numbers_on 0 (length text))
+told_selves text gs = flat_map (λ d. told_self (is_self (with_predefined text) gs d) (slice_get (with_predefined text) d)) (numbers_on 0 (length text))

@@ -1,5 +1,5 @@
 -- The rules on names, each stated of one part in its reach.
-use Rattle.std.specs.Prelude.{ℕ, suc, ◌+◌, ◌==◌, Bool, true, false, ◌&&◌, ◌||◌, not, List, [], ◌∷◌, ◌++◌, map, flat_map, slice_get, Option, Some, None, if◌then◌else◌}
+use Rattle.std.specs.Prelude.{ℕ, suc, ◌+◌, ◌==◌, Bool, true, false, ◌&&◌, ◌||◌, not, List, [], ◌∷◌, ◌++◌, map, flat_map, length, nat_lt, slice_get, Option, Some, None, if◌then◌else◌}
 use Rattle.std.specs.List.{list_any}
 use Rattle.std.specs.Str.{bytes_eq}
 use Rattle.chill_base.specs.declared.pos.Pos.{Pos}
@@ -141,4 +141,4 @@ surplus_of None = []
 surplus_of (Some d) = record { at = d.name.at; rule = rules.L3; first = []; second = [] } ∷ []
 
 abbrev pub told_surplus : List Definition → List Diagnostic
-told_surplus text = surplus_of (slice_get text 4096)
+told_surplus text = if nat_lt 4096 (length text) then surplus_of (slice_get (with_predefined text) 4096) else []

@@ -1,6 +1,3 @@
-pub mod Held
-pub mod Books
-pub mod Scopes
-pub mod Offsets
-pub mod Earliers
-pub mod Named
+pub mod Resolves
+pub mod Tested
+pub mod Found

@@ -1,26 +1,17 @@
-//! What each name of a program stands for, or the rules on names that it breaks.
+//! What each name of a program stands for, or the rules on names that it breaks: `resolve` meets the definition `Resolves`.
 //!
-//! `resolve` meets the definitions of `names_model`. It stands on `reach_parts`, which finds the parts of the reaches, and
-//! below the checks of the later phases: they have the numbers of definitions from it. Its walk goes once over all parts
-//! with the tables of the reaches around.
+//! It stands on `names_model`, whose definitions it meets, on `reach_parts` and `reach_walk`, which find the parts of a
+//! program's reaches and what is told of them, and on the crates that tell what depends on itself and put diagnostics
+//! into their one list. The checks of later phases stand on it: they have the numbers of definitions from it.
 #![tactic(auto)]
 
-mod book;
-mod collect;
-mod definitions;
-mod earlier;
-mod entries;
-mod founds;
-mod given;
-mod offsets;
-mod passing;
-mod predefined;
-mod reached;
-mod scope;
-mod source;
-mod table;
-mod told;
-mod walk;
-mod twice;
+mod finding;
+mod locations;
+mod refusal;
+mod resolving;
+mod selves;
+mod surplus;
 
-pub use book::Book;
+pub use refusal::Refusal;
+pub use resolving::resolve;
+

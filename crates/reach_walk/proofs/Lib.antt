@@ -1,0 +1,14 @@
+pub mod PartLists
+pub mod Filters
+pub mod Appends
+pub mod Elements
+pub mod Granting
+pub mod Noting
+pub mod Showing
+pub mod Walking
+pub mod Defining
+pub mod Grouping
+pub mod Fresh
+pub mod Measuring
+pub mod ProgramMeasures
+pub mod Marking

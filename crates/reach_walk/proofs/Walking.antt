@@ -1,0 +1,48 @@
+-- Steps of the walk over parts.
+use Rattle.std.proofs.Common.{◌≡◌, ℕ, ◌+◌, ◌<◌, List, ◌++◌, append_assoc, ap, sym, ◌∙◌, length, get_or, drop}
+use Rattle.std.specs.Prelude.{flat_map, OnOk, Result, ◌^◌}
+use Rattle.chill_base.specs.declared.memory.Memory.{Memory}
+use Rattle.chill_base.specs.declared.diagnostic.Diagnostic.{Diagnostic}
+use Rattle.names_model.specs.declared.definition.Definition.{Definition}
+use Rattle.names_model.specs.declared.part.Part.{Part}
+use Rattle.names_model.specs.Parts.{PartTree, PartNodes, part_tree}
+use Rattle.names_model.specs.Sizes.{size_of}
+use Rattle.names_model.specs.Seeing.{Reach}
+use Rattle.names_model.specs.NameRules.{Node, node, nodes, nodes_inside, told, told_twice}
+use Rattle.names_model.specs.Dependence.{groups_in}
+use Rattle.names_model.specs.Resolving.{resolved_in}
+use Rattle.reach_walk.specs.Findings.{AddsInside, AddsNodes, AddsReach}
+use Rattle.reach_walk.specs.Offsets.{FitsInside, nodes_of}
+use Rattle.reach_walk.specs.declared.findings.Findings.{Findings}
+use Rattle.reach_walk.proofs.PartLists.{nodes-at}
+use Rattle.reach_walk.proofs.Appends.{flat_map-append}
+
+regroup : {X : Type 0} (f u v w r : List X) → ((f ++ u) ++ (v ++ w)) ++ r ≡ f ++ ((u ++ v) ++ (w ++ r))
+regroup f u v w r = simp append_assoc
+
+-- one part more is looked at: what it gives itself, and what the reach gives that it opens
+pub found-on : {X : Type 0} (f : Node → List X) (r : Reach) (ps : List Part) (i next next' : ℕ) (x : Part) (here opened out out' out'' whole : List X) → i < length ps → x ≡ get_or ps i x → next' ≡ next + size_of (part_tree x)
+    → f (node r next (part_tree x)) ≡ here ++ opened
+    → out ++ flat_map f (nodes r next (nodes_of (drop i ps))) ≡ whole
+    → out' ≡ out ++ here → out'' ≡ out' ++ (opened ++ flat_map f (nodes_inside r next (part_tree x)))
+    → out'' ++ flat_map f (nodes r next' (nodes_of (drop (i + 1) ps))) ≡ whole
+found-on f r ps i next next' x here opened out out' out'' whole h is step gives before own inside =
+    let rest = nodes r (next + size_of (part_tree x)) (nodes_of (drop (i + 1) ps)) in
+    let inner = nodes_inside r next (part_tree x) in
+    let d : flat_map f (nodes r next (nodes_of (drop i ps))) ≡ f (node r next (part_tree x)) ++ flat_map f (inner ++ rest) = ap (λ qs. flat_map f (nodes r next qs)) (nodes-at ps i x h is) in
+    rw (step, inside, own) (regroup out here opened (flat_map f inner) (flat_map f rest)
+    ∙ ap (λ z. out ++ (z ++ (flat_map f inner ++ flat_map f rest))) (sym gives)
+    ∙ ap (λ z. out ++ (f (node r next (part_tree x)) ++ z)) (sym (flat_map-append f inner rest)) ∙ ap (λ z. out ++ z) (sym d) ∙ before)
+
+-- N1 of a reach is told, and then its parts are walked over
+pub found-reach : (text : List Definition) (r : Reach) (from : ℕ) (ps : PartNodes) (old opened new : Findings) (twice : List Diagnostic) → opened.told.items ≡ old.told.items ++ twice → twice ≡ told_twice text r
+    → opened.groups.items ≡ old.groups.items → opened.uses.items ≡ old.uses.items → AddsNodes opened new text (nodes r from ps) → AddsReach old new text r from ps
+found-reach text r from ps old opened new twice a e g u b = record {
+  told = b.told ∙ ap (λ z. z ++ flat_map (told text) (nodes r from ps)) (a ∙ ap (λ z. old.told.items ++ z) e) ∙ append_assoc old.told.items (told_twice text r) (flat_map (told text) (nodes r from ps));
+  groups = b.groups ∙ ap (λ z. z ++ groups_in text r from ps) g;
+  uses = b.uses ∙ ap (λ z. z ++ resolved_in text r from ps) u;
+}
+
+-- what is found in a part that opens a reach, by a call that returned a result
+abbrev pub InsideFound : List Definition → Reach → ℕ → Result Unit Memory → (new old : Findings) → PartTree → Type 0
+InsideFound text r from result new old p = from + size_of p < 2 ^ 32 → FitsInside from p → OnOk result (AddsInside old new text r from p)

@@ -1,0 +1,43 @@
+//! What the reaches of a program see, and what their parts tell, depend on and use.
+//!
+//! `resolve` meets the definitions of `names_model`. It stands on `reach_parts`, which finds the parts of the reaches, and
+//! below the checks of the later phases: they have the numbers of definitions from it.
+//!
+//! Its walk goes once over all parts with the tables of the reaches around. At each part `note_here` tells which rules on
+//! names are broken and notes what depends on what and what each use stands for. A rule of a later phase that is told of one
+//! part is told there too, by a function of its own that `note_here` calls.
+#![tactic(auto)]
+
+mod book;
+mod collect;
+mod definitions;
+mod earlier;
+mod entries;
+mod findings;
+mod founds;
+mod given;
+mod groups;
+mod laws;
+mod marked;
+mod offsets;
+mod passing;
+mod predefined;
+mod reached;
+mod scope;
+mod source;
+mod table;
+mod told;
+mod twice;
+mod uses;
+mod walk;
+
+pub use book::Book;
+pub use findings::Findings;
+pub use laws::{fits_law, size_law};
+pub use offsets::sizes_of;
+pub use predefined::COUNT as PREDEFINED_COUNT;
+pub use told::push_told;
+pub use walk::find_in_program;
+
+#[cfg(test)]
+mod tests;

@@ -1,7 +1,0 @@
-use Rattle.std.proofs.Common.{◌≡◌, ◌++◌, ◌+◌}
-use Rattle.visibility.proofs.Elements.{along_first}
-use Rattle.visibility.specs.Scopes.{told_by}
-use Rattle.visibility.proofs.passing.push_along.Given as goal
-
-abbrev pub invariant-loop-step : goal.invariant-loop-step
-invariant-loop-step l = l.out ≡ l.fn.out ++ along_first l.book.all.items (told_by l.source) l.number l.step
