@@ -185,7 +185,9 @@ fn add_held(
 {
     match action {
         Bracketed::If {
-            actions, branches, ..
+            actions,
+            branches,
+            ..
         } => {
             add_actions(alloc, actions.as_slice(), labels, out)?;
             add_branches(alloc, branches.as_slice(), labels, out)
@@ -194,7 +196,9 @@ fn add_held(
             add_cases(alloc, alternatives.as_slice(), labels, out)
         }
         Bracketed::Do {
-            control, actions, ..
+            control,
+            actions,
+            ..
         } => add_turns(alloc, control, actions.as_slice(), labels, out),
         Bracketed::Begin { body, .. } => add_begin(alloc, body.as_slice(), labels, out),
         Bracketed::DelayCase { alternatives, .. } => {
