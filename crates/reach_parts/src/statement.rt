@@ -11,14 +11,15 @@ ghost use Rattle.names_model.specs.StatementParts.{mentioned, turn_parts, receiv
 ghost use Rattle.reach_parts.specs.BracketedParts.{evaluated_parts, held_parts, else_parts};
 ghost use Rattle.reach_parts.specs.Labels.{labels_in};
 
-use crate::clause::{
-    add_block, add_mentioned, add_part, clause_of, mention_expr, mention_ranges, mention_some_expr,
-    mention_used,
-};
+use crate::clause::clause_of;
 use crate::control::{add_control, add_turn};
 use crate::expr::{add_some_expr, add_used};
 use crate::labels::Labels;
 use crate::local::add_local;
+use crate::part::{
+    add_block, add_mentioned, add_part, mention_expr, mention_ranges, mention_some_expr,
+    mention_used,
+};
 use crate::simple::add_simple;
 use chill_base::{List, Memory};
 use chill_tree::tree::{
