@@ -99,6 +99,7 @@ pub(crate) fn add_statement(
             handler,
             ..
         } => {
+            // Both are lent again, for the time of this action alone.
             let inner = Labels::Around {
                 label: &*label,
                 outer: &*labels,
