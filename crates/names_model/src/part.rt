@@ -1,6 +1,6 @@
 // The parts of reaches (Z.200, chapter on general semantic properties, visibility): what a text defines, uses, seizes and
 // grants, in the order of the text.
-ghost use Rattle.std.specs.Prelude.{◌≡◌, ◌+◌, [], ◌∷◌, length, IfOk, IfSome};
+ghost use Rattle.std.specs.Prelude.{◌≡◌, [], ◌∷◌, length, IfOk, IfSome};
 ghost use Rattle.names_model.specs.Parts.{define, mention, seize, seize_all, grant, grant_all, stray, modulion, routine, part_nodes, part_tree, part_trees};
 ghost use Rattle.names_model.specs.Sizes.{elements_in, clause_size, clauses_size, head_size, size_of, sizes_of, block_of};
 

@@ -1,1 +1,2 @@
+pub mod BracketedParts
 pub mod Labels

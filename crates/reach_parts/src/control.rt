@@ -6,8 +6,9 @@ ghost use Rattle.names_model.specs.Parts.{part_trees};
 ghost use Rattle.names_model.specs.ExprMentions.{mentions_of, mentions_of_some};
 ghost use Rattle.names_model.specs.StatementParts.{mentioned, counter_part, control_parts, turn_parts};
 
-use crate::clause::{add_mentioned, add_part, clause_of_one, mention_expr, mention_some_expr};
+use crate::clause::clause_of_one;
 use crate::expr::{add_expr, add_some_expr};
+use crate::part::{add_mentioned, add_part, mention_expr, mention_some_expr};
 use chill_base::{List, Memory};
 use chill_tree::tree::{Control, Expr, Name};
 use names_model::{Kind, Part};

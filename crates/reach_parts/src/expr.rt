@@ -2,7 +2,7 @@
 ghost use Rattle.std.specs.Prelude.{◌≡◌, ◌++◌, None, Some, OnOk, option_map};
 ghost use Rattle.std.specs.Option.{option_copied};
 ghost use Rattle.names_model.specs.declared.kind.Need.TheVariants as needs;
-ghost use Rattle.chill_tree.specs.ExprTree.{expr_tree, expr_trees, expr_nodes, range_tree, range_trees};
+ghost use Rattle.chill_tree.specs.ExprTree.{expr_tree, expr_trees, range_tree, range_trees};
 ghost use Rattle.names_model.specs.ExprMentions.{used, tuple_mode, begun, callee_of, mentions_as, mentions_in_range, mentions_of, mentions_of_some, mentions_of_args, mentions_of_ranges};
 
 use chill_base::{List, Memory};

@@ -4,9 +4,9 @@ ghost use Rattle.chill_tree.specs.ItemTree.{item_tree, item_trees, item_nodes, m
 ghost use Rattle.names_model.specs.Parts.{part_trees};
 ghost use Rattle.names_model.specs.ItemParts.{is_region, item_parts, each_item, program_parts};
 
-use crate::clause::add_part;
 use crate::labels::Labels;
 use crate::local::add_local;
+use crate::part::add_part;
 use crate::routine::{add_procedure, add_process};
 use crate::signal::{add_granted, add_seized, add_signals};
 use crate::statement::{add_some_handler, add_statement};

@@ -11,6 +11,7 @@ mod item;
 mod labels;
 mod local;
 mod mode;
+mod part;
 mod routine;
 mod signal;
 mod simple;

@@ -4,9 +4,10 @@ ghost use Rattle.chill_tree.specs.LocalTree.{synonym_tree, mode_definition_tree,
 ghost use Rattle.names_model.specs.Parts.{part_trees};
 ghost use Rattle.names_model.specs.StatementParts.{synonym_part, mode_part, initial_parts, declaration_parts, local_parts};
 
-use crate::clause::{add_part, clause_by_mode, clause_of, clause_of_one, mention_expr};
+use crate::clause::{clause_by_mode, clause_of, clause_of_one};
 use crate::expr::add_expr;
 use crate::mode::{add_mode, add_some_mode};
+use crate::part::{add_part, mention_expr};
 use chill_base::{List, Memory};
 use chill_tree::tree::{Declaration, Initial, Local, ModeDefinition, Synonym};
 use names_model::{Kind, Part};

@@ -7,9 +7,10 @@ ghost use Rattle.names_model.specs.Parts.{part_trees};
 ghost use Rattle.names_model.specs.ModeMentions.{mentions_of_some_mode};
 ghost use Rattle.names_model.specs.ItemParts.{param_clause, formal_clause, whole_body, procedure_part, process_part};
 
-use crate::clause::{add_part, clause_by_mode};
+use crate::clause::clause_by_mode;
 use crate::labels::Labels;
 use crate::mode::add_some_mode;
+use crate::part::add_part;
 use crate::statement::{add_body, add_some_handler};
 use chill_base::{List, Memory};
 use chill_tree::tree::{BodyPart, Formal, Handler, Mode, Param, Procedure, Process};

@@ -7,8 +7,9 @@ ghost use Rattle.names_model.specs.Parts.{seize, grant, part_trees};
 ghost use Rattle.names_model.specs.ModeMentions.{mentions_of_mode};
 ghost use Rattle.names_model.specs.ItemParts.{seized, granted, receiver_parts, mentions_of_parts, signal_parts};
 
-use crate::clause::{add_part, clause_of_one, mention_used};
+use crate::clause::clause_of_one;
 use crate::mode::add_mode;
+use crate::part::{add_part, mention_used};
 use chill_base::{List, Memory};
 use chill_tree::tree::{Mode, Name, Passed, Signal};
 use names_model::{Identifier, Kind, Mention, Need, Part};

@@ -8,11 +8,11 @@ ghost use Rattle.names_model.specs.ExprMentions.{used, mentions_of_some, mention
 ghost use Rattle.names_model.specs.StatementParts.{mentioned, exit_parts, mentions_of_some_args, simple_parts};
 ghost use Rattle.reach_parts.specs.Labels.{labels_in};
 
-use crate::clause::{
-    add_mentioned, add_part, mention_expr, mention_exprs, mention_some_expr, mention_used,
-};
 use crate::expr::{add_args, add_some_expr, add_used};
 use crate::labels::{Labels, is_enclosed};
+use crate::part::{
+    add_mentioned, add_part, mention_expr, mention_exprs, mention_some_expr, mention_used,
+};
 use chill_base::{List, Memory};
 use chill_tree::tree::{Expr, Name, Simple};
 use names_model::{Identifier, Mention, Need, Part};

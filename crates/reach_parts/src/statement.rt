@@ -7,17 +7,19 @@ ghost use Rattle.names_model.specs.declared.kind.Need.TheVariants as needs;
 ghost use Rattle.names_model.specs.Parts.{part_trees};
 ghost use Rattle.names_model.specs.Sizes.{block_of};
 ghost use Rattle.names_model.specs.ExprMentions.{used, mentions_of, mentions_of_some, mentions_of_ranges};
-ghost use Rattle.names_model.specs.StatementParts.{mentioned, control_parts, turn_parts, received_parts, statement_parts, bracketed_parts, action_parts, branch_parts, case_parts, event_parts, receive_parts, handler_parts, exception_parts, body_parts};
+ghost use Rattle.names_model.specs.StatementParts.{mentioned, turn_parts, received_parts, statement_parts, bracketed_parts, action_parts, branch_parts, case_parts, event_parts, receive_parts, handler_parts, exception_parts, body_parts};
+ghost use Rattle.reach_parts.specs.BracketedParts.{evaluated_parts, held_parts, else_parts};
 ghost use Rattle.reach_parts.specs.Labels.{labels_in};
 
-use crate::clause::{
-    add_block, add_mentioned, add_part, clause_of, mention_expr, mention_ranges, mention_some_expr,
-    mention_used,
-};
+use crate::clause::clause_of;
 use crate::control::{add_control, add_turn};
 use crate::expr::{add_some_expr, add_used};
 use crate::labels::Labels;
 use crate::local::add_local;
+use crate::part::{
+    add_block, add_mentioned, add_part, mention_expr, mention_ranges, mention_some_expr,
+    mention_used,
+};
 use crate::simple::add_simple;
 use chill_base::{List, Memory};
 use chill_tree::tree::{
@@ -97,6 +99,7 @@ pub(crate) fn add_statement(
             handler,
             ..
         } => {
+            // Both are lent again, for the time of this action alone.
             let inner = Labels::Around {
                 label: &*label,
                 outer: &*labels,
@@ -139,7 +142,7 @@ fn add_action_block(
 }
 
 // Adds the parts of an action that holds others.
-#[tactic(auto, using(crate::proofs::StatementLemmas::statement_views))]
+#[tactic(auto, using(crate::proofs::StatementLemmas::bracketed_views))]
 #[cycle(statement)]
 fn add_bracketed(
     alloc: Global,
@@ -149,78 +152,99 @@ fn add_bracketed(
 ) -> Result<(), Memory>
     ensures { OnOk result (part_trees out.new ≡ part_trees out.old ++ bracketed_parts (labels_in labels.now) (bracketed_tree action.now)) }
 {
+    add_evaluated(alloc, action, out)?;
+    add_held(alloc, action, labels, out)?;
+    add_else(alloc, action, labels, out)
+}
+
+// Adds the names in what an action evaluates before what it holds.
+#[tactic(auto, using(crate::proofs::StatementLemmas::statement_views))]
+fn add_evaluated(alloc: Global, action: &Bracketed, out: &mut List<Part>) -> Result<(), Memory>
+    ensures { OnOk result (part_trees out.new ≡ part_trees out.old ++ evaluated_parts (bracketed_tree action.now)) }
+{
+    match action {
+        Bracketed::If { condition, .. } => mention_expr(alloc, condition, out),
+        Bracketed::Case { selector, .. } => mention_expr(alloc, selector, out),
+        Bracketed::Do { control, .. } => add_control(alloc, control, out),
+        Bracketed::Begin { .. } => Ok(()),
+        Bracketed::DelayCase { set, priority, .. } => {
+            mention_set_and_priority(alloc, set, priority, out)
+        }
+        Bracketed::ReceiveCase { set, .. } => mention_some_expr(alloc, set, out),
+    }
+}
+
+// Adds the parts of what an action holds but its ELSE.
+#[tactic(auto, using(crate::proofs::StatementLemmas::statement_views))]
+#[cycle(statement)]
+fn add_held(
+    alloc: Global,
+    action: &Bracketed,
+    labels: &Labels,
+    out: &mut List<Part>,
+) -> Result<(), Memory>
+    ensures { OnOk result (part_trees out.new ≡ part_trees out.old ++ held_parts (labels_in labels.now) (bracketed_tree action.now)) }
+{
     match action {
         Bracketed::If {
-            condition,
             actions,
             branches,
-            otherwise,
             ..
         } => {
-            mention_expr(alloc, condition, out)?;
             add_actions(alloc, actions.as_slice(), labels, out)?;
-            add_branches(alloc, branches.as_slice(), labels, out)?;
-            if let Some(actions) = otherwise {
-                add_actions(alloc, actions.as_slice(), labels, out)?;
-            }
-            Ok(())
+            add_branches(alloc, branches.as_slice(), labels, out)
         }
-        Bracketed::Case {
-            selector,
-            alternatives,
-            otherwise,
-            ..
-        } => {
-            mention_expr(alloc, selector, out)?;
-            add_cases(alloc, alternatives.as_slice(), labels, out)?;
-            if let Some(actions) = otherwise {
-                add_actions(alloc, actions.as_slice(), labels, out)?;
-            }
-            Ok(())
+        Bracketed::Case { alternatives, .. } => {
+            add_cases(alloc, alternatives.as_slice(), labels, out)
         }
         Bracketed::Do {
             control,
             actions,
             ..
-        } => add_loop(alloc, control, actions.as_slice(), labels, out),
+        } => add_turns(alloc, control, actions.as_slice(), labels, out),
         Bracketed::Begin { body, .. } => add_begin(alloc, body.as_slice(), labels, out),
-        Bracketed::DelayCase {
-            set,
-            priority,
-            alternatives,
-            ..
-        } => {
-            mention_set_and_priority(alloc, set, priority, out)?;
+        Bracketed::DelayCase { alternatives, .. } => {
             add_events(alloc, alternatives.as_slice(), labels, out)
         }
-        Bracketed::ReceiveCase {
-            set,
-            alternatives,
-            otherwise,
-            ..
-        } => {
-            mention_some_expr(alloc, set, out)?;
-            add_receipts(alloc, alternatives.as_slice(), labels, out)?;
-            if let Some(actions) = otherwise {
-                add_actions(alloc, actions.as_slice(), labels, out)?;
-            }
-            Ok(())
+        Bracketed::ReceiveCase { alternatives, .. } => {
+            add_receipts(alloc, alternatives.as_slice(), labels, out)
         }
     }
 }
 
-// Adds the parts of a loop.
+// Adds the parts of the ELSE of an action.
+#[tactic(auto, using(crate::proofs::StatementLemmas::statement_views))]
 #[cycle(statement)]
-fn add_loop(
+fn add_else(
+    alloc: Global,
+    action: &Bracketed,
+    labels: &Labels,
+    out: &mut List<Part>,
+) -> Result<(), Memory>
+    ensures { OnOk result (part_trees out.new ≡ part_trees out.old ++ else_parts (labels_in labels.now) (bracketed_tree action.now)) }
+{
+    match action {
+        Bracketed::If { otherwise, .. }
+        | Bracketed::Case { otherwise, .. }
+        | Bracketed::ReceiveCase { otherwise, .. } => match otherwise {
+            None => Ok(()),
+            Some(actions) => add_actions(alloc, actions.as_slice(), labels, out),
+        },
+        Bracketed::Do { .. } | Bracketed::Begin { .. } | Bracketed::DelayCase { .. } => Ok(()),
+    }
+}
+
+// Adds the block of a loop: its counter, its condition and its actions.
+#[cycle(statement)]
+fn add_turns(
     alloc: Global,
     control: &Control,
     actions: &[Statement],
     labels: &Labels,
     out: &mut List<Part>,
 ) -> Result<(), Memory>
-    ensures { OnOk result (part_trees out.new ≡ part_trees out.old ++ control_parts (control_tree control.now) ++ block_of (turn_parts (control_tree control.now) ++ action_parts (labels_in labels.now) (statement_nodes (statement_trees actions.now))) ∷ []) }
+    ensures { OnOk result (part_trees out.new ≡ part_trees out.old ++ block_of (turn_parts (control_tree control.now) ++ action_parts (labels_in labels.now) (statement_nodes (statement_trees actions.now))) ∷ []) }
 {
-    add_control(alloc, control, out)?;
     let mut parts = List::new(alloc);
     add_turn(alloc, control, &mut parts)?;
     add_actions(alloc, actions, labels, &mut parts)?;
