@@ -5,7 +5,7 @@ use Rattle.std.specs.declared.result.Result.{Result}
 use Rattle.chill_base.specs.declared.memory.Memory.{Memory}
 use Rattle.chill_base.specs.declared.diagnostic.Diagnostic.{Diagnostic}
 use Rattle.rules_model.specs.Diagnoses.{IsShort, too_long, no_token, too_deep, no_program}
-use Rattle.chill_top.specs.Telling.{Sums, Refuses, broken, not_built}
+use Rattle.chill_top.specs.Telling.{Sums, Refuses, broken, misnamed, not_built}
 use Rattle.chill_top.specs.Plan.{IsTextOf, IsReadingOf, IsPlanFor, sums_plan, refusal_plan}
 use Rattle.chill_top.specs.declared.plan.Plan.{Plan}
 use Rattle.std.specs.declared.option.Option.{Option}
@@ -63,22 +63,23 @@ reading-long text read of long = omega (arith, long, ap length of.front, length-
 pub Sums-reading : (text read sums : List ℕ) → IsReadingOf text read → Sums read sums → Sums text sums
 Sums-reading text read sums of s = subst (λ (t : List ℕ). Sums t sums) (reading-short text read of s.has.short) s
 
-Refuses-short : (text read : List ℕ) (told : Diagnostic) → IsReadingOf text read → IsShort read → Refuses read told → Refuses text told
+Refuses-short : (text read : List ℕ) (told : List Diagnostic) → IsReadingOf text read → IsShort read → Refuses read told → Refuses text told
 Refuses-short text read told of short r = subst (λ (t : List ℕ). Refuses t told) (reading-short text read of short) r
 
-pub Refuses-reading : (text read : List ℕ) (told : Diagnostic) → IsReadingOf text read → Refuses read told → Refuses text told
+pub Refuses-reading : (text read : List ℕ) (told : List Diagnostic) → IsReadingOf text read → Refuses read told → Refuses text told
 Refuses-reading text read told of (broken (too_long long)) = broken (too_long (reading-long text read of long))
 Refuses-reading text read told of (broken (no_token {at = at} short bad)) = Refuses-short text read _ of short (broken (no_token short bad))
 Refuses-reading text read told of (broken (too_deep {at = at} short are deep)) = Refuses-short text read _ of short (broken (too_deep short are deep))
 Refuses-reading text read told of (broken (no_program {at = at} short are shallow none place)) =
     Refuses-short text read _ of short (broken (no_program short are shallow none place))
-Refuses-reading text read told of (not_built has none) = Refuses-short text read _ of has.short (not_built has none)
+Refuses-reading text read told of (misnamed has some) = Refuses-short text read _ of has.short (misnamed has some)
+Refuses-reading text read told of (not_built has named none) = Refuses-short text read _ of has.short (not_built has named none)
 
 -- the plan for a text whose sums were read, or that is refused
 pub ok-plan-sums : (read sums : List ℕ) (made : Result Plan Memory) → Sums read sums → IfOk made (λ plan. plan ≡ sums_plan sums) → IfOk made (λ plan. (text : List ℕ) → IsReadingOf text read → IsPlanFor text plan)
 ok-plan-sums read sums (Ok plan) s is = λ text of. inl (sums, Sums-reading text read sums of s, is)
 ok-plan-sums read sums (Err e) s is = tt
 
-pub ok-plan-refused : (read : List ℕ) (told : Diagnostic) (made : Result Plan Memory) → Refuses read told → IfOk made (λ plan. plan ≡ refusal_plan told) → IfOk made (λ plan. (text : List ℕ) → IsReadingOf text read → IsPlanFor text plan)
+pub ok-plan-refused : (read : List ℕ) (told : List Diagnostic) (made : Result Plan Memory) → Refuses read told → IfOk made (λ plan. plan ≡ refusal_plan told) → IfOk made (λ plan. (text : List ℕ) → IsReadingOf text read → IsPlanFor text plan)
 ok-plan-refused read told (Ok plan) r is = λ text of. inr (told, Refuses-reading text read told of r, is)
 ok-plan-refused read told (Err e) r is = tt

@@ -1,5 +1,6 @@
 -- What is told of a text is one, but for the place where no tree exists.
-use Rattle.std.proofs.Common.{◌≡◌, ◌⊎◌, inl, inr, ℕ, ◌<◌, ◌≤◌, List, [], length, Option, Some, None, Result, Ok, Err, refl, sym, ap, subst, ◌∙◌, arith, IfOk}
+use Rattle.std.proofs.Common.{◌≡◌, ◌⊎◌, inl, inr, ℕ, ◌<◌, ◌≤◌, List, [], ◌∷◌, length, Option, Some, None, Result, Ok, Err, refl, sym, ap, subst, ◌∙◌, arith, IfOk}
+use Rattle.std.specs.Prelude.{◌≢◌}
 use Rattle.std.proofs.lemmas.Bool.{cases_lt}
 use Rattle.chill_base.specs.declared.pos.Pos.{Pos}
 use Rattle.chill_base.specs.declared.memory.Memory.{Memory}
@@ -19,7 +20,8 @@ use Rattle.chill_parser.specs.Parsing.{HasNoTree, TokenAt}
 use Rattle.chill_parser.proofs.ItemTaken.{program_is}
 use Rattle.chill_parser.proofs.Parsing.{no_tree}
 use Rattle.chill_top.specs.Sums.{sums_of}
-use Rattle.chill_top.specs.Telling.{Sums, Refuses, broken, not_built, SameButForPlace, TellsTree, Tells}
+use Rattle.names_model.specs.Resolving.{broken_names, level_of}
+use Rattle.chill_top.specs.Telling.{Sums, Refuses, broken, misnamed, not_built, SameButForPlace, RefusesTree, TellsTree, Tells}
 use Rattle.chill_top.specs.declared.told.Told.{Told}
 use Rattle.chill_top.specs.declared.told.Told.TheVariants as tellings
 
@@ -49,14 +51,23 @@ pub one_sums : (text sums others : List ℕ) → Sums text sums → Sums text ot
 one_sums text sums others s t =
     some_is sums others (sym s.are ∙ ap sums_of (one_tree_of_text text s.tree t.tree s.has t.has) ∙ t.are)
 
+-- the rules on names that a text breaks are those of its tree
+same_names : (text : List ℕ) (tree other : ProgramTree) → HasTree text tree → HasTree text other → broken_names (level_of tree) ≡ broken_names (level_of other)
+same_names text tree other has has' = ap (λ (t : ProgramTree). broken_names (level_of t)) (one_tree_of_text text tree other has has')
+
 -- a text with sums isn't refused
-pub sums_or_refused : (text sums : List ℕ) (told : Diagnostic) → Sums text sums → Refuses text told → ⊥
-sums_or_refused text sums told s (broken breaks) = has_no_tree text s.tree told s.has breaks
-sums_or_refused text sums told s (not_built {tree = tree} has none) =
+pub sums_or_refused : (text sums : List ℕ) (told : List Diagnostic) → Sums text sums → Refuses text told → ⊥
+sums_or_refused text sums _ s (broken {diagnostic = told} breaks) = has_no_tree text s.tree told s.has breaks
+sums_or_refused text sums _ s (misnamed {tree = tree} has some) = some (same_names text tree s.tree has s.has ∙ s.named)
+sums_or_refused text sums _ s (not_built {tree = tree} has named none) =
     none_some (sym s.are ∙ ap sums_of (one_tree_of_text text s.tree tree s.has has) ∙ none)
 
+-- one diagnostic is told, or both tell that no tree exists
+abbrev OneButForPlace : Diagnostic → Diagnostic → Type 0
+OneButForPlace told other = (told ≡ other) ⊎ ((told ≡ plain told.at rules.T2) × (other ≡ plain other.at rules.T2))
+
 -- the first rule that a text breaks is one
-pub one_broken : (text : List ℕ) (told other : Diagnostic) → Diagnoses text told → Diagnoses text other → SameButForPlace told other
+pub one_broken : (text : List ℕ) (told other : Diagnostic) → Diagnoses text told → Diagnoses text other → OneButForPlace told other
 one_broken text told other (too_long long) (too_long longer) = inl refl
 one_broken text told other (too_long long) (no_token short bad) = absurd (omega (arith, long, short))
 one_broken text told other (too_long long) (too_deep short are deep) = absurd (omega (arith, long, short))
@@ -78,37 +89,55 @@ one_broken text told other (no_program {tokens = tokens} short are shallow none 
     absurd (none_some (sym deep ∙ ap (first_deep 65) (one_list text others tokens are' are) ∙ shallow))
 one_broken text told other (no_program short are shallow none place) (no_program short' are' shallow' none' place') = inr (refl, refl)
 
--- one diagnostic is told of a text that isn't run
-pub one_refusal : (text : List ℕ) (told other : Diagnostic) → Refuses text told → Refuses text other → SameButForPlace told other
-one_refusal text told other (broken breaks) (broken breaks') = one_broken text told other breaks breaks'
-one_refusal text told other (broken breaks) (not_built {tree = tree} has none) = absurd (has_no_tree text tree told has breaks)
-one_refusal text told other (not_built {tree = tree} has none) (broken breaks) = absurd (has_no_tree text tree other has breaks)
-one_refusal text told other (not_built has none) (not_built has' none') = inl refl
+-- alone in its list
+alone : (told other : Diagnostic) → OneButForPlace told other → SameButForPlace (told ∷ []) (other ∷ [])
+alone told other (inl is) = inl (ap (λ (d : Diagnostic). d ∷ []) is)
+alone told other (inr (is, is')) = inr ((told.at, ap (λ (d : Diagnostic). d ∷ []) is), (other.at, ap (λ (d : Diagnostic). d ∷ []) is'))
+
+-- one list of diagnostics is told of a text that isn't run
+pub one_refusal : (text : List ℕ) (told other : List Diagnostic) → Refuses text told → Refuses text other → SameButForPlace told other
+one_refusal text _ _ (broken {diagnostic = told} breaks) (broken {diagnostic = other} breaks') = alone told other (one_broken text told other breaks breaks')
+one_refusal text _ _ (broken {diagnostic = told} breaks) (misnamed {tree = tree} has some) = absurd (has_no_tree text tree told has breaks)
+one_refusal text _ _ (broken {diagnostic = told} breaks) (not_built {tree = tree} has named none) = absurd (has_no_tree text tree told has breaks)
+one_refusal text _ _ (misnamed {tree = tree} has some) (broken {diagnostic = other} breaks) = absurd (has_no_tree text tree other has breaks)
+one_refusal text _ _ (misnamed {tree = tree} has some) (misnamed {tree = other} has' some') = inl (same_names text tree other has has')
+one_refusal text _ _ (misnamed {tree = tree} has some) (not_built {tree = other} has' named none) = absurd (some (same_names text tree other has has' ∙ named))
+one_refusal text _ _ (not_built {tree = tree} has named none) (broken {diagnostic = other} breaks) = absurd (has_no_tree text tree other has breaks)
+one_refusal text _ _ (not_built {tree = tree} has named none) (misnamed {tree = other} has' some) = absurd (some (same_names text other tree has' has ∙ named))
+one_refusal text _ _ (not_built has named none) (not_built has' named' none') = inl refl
 
 -- each text has sums or is refused
 abbrev IsAnswered : List ℕ → Type 0
-IsAnswered text = ((sums : List ℕ) × Sums text sums) ⊎ ((told : Diagnostic) × Refuses text told)
+IsAnswered text = ((sums : List ℕ) × Sums text sums) ⊎ ((told : List Diagnostic) × Refuses text told)
 
-tree_answered : (text : List ℕ) (tree : ProgramTree) (o : Option (List ℕ)) → sums_of tree ≡ o → HasTree text tree → IsAnswered text
-tree_answered text tree (Some sums) is has = inl (sums, record { tree = tree; has = has; are = is })
-tree_answered text tree None is has = inr (plain first_place rules.B1, not_built has is)
+form_answered : (text : List ℕ) (tree : ProgramTree) (o : Option (List ℕ)) → sums_of tree ≡ o → broken_names (level_of tree) ≡ [] → HasTree text tree → IsAnswered text
+form_answered text tree (Some sums) is named has = inl (sums, record { tree = tree; has = has; named = named; are = is })
+form_answered text tree None is named has = inr (plain first_place rules.B1 ∷ [], not_built has named is)
+
+-- a list isn't empty that has a first
+not_none : (told : Diagnostic) (others list : List Diagnostic) → list ≡ told ∷ others → list ≢ []
+not_none told others list is none = cc
+
+tree_answered : (text : List ℕ) (tree : ProgramTree) (list : List Diagnostic) → broken_names (level_of tree) ≡ list → HasTree text tree → IsAnswered text
+tree_answered text tree [] named has = form_answered text tree (sums_of tree) refl named has
+tree_answered text tree (told ∷ others) is has = inr (broken_names (level_of tree), misnamed has (not_none told others (broken_names (level_of tree)) is))
 
 read_answered : (text : List ℕ) (tokens : List Token) (r : Result ProgramTree Fault) → program_at 64 tokens ≡ r → IsShort text → AreTokensOf text tokens → first_deep 65 tokens ≡ None → IsAnswered text
 read_answered text tokens (Ok tree) is short are shallow =
-    tree_answered text tree (sums_of tree) refl (record { tokens = tokens; short = short; are = are; shallow = shallow; tree_of = program_is 64 tokens tree is })
+    tree_answered text tree (broken_names (level_of tree)) refl (record { tokens = tokens; short = short; are = are; shallow = shallow; tree_of = program_is 64 tokens tree is })
 read_answered text tokens (Err fault) is short are shallow =
-    inr (plain (behind_all first_place text) rules.T2, broken (no_program short are shallow (no_tree tokens fault shallow is) (inr refl)))
+    inr (plain (behind_all first_place text) rules.T2 ∷ [], broken (no_program short are shallow (no_tree tokens fault shallow is) (inr refl)))
 
 tokens_answered : (text : List ℕ) (tokens : List Token) (o : Option Pos) → first_deep 65 tokens ≡ o → IsShort text → AreTokensOf text tokens → IsAnswered text
-tokens_answered text tokens (Some at) deep short are = inr (plain at rules.L2, broken (too_deep short are deep))
+tokens_answered text tokens (Some at) deep short are = inr (plain at rules.L2 ∷ [], broken (too_deep short are deep))
 tokens_answered text tokens None shallow short are = read_answered text tokens (program_at 64 tokens) refl short are shallow
 
 short_answered : (text : List ℕ) → IsShort text → ((tokens : List Token) × AreTokensOf text tokens) ⊎ ((at : Pos) × IsBadAt text at) → IsAnswered text
 short_answered text short (inl h) = tokens_answered text h.0 (first_deep 65 h.0) refl short h.1
-short_answered text short (inr h) = inr (plain h.0 rules.T1, broken (no_token short h.1))
+short_answered text short (inr h) = inr (plain h.0 rules.T1 ∷ [], broken (no_token short h.1))
 
 some_answer_by : (text : List ℕ) → (262144 < length text) ⊎ (length text ≤ 262144) → IsAnswered text
-some_answer_by text (inl long) = inr (plain first_place rules.L1, broken (too_long long))
+some_answer_by text (inl long) = inr (plain first_place rules.L1 ∷ [], broken (too_long long))
 some_answer_by text (inr short) = short_answered text short (some_reading text)
 
 pub some_answer : (text : List ℕ) → IsAnswered text
@@ -116,29 +145,42 @@ some_answer text = some_answer_by text (cases_lt 262144 (length text))
 
 -- ---- what the code tells
 
-pub long_refused : (text : List ℕ) (told : Diagnostic) → 262144 < length text → told ≡ plain first_place rules.L1 → Refuses text told
-long_refused text told long is = subst (λ (d : Diagnostic). Refuses text d) (sym is) (broken (too_long long))
+-- what is made tells one diagnostic
+abbrev TellsOne : Diagnostic → Result Told Memory → Type 0
+TellsOne told made = IfOk made (λ t. t ≡ tellings.Refused (told ∷ []))
 
-pub bad_refused : (text : List ℕ) (told : Diagnostic) → IsShort text → IsBadAt text told.at → told.rule ≡ rules.T1 → told.first ≡ [] → told.second ≡ [] → Refuses text told
-bad_refused text told short bad rule first second =
-    let is : told ≡ plain told.at rules.T1 = λ i. record { at = told.at; rule = rule i; first = first i; second = second i } in
-    subst (λ (d : Diagnostic). Refuses text d) (sym is) (broken (no_token short bad))
+refused_by : (text : List ℕ) (told : Diagnostic) (made : Result Told Memory) → Diagnoses text told → TellsOne told made → IfOk made (λ t. Tells text t)
+refused_by text told (Ok t) breaks is = subst (λ (x : Told). Tells text x) (sym is) (broken breaks)
+refused_by text told (Err e) breaks is = tt
 
-pub deep_refused : (text : List ℕ) (tokens : List Token) (at : Pos) (told : Diagnostic) → IsShort text → AreTokensOf text tokens → first_deep 65 tokens ≡ Some at → told ≡ plain at rules.L2 → Refuses text told
-deep_refused text tokens at told short are deep is = subst (λ (d : Diagnostic). Refuses text d) (sym is) (broken (too_deep short are deep))
+pub long_refused : (text : List ℕ) (made : Result Told Memory) → 262144 < length text → TellsOne (plain first_place rules.L1) made → IfOk made (λ t. Tells text t)
+long_refused text made long is = refused_by text (plain first_place rules.L1) made (too_long long) is
 
-pub nowhere_refused : (text : List ℕ) (tokens : List Token) (at : Pos) (told : Diagnostic) → IsShort text → AreTokensOf text tokens → first_deep 65 tokens ≡ None → HasNoTree tokens → IsPlaceIn text tokens at → told ≡ plain at rules.T2
-    → Refuses text told
-nowhere_refused text tokens at told short are shallow none place is = subst (λ (d : Diagnostic). Refuses text d) (sym is) (broken (no_program short are shallow none place))
+pub bad_refused : (text : List ℕ) (told : Diagnostic) (made : Result Told Memory) → IsShort text → IsBadAt text told.at → told.rule ≡ rules.T1 → told.first ≡ [] → told.second ≡ [] → TellsOne told made → IfOk made (λ t. Tells text t)
+bad_refused text told made short bad rule first second is =
+    let plainly : plain told.at rules.T1 ≡ told = λ i. record { at = told.at; rule = sym rule i; first = sym first i; second = sym second i } in
+    refused_by text told made (subst (λ (d : Diagnostic). Diagnoses text d) plainly (no_token short bad)) is
+
+pub deep_refused : (text : List ℕ) (tokens : List Token) (at : Pos) (made : Result Told Memory) → IsShort text → AreTokensOf text tokens → first_deep 65 tokens ≡ Some at → TellsOne (plain at rules.L2) made → IfOk made (λ t. Tells text t)
+deep_refused text tokens at made short are deep is = refused_by text (plain at rules.L2) made (too_deep short are deep) is
+
+pub nowhere_refused : (text : List ℕ) (tokens : List Token) (at : Pos) (made : Result Told Memory) → IsShort text → AreTokensOf text tokens → first_deep 65 tokens ≡ None → HasNoTree tokens → IsPlaceIn text tokens at → TellsOne (plain at rules.T2) made
+    → IfOk made (λ t. Tells text t)
+nowhere_refused text tokens at made short are shallow none place is = refused_by text (plain at rules.T2) made (no_program short are shallow none place) is
 
 -- the place of a token, for the parser, is one for the text
 pub place_of_token : (text : List ℕ) (tokens : List Token) (at : Pos) → TokenAt tokens at → IsPlaceIn text tokens at
 place_of_token text tokens at h = inl (h.index, h.token, h.here, h.place)
 
+tree_refused : (text : List ℕ) (tree : ProgramTree) (told : List Diagnostic) → HasTree text tree → RefusesTree tree told → Refuses text told
+tree_refused text tree told has (inl (is, some)) =
+    subst (λ (l : List Diagnostic). Refuses text l) (sym is) (misnamed has (λ (none : broken_names (level_of tree) ≡ []). some (is ∙ none)))
+tree_refused text tree told has (inr (named, none, is)) = subst (λ (l : List Diagnostic). Refuses text l) (sym is) (not_built has named none)
+
 pub tree_told : (text : List ℕ) (tokens : List Token) (tree : ProgramTree) (made : Result Told Memory) → IsShort text → AreTokensOf text tokens → first_deep 65 tokens ≡ None → IsTreeOf tokens tree
     → IfOk made (λ t. TellsTree tree t) → IfOk made (λ t. Tells text t)
 tree_told text tokens tree (Ok (tellings.Sums sums)) short are shallow tree_of h =
-    record { tree = tree; has = record { tokens = tokens; short = short; are = are; shallow = shallow; tree_of = tree_of }; are = h }
-tree_told text tokens tree (Ok (tellings.Refused diagnostic)) short are shallow tree_of h =
-    subst (λ (d : Diagnostic). Refuses text d) (sym h.1) (not_built (record { tokens = tokens; short = short; are = are; shallow = shallow; tree_of = tree_of }) h.0)
+    record { tree = tree; has = record { tokens = tokens; short = short; are = are; shallow = shallow; tree_of = tree_of }; named = h.0; are = h.1 }
+tree_told text tokens tree (Ok (tellings.Refused told)) short are shallow tree_of h =
+    tree_refused text tree told (record { tokens = tokens; short = short; are = are; shallow = shallow; tree_of = tree_of }) h
 tree_told text tokens tree (Err e) short are shallow tree_of h = tt

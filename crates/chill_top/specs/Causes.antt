@@ -25,8 +25,8 @@ pub record IsRunOf (words : List (List ℕ)) (bytes : List ℕ → Option (List 
   pub run : events ≡ run_of sums
   pub ended : over ≡ AllEnded
 
--- the diagnostic is told of the text that the words name
-pub record IsRefused (words : List (List ℕ)) (bytes : List ℕ → Option (List ℕ)) (told : Diagnostic) : Type 0 where
+-- the diagnostics are told of the text that the words name
+pub record IsRefused (words : List (List ℕ)) (bytes : List ℕ → Option (List ℕ)) (told : List Diagnostic) : Type 0 where
   pub text : List ℕ
   pub named : IsTextNamed words bytes text
   pub refused : Refuses text told

@@ -4,7 +4,7 @@ use Rattle.std.specs.declared.option.Option.{Option}
 use Rattle.std.specs.Str.{bytes_eq}
 use Rattle.chill_base.specs.declared.ends.Over.TheVariants.{AllEnded}
 use Rattle.chill_base.specs.declared.diagnostic.Diagnostic.{Diagnostic}
-use Rattle.listing.specs.Diagnostics.{line_of}
+use Rattle.listing.specs.Diagnostics.{lines_of}
 use Rattle.chill_top.specs.Telling.{Sums, Refuses}
 use Rattle.chill_top.specs.Run.{run_of, output_of}
 use Rattle.chill_top.specs.declared.plan.Plan.{Plan}
@@ -21,9 +21,9 @@ usage_line = codes "usage: chill run FILE [--workers N] [--units N] [--watch] | 
 abbrev pub usage_plan : Plan
 usage_plan = record { status = 2; over = None; events = []; out = []; err = usage_line }
 
--- for a text that is refused: the diagnostic's line
-abbrev pub refusal_plan : Diagnostic → Plan
-refusal_plan told = record { status = 3; over = None; events = []; out = []; err = line_of told }
+-- for a text that is refused: a line for each diagnostic
+abbrev pub refusal_plan : List Diagnostic → Plan
+refusal_plan told = record { status = 3; over = None; events = []; out = []; err = lines_of told }
 
 -- for a text with these sums: its run, and that run's output
 abbrev pub sums_plan : List ℕ → Plan
@@ -47,7 +47,7 @@ pub record IsTextNamed (words : List (List ℕ)) (bytes : List ℕ → Option (L
 abbrev pub IsPlanFor : List ℕ → Plan → Type 0
 IsPlanFor text plan =
     ((sums : List ℕ) × Sums text sums × (plan ≡ sums_plan sums))
-    ⊎ ((told : Diagnostic) × Refuses text told × (plan ≡ refusal_plan told))
+    ⊎ ((told : List Diagnostic) × Refuses text told × (plan ≡ refusal_plan told))
 
 -- the plan for words: they are no command, or they name a file with some text
 abbrev pub IsPlan : List (List ℕ) → (List ℕ → Option (List ℕ)) → Plan → Type 0

@@ -3,12 +3,12 @@ ghost use Rattle.std.specs.Prelude.{◌≡◌, ℕ, List, IfOk, IsErrOf, map, st
 ghost use Rattle.chill_top.specs.Plan.{IsPlan, IsPlanFor, IsReadingOf, IsTextOf, usage_plan, refusal_plan, sums_plan};
 ghost use Rattle.chill_top.specs.Causes.{IsReadFault};
 ghost use Rattle.outside_ports.specs.Faults.{Rose};
-ghost use Rattle.listing.specs.Diagnostics.{line_of};
+ghost use Rattle.listing.specs.Diagnostics.{lines_of};
 
 use crate::read::{ReadRefusal, read_text};
 use crate::run::{output, run};
 use crate::told::{Told, tell};
-use chill_base::{Diagnostic, Diagnostics, Events, Memory, Over, Text};
+use chill_base::{Diagnostics, Events, Memory, Over, Text};
 use listing::diagnostics_text;
 use outside_ports::Library;
 use std::alloc::Global;
@@ -45,24 +45,15 @@ fn plan_for_usage(alloc: Global) -> Result<Plan, Memory>
     })
 }
 
-// The line of a diagnostic.
-fn line_of(alloc: Global, told: Diagnostic) -> Result<Text, Memory>
-    ensures { IfOk result (λ line. line ≡ line_of told) }
-{
-    let mut list = Diagnostics::new(alloc);
-    list.push(told)?;
-    diagnostics_text(alloc, &list)
-}
-
-fn plan_for_refusal(alloc: Global, told: Diagnostic) -> Result<Plan, Memory>
-    ensures { IfOk result (λ plan. plan ≡ refusal_plan told) }
+fn plan_for_refusal(alloc: Global, told: &Diagnostics) -> Result<Plan, Memory>
+    ensures { IfOk result (λ plan. plan ≡ refusal_plan told.now) }
 {
     Ok(Plan {
         status: 3,
         over: None,
         events: Events::new(alloc),
         out: Text::new(alloc),
-        err: line_of(alloc, told)?,
+        err: diagnostics_text(alloc, told)?,
     })
 }
 
@@ -86,7 +77,7 @@ fn plan_for_text(alloc: Global, read: &[u8]) -> Result<Plan, Memory>
 {
     match tell(alloc, read)? {
         Told::Sums(sums) => plan_for_sums(alloc, &sums),
-        Told::Refused(diagnostic) => plan_for_refusal(alloc, diagnostic),
+        Told::Refused(told) => plan_for_refusal(alloc, &told),
     }
 }
 

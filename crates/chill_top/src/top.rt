@@ -3,7 +3,7 @@ ghost use Rattle.std.specs.Prelude.{◌≡◌, ◌⊎◌, ℕ, List, [], map, No
 ghost use Rattle.std.specs.Bool.{OnTrue, OnFalse};
 ghost use Rattle.std.specs.Io.KnownBytes.{Appends, Keeps};
 ghost use Rattle.chill_base.specs.declared.diagnostic.Diagnostic.{Diagnostic};
-ghost use Rattle.listing.specs.Diagnostics.{line_of};
+ghost use Rattle.listing.specs.Diagnostics.{lines_of};
 ghost use Rattle.chill_top.specs.Causes.{IsStatus, IsRunOf, IsRefused, IsReadFault, IsOutBroken, IsErrBroken};
 ghost use Rattle.chill_top.specs.Plan.{IsPlan, file_of, usage_line};
 ghost use Rattle.chill_top.specs.Run.{output_of};
@@ -50,9 +50,9 @@ pub fn chill<L: Library, O: Sink, E: Sink>(
 ) -> Outcome
     ensures statuses { IsStatus result.status }
 
-    // A text is refused only where it breaks a rule or isn't of the form, with the line of that diagnostic.
-    ensures refused { result.status ≡ 3 → (told : Diagnostic) × IsRefused (map string_bytes words.now) (L.bytes library.old) told
-        × Keeps (O.taken out.old) (O.taken out.new) × Appends (E.taken err.old) (E.taken err.new) (line_of told) }
+    // A text is refused only where it breaks a rule or isn't of the form, with the lines of exactly those diagnostics.
+    ensures refused { result.status ≡ 3 → (told : List Diagnostic) × IsRefused (map string_bytes words.now) (L.bytes library.old) told
+        × Keeps (O.taken out.old) (O.taken out.new) × Appends (E.taken err.old) (E.taken err.new) (lines_of told) }
 
     // One journal: the run of the text to its end.
     ensures journal { IfSome result.over (IsRunOf (map string_bytes words.now) (L.bytes library.old) result.events) }

@@ -3,11 +3,11 @@ use Rattle.chill_top.proofs.told.tell.Goals as goal
 
 -- it is too long
 pub returns-then-text-gt-MAX_BYTES : goal.returns-then-text-gt-MAX_BYTES
-returns-then-text-gt-MAX_BYTES c = long_refused c.args.text.now c.plain.result c.if-text-gt-MAX_BYTES.true c.plain.ensures
+returns-then-text-gt-MAX_BYTES c = long_refused c.args.text.now c.refuse_plainly.result c.if-text-gt-MAX_BYTES.true c.refuse_plainly.ensures
 
 -- a byte begins no token
 pub returns-in-Err-Bad : goal.returns-in-Err-Bad
 returns-in-Err-Bad c =
     let arm = c.in-Err-Bad in
     let refused = rw arm.field-0-is at arm.ensures.refused in
-    rw arm.diagnostic-is (bad_refused c.args.text.now arm.diagnostic c.if-text-gt-MAX_BYTES.false refused.0 refused.1 refused.2 refused.3)
+    bad_refused c.args.text.now arm.told c.refuse.result c.if-text-gt-MAX_BYTES.false refused.0 refused.1 refused.2 refused.3 c.refuse.ensures
