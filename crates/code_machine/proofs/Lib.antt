@@ -1,0 +1,5 @@
+pub mod LocalSteps
+pub mod CallSteps
+pub mod RaisingSteps
+pub mod Handlers
+pub mod LastRegion
