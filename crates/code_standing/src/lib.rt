@@ -1,0 +1,9 @@
+//! Guarded code is never stuck: whatever a process of a code that agrees reaches, it stands well, and its next step finds what
+//! it asks.
+//!
+//! The crate has definitions and laws. It stands on `code_guard`, and the machine stands on it.
+#![tactic(auto)]
+
+mod laws;
+
+pub use laws::start_law;
