@@ -1,5 +1,0 @@
-pub mod LocalSteps
-pub mod CallSteps
-pub mod RaisingSteps
-pub mod Handlers
-pub mod LastRegion

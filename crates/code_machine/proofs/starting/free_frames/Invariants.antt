@@ -1,6 +1,0 @@
-use Rattle.std.proofs.Common.{◌≡◌, ◌≤◌, All, length, vec_capacity}
-use Rattle.code_machine.specs.Rooms.{HasRoom}
-use Rattle.code_machine.proofs.starting.free_frames.Given as goal
-
-abbrev pub invariant-places : goal.invariant-places
-invariant-places l = All (HasRoom l.height l.locals) l.frames.items × (length l.frames.items ≡ l.counter) × (l.count ≤ vec_capacity l.frames)

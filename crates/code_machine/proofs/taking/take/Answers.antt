@@ -1,7 +1,0 @@
-use Rattle.std.proofs.Common.{map}
-use Rattle.code_types.specs.State.{Asking}
-use Rattle.code_machine.specs.Views.{slot_of}
-use Rattle.code_machine.proofs.taking.take.Goals as goal
-
-pub returns-in-End : goal.returns-in-End
-returns-in-End c = rw c.in-End.is (c.give_up.ensures (Asking c.args.request.now (map slot_of c.args.slots.now)))
