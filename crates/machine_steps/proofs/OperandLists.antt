@@ -91,3 +91,18 @@ pub triples_from : (numbers : List ℤ) (locals i : ℕ) (thing local count d : 
     → triples_of locals i (drop (3 * i) numbers) ≡ with_triple i (number_in thing) (slot_in locals (offset_of local) (offset_of count)) (triples_of locals (suc i) (drop (3 * (i + 1)) numbers))
 triples_from numbers locals i thing local count d h first second third =
     ap (triples_of locals i) (three_more numbers i d h) ∙ rw (first, second, third) refl
+
+-- one triple more
+pub triple_more : (numbers : List ℤ) (locals i : ℕ) (things : List Alternative) (slots : List Slot) (d : ℤ) (thing : ℕ) (slot : Slot)
+    → triples_of locals 0 numbers ≡ behind_both things slots (triples_of locals i (drop (3 * i) numbers))
+    → 3 * i + 2 < length numbers
+    → number_in (get_or numbers (3 * i) d) ≡ Some thing
+    → slot_in locals (offset_of (get_or numbers (3 * i + 1) d)) (offset_of (get_or numbers (3 * i + 2) d)) ≡ Some slot
+    → triples_of locals 0 numbers ≡ behind_both (things ++ record { thing = thing; number = i } ∷ []) (slots ++ slot ∷ []) (triples_of locals (i + 1) (drop (3 * (i + 1)) numbers))
+triple_more numbers locals i things slots d thing slot so_far h named placed =
+    let next : suc i ≡ i + 1 = omega arith in
+    let rest = triples_of locals (suc i) (drop (3 * (i + 1)) numbers) in
+    so_far
+    ∙ ap (behind_both things slots) (triples_from numbers locals i (get_or numbers (3 * i) d) (get_or numbers (3 * i + 1) d) (get_or numbers (3 * i + 2) d) d h refl refl refl)
+    ∙ rw (named, placed) (behind_triple things slots i thing slot rest)
+    ∙ ap (λ (n : ℕ). behind_both (things ++ record { thing = thing; number = i } ∷ []) (slots ++ slot ∷ []) (triples_of locals n (drop (3 * (i + 1)) numbers))) next

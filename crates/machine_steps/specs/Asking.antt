@@ -30,3 +30,11 @@ HasFewSlots Called = Unit {0}
 HasFewSlots (AsksNow request slots) = length slots.items < 2 ^ 32
 HasFewSlots (Raising exception) = Unit {0}
 HasFewSlots Ended = Unit {0}
+
+-- no request waits
+abbrev pub IsNotAsking : Doing → Type 0
+IsNotAsking Running = Unit {0}
+IsNotAsking Called = Unit {0}
+IsNotAsking (AsksNow request slots) = ⊥
+IsNotAsking (Raising exception) = Unit {0}
+IsNotAsking Ended = Unit {0}

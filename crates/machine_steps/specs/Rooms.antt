@@ -2,6 +2,8 @@
 use Rattle.std.specs.Prelude.{◌≡◌, ℕ, ◌+◌, ◌≤◌, All, List, [], ◌∷◌, ◌++◌, length, vec_capacity}
 use Rattle.code_types.specs.declared.code.Code.{Code}
 use Rattle.machine_steps.specs.declared.process.Process.{Process}
+use Rattle.machine_steps.specs.declared.process.Doing.{Doing}
+use Rattle.machine_steps.specs.declared.process.Doing.TheVariants.{Running, Called, Asking, Raising, Ended}
 use Rattle.machine_steps.specs.declared.process.Stepped.{Stepped}
 use Rattle.machine_steps.specs.declared.process.Stepped.TheVariants.{GoesOn, Ticks, Asks, Wants}
 use Rattle.machine_steps.specs.declared.room.Room.{Room}
@@ -36,6 +38,12 @@ pub record KeepsFrames (old new : Process) : Type 0 where
   pub below : new.below ≡ old.below
   pub spare : new.spare ≡ old.spare
   pub regions : new.regions ≡ old.regions
+
+-- the frames are where they were, and no frame gives up room
+pub record KeepsPlaces (old new : Process) : Type 0 where
+  pub top : KeepsRoom old.top new.top
+  pub below : new.below ≡ old.below
+  pub spare : new.spare ≡ old.spare
 
 -- whatever room the 250 frames had, they have
 pub record StaysRoomy (old new : Process) : Type 0 where
@@ -80,3 +88,11 @@ pub record IsPopped (old new : Process) : Type 0 where
   pub spare : new.spare.items ≡ old.spare.items ++ left ∷ []
   pub unused : vec_capacity old.spare ≤ vec_capacity new.spare
   pub regions : new.regions ≡ old.regions
+
+-- the frames are where they were, and no frame gives up room; a process that has ended has no frames
+abbrev pub KeepsUnlessEnded : Doing → Process → Process → Type 0
+KeepsUnlessEnded Running old new = KeepsPlaces old new
+KeepsUnlessEnded Called old new = KeepsPlaces old new
+KeepsUnlessEnded (Asking request slots) old new = KeepsPlaces old new
+KeepsUnlessEnded (Raising exception) old new = KeepsPlaces old new
+KeepsUnlessEnded Ended old new = Unit {0}

@@ -75,14 +75,14 @@ pub fn put_triples(
 {
     for number in 0..count {
         let i = 3 * number as usize;
-        let slot = slot_from(locals, numbers[i + 1], numbers[i + 2]);
-        match (thing_from(numbers[i]), slot) {
-            (Some(thing), Some(slot)) => {
-                things.push(Alternative { thing, number }).unwrap();
-                slots.push(slot).unwrap();
-            }
-            _ => return false,
-        }
+        let Some(thing) = thing_from(numbers[i]) else {
+            return false;
+        };
+        let Some(slot) = slot_from(locals, numbers[i + 1], numbers[i + 2]) else {
+            return false;
+        };
+        things.push(Alternative { thing, number }).unwrap();
+        slots.push(slot).unwrap();
     }
     true
 }

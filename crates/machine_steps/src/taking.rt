@@ -3,6 +3,8 @@ ghost use Rattle.std.specs.Prelude.{◌≡◌, ◌+◌, ◌^◌, ◌<◌, ◌≤
 ghost use Rattle.code_types.specs.Answers.{answered, ended, frame_after, goes_on, locals_after, no_slot, pushed_by, regions_after};
 ghost use Rattle.code_types.specs.State.{Asking, Mode};
 ghost use Rattle.machine_steps.specs.Answering.{takes_answer};
+ghost use Rattle.machine_steps.specs.Asking.{HasFewSlots, IsNotAsking};
+ghost use Rattle.machine_steps.specs.Rooms.{KeepsPlaces, KeepsUnlessEnded};
 ghost use Rattle.world_model.specs.Lists.{with_scalars};
 ghost use Rattle.machine_frames.specs.Frames.{KeepsRoom, frame_of};
 ghost use Rattle.machine_steps.specs.Taking.{HasAnswerRoom, HoldsAnswer, IsNoEnd, IsStored, after_answer, process_in};
@@ -134,7 +136,8 @@ fn note_region(regions: &mut Vec<RegionEntry>, request: &Request, frame: usize)
 
 // The answer to End: the process has ended, and gives up its frames.
 fn give_up(process: &mut Process)
-    ensures { (mode : Mode) → state_of process.new ≡ ended (process_in process.old mode) }
+    ensures state { (mode : Mode) → state_of process.new ≡ ended (process_in process.old mode) }
+    ensures ended { process.new.doing ≡ Doing.Ended }
 {
     process.top.stack.clear();
     process.top.locals.clear();
@@ -148,7 +151,9 @@ fn give_up(process: &mut Process)
 fn take_in(process: &mut Process, request: &Request, slots: &[SlotEntry], answer: &Answer)
     requires running { process.old.doing ≡ Doing.Running }
     requires holds { HoldsAnswer slots.now answer.now process.old }
-    ensures { let s = process_in process.old (Asking request.now (map slot_of slots.now)) in state_of process.new ≡ goes_on s request.now (map slot_of slots.now) answer.now s.frames }
+    ensures state { let s = process_in process.old (Asking request.now (map slot_of slots.now)) in state_of process.new ≡ goes_on s request.now (map slot_of slots.now) answer.now s.frames }
+    ensures running { process.new.doing ≡ Doing.Running }
+    ensures memory { KeepsPlaces process.old process.new }
 {
     let frame = process.below.len() + 1;
     go_on(&mut process.top, slots, answer);
@@ -160,7 +165,10 @@ fn take_going(process: &mut Process, request: &Request, slots: &[SlotEntry], ans
     requires running { process.old.doing ≡ Doing.Running }
     requires holds { HoldsAnswer slots.now answer.now process.old }
     requires going { IsNoEnd request.now }
-    ensures { state_of process.new ≡ answered (process_in process.old (Asking request.now (map slot_of slots.now))) request.now (map slot_of slots.now) answer.now }
+    ensures state { state_of process.new ≡ answered (process_in process.old (Asking request.now (map slot_of slots.now))) request.now (map slot_of slots.now) answer.now }
+    ensures memory { KeepsUnlessEnded process.new.doing process.old process.new }
+    ensures few { HasFewSlots process.new.doing }
+    ensures going { IsNotAsking process.new.doing }
 {
     match answer {
         Answer::Fail(exception) => process.doing = Doing::Raising(*exception),
@@ -180,7 +188,10 @@ fn take_going(process: &mut Process, request: &Request, slots: &[SlotEntry], ans
 fn take(process: &mut Process, request: &Request, slots: &[SlotEntry], answer: &Answer)
     requires running { process.old.doing ≡ Doing.Running }
     requires holds { HoldsAnswer slots.now answer.now process.old }
-    ensures { state_of process.new ≡ answered (process_in process.old (Asking request.now (map slot_of slots.now))) request.now (map slot_of slots.now) answer.now }
+    ensures state { state_of process.new ≡ answered (process_in process.old (Asking request.now (map slot_of slots.now))) request.now (map slot_of slots.now) answer.now }
+    ensures memory { KeepsUnlessEnded process.new.doing process.old process.new }
+    ensures few { HasFewSlots process.new.doing }
+    ensures going { IsNotAsking process.new.doing }
 {
     match request {
         Request::End { .. } => give_up(process),
@@ -205,7 +216,10 @@ impl Process {
     pub fn answer(&mut self, answer: Answer)
         requires can { IsTrue (takes_answer (state_of self.old).mode answer) }
         requires room { HasAnswerRoom self.old.doing answer self.old }
-        ensures { state_of self.new ≡ after_answer (state_of self.old) answer }
+        ensures state { state_of self.new ≡ after_answer (state_of self.old) answer }
+        ensures memory { KeepsUnlessEnded self.new.doing self.old self.new }
+        ensures few { HasFewSlots self.new.doing }
+        ensures going { IsNotAsking self.new.doing }
     {
         let doing = replace(&mut self.doing, Doing::Running);
         match doing {
