@@ -1,5 +1,5 @@
 -- What comes of operands: each way to read them leads to an action that keeps a fact, where each of its outcomes does.
-use Rattle.std.proofs.Common.{◌≡◌, refl, ℕ, zero, suc, ◌+◌, ◌≤◌, Bool, true, false, List, [], ◌∷◌, ℤ, length, take, drop, nat_le, Some, None, arith, rules, tests}
+use Rattle.std.proofs.Common.{◌≡◌, refl, ℕ, suc, ◌+◌, ◌≤◌, Bool, true, false, List, [], ◌∷◌, ℤ, length, take, drop, nat_le, Some, None, arith, rules, tests}
 use Rattle.std.specs.Prelude.{if◌then◌else◌, All}
 use Rattle.std.proofs.lemmas.List.{length-take, length-drop}
 use Rattle.std.proofs.lemmas.List.Elements.{All-cons}
@@ -9,7 +9,6 @@ use Rattle.chill_base.specs.declared.ends.Exc.TheVariants.{Rangefail, Empty}
 use Rattle.chill_base.specs.declared.request.Alternative.{Alternative}
 use Rattle.chill_base.specs.declared.request.Request.{Request}
 use Rattle.chill_base.specs.declared.request.Request.TheVariants.{Delay as AsksDelay, Put}
-use Rattle.code_types.specs.Numbers.{where_true}
 use Rattle.code_types.specs.Operands.{part_of, offset_of, number_in, with_triple, slot_in, Triples, triples_of}
 use Rattle.code_types.specs.Actions.{Action, Pushes, Sets, Throws, Requests, Halts, with_one, with_two, with_lowest, result_or, numbers_or, member_or_empty, at_offset, in_frame, set_in_frame, set_at, asks, with_number, receives, delays, puts}
 use Rattle.code_types.specs.State.{Slot}

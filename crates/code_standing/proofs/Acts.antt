@@ -1,12 +1,11 @@
 -- What each instruction does keeps a process standing well.
-use Rattle.std.proofs.Common.{◌≡◌, refl, ℕ, zero, suc, ◌+◌, ◌<◌, ◌≤◌, ◌⊎◌, inl, inr, Bool, true, false, List, [], ◌∷◌, ◌++◌, ℤ, length, take, drop, Option, Some, None, IsTrue, nat_lt, arith, rules, tests}
+use Rattle.std.proofs.Common.{◌≡◌, refl, ℕ, ◌+◌, ◌<◌, ◌≤◌, inl, inr, true, false, List, [], ◌∷◌, ℤ, length, take, drop, Option, Some, None, nat_lt, arith, rules, tests}
 use Rattle.std.specs.Prelude.{IsFalse, ◌+ℤ◌, pos}
-use Rattle.std.proofs.lemmas.List.{length-append, length-take, length-drop}
+use Rattle.std.proofs.lemmas.List.{length-append, length-drop}
 use Rattle.chill_base.specs.declared.ends.Exc.{Exc}
 use Rattle.chill_base.specs.declared.ends.Exc.TheVariants.{Overflow, Rangefail, Spacefail}
 use Rattle.chill_base.specs.declared.request.Request.{Request}
-use Rattle.chill_base.specs.declared.request.Request.TheVariants.{Read as AsksRead, Write as AsksWrite, Enter as AsksEnter, Leave as AsksLeave, Delay as AsksDelay, Continue as AsksContinue, SendBuffer, ReceiveBuffer, SendSignal, ReceiveSignal, Start as AsksStart, Put, Get, End}
-use Rattle.chill_base.specs.declared.answer.Answer.{Answer}
+use Rattle.chill_base.specs.declared.request.Request.TheVariants.{Read as AsksRead, Write as AsksWrite, Enter as AsksEnter, Leave as AsksLeave, Delay as AsksDelay, Continue as AsksContinue, SendBuffer, ReceiveBuffer, SendSignal, ReceiveSignal, Start as AsksStart, Put, Get}
 use Rattle.code_types.specs.declared.instr.Instr.{Instr}
 use Rattle.code_types.specs.declared.instr.Instr.TheVariants.{Push, Pop, Copy, Thing, Local, SetLocal, LocalAt, SetLocalAt, Part, PartAt, Index, Check, Add, Sub, Mul, Div, Mod, Rem, Neg, Abs, Succ, Pred, Same, Less, Not, And, Or, Xor, BitNot, BitAnd, BitOr, BitXor, BitMinus, Within, Has, Card, Least, Most, Span, Jump, Unless, Again, Call, Return, Enter, Leave, Raise, This, Read, Write, Delay, Continue, Send, Signal, Take, Hear, Start, PutInt, PutText, PutLine, GetInt, Stop, Finish}
 use Rattle.code_types.specs.declared.code.BodyRow.{BodyRow}
@@ -14,12 +13,12 @@ use Rattle.code_types.specs.declared.code.Code.{Code}
 use Rattle.code_types.specs.Agreement.{IsNamed, LeadsForward, LeadsTo}
 use Rattle.code_types.specs.Places.{finds, pops, pushes, is_last}
 use Rattle.code_types.specs.Operands.{triples_of}
-use Rattle.code_types.specs.Answers.{gives, fits_request}
-use Rattle.code_types.specs.Actions.{Action, Pushes, Sets, GoesTo, TicksTo, Calls, Returns, Throws, Requests, Halts, action_of, on_ints, on_powersets, with_one, result_or, truth, asks, is_open, is_last_of, most_frames}
+use Rattle.code_types.specs.Answers.{gives}
+use Rattle.code_types.specs.Actions.{Action, Pushes, Sets, GoesTo, TicksTo, Calls, Returns, Throws, Requests, Halts, action_of, on_ints, with_one, result_or, asks, is_open, is_last_of, most_frames}
 use Rattle.code_types.specs.State.{Frame, Slot, State}
 use Rattle.code_types.specs.Steps.{moved}
-use Rattle.code_standing.specs.Standing.{Brings, Waits, WaitsFor}
-use Rattle.code_standing.proofs.Actions.{one, two, lowest, result, member, offset, numbered, when, part, framed, set_framed, set_offset, delay, put, Lie, TriplesLie, no_slots_lie, triples_lie, receive}
+use Rattle.code_standing.specs.Standing.{Waits, WaitsFor}
+use Rattle.code_standing.proofs.Actions.{one, two, lowest, result, member, offset, numbered, when, part, framed, set_framed, set_offset, delay, put, Lie, no_slots_lie, triples_lie, receive}
 use Rattle.code_standing.proofs.Answering.{AllBring, read_brings, done_brings, delay_brings, continue_brings, send_buffer_brings, receive_brings, send_signal_brings, start_brings, get_brings, fitting_brings}
 
 -- What an action has to be, which the instruction makes in a frame of so many, so that the process stands well behind it.
@@ -57,7 +56,7 @@ binary : (code : Code) (f : Frame) (count : ℕ) (instr : Instr) (operator : ℤ
     → ActsWell code f count instr (on_ints xs operator)
 binary code f count instr operator xs h on level = two (ActsWell code f count instr) (λ x y. result_or Overflow (operator x y)) xs h (λ x y. result (ActsWell code f count instr) Overflow (operator x y) tt (λ z. (on, level)))
 
-lt_tells : (m n : ℕ) → nat_lt m n ≡ true → m < n
+pub lt_tells : (m n : ℕ) → nat_lt m n ≡ true → m < n
 lt_tells m n h = search (rules, tests)
 
 -- What an instruction does, that names what is there and leads forward, where its operands are found.
@@ -154,10 +153,10 @@ acts_well code row s f (Signal signal count true priority) xs named forward loca
     one (ActsWell code f (length s.frames) (Signal signal count true priority)) _ (drop count xs) (simp length-drop (omega arith)) (λ x. numbered (ActsWell code f (length s.frames) (Signal signal count true priority)) x _ tt (λ to. asked code f (Signal signal count true priority) (SendSignal signal (take count xs) (Some to) priority) refl refl (send_signal_brings code (Signal signal count true priority) (Some to) refl)))
 acts_well code row s f (Take n otherwise) xs named forward locals h =
     receive (ActsWell code f (length s.frames) (Take n otherwise)) (length f.locals) (length xs) (triples_of (length f.locals) 0 xs) (λ triples. ReceiveBuffer triples.things otherwise) (triples_lie (length f.locals) 0 xs) tt
-        (λ triples lie few. waits code f (Take n otherwise) (ReceiveBuffer triples.things otherwise) triples.slots refl refl lie (omega arith) (receive_brings code (Take n otherwise) triples.things otherwise refl))
+    (λ triples lie few. waits code f (Take n otherwise) (ReceiveBuffer triples.things otherwise) triples.slots refl refl lie (omega arith) (receive_brings code (Take n otherwise) triples.things otherwise refl))
 acts_well code row s f (Hear n otherwise) xs named forward locals h =
     receive (ActsWell code f (length s.frames) (Hear n otherwise)) (length f.locals) (length xs) (triples_of (length f.locals) 0 xs) (λ triples. ReceiveSignal triples.things otherwise) (triples_lie (length f.locals) 0 xs) tt
-        (λ triples lie few. waits code f (Hear n otherwise) (ReceiveSignal triples.things otherwise) triples.slots refl refl lie (omega arith) (receive_brings code (Hear n otherwise) triples.things otherwise refl))
+    (λ triples lie few. waits code f (Hear n otherwise) (ReceiveSignal triples.things otherwise) triples.slots refl refl lie (omega arith) (receive_brings code (Hear n otherwise) triples.things otherwise refl))
 acts_well code row s f (Start process count) xs named forward locals h =
     asked code f (Start process count) (AsksStart process xs) refl refl (start_brings code (Start process count) refl)
 acts_well code row s f PutInt xs named forward locals h =

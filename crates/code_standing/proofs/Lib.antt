@@ -3,3 +3,7 @@ pub mod Actions
 pub mod Answering
 pub mod Acts
 pub mod Starting
+pub mod Handling
+pub mod Moves
+pub mod Answered
+pub mod Reaching

@@ -6,4 +6,4 @@
 
 mod laws;
 
-pub use laws::start_law;
+pub use laws::{answer_law, lead_law, move_law, reach_law, start_law};
