@@ -7,3 +7,4 @@ pub mod Handling
 pub mod Moves
 pub mod Answered
 pub mod Reaching
+pub mod Needing
