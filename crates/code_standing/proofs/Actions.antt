@@ -1,5 +1,5 @@
 -- What comes of operands: each way to read them leads to an action that keeps a fact, where each of its outcomes does.
-use Rattle.std.proofs.Common.{◌≡◌, refl, ℕ, zero, suc, ◌+◌, ◌≤◌, Bool, true, false, List, [], ◌∷◌, ℤ, length, take, drop, nat_le, Some, None, arith, rules, tests}
+use Rattle.std.proofs.Common.{◌≡◌, refl, ℕ, suc, ◌+◌, ◌≤◌, Bool, true, false, List, [], ◌∷◌, ℤ, length, take, drop, nat_le, Some, None, arith, rules, tests}
 use Rattle.std.specs.Prelude.{if◌then◌else◌, All}
 use Rattle.std.proofs.lemmas.List.{length-take, length-drop}
 use Rattle.std.proofs.lemmas.List.Elements.{All-cons}
@@ -9,9 +9,8 @@ use Rattle.chill_base.specs.declared.ends.Exc.TheVariants.{Rangefail, Empty}
 use Rattle.chill_base.specs.declared.request.Alternative.{Alternative}
 use Rattle.chill_base.specs.declared.request.Request.{Request}
 use Rattle.chill_base.specs.declared.request.Request.TheVariants.{Delay as AsksDelay, Put}
-use Rattle.code_types.specs.Numbers.{where_true}
 use Rattle.code_types.specs.Operands.{part_of, offset_of, number_in, with_triple, slot_in, Triples, triples_of}
-use Rattle.code_types.specs.Actions.{Action, Pushes, Sets, Throws, Requests, Halts, with_one, with_two, with_lowest, result_or, numbers_or, member_or_empty, at_offset, in_frame, set_in_frame, set_at, asks, receives, delays, puts}
+use Rattle.code_types.specs.Actions.{Action, Pushes, Sets, Throws, Requests, Halts, with_one, with_two, with_lowest, result_or, numbers_or, member_or_empty, at_offset, in_frame, set_in_frame, set_at, asks, with_number, receives, delays, puts}
 use Rattle.code_types.specs.State.{Slot}
 
 pub one : (P : Action → Type 0) (next : ℤ → Action) (xs : List ℤ) → length xs ≡ 1 → ((x : ℤ) → P (next x)) → P (with_one xs next)
@@ -41,6 +40,9 @@ pub offset : (P : Action → Type 0) (o : Option ℕ) (next : ℕ → Action) �
 offset P None next throws each = throws
 offset P (Some k) next throws each = each k
 
+pub numbered : (P : Action → Type 0) (z : ℤ) (next : ℕ → Action) → P (Throws Rangefail) → ((k : ℕ) → P (next k)) → P (with_number z next)
+numbered P z next throws each = offset P (number_in z) next throws each
+
 pub when : {A : Type 0} (P : A → Type 0) (b : Bool) (x y : A) → (b ≡ true → P x) → (b ≡ false → P y) → P (if b then x else y)
 when P true x y holds fails = holds refl
 when P false x y holds fails = fails refl
@@ -58,14 +60,14 @@ part_long xs first count h = simp (length-take, length-drop) (omega arith)
 pub part : (P : Action → Type 0) (exception : Exc) (xs : List ℤ) (first count : ℕ) → P (Throws exception) → ((zs : List ℤ) → length zs ≡ count → P (Pushes zs)) → P (numbers_or exception (part_of xs first count))
 part P exception xs first count throws pushes =
     when (λ o. P (numbers_or exception o)) (nat_le (first + count) (length xs)) (Some (take count (drop first xs))) None
-        (λ e. pushes (take count (drop first xs)) (part_long xs first count (le_tells (first + count) (length xs) e)))
-        (λ e. throws)
+    (λ e. pushes (take count (drop first xs)) (part_long xs first count (le_tells (first + count) (length xs) e)))
+    (λ e. throws)
 
 pub framed : (P : Action → Type 0) (xs : List ℤ) (first count : ℕ) → first + count ≤ length xs → ((zs : List ℤ) → length zs ≡ count → P (Pushes zs)) → P (in_frame (part_of xs first count))
 framed P xs first count within pushes =
     when (λ o. P (in_frame o)) (nat_le (first + count) (length xs)) (Some (take count (drop first xs))) None
-        (λ e. pushes (take count (drop first xs)) (part_long xs first count within))
-        (λ e. let yes = le_true (first + count) (length xs) within in absurd (let no : ⊥ = cc in no))
+    (λ e. pushes (take count (drop first xs)) (part_long xs first count within))
+    (λ e. let yes = le_true (first + count) (length xs) within in absurd (let no : ⊥ = cc in no))
 
 pub set_framed : (P : Action → Type 0) (locals first : ℕ) (zs : List ℤ) → first + length zs ≤ locals → P (Sets first zs) → P (set_in_frame locals first zs)
 set_framed P locals first zs within sets =
@@ -117,7 +119,7 @@ triples_lie locals number (thing ∷ []) = tt
 triples_lie locals number (thing ∷ local ∷ []) = tt
 triples_lie locals number (thing ∷ local ∷ count ∷ rest) =
     more_lie locals (length rest) number (number_in thing) (slot_in locals (offset_of local) (offset_of count)) (triples_of locals (suc number) rest)
-        (slot_lies locals (offset_of local) (offset_of count)) (triples_lie locals (suc number) rest)
+    (slot_lies locals (offset_of local) (offset_of count)) (triples_lie locals (suc number) rest)
 
 pub receive : (P : Action → Type 0) (locals most : ℕ) (o : Option Triples) (request : Triples → Request) → TriplesLie locals most o → P (Throws Rangefail)
     → ((triples : Triples) → Lie locals triples.slots → length triples.slots ≤ most → P (Requests (request triples) triples.slots)) → P (receives o request)

@@ -1,3 +1,10 @@
 pub mod Places
 pub mod Actions
+pub mod Answering
+pub mod Acts
 pub mod Starting
+pub mod Handling
+pub mod Moves
+pub mod Answered
+pub mod Reaching
+pub mod Needing

@@ -1,5 +1,5 @@
 -- Places in a body, and where control comes to.
-use Rattle.std.proofs.Common.{◌≡◌, refl, ℕ, suc, ◌+◌, ◌<◌, ◌≤◌, ◌⊎◌, inl, inr, List, length, Some, IsTrue, slice_get, sym, ap, ◌∙◌, arith}
+use Rattle.std.proofs.Common.{◌≡◌, refl, ℕ, ◌+◌, ◌<◌, ◌≤◌, ◌⊎◌, inl, inr, List, length, Some, IsTrue, slice_get, arith}
 use Rattle.std.specs.Prelude.{IsFalse}
 use Rattle.code_guard.proofs.Lists.{item_or_past}
 use Rattle.code_guard.proofs.Belonging.{end_inside}

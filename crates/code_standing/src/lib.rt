@@ -5,5 +5,7 @@
 #![tactic(auto)]
 
 mod laws;
+mod needs;
 
-pub use laws::start_law;
+pub use laws::{answer_law, lead_law, move_law, reach_law, start_law};
+pub use needs::{enter_law, hold_law, land_law, make_law, placed_law, return_law};
