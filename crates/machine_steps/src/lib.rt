@@ -24,6 +24,7 @@ mod taking;
 pub use process::{Doing, Process, RegionEntry, SlotEntry, Stepped};
 pub use raising::landing;
 pub use room::Room;
+pub use starting::greatest_height;
 
 #[cfg(test)]
 mod tests;

@@ -17,8 +17,8 @@ use std::alloc::Global;
 // The most frames below the innermost one.
 const MOST_BELOW: usize = 249;
 
-// The greatest height that the code's bodies have.
-fn greatest_height(code: &Code) -> u32
+/// The greatest height that the code's bodies have.
+pub fn greatest_height(code: &Code) -> u32
     ensures { All (λ row. row.height ≤ result) code.now.bodies }
 {
     let mut greatest = 0;
@@ -86,6 +86,7 @@ fn process_of(
     requires { HasRoom height locals top }
     ensures state { IfOk result (λ m. state_of m ≡ record { instance = instance; frames = frame_of top ∷ []; regions = []; mode = Running }) }
     ensures room { IfOk result (IsRoomy height locals) }
+    ensures running { IfOk result (λ m. m.doing ≡ Doing.Running) }
 {
     let spare = free_frames(alloc, MOST_BELOW, height, locals)?;
     let below = Vec::with_capacity(alloc, MOST_BELOW)?;
@@ -121,6 +122,7 @@ impl Process {
         requires { IsSomeAnd (slice_get guarded.now.bodies process) (λ row. row.params ≡ length scalars) }
         ensures starts { IfOk result (λ m. start_of guarded.now instance process scalars ≡ Some (state_of m)) }
         ensures room { IfOk result (λ m. HasRoomFor guarded.now m) }
+        ensures running { IfOk result (λ m. m.doing ≡ Doing.Running) }
     {
         let code = guarded.code();
         let height = greatest_height(code) as usize;
