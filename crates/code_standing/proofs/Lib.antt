@@ -9,3 +9,5 @@ pub mod Falling
 pub mod Answered
 pub mod Reaching
 pub mod Needing
+pub mod Talking
+pub mod Prefixes

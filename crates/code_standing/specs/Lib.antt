@@ -2,3 +2,4 @@ pub mod Standing
 pub mod Laws
 pub mod Needs
 pub mod Weights
+pub mod Talks
