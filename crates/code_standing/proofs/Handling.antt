@@ -40,17 +40,16 @@ taken (h ∷ hs) place exception handler e = by-test (takes h place exception) r
     by-test false leaves_it is later = let t = later is in record { number = suc t.number; is_handler = t.is_handler; from = t.from; until = t.until }
 
 -- what a taken handler is to a place at which an instruction of a body stands
-pub record Lands (code : Code) (heights : List ℕ) (body : ℕ) (row : BodyRow) (popped height : ℕ) (handler : Handler) : Type 0 where
+pub record Lands (code : Code) (heights : List ℕ) (body : ℕ) (row : BodyRow) (place popped height : ℕ) (handler : Handler) : Type 0 where
   pub from : row.first ≤ handler.target
   pub until : handler.target < end_of code body
+  pub later : place < handler.target
   pub has : HasHeight heights handler.target handler.height
   pub keeps : handler.height + popped ≤ height
-  pub number : ℕ
-  pub is_handler : slice_get code.handlers number ≡ Some handler
 
 pub lands : (code : Code) (agrees : Agrees code) (body : ℕ) (row : BodyRow) (place : ℕ) (instr : Instr) (height : ℕ) (handler : Handler)
     → StandsIn code body row place instr → HasHeight agrees.heights place height → IsTaken code.handlers place handler
-    → Lands code agrees.heights body row (pops code body instr) height handler
+    → Lands code agrees.heights body row place (pops code body instr) height handler
 lands code agrees body row place instr height handler at has t =
     let h : HandlesInOneBody code handler = all_at (HandlesInOneBody code) code.handlers t.number handler agrees.handlers t.is_handler in
     let from = t.from in
@@ -66,8 +65,7 @@ lands code agrees body row place instr height handler at has t =
     record {
       from = (let b = here.behind in omega arith);
       until = here.until;
+      later = omega arith;
       has = all_at (λ (x : Handler). HasHeight agrees.heights x.target x.height) code.handlers t.number handler agrees.are_heights.targets t.is_handler;
       keeps = all_at (λ (x : Handler). Everywhere code (λ body row place instr. (height : ℕ) → x.from ≤ place → place < x.until → HasHeight agrees.heights place height → x.height + pops code body instr ≤ height)) code.handlers t.number handler agrees.are_heights.handled t.is_handler body row place instr at height from until has;
-      number = t.number;
-      is_handler = t.is_handler;
     }

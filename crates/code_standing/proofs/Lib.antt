@@ -5,6 +5,9 @@ pub mod Acts
 pub mod Starting
 pub mod Handling
 pub mod Moves
+pub mod Falling
 pub mod Answered
 pub mod Reaching
 pub mod Needing
+pub mod Talking
+pub mod Prefixes

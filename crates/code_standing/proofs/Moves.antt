@@ -130,6 +130,23 @@ made_well code agrees instance regions f below rest (Requests request slots) st 
     record { frames = (record { row = st.row; instr = st.instr; height = st.height; inside = st.inside; has = st.has; locals = st.locals; stack = well rest st.height left }, calls); few = few }
 made_well code agrees instance regions f below rest Halts st calls few left well = absurd well
 
+-- the operands of the instruction at the place are on the stack
+operands_found : (code : Code) (agrees : Agrees code) (f : Frame) (st : Stands code agrees.heights f (IsHighIn code Running f)) → finds code f.body st.instr ≤ length f.stack
+operands_found code agrees f st =
+    let full = st.stack in
+    let k = (agrees.are_heights.operands f.body st.row f.place st.instr st.inside st.height st.has).0 in
+    omega arith
+
+-- what the instruction at the place does is well
+pub action_stands : (code : Code) (agrees : Agrees code) (instance : ℕ) (regions : List OpenRegion) (f : Frame) (below : List Frame)
+    → (st : Stands code agrees.heights f (IsHighIn code Running f))
+    → ActsWell code f (length (f ∷ below)) st.instr (action_of (process instance regions Running (f ∷ below)) f st.instr (topmost (finds code f.body st.instr) f.stack))
+action_stands code agrees instance regions f below st =
+    let count = finds code f.body st.instr in
+    acts_well code st.row (process instance regions Running (f ∷ below)) f st.instr (topmost count f.stack)
+    (agrees.named f.body st.row f.place st.instr st.inside) (agrees.forward f.body st.row f.place st.instr st.inside) st.locals
+    (length-topmost count f.stack (operands_found code agrees f st))
+
 -- the instruction at the place is made
 executed_well : (code : Code) (agrees : Agrees code) (instance : ℕ) (regions : List OpenRegion) (f : Frame) (below : List Frame)
     → Stands code agrees.heights f (IsHighIn code Running f) → StandAtCalls code agrees.heights f.body below → length (f ∷ below) ≤ most_frames
@@ -137,14 +154,13 @@ executed_well : (code : Code) (agrees : Agrees code) (instance : ℕ) (regions :
 executed_well code agrees instance regions f below st calls few =
     let s = process instance regions Running (f ∷ below) in
     let count = finds code f.body st.instr in
-    let full = st.stack in
-    let found : count ≤ length f.stack = (let k = (agrees.are_heights.operands f.body st.row f.place st.instr st.inside st.height st.has).0 in omega arith) in
-    let left : length (below_topmost count f.stack) + count ≡ st.height = length-below count f.stack found ∙ st.stack in
-    let well : ActsWell code f (length (f ∷ below)) st.instr (action_of s f st.instr (topmost count f.stack)) =
-    acts_well code st.row s f st.instr (topmost count f.stack) (agrees.named f.body st.row f.place st.instr st.inside) (agrees.forward f.body st.row f.place st.instr st.inside) st.locals (length-topmost count f.stack found) in
+    let found = operands_found code agrees f st in
+    let rest = below_topmost count f.stack in
+    let left : length rest + count ≡ st.height = length-below count f.stack found ∙ st.stack in
+    let action = action_of s f st.instr (topmost count f.stack) in
     let step : MovesWell code agrees.heights s (executed code s f below (Some st.instr)) =
-    when (MovesWell code agrees.heights s) (nat_le count (length f.stack)) (made s f below (below_topmost count f.stack) (action_of s f st.instr (topmost count f.stack))) Stays
-    (λ e. made_well code agrees instance regions f below (below_topmost count f.stack) (action_of s f st.instr (topmost count f.stack)) st calls few left well)
+    when (MovesWell code agrees.heights s) (nat_le count (length f.stack)) (made s f below rest action) Stays
+    (λ e. made_well code agrees instance regions f below rest action st calls few left (action_stands code agrees instance regions f below st))
     (λ e. let yes = le_true count (length f.stack) found in absurd (let no : ⊥ = cc in no)) in
     subst (λ (o : Option Instr). MovesWell code agrees.heights s (executed code s f below o)) (sym st.inside.is_instr) step
 

@@ -1,3 +1,5 @@
 pub mod Standing
 pub mod Laws
 pub mod Needs
+pub mod Weights
+pub mod Talks
