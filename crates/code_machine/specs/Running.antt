@@ -1,5 +1,5 @@
 -- Machines that run a code, and what a burst makes of them.
-use Rattle.std.specs.Prelude.{◌≡◌, ℕ, ◌+◌, ◌^◌, ◌<◌, ◌≤◌, List, [], ◌∷◌, ◌++◌, length, vec_capacity}
+use Rattle.std.specs.Prelude.{◌≡◌, ℕ, ◌+◌, ◌^◌, ◌<◌, ◌≤◌, All, List, [], ◌∷◌, ◌++◌, length, vec_capacity}
 use Rattle.chill_base.specs.declared.request.Request.{Request}
 use Rattle.world_model.specs.Session.{Ask}
 use Rattle.world_model.specs.Journal.{ticks_of}
@@ -12,7 +12,8 @@ use Rattle.machine_steps.specs.declared.process.Doing.{Doing}
 use Rattle.machine_steps.specs.declared.process.Doing.TheVariants.{Running, Called, Asking, Raising, Ended}
 use Rattle.machine_steps.specs.declared.process.Process.{Process}
 use Rattle.machine_steps.specs.Asking.{HasFewSlots}
-use Rattle.machine_steps.specs.Rooms.{HasRoomFor}
+use Rattle.machine_steps.specs.declared.room.Room.{Room}
+use Rattle.machine_steps.specs.Rooms.{HasLists, HasRoomFor}
 use Rattle.machine_steps.specs.Views.{state_of}
 use Rattle.code_machine.specs.declared.burst.Stop.{Stop}
 use Rattle.code_machine.specs.declared.burst.Stop.TheVariants.{Asks, Paused}
@@ -39,6 +40,20 @@ pub record RunsOn (code : Code) (p : Process) : Type 0 where
   pub short : length code.instrs < 2 ^ 64
   pub room : HasRoomIn p.doing code p
   pub few : HasFewSlots p.doing
+
+-- Steps are made from a first state: so many ticks were made so far and no request was asked, and there is room for what the next
+-- step takes.
+pub record IsUnderway (code : Code) (most : ℕ) (from : State) (ticks : ℕ) (p : Process) (room : Room) : Type 0 where
+  pub stands : StandsOn code (state_of p)
+  pub short : length code.instrs < 2 ^ 64
+  pub frames : HasRoomFor code p
+  pub regions : length p.regions.items + 1 ≤ vec_capacity p.regions
+  pub up : IsUp (state_of p).mode
+  pub height : ℕ
+  pub heights : All (λ row. row.height ≤ height) code.bodies
+  pub lists : HasLists height room
+  pub leads : Leads code from [] (ticks_of ticks) (state_of p)
+  pub below : ticks < most
 
 -- what is known of each machine: it was started on some code
 abbrev pub RunsOnSome : Process → Type 0

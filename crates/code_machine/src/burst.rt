@@ -1,7 +1,7 @@
 // Bursts: steps up to a request or a number of ticks.
 ghost use Rattle.std.specs.Prelude.{◌≡◌, ◌+◌, ◌≤◌, IfOk, OnErr, IsOk, length, vec_capacity};
 ghost use Rattle.machine_steps.specs.Views.{state_of};
-ghost use Rattle.code_machine.specs.Running.{Bursts, IsUp, RunsOn};
+ghost use Rattle.code_machine.specs.Running.{Bursts, IsUnderway, IsUp, RunsOn};
 
 use crate::stepping::step;
 use chill_base::{Memory, Request};
@@ -19,6 +19,9 @@ pub enum Stop {
 
 // Makes steps up to a request or so many ticks, in room that was taken before.
 fn make_steps(process: &mut Process, code: &Code, room: &mut Room, most: u32) -> Stop
+    requires { IsUnderway code.now most (state_of process.old) 0 process.old room.old }
+    ensures bursts { Bursts code.now most (state_of process.old) (state_of process.new) result }
+    ensures runs { RunsOn code.now process.new }
 {
     let mut ticks = 0;
     'steps: loop {
@@ -42,7 +45,7 @@ pub fn burst_of(process: &mut Process, code: &Code, most: u32) -> Result<Stop, M
     requires up { IsUp (state_of process.old).mode }
     requires most { 1 ≤ most }
     ensures bursts { IfOk result (Bursts code.now most (state_of process.old) (state_of process.new)) }
-    ensures kept { OnErr result (process.new ≡ process.old) }
+    ensures kept { OnErr result (state_of process.new ≡ state_of process.old) }
     ensures runs { RunsOn code.now process.new }
 {
     let alloc = *process.regions.allocator();

@@ -5,12 +5,11 @@
 //! code never finds itself without what a step asks.
 #![tactic(auto)]
 
+mod answering;
 mod burst;
 mod machine;
+mod starting;
 mod stepping;
 
 pub use burst::Stop;
 pub use machine::Machine;
-
-#[cfg(test)]
-mod tests;
