@@ -1,5 +1,5 @@
 -- Steps of a burst, one after another.
-use Rattle.std.proofs.Common.{◌≡◌, refl, ℕ, ◌+◌, ◌^◌, ◌<◌, ◌≤◌, All, List, [], ◌∷◌, ◌++◌, length, vec_capacity, subst, ap, sym, ◌∙◌, arith}
+use Rattle.std.proofs.Common.{◌≡◌, refl, ℕ, ◌+◌, ◌^◌, ◌<◌, ◌≤◌, All, List, [], ◌∷◌, ◌++◌, length, vec_capacity, Vec, Global, subst, ap, sym, ◌∙◌, arith}
 use Rattle.chill_base.specs.declared.request.Request.{Request}
 use Rattle.world_model.specs.Session.{Ask}
 use Rattle.world_model.specs.Journal.{ticks_of}
@@ -14,6 +14,7 @@ use Rattle.code_standing.proofs.Moves.{moves_well}
 use Rattle.machine_steps.specs.declared.process.Doing.{Doing}
 use Rattle.machine_steps.specs.declared.process.Doing.TheVariants.{Running, Called, Asking, Raising, Ended}
 use Rattle.machine_steps.specs.declared.process.Process.{Process}
+use Rattle.machine_steps.specs.declared.process.RegionEntry.{RegionEntry}
 use Rattle.machine_steps.specs.declared.process.Stepped.TheVariants.{GoesOn, Ticks, Asks}
 use Rattle.machine_steps.specs.declared.room.Room.{Room}
 use Rattle.machine_steps.specs.Asking.{HasFewSlots}
@@ -24,7 +25,7 @@ use Rattle.code_machine.specs.Equipment.{IsEquippedToStep}
 use Rattle.code_machine.specs.Running.{Bursts, HasRoomIn, IsUnderway, IsUp, RunsOn, WaitsWith}
 use Rattle.code_machine.specs.declared.burst.Stop.TheVariants.{Asks as StopsAsking, Paused}
 use Rattle.code_machine.proofs.Equipping.{equipped_to_step}
-use Rattle.code_machine.proofs.Leading.{goes_more, makes_more, asks_more, move_about, IsAbout}
+use Rattle.code_machine.proofs.Leading.{leads_nowhere, goes_more, makes_more, asks_more, move_about, IsAbout}
 
 -- what is underway can make a step
 pub can_step : (code : Code) (most : ℕ) (from : State) (ticks : ℕ) (p : Process) (room : Room) → IsUnderway code most from ticks p room → IsEquippedToStep code p room
@@ -54,6 +55,13 @@ goes_on code most from ticks old new room after u steps stays kept = record {
   leads = goes_more code from (state_of old) (state_of new) ticks u.leads steps;
   below = u.below
 }
+
+-- what stands well behind a tick
+pub ticks_stand : (code : Code) (most : ℕ) (from : State) (ticks : ℕ) (old new : Process) (room : Room)
+    → IsUnderway code most from ticks old room
+    → Steps code old new Ticks
+    → StandsOn code (state_of new)
+ticks_stand code most from ticks old new room u steps = (u.stands.0, subst (MovesWell code u.stands.0.heights (state_of old)) steps (moves_well code u.stands.0 (state_of old) u.stands.1))
 
 -- a tick that isn't the last
 pub ticks_on : (code : Code) (most : ℕ) (from : State) (ticks : ℕ) (old new : Process) (room after : Room)
@@ -131,3 +139,52 @@ pub pauses_bursts : (code : Code) (most : ℕ) (from : State) (ticks : ℕ) (old
     → Bursts code most from (state_of new) (Paused (ticks + 1))
 pauses_bursts code most from ticks old new room u steps last =
     (last, subst (λ (n : ℕ). Leads code from [] (ticks_of n) (state_of new)) last (makes_more code from (state_of old) (state_of new) ticks u.leads steps), subst IsAbout steps (move_about code (state_of old)))
+
+-- a process with other room for its regions is the same process
+state_with : (p : Process) (regions : Vec RegionEntry Global) → regions.items ≡ p.regions.items → state_of (record p { regions = regions }) ≡ state_of p
+state_with p regions items = rw items refl
+
+frames_with : (code : Code) (p : Process) (regions : Vec RegionEntry Global) → HasRoomFor code p → HasRoomFor code (record p { regions = regions })
+frames_with code p regions r = record {
+  height = r.height;
+  locals = r.locals;
+  heights = r.heights;
+  stores = r.stores;
+  room = record { top = r.room.top; below = r.room.below; spare = r.room.spare; count = r.room.count; depth = r.room.depth; unused = r.room.unused }
+}
+
+room_with : (doing : Doing) (code : Code) (p : Process) (regions : Vec RegionEntry Global) → regions.items ≡ p.regions.items → vec_capacity p.regions ≤ vec_capacity regions → HasRoomIn doing code p → HasRoomIn doing code (record p { regions = regions })
+room_with Running code p regions items more r = frames_with code p regions r
+room_with Called code p regions items more r = frames_with code p regions r
+room_with (Asking request slots) code p regions items more r = (frames_with code p regions r.0, (let had = r.1 in let same = ap length items in omega arith))
+room_with (Raising exception) code p regions items more r = frames_with code p regions r
+room_with Ended code p regions items more r = tt
+
+-- where there is no memory, a process runs on as before
+pub runs_with : (code : Code) (p : Process) (regions : Vec RegionEntry Global) → RunsOn code p → regions.items ≡ p.regions.items → vec_capacity p.regions ≤ vec_capacity regions → RunsOn code (record p { regions = regions })
+runs_with code p regions runs items more = record {
+  stands = subst (StandsOn code) (sym (state_with p regions items)) runs.stands;
+  short = runs.short;
+  room = room_with p.doing code p regions items more runs.room;
+  few = runs.few
+}
+
+-- a process that runs on its code can set out, once there is room for one more region and for a request
+pub sets_out : (code : Code) (most : ℕ) (p : Process) (regions : Vec RegionEntry Global) (room : Room) (height : ℕ)
+    → RunsOn code p → IsUp (state_of p).mode → 1 ≤ most
+    → regions.items ≡ p.regions.items
+    → length regions.items + 1 ≤ vec_capacity regions
+    → All (λ row. row.height ≤ height) code.bodies → HasLists height room
+    → IsUnderway code most (state_of (record p { regions = regions })) 0 (record p { regions = regions }) room
+sets_out code most p regions room height runs up least items more heights lists = record {
+  stands = subst (StandsOn code) (sym (state_with p regions items)) runs.stands;
+  short = runs.short;
+  frames = frames_with code p regions (room_for p.doing code p up runs.room);
+  regions = more;
+  up = up;
+  height = height;
+  heights = heights;
+  lists = lists;
+  leads = leads_nowhere code (state_of (record p { regions = regions }));
+  below = least
+}

@@ -11,7 +11,7 @@ use Rattle.code_guard.proofs.Lists.{all_at}
 use Rattle.code_types.specs.declared.code.BodyRow.{BodyRow}
 use Rattle.code_types.specs.declared.code.Code.{Code}
 use Rattle.code_types.specs.Answers.{answered, fits_request, pushed_by}
-use Rattle.code_types.specs.State.{Slot, State}
+use Rattle.code_types.specs.State.{Mode, Slot, State}
 use Rattle.code_types.specs.State.{Asking as AskingMode}
 use Rattle.code_standing.specs.Needs.{HasItsPlace}
 use Rattle.code_standing.specs.Standing.{StandsOn}
@@ -25,7 +25,7 @@ use Rattle.machine_steps.specs.declared.process.SlotEntry.{SlotEntry}
 use Rattle.machine_steps.specs.Answering.{takes_answer}
 use Rattle.machine_steps.specs.Asking.{HasFewSlots, IsNotAsking}
 use Rattle.machine_steps.specs.Rooms.{HasRoomFor, IsRoomy, KeepsPlaces, KeepsUnlessEnded}
-use Rattle.machine_steps.specs.Taking.{HasAnswerRoom, HoldsAnswer, IsStored, after_answer}
+use Rattle.machine_steps.specs.Taking.{HasAnswerRoom, HoldsAnswer, IsStored, after_answer, answered_in}
 use Rattle.machine_steps.specs.Views.{callers_of, mode_of, slot_of, state_of}
 use Rattle.code_machine.specs.Running.{HasRoomIn, RunsOn}
 
@@ -84,7 +84,7 @@ holds_other code p request slots answer runs asking goes fits =
     let room : HasRoomIn (Asking request slots) code p = subst (λ (d : Doing). HasRoomIn d code p) asking runs.room in
     let low = all_at (λ (r : BodyRow). r.height ≤ room.0.height) code.bodies p.top.body held.row room.0.heights held.is_body in
     let wide = room.0.room.top.stack in
-    let count : length (map slot_of slots.items) ≡ length slots.items = length-map slot_of slots.items in
+    let count : length (map slot_of slots.items) ≡ length slots.items = simp length-map refl in
     let pushed : length p.top.stack.items + length (pushed_by (length slots.items) answer) ≤ held.row.height = subst (λ (n : ℕ). length p.top.stack.items + length (pushed_by n answer) ≤ held.row.height) count held.room in
     record { stack = omega arith; store = is_stored (map slot_of slots.items) (length p.top.locals.items) answer held.got; few = few; place = omega arith; regions = room.1 }
 
@@ -138,7 +138,7 @@ answered_by_doing code p (Asking request slots) answer runs is fits =
     let mode : (state_of p).mode ≡ AskingMode request (map slot_of slots.items) = rw is refl in
     let well = answers_well code runs.stands.0 (state_of p) request (map slot_of slots.items) answer runs.stands.1 mode fits in
     let room : HasRoomIn (Asking request slots) code p = subst (λ (d : Doing). HasRoomIn d code p) is runs.room in
-    ((runs.stands.0, rw mode well), room.0)
+    (subst (λ (m : Mode). StandsOn code (answered_in (state_of p) m answer)) (sym mode) (runs.stands.0, well), room.0)
 answered_by_doing code p (Raising exception) answer runs is fits = absurd (let no : ⊥ = cc in no)
 answered_by_doing code p Ended answer runs is fits = absurd (let no : ⊥ = cc in no)
 
