@@ -1,12 +1,9 @@
 -- Steps of a burst, one after another.
-use Rattle.std.proofs.Common.{◌≡◌, refl, ℕ, ◌+◌, ◌^◌, ◌<◌, ◌≤◌, All, List, [], ◌∷◌, ◌++◌, length, vec_capacity, Vec, Global, subst, ap, sym, ◌∙◌, arith}
+use Rattle.std.proofs.Common.{◌≡◌, refl, ℕ, ◌+◌, ◌<◌, ◌≤◌, All, [], length, vec_capacity, Vec, Global, subst, ap, sym, arith}
 use Rattle.chill_base.specs.declared.request.Request.{Request}
-use Rattle.world_model.specs.Session.{Ask}
 use Rattle.world_model.specs.Journal.{ticks_of}
 use Rattle.code_types.specs.declared.code.Code.{Code}
 use Rattle.code_types.specs.State.{State}
-use Rattle.code_types.specs.Steps.{Move, Goes, Makes, move}
-use Rattle.code_types.specs.Steps.{Asks as AsksMove}
 use Rattle.code_types.specs.Talk.{Leads}
 use Rattle.code_standing.specs.Standing.{StandsOn}
 use Rattle.code_standing.specs.Laws.{MovesWell}
@@ -22,7 +19,7 @@ use Rattle.machine_steps.specs.Rooms.{HasLists, HasRoomFor, StaysRoomy, StaysUnl
 use Rattle.machine_steps.specs.Stepping.{Steps}
 use Rattle.machine_steps.specs.Views.{mode_of, state_of}
 use Rattle.code_machine.specs.Equipment.{IsEquippedToStep}
-use Rattle.code_machine.specs.Running.{Bursts, HasRoomIn, IsUnderway, IsUp, RunsOn, WaitsWith}
+use Rattle.code_machine.specs.Running.{Bursts, HasRoomIn, IsUnderway, IsUp, RunsOn}
 use Rattle.code_machine.specs.declared.burst.Stop.TheVariants.{Asks as StopsAsking, Paused}
 use Rattle.code_machine.proofs.Equipping.{equipped_to_step}
 use Rattle.code_machine.proofs.Leading.{leads_nowhere, goes_more, makes_more, asks_more, move_about, IsAbout}

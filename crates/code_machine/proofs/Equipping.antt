@@ -1,6 +1,6 @@
 -- A process that stands well, and has room, has what its next step asks.
-use Rattle.std.proofs.Common.{◌≡◌, refl, ℕ, ◌+◌, ◌-◌, ◌^◌, ◌<◌, ◌≤◌, ◌⊎◌, inl, inr, List, [], ◌∷◌, ◌++◌, All, length, Some, slice_get, vec_capacity, ap, sym, ◌∙◌, arith}
-use Rattle.std.specs.Prelude.{IfSome, IsSomeAnd}
+use Rattle.std.proofs.Common.{◌≡◌, refl, ℕ, ◌+◌, ◌^◌, ◌<◌, ◌≤◌, ◌⊎◌, inl, inr, List, [], ◌∷◌, ◌++◌, All, length, Some, slice_get, vec_capacity, ap, ◌∙◌, arith}
+use Rattle.std.specs.Prelude.{IsSomeAnd}
 use Rattle.std.proofs.lemmas.List.{length-reverse, length-map}
 use Rattle.std.proofs.lemmas.List.Elements.{All-pop}
 use Rattle.std.proofs.lemmas.Option.{slice_get_within}
@@ -9,7 +9,7 @@ use Rattle.code_guard.proofs.Lists.{all_at, item_or_past}
 use Rattle.code_types.specs.declared.instr.Instr.{Instr}
 use Rattle.code_types.specs.declared.code.BodyRow.{BodyRow}
 use Rattle.code_types.specs.declared.code.Code.{Code}
-use Rattle.code_types.specs.Places.{finds, params_of, results_of}
+use Rattle.code_types.specs.Places.{finds}
 use Rattle.code_types.specs.State.{Frame, Running as RunningMode, Called as CalledMode}
 use Rattle.code_standing.specs.Standing.{StandsOn}
 use Rattle.code_standing.proofs.Needing.{placed, can_make, can_enter, can_take}

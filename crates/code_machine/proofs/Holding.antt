@@ -1,7 +1,6 @@
 -- A process that runs on its code has room for each answer that fits, and runs on.
-use Rattle.std.proofs.Common.{◌≡◌, ◌≢◌, refl, ℕ, ◌+◌, ◌^◌, ◌<◌, ◌≤◌, Bool, true, false, List, [], ◌∷◌, ℤ, All, length, map, IsTrue, vec_capacity, Vec, Global, subst, ap, sym, ◌∙◌, arith}
+use Rattle.std.proofs.Common.{◌≡◌, ◌≢◌, refl, ℕ, ◌+◌, ◌≤◌, List, ◌∷◌, ℤ, length, map, IsTrue, vec_capacity, Vec, Global, subst, sym, arith}
 use Rattle.std.proofs.lemmas.List.{length-map}
-use Rattle.chill_base.specs.declared.ends.Exc.{Exc}
 use Rattle.chill_base.specs.declared.ends.How.{How}
 use Rattle.chill_base.specs.declared.answer.Answer.{Answer}
 use Rattle.chill_base.specs.declared.answer.Answer.TheVariants.{Value, Done, Woken, Got, Otherwise, Instance, Fail, Chose, Handed, Stored}
@@ -10,8 +9,8 @@ use Rattle.chill_base.specs.declared.request.Request.TheVariants.{End}
 use Rattle.code_guard.proofs.Lists.{all_at}
 use Rattle.code_types.specs.declared.code.BodyRow.{BodyRow}
 use Rattle.code_types.specs.declared.code.Code.{Code}
-use Rattle.code_types.specs.Answers.{answered, fits_request, pushed_by}
-use Rattle.code_types.specs.State.{Mode, Slot, State}
+use Rattle.code_types.specs.Answers.{fits_request, pushed_by}
+use Rattle.code_types.specs.State.{Mode, Slot}
 use Rattle.code_types.specs.State.{Asking as AskingMode}
 use Rattle.code_standing.specs.Needs.{HasItsPlace}
 use Rattle.code_standing.specs.Standing.{StandsOn}

@@ -1,5 +1,5 @@
 -- What single steps lead to, one after another, and what a process is about behind them.
-use Rattle.std.proofs.Common.{◌≡◌, refl, ℕ, ◌+◌, Bool, true, false, List, [], ◌∷◌, ◌++◌, ℤ, length, Some, None, ap, sym, ◌∙◌, subst, slice_get, append-nil, nat_le}
+use Rattle.std.proofs.Common.{◌≡◌, refl, ℕ, ◌+◌, Bool, true, false, List, [], ◌∷◌, ◌++◌, ℤ, length, Some, None, subst, slice_get, append-nil, nat_le}
 use Rattle.std.specs.Prelude.{if◌then◌else◌}
 use Rattle.std.proofs.lemmas.List.{replicate_more}
 use Rattle.std.specs.declared.option.Option.{Option}

@@ -1,9 +1,9 @@
 -- How far a burst has come: the ticks that are left, and what is left before the next tick.
-use Rattle.std.proofs.Common.{◌≡◌, refl, ℕ, zero, suc, ◌+◌, ◌-◌, ◌*◌, ◌<◌, ◌≤◌, List, [], ◌∷◌, length, subst, arith}
-use Rattle.std.proofs.Math.Nat.{mul-le-mul_left, mul-le-mul_right}
+use Rattle.std.proofs.Common.{◌≡◌, ℕ, ◌+◌, ◌*◌, ◌<◌, ◌≤◌, List, [], ◌∷◌, length, subst, arith}
+use Rattle.std.proofs.Math.Nat.{mul-le-mul_right}
 use Rattle.code_types.specs.declared.code.Code.{Code}
 use Rattle.code_types.specs.State.{Frame, State, Mode, Running, Called, Asking, Raising, Ended}
-use Rattle.code_types.specs.Steps.{Move, Goes, Makes, Asks, Awaits, Stays, move}
+use Rattle.code_types.specs.Steps.{Goes, move}
 use Rattle.code_standing.specs.Standing.{StandsOn, frames_due}
 use Rattle.code_standing.specs.Weights.{Falls, frames_weight, mode_weight, weight}
 use Rattle.code_standing.proofs.Falling.{moves_fall}

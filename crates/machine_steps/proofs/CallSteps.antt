@@ -1,6 +1,6 @@
 -- Calls are the steps of the definitions.
-use Rattle.std.proofs.Common.{◌≡◌, ℕ, ◌+◌, ◌<◌, ◌≤◌, List, [], ◌∷◌, ◌++◌, Bool, true, false, length, slice_get, Some, refl, ap, sym, ◌∙◌, arith, rules, tests}
-use Rattle.std.specs.Prelude.{nat_lt, nat_le, map, reverse}
+use Rattle.std.proofs.Common.{◌≡◌, ℕ, ◌+◌, ◌<◌, ◌≤◌, List, [], ◌∷◌, ◌++◌, true, false, length, slice_get, Some, refl, ap, ◌∙◌, arith, rules, tests}
+use Rattle.std.specs.Prelude.{nat_lt, nat_le, map}
 use Rattle.std.proofs.lemmas.List.{length-reverse, length-map, map-append}
 use Rattle.std.proofs.lemmas.List.{reverse-append}
 use Rattle.chill_base.specs.declared.ends.Exc.TheVariants.{Spacefail}

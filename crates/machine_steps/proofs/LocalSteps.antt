@@ -1,6 +1,6 @@
 -- An instruction that stays in its frame is the step of the definitions.
-use Rattle.std.proofs.Common.{◌≡◌, ℕ, ◌+◌, ◌≤◌, List, ◌∷◌, ◌++◌, ℤ, Bool, true, length, slice_get, Some, refl, ap, sym, ◌∙◌, subst, arith, rules, tests}
-use Rattle.std.specs.Prelude.{nat_le, map, if◌then◌else◌}
+use Rattle.std.proofs.Common.{◌≡◌, ℕ, ◌≤◌, List, ◌∷◌, ℤ, true, length, slice_get, Some, refl, ◌∙◌, rules, tests}
+use Rattle.std.specs.Prelude.{nat_le, map}
 use Rattle.chill_base.specs.declared.ends.Exc.{Exc}
 use Rattle.code_types.specs.declared.instr.Instr.{Instr}
 use Rattle.code_types.specs.declared.code.Code.{Code}
@@ -8,7 +8,7 @@ use Rattle.code_types.specs.Places.{finds}
 use Rattle.code_types.specs.Operands.{topmost, below_topmost}
 use Rattle.code_types.specs.Actions.{Action, Pushes, Sets, GoesTo, TicksTo, Calls, Returns, Throws, Requests, Halts, action_of}
 use Rattle.code_types.specs.State.{Frame, OpenRegion, State, Mode, Running, Raising}
-use Rattle.code_types.specs.Steps.{Move, Goes, Makes, Stays, made, executed, move}
+use Rattle.code_types.specs.Steps.{Move, Goes, Makes, Stays, made, move}
 use Rattle.machine_frames.specs.declared.activation.Acted.{Acted}
 use Rattle.machine_frames.specs.declared.activation.Acted.TheVariants.{GoesOn, Ticks, Raises, Elsewhere}
 use Rattle.machine_frames.specs.declared.activation.Activation.{Activation}

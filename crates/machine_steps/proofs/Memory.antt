@@ -1,10 +1,10 @@
 -- Whatever room the frames had, they have after a step.
-use Rattle.std.proofs.Common.{◌≡◌, ℕ, ◌+◌, ◌≤◌, List, [], ◌∷◌, ◌++◌, All, Option, Some, length, vec_capacity, refl, ap, sym, ◌∙◌, arith, length-append}
+use Rattle.std.proofs.Common.{◌≡◌, ℕ, ◌+◌, ◌≤◌, List, [], ◌∷◌, ◌++◌, All, Some, length, vec_capacity, refl, ap, ◌∙◌, arith, length-append}
 use Rattle.std.proofs.lemmas.List.Elements.{All-pop, All-push, All-same}
 use Rattle.machine_frames.specs.declared.activation.Activation.{Activation}
 use Rattle.machine_frames.specs.Frames.{KeepsRoom}
 use Rattle.machine_steps.specs.declared.process.Process.{Process}
-use Rattle.machine_steps.specs.Rooms.{HasRoom, IsPopped, IsPushed, IsRoomy, KeepsFrames, StaysRoomy}
+use Rattle.machine_steps.specs.Rooms.{HasRoom, IsPopped, IsPushed, KeepsFrames, StaysRoomy}
 
 -- a frame that gives up no room
 kept_room : (height locals : ℕ) (old new : Activation) → KeepsRoom old new → HasRoom height locals old → HasRoom height locals new

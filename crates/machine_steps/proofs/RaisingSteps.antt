@@ -12,7 +12,7 @@ use Rattle.machine_steps.specs.declared.process.Process.{Process}
 use Rattle.machine_steps.specs.declared.process.Doing.TheVariants.{Running as RunsNow, Raising as RaisesNow}
 use Rattle.machine_steps.specs.Views.{state_of, callers_of, region_of}
 use Rattle.machine_steps.proofs.LocalSteps.{process}
-use Rattle.code_types.specs.Steps.{Goes, Move, move, moved, caught, with_frames}
+use Rattle.code_types.specs.Steps.{Goes, move, moved, caught, with_frames}
 
 -- what comes of the handler that takes an exception
 pub caught_at : (code : Code) (s : State) (exception : Exc) (f : Frame) (below : List Frame) (found : Option Handler) (target height : ℕ)

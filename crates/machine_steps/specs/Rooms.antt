@@ -1,5 +1,5 @@
 -- The room of frames.
-use Rattle.std.specs.Prelude.{◌≡◌, ℕ, ◌+◌, ◌≤◌, All, List, [], ◌∷◌, ◌++◌, length, vec_capacity}
+use Rattle.std.specs.Prelude.{◌≡◌, ℕ, ◌+◌, ◌≤◌, All, [], ◌∷◌, ◌++◌, length, vec_capacity}
 use Rattle.code_types.specs.declared.code.Code.{Code}
 use Rattle.machine_steps.specs.declared.process.Process.{Process}
 use Rattle.machine_steps.specs.declared.process.Doing.{Doing}
@@ -89,10 +89,17 @@ pub record IsPopped (old new : Process) : Type 0 where
   pub unused : vec_capacity old.spare ≤ vec_capacity new.spare
   pub regions : new.regions ≡ old.regions
 
--- the frames are where they were, and no frame gives up room; a process that has ended has no frames
+-- no frame is held, in use or not
+pub record HoldsNoFrame (p : Process) : Type 0 where
+  pub stack : p.top.stack.items ≡ []
+  pub locals : p.top.locals.items ≡ []
+  pub below : p.below.items ≡ []
+  pub spare : p.spare.items ≡ []
+
+-- the frames are where they were, and no frame gives up room; a process that has ended holds no frame
 abbrev pub KeepsUnlessEnded : Doing → Process → Process → Type 0
 KeepsUnlessEnded Running old new = KeepsPlaces old new
 KeepsUnlessEnded Called old new = KeepsPlaces old new
 KeepsUnlessEnded (Asking request slots) old new = KeepsPlaces old new
 KeepsUnlessEnded (Raising exception) old new = KeepsPlaces old new
-KeepsUnlessEnded Ended old new = Unit {0}
+KeepsUnlessEnded Ended old new = HoldsNoFrame new

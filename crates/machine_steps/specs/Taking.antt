@@ -1,5 +1,5 @@
 -- What an answer does to a process.
-use Rattle.std.specs.Prelude.{ℕ, ◌+◌, ◌^◌, ◌<◌, ◌≤◌, List, ◌∷◌, ℤ, length, map, slice_index_or, vec_capacity}
+use Rattle.std.specs.Prelude.{ℕ, ◌+◌, ◌^◌, ◌<◌, ◌≤◌, List, ◌∷◌, length, map, slice_index_or, vec_capacity}
 use Rattle.chill_base.specs.declared.answer.Answer.{Answer}
 use Rattle.chill_base.specs.declared.answer.Answer.TheVariants.{Value, Done, Woken, Got, Otherwise, Instance, Fail, Chose, Handed, Stored}
 use Rattle.chill_base.specs.declared.request.Request.{Request}

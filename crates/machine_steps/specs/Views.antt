@@ -1,5 +1,5 @@
 -- What a process is seen as: a process of the code.
-use Rattle.std.specs.Prelude.{ℕ, List, [], ◌∷◌, map, reverse}
+use Rattle.std.specs.Prelude.{List, [], ◌∷◌, map, reverse}
 use Rattle.code_types.specs.State.{Frame, Slot, OpenRegion, Mode, State}
 use Rattle.code_types.specs.State.{Running as RunningMode, Called as CalledMode, Asking as AskingMode, Raising as RaisingMode, Ended as EndedMode}
 use Rattle.machine_frames.specs.declared.activation.Activation.{Activation}

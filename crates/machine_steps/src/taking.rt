@@ -4,7 +4,7 @@ ghost use Rattle.code_types.specs.Answers.{answered, ended, frame_after, goes_on
 ghost use Rattle.code_types.specs.State.{Asking, Mode};
 ghost use Rattle.machine_steps.specs.Answering.{takes_answer};
 ghost use Rattle.machine_steps.specs.Asking.{HasFewSlots, IsNotAsking};
-ghost use Rattle.machine_steps.specs.Rooms.{KeepsPlaces, KeepsUnlessEnded};
+ghost use Rattle.machine_steps.specs.Rooms.{HoldsNoFrame, KeepsPlaces, KeepsUnlessEnded};
 ghost use Rattle.world_model.specs.Lists.{with_scalars};
 ghost use Rattle.machine_frames.specs.Frames.{KeepsRoom, frame_of};
 ghost use Rattle.machine_steps.specs.Taking.{HasAnswerRoom, HoldsAnswer, IsNoEnd, IsStored, after_answer, process_in};
@@ -134,16 +134,18 @@ fn note_region(regions: &mut Vec<RegionEntry>, request: &Request, frame: usize)
     }
 }
 
-// The answer to End: the process has ended, and gives up its frames.
+// The answer to End: the process has ended, and gives up its frames with their memory.
 fn give_up(process: &mut Process)
     ensures state { (mode : Mode) → state_of process.new ≡ ended (process_in process.old mode) }
     ensures ended { process.new.doing ≡ Doing.Ended }
+    ensures frames { HoldsNoFrame process.new }
 {
-    process.top.stack.clear();
-    process.top.locals.clear();
-    process.below.clear();
-    process.spare.clear();
-    process.regions.clear();
+    let alloc = *process.regions.allocator();
+    process.top.stack = Vec::new(alloc);
+    process.top.locals = Vec::new(alloc);
+    process.below = Vec::new(alloc);
+    process.spare = Vec::new(alloc);
+    process.regions = Vec::new(alloc);
     process.doing = Doing::Ended;
 }
 
@@ -224,10 +226,7 @@ impl Process {
         let doing = replace(&mut self.doing, Doing::Running);
         match doing {
             Doing::Asking { request, slots } => take(self, &request, &slots, &answer),
-            Doing::Running => {}
-            Doing::Called => self.doing = Doing::Called,
-            Doing::Raising(exception) => self.doing = Doing::Raising(exception),
-            Doing::Ended => self.doing = Doing::Ended,
+            Doing::Running | Doing::Called | Doing::Raising(_) | Doing::Ended => unreachable!(),
         }
     }
 }

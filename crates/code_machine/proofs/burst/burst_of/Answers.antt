@@ -1,4 +1,4 @@
-use Rattle.std.proofs.Common.{◌≡◌, ◌+◌, ◌≤◌, length, vec_capacity, rules, arith}
+use Rattle.std.proofs.Common.{◌+◌, ◌≤◌, length, vec_capacity, rules}
 use Rattle.code_machine.proofs.Bursting.{runs_with, sets_out}
 use Rattle.code_machine.proofs.burst.burst_of.Goals as goal
 

@@ -1,7 +1,5 @@
-use Rattle.std.proofs.Common.{◌≡◌, ◌+◌, ◌-◌, ◌<◌, refl, arith}
+use Rattle.std.proofs.Common.{◌+◌, ◌-◌, ◌<◌, arith}
 use Rattle.machine_steps.specs.Views.{state_of}
-use Rattle.code_standing.specs.Standing.{StandsOn}
-use Rattle.code_machine.specs.Running.{IsUnderway}
 use Rattle.code_machine.proofs.Bursting.{can_step, goes_on, ticks_on, ticks_stand, asks_runs, pauses_runs, asks_bursts, pauses_bursts}
 use Rattle.code_machine.proofs.Weighing.{goes_falls, makes_falls}
 use Rattle.code_machine.proofs.burst.make_steps.Goals as goal

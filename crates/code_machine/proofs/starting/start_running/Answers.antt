@@ -1,4 +1,4 @@
-use Rattle.std.proofs.Common.{◌≡◌, ◌^◌, ◌<◌, length, rules, arith, subst, sym}
+use Rattle.std.proofs.Common.{rules, subst, sym}
 use Rattle.machine_steps.specs.declared.process.Doing.{Doing}
 use Rattle.machine_steps.specs.Asking.{HasFewSlots}
 use Rattle.machine_steps.specs.Views.{state_of}

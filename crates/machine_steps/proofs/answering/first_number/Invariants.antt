@@ -1,6 +1,4 @@
-use Rattle.std.proofs.Common.{◌≡◌, drop, false}
-use Rattle.std.specs.List.{list_any}
-use Rattle.code_types.specs.Answers.{is_listed, is_some_number}
+use Rattle.std.proofs.Common.{◌≡◌, drop}
 use Rattle.world_model.specs.Lists.{number_for}
 use Rattle.machine_steps.proofs.answering.first_number.Given as goal
 

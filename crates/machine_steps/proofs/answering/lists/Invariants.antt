@@ -1,4 +1,4 @@
-use Rattle.std.proofs.Common.{◌≡◌, drop, false}
+use Rattle.std.proofs.Common.{◌≡◌, drop}
 use Rattle.std.specs.List.{list_any}
 use Rattle.code_types.specs.Answers.{is_listed, is_some_number}
 use Rattle.world_model.specs.Lists.{number_for}

@@ -1,9 +1,8 @@
-use Rattle.std.proofs.Common.{◌≡◌, ◌+◌, ◌*◌, [], ◌∷◌, ◌++◌, pos, length, get_or, map, refl, ap, sym, ◌∙◌, arith, rules, w64, length-append}
+use Rattle.std.proofs.Common.{◌≡◌, ◌+◌, ◌*◌, [], ◌∷◌, ◌++◌, pos, length, get_or, map, ap, sym, ◌∙◌, arith, rules, w64, length-append}
 use mir.Val.{SFits}
 use Rattle.std.proofs.lemmas.Int.{to_z-of_z}
 use Rattle.std.proofs.lemmas.List.{map-append}
 use Rattle.chill_base.specs.declared.request.Alternative.{Alternative}
-use Rattle.code_types.specs.Operands.{number_in, offset_of, slot_in}
 use Rattle.machine_steps.specs.Views.{slot_of}
 use Rattle.machine_steps.proofs.OperandLists.{triple_more}
 use Rattle.machine_steps.proofs.operands.put_triples.Goals as goal

@@ -1,4 +1,4 @@
-use Rattle.std.proofs.Common.{◌≡◌, length, vec_len, refl, arith, rules}
+use Rattle.std.proofs.Common.{◌≡◌, length, vec_len, arith}
 use Rattle.machine_steps.proofs.LastRegion.{popped}
 use Rattle.machine_steps.proofs.taking.note_region.Goals as goal
 
