@@ -1,5 +1,5 @@
 -- A process that runs on its code has room for each answer that fits, and runs on.
-use Rattle.std.proofs.Common.{◌≡◌, ◌≢◌, refl, ℕ, ◌+◌, ◌≤◌, List, ◌∷◌, ℤ, length, map, IsTrue, vec_capacity, Vec, Global, subst, sym, arith}
+use Rattle.std.proofs.Common.{◌≡◌, ◌≢◌, refl, ℕ, ◌+◌, ◌≤◌, List, ◌∷◌, ℤ, length, map, IsTrue, vec_capacity, Vec, Global, subst, sym, arith, ap, []}
 use Rattle.std.proofs.lemmas.List.{length-map}
 use Rattle.chill_base.specs.declared.ends.How.{How}
 use Rattle.chill_base.specs.declared.answer.Answer.{Answer}
@@ -10,8 +10,9 @@ use Rattle.code_guard.proofs.Lists.{all_at}
 use Rattle.code_types.specs.declared.code.BodyRow.{BodyRow}
 use Rattle.code_types.specs.declared.code.Code.{Code}
 use Rattle.code_types.specs.Answers.{fits_request, pushed_by}
-use Rattle.code_types.specs.State.{Mode, Slot}
+use Rattle.code_types.specs.State.{Mode, Slot, State}
 use Rattle.code_types.specs.State.{Asking as AskingMode}
+use Rattle.code_types.specs.Talk.{Leads}
 use Rattle.code_standing.specs.Needs.{HasItsPlace}
 use Rattle.code_standing.specs.Standing.{StandsOn}
 use Rattle.code_standing.proofs.Answered.{answers_well}
@@ -22,11 +23,12 @@ use Rattle.machine_steps.specs.declared.process.Doing.TheVariants.{Running, Call
 use Rattle.machine_steps.specs.declared.process.Process.{Process}
 use Rattle.machine_steps.specs.declared.process.SlotEntry.{SlotEntry}
 use Rattle.machine_steps.specs.Answering.{takes_answer}
-use Rattle.machine_steps.specs.Asking.{HasFewSlots, IsNotAsking}
+use Rattle.machine_steps.specs.Asking.{HasFewSlots, IsUpNow}
 use Rattle.machine_steps.specs.Rooms.{HasRoomFor, IsRoomy, KeepsPlaces, KeepsUnlessEnded}
-use Rattle.machine_steps.specs.Taking.{HasAnswerRoom, HoldsAnswer, IsStored, after_answer, answered_in}
+use Rattle.machine_steps.specs.Taking.{GoesOnBehind as GoesOnBehindNow, HasAnswerRoom, HoldsAnswer, IsAnswered, IsStored, after_answer, answered_in}
 use Rattle.machine_steps.specs.Views.{callers_of, mode_of, slot_of, state_of}
-use Rattle.code_machine.specs.Running.{HasRoomIn, RunsOn}
+use Rattle.code_machine.specs.Running.{GoesOnBehind, HasRoomIn, IsUp, RunsOn}
+use Rattle.code_machine.proofs.Leading.{answers_lead}
 
 is_stored : (slots : List Slot) (locals : ℕ) (answer : Answer) → HasItsPlace slots locals answer → IsStored slots locals answer
 is_stored slots locals (Value scalars) h = tt
@@ -121,12 +123,43 @@ places_roomy height locals old new k r =
 places_stay : (code : Code) (old new : Process) → KeepsPlaces old new → HasRoomFor code old → HasRoomFor code new
 places_stay code old new k r = record { height = r.height; locals = r.locals; heights = r.heights; stores = r.stores; room = places_roomy r.height r.locals old new k r.room }
 
-room_after : (code : Code) (old new : Process) (doing : Doing) → IsNotAsking doing → KeepsUnlessEnded doing old new → HasRoomFor code old → HasRoomIn doing code new
-room_after code old new Running not kept r = places_stay code old new kept r
-room_after code old new Called not kept r = places_stay code old new kept r
-room_after code old new (Asking request slots) not kept r = absurd not
-room_after code old new (Raising exception) not kept r = places_stay code old new kept r
-room_after code old new Ended not kept r = tt
+-- no request waits behind an answer
+none_waits : (request other : Request) (slots : Vec SlotEntry Global) → GoesOnBehindNow request (Asking other slots) → ⊥
+none_waits (End how) other slots e = cc
+none_waits request other slots up = up
+
+none_waits_in : (old : Doing) (answer : Answer) (other : Request) (slots : Vec SlotEntry Global) → IsTrue (takes_answer (mode_of old) answer) → IsAnswered old (Asking other slots) → ⊥
+none_waits_in Running answer other slots fits h = cc
+none_waits_in Called answer other slots fits h = cc
+none_waits_in (Asking request had) answer other slots fits h = none_waits request other slots h
+none_waits_in (Raising exception) answer other slots fits h = cc
+none_waits_in Ended answer other slots fits h = cc
+
+room_after : (code : Code) (old new : Process) (answer : Answer) (doing : Doing) → IsTrue (takes_answer (state_of old).mode answer) → IsAnswered old.doing doing → KeepsUnlessEnded doing old new → HasRoomFor code old → HasRoomIn doing code new
+room_after code old new answer Running fits going kept r = places_stay code old new kept r
+room_after code old new answer Called fits going kept r = places_stay code old new kept r
+room_after code old new answer (Asking request slots) fits going kept r = absurd (none_waits_in old.doing answer request slots fits going)
+room_after code old new answer (Raising exception) fits going kept r = places_stay code old new kept r
+room_after code old new answer Ended fits going kept r = tt
+
+up_mode : (doing : Doing) → IsUpNow doing → IsUp (mode_of doing)
+up_mode Running up = tt
+up_mode Called up = tt
+up_mode (Asking request slots) up = up
+up_mode (Raising exception) up = tt
+up_mode Ended up = up
+
+behind : (request : Request) (slots : List Slot) (new : Doing) → GoesOnBehindNow request new → GoesOnBehind (AskingMode request slots) (mode_of new)
+behind (End how) slots new e = ap mode_of e
+behind request slots new up = up_mode new up
+
+-- a process goes on behind an answer, or has ended
+pub goes_behind : (old new : Doing) → IsAnswered old new → GoesOnBehind (mode_of old) (mode_of new)
+goes_behind Running new h = tt
+goes_behind Called new h = tt
+goes_behind (Asking request slots) new h = behind request (map slot_of slots.items) new h
+goes_behind (Raising exception) new h = tt
+goes_behind Ended new h = tt
 
 -- what an answer leaves stands well, and had room before
 answered_by_doing : (code : Code) (p : Process) (doing : Doing) (answer : Answer) → RunsOn code p → p.doing ≡ doing → IsTrue (takes_answer (mode_of doing) answer)
@@ -146,13 +179,27 @@ pub answer_runs : (code : Code) (old new : Process) (answer : Answer)
     → RunsOn code old
     → IsTrue (takes_answer (state_of old).mode answer)
     → state_of new ≡ after_answer (state_of old) answer
-    → KeepsUnlessEnded new.doing old new → HasFewSlots new.doing → IsNotAsking new.doing
+    → KeepsUnlessEnded new.doing old new → HasFewSlots new.doing → IsAnswered old.doing new.doing
     → RunsOn code new
-answer_runs code old new answer runs fits state kept few not =
+answer_runs code old new answer runs fits state kept few going =
     let after = answered_by_doing code old old.doing answer runs refl fits in
     record {
       stands = subst (StandsOn code) (sym state) after.0;
       short = runs.short;
-      room = room_after code old new new.doing not kept after.1;
+      room = room_after code old new answer new.doing fits going kept after.1;
       few = few
     }
+
+leads_by_doing : (code : Code) (s : State) (doing : Doing) (answer : Answer) → s.mode ≡ mode_of doing → IsTrue (takes_answer (mode_of doing) answer) → Leads code s (answer ∷ []) [] (after_answer s answer)
+leads_by_doing code s Running answer is fits = absurd (let no : ⊥ = cc in no)
+leads_by_doing code s Called answer is fits = absurd (let no : ⊥ = cc in no)
+leads_by_doing code s (Asking request slots) answer is fits = answers_lead code s request (map slot_of slots.items) answer is fits
+leads_by_doing code s (Raising exception) answer is fits = absurd (let no : ⊥ = cc in no)
+leads_by_doing code s Ended answer is fits = absurd (let no : ⊥ = cc in no)
+
+-- the answer is the step that every code makes of a process that waits
+pub answer_leads : (code : Code) (old new : Process) (answer : Answer)
+    → IsTrue (takes_answer (state_of old).mode answer)
+    → state_of new ≡ after_answer (state_of old) answer
+    → Leads code (state_of old) (answer ∷ []) [] (state_of new)
+answer_leads code old new answer fits state = subst (Leads code (state_of old) (answer ∷ []) []) (sym state) (leads_by_doing code (state_of old) old.doing answer refl fits)

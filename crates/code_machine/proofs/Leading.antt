@@ -1,10 +1,11 @@
 -- What single steps lead to, one after another, and what a process is about behind them.
-use Rattle.std.proofs.Common.{◌≡◌, refl, ℕ, ◌+◌, Bool, true, false, List, [], ◌∷◌, ◌++◌, ℤ, length, Some, None, subst, slice_get, append-nil, nat_le}
+use Rattle.std.proofs.Common.{◌≡◌, IsTrue, refl, ℕ, ◌+◌, Bool, true, false, List, [], ◌∷◌, ◌++◌, ℤ, length, Some, None, subst, slice_get, append-nil, nat_le}
 use Rattle.std.specs.Prelude.{if◌then◌else◌}
 use Rattle.std.proofs.lemmas.List.{replicate_more}
 use Rattle.std.specs.declared.option.Option.{Option}
 use Rattle.chill_base.specs.declared.ends.Exc.{Exc}
 use Rattle.chill_base.specs.declared.request.Request.{Request}
+use Rattle.chill_base.specs.declared.answer.Answer.{Answer}
 use Rattle.world_model.specs.Journal.{ticks_of}
 use Rattle.world_model.specs.Session.{Item, Ask, Tick}
 use Rattle.code_types.specs.declared.instr.Instr.{Instr}
@@ -15,10 +16,12 @@ use Rattle.code_types.specs.declared.code.Handler.{Handler}
 use Rattle.code_types.specs.Actions.{Action, Pushes, Sets, GoesTo, TicksTo, Calls, Returns, Throws, Requests, Halts, action_of}
 use Rattle.code_types.specs.Operands.{topmost, below_topmost}
 use Rattle.code_types.specs.Places.{finds, listed_of, names_exception, taker}
-use Rattle.code_types.specs.State.{Frame, State, Mode, Running, Called, Asking, Raising, Ended}
+use Rattle.code_types.specs.State.{Frame, Slot, State, Mode, Running, Called, Asking, Raising, Ended}
 use Rattle.code_types.specs.Steps.{Move, Goes, Makes, Asks, Awaits, Stays, move, move_in, made, executed, left_with, called, entered, caught, unhandled}
+use Rattle.code_types.specs.Answers.{fits_request}
 use Rattle.code_types.specs.Talk.{Leads}
 use Rattle.code_types.proofs.Shifts.{leads_on}
+use Rattle.machine_steps.specs.Taking.{after_answer}
 use Rattle.code_machine.specs.Running.{IsUp, WaitsWith}
 
 -- a state leads to itself
@@ -33,6 +36,12 @@ makes_leads code s next e = record { count = 1; ticks = 2; left = 1; by = rw e r
 
 asks_leads : (code : Code) (s next : State) (request : Request) → move code s ≡ Asks request next → Leads code s [] (Ask request ∷ []) next
 asks_leads code s next request e = record { count = 1; ticks = 0; left = 0; by = rw e refl }
+
+-- an answer that fits is a step
+pub answers_lead : (code : Code) (s : State) (request : Request) (slots : List Slot) (answer : Answer)
+    → s.mode ≡ Asking request slots → IsTrue (fits_request request slots answer)
+    → Leads code s (answer ∷ []) [] (after_answer s answer)
+answers_lead code s request slots answer mode fits = record { count = 1; ticks = 0; left = 0; by = rw (mode, fits) refl }
 
 -- a step more behind so many ticks
 pub goes_more : (code : Code) (from s next : State) (ticks : ℕ) → Leads code from [] (ticks_of ticks) s → move code s ≡ Goes next → Leads code from [] (ticks_of ticks) next

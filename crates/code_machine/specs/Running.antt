@@ -1,6 +1,7 @@
 -- Machines that run a code, and what a burst makes of them.
 use Rattle.std.specs.Prelude.{◌≡◌, ℕ, ◌+◌, ◌^◌, ◌<◌, ◌≤◌, All, List, [], ◌∷◌, ◌++◌, length, vec_capacity}
 use Rattle.chill_base.specs.declared.request.Request.{Request}
+use Rattle.chill_base.specs.declared.request.Request.TheVariants.{End}
 use Rattle.world_model.specs.Session.{Ask}
 use Rattle.world_model.specs.Journal.{ticks_of}
 use Rattle.code_types.specs.declared.code.Code.{Code}
@@ -25,6 +26,15 @@ IsUp CalledMode = Unit {0}
 IsUp (AskingMode request slots) = ⊥
 IsUp (RaisingMode exception) = Unit {0}
 IsUp EndedMode = ⊥
+
+-- Behind an answer a process goes on, but behind that to a request to end, by which it has ended.
+abbrev pub GoesOnBehind : Mode → Mode → Type 0
+GoesOnBehind RunningMode new = Unit {0}
+GoesOnBehind CalledMode new = Unit {0}
+GoesOnBehind (AskingMode (End how) slots) new = new ≡ EndedMode
+GoesOnBehind (AskingMode request slots) new = IsUp new
+GoesOnBehind (RaisingMode exception) new = Unit {0}
+GoesOnBehind EndedMode new = Unit {0}
 
 -- a process that hasn't ended has room for 250 frames, and one that waits has room for one more region
 abbrev pub HasRoomIn : Doing → Code → Process → Type 0

@@ -13,3 +13,6 @@ mod stepping;
 
 pub use burst::Stop;
 pub use machine::Machine;
+
+#[cfg(test)]
+mod tests;

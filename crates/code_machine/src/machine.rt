@@ -1,18 +1,18 @@
 // The machine.
-ghost use Rattle.std.specs.Prelude.{◌≡◌, ◌↔◌, ◌≤◌, IfOk, IsSomeAnd, IsTrue, OnErr, Some, length, slice_get};
+ghost use Rattle.std.specs.Prelude.{◌≡◌, ◌↔◌, ◌≤◌, ◌∷◌, [], IfOk, IsSomeAnd, IsTrue, OnErr, Some, length, slice_get};
 ghost use Rattle.code_types.specs.declared.code.Code.{Code};
-ghost use Rattle.code_types.specs.Talk.{start_of};
+ghost use Rattle.code_types.specs.Talk.{Leads, start_of};
 ghost use Rattle.machine_steps.specs.Answering.{takes_answer};
 ghost use Rattle.machine_steps.specs.Taking.{after_answer};
 ghost use Rattle.machine_steps.specs.Views.{state_of};
-ghost use Rattle.code_machine.specs.Running.{Bursts, IsUp, RunsOn};
+ghost use Rattle.code_machine.specs.Running.{Bursts, GoesOnBehind, IsUp, RunsOn};
 
 use crate::answering::take_answer;
 use crate::burst::{Stop, burst_of};
 use crate::starting::start_running;
 use chill_base::{Answer, Memory, Scalars};
 use code_guard::Guarded;
-use machine_steps::Process;
+use machine_steps::{Doing, Process};
 use std::alloc::Global;
 use std::marker::Model;
 
@@ -57,6 +57,16 @@ impl Machine {
         Ok(Machine { process })
     }
 
+    /// Whether no request waits and the machine hasn't ended.
+    pub fn can_burst(&self) -> bool
+        ensures { IsTrue result ↔ IsUp (state_of self.now).mode }
+    {
+        match self.process.doing {
+            Doing::Running | Doing::Called | Doing::Raising(_) => true,
+            Doing::Asking { .. } | Doing::Ended => false,
+        }
+    }
+
     /// Runs up to a request, or up to `most` ticks where no request comes before them. It takes its memory first; where there
     /// is none the machine is as it was.
     pub fn burst(&mut self, guarded: &Guarded, most: u32) -> Result<Stop, Memory>
@@ -83,6 +93,8 @@ impl Machine {
     pub fn answer(&mut self, answer: Answer)
         requires { IsTrue (takes_answer (state_of self.old).mode answer) }
         ensures state { state_of self.new ≡ after_answer (state_of self.old) answer }
+        ensures leads { (code : Code) → Leads code (state_of self.old) (answer ∷ []) [] (state_of self.new) }
+        ensures going { GoesOnBehind (state_of self.old).mode (state_of self.new).mode }
         ensures runs { (code : Code) → RunsOn code self.old → RunsOn code self.new }
     {
         take_answer(&mut self.process, answer)

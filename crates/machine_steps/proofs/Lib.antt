@@ -4,5 +4,4 @@ pub mod RaisingSteps
 pub mod ReceivingSteps
 pub mod Handlers
 pub mod LastRegion
-pub mod Memory
 pub mod OperandLists

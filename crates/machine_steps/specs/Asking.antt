@@ -31,10 +31,10 @@ HasFewSlots (AsksNow request slots) = length slots.items < 2 ^ 32
 HasFewSlots (Raising exception) = Unit {0}
 HasFewSlots Ended = Unit {0}
 
--- no request waits
-abbrev pub IsNotAsking : Doing → Type 0
-IsNotAsking Running = Unit {0}
-IsNotAsking Called = Unit {0}
-IsNotAsking (AsksNow request slots) = ⊥
-IsNotAsking (Raising exception) = Unit {0}
-IsNotAsking Ended = Unit {0}
+-- no request waits, and the process hasn't ended
+abbrev pub IsUpNow : Doing → Type 0
+IsUpNow Running = Unit {0}
+IsUpNow Called = Unit {0}
+IsUpNow (AsksNow request slots) = ⊥
+IsUpNow (Raising exception) = Unit {0}
+IsUpNow Ended = ⊥

@@ -77,18 +77,6 @@ pub record IsPushed (frame : Activation) (old new : Process) : Type 0 where
   pub spare : new.spare ≡ old.spare
   pub regions : new.regions ≡ old.regions
 
--- the innermost frame isn't in use any more, and its caller is the innermost; neither gives up room
-pub record IsPopped (old new : Process) : Type 0 where
-  pub caller : Activation
-  pub top : KeepsRoom caller new.top
-  pub left : Activation
-  pub kept : KeepsRoom old.top left
-  pub below : old.below.items ≡ new.below.items ++ caller ∷ []
-  pub depth : vec_capacity new.below ≡ vec_capacity old.below
-  pub spare : new.spare.items ≡ old.spare.items ++ left ∷ []
-  pub unused : vec_capacity old.spare ≤ vec_capacity new.spare
-  pub regions : new.regions ≡ old.regions
-
 -- no frame is held, in use or not
 pub record HoldsNoFrame (p : Process) : Type 0 where
   pub stack : p.top.stack.items ≡ []

@@ -1,5 +1,5 @@
 -- What an answer does to a process.
-use Rattle.std.specs.Prelude.{ℕ, ◌+◌, ◌^◌, ◌<◌, ◌≤◌, List, ◌∷◌, length, map, slice_index_or, vec_capacity}
+use Rattle.std.specs.Prelude.{◌≡◌, ℕ, ◌+◌, ◌^◌, ◌<◌, ◌≤◌, List, ◌∷◌, length, map, slice_index_or, vec_capacity}
 use Rattle.chill_base.specs.declared.answer.Answer.{Answer}
 use Rattle.chill_base.specs.declared.answer.Answer.TheVariants.{Value, Done, Woken, Got, Otherwise, Instance, Fail, Chose, Handed, Stored}
 use Rattle.chill_base.specs.declared.request.Request.{Request}
@@ -11,6 +11,7 @@ use Rattle.machine_steps.specs.declared.process.SlotEntry.{SlotEntry}
 use Rattle.machine_frames.specs.Frames.{frame_of}
 use Rattle.machine_steps.specs.declared.process.Doing.{Doing}
 use Rattle.machine_steps.specs.declared.process.Doing.TheVariants.{Running as RunsNow, Called as CalledNow, Asking as AsksNow, Raising as RaisesNow, Ended as EndedNow}
+use Rattle.machine_steps.specs.Asking.{IsUpNow}
 use Rattle.machine_steps.specs.Views.{callers_of, region_of, slot_of}
 
 -- the process once an answer has come
@@ -73,3 +74,16 @@ HasAnswerRoom CalledNow answer m = Unit {0}
 HasAnswerRoom (AsksNow request slots) answer m = HoldsAnswer slots.items answer m
 HasAnswerRoom (RaisesNow exception) answer m = Unit {0}
 HasAnswerRoom EndedNow answer m = Unit {0}
+
+-- behind an answer the process goes on, but behind that to a request to end, by which it has ended
+abbrev pub GoesOnBehind : Request → Doing → Type 0
+GoesOnBehind (End how) doing = doing ≡ EndedNow
+GoesOnBehind request doing = IsUpNow doing
+
+-- what an answer makes of what a process was about
+abbrev pub IsAnswered : Doing → Doing → Type 0
+IsAnswered RunsNow new = Unit {0}
+IsAnswered CalledNow new = Unit {0}
+IsAnswered (AsksNow request slots) new = GoesOnBehind request new
+IsAnswered (RaisesNow exception) new = Unit {0}
+IsAnswered EndedNow new = Unit {0}

@@ -25,6 +25,3 @@ pub use process::{Doing, Process, RegionEntry, SlotEntry, Stepped};
 pub use raising::landing;
 pub use room::Room;
 pub use starting::greatest_height;
-
-#[cfg(test)]
-mod tests;

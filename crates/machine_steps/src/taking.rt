@@ -3,11 +3,11 @@ ghost use Rattle.std.specs.Prelude.{◌≡◌, ◌+◌, ◌^◌, ◌<◌, ◌≤
 ghost use Rattle.code_types.specs.Answers.{answered, ended, frame_after, goes_on, locals_after, no_slot, pushed_by, regions_after};
 ghost use Rattle.code_types.specs.State.{Asking, Mode};
 ghost use Rattle.machine_steps.specs.Answering.{takes_answer};
-ghost use Rattle.machine_steps.specs.Asking.{HasFewSlots, IsNotAsking};
+ghost use Rattle.machine_steps.specs.Asking.{HasFewSlots, IsUpNow};
 ghost use Rattle.machine_steps.specs.Rooms.{HoldsNoFrame, KeepsPlaces, KeepsUnlessEnded};
 ghost use Rattle.world_model.specs.Lists.{with_scalars};
 ghost use Rattle.machine_frames.specs.Frames.{KeepsRoom, frame_of};
-ghost use Rattle.machine_steps.specs.Taking.{HasAnswerRoom, HoldsAnswer, IsNoEnd, IsStored, after_answer, process_in};
+ghost use Rattle.machine_steps.specs.Taking.{GoesOnBehind, HasAnswerRoom, HoldsAnswer, IsAnswered, IsNoEnd, IsStored, after_answer, process_in};
 ghost use Rattle.machine_steps.specs.Views.{region_of, slot_of, state_of};
 
 use crate::process::{Doing, Process, RegionEntry, SlotEntry};
@@ -170,7 +170,7 @@ fn take_going(process: &mut Process, request: &Request, slots: &[SlotEntry], ans
     ensures state { state_of process.new ≡ answered (process_in process.old (Asking request.now (map slot_of slots.now))) request.now (map slot_of slots.now) answer.now }
     ensures memory { KeepsUnlessEnded process.new.doing process.old process.new }
     ensures few { HasFewSlots process.new.doing }
-    ensures going { IsNotAsking process.new.doing }
+    ensures up { IsUpNow process.new.doing }
 {
     match answer {
         Answer::Fail(exception) => process.doing = Doing::Raising(*exception),
@@ -193,7 +193,7 @@ fn take(process: &mut Process, request: &Request, slots: &[SlotEntry], answer: &
     ensures state { state_of process.new ≡ answered (process_in process.old (Asking request.now (map slot_of slots.now))) request.now (map slot_of slots.now) answer.now }
     ensures memory { KeepsUnlessEnded process.new.doing process.old process.new }
     ensures few { HasFewSlots process.new.doing }
-    ensures going { IsNotAsking process.new.doing }
+    ensures going { GoesOnBehind request.now process.new.doing }
 {
     match request {
         Request::End { .. } => give_up(process),
@@ -221,7 +221,7 @@ impl Process {
         ensures state { state_of self.new ≡ after_answer (state_of self.old) answer }
         ensures memory { KeepsUnlessEnded self.new.doing self.old self.new }
         ensures few { HasFewSlots self.new.doing }
-        ensures going { IsNotAsking self.new.doing }
+        ensures going { IsAnswered self.old.doing self.new.doing }
     {
         let doing = replace(&mut self.doing, Doing::Running);
         match doing {
