@@ -50,7 +50,7 @@ goes_on code most from ticks old new room after u steps stays kept = record {
   heights = u.heights;
   lists = kept u.height u.lists;
   leads = goes_more code from (state_of old) (state_of new) ticks u.leads steps;
-  below = u.below
+  below = u.below;
 }
 
 -- what stands well behind a tick
@@ -76,7 +76,7 @@ ticks_on code most from ticks old new room after u steps stays kept fewer = reco
   heights = u.heights;
   lists = kept u.height u.lists;
   leads = makes_more code from (state_of old) (state_of new) ticks u.leads steps;
-  below = fewer
+  below = fewer;
 }
 
 -- the room that a process has for what it is about
@@ -103,7 +103,7 @@ stays_on code most from ticks old new room u stands stays few = record {
   stands = stands;
   short = u.short;
   room = room_in new.doing code new (frames_stay code old new stays u.frames) (regions_stay old new stays u.regions);
-  few = few
+  few = few;
 }
 
 pub asks_runs : (code : Code) (most : ℕ) (from : State) (ticks : ℕ) (old new : Process) (room : Room) (request : Request)
@@ -147,7 +147,7 @@ frames_with code p regions r = record {
   locals = r.locals;
   heights = r.heights;
   stores = r.stores;
-  room = record { top = r.room.top; below = r.room.below; spare = r.room.spare; count = r.room.count; depth = r.room.depth; unused = r.room.unused }
+  room = record { top = r.room.top; below = r.room.below; spare = r.room.spare; count = r.room.count; depth = r.room.depth; unused = r.room.unused };
 }
 
 room_with : (doing : Doing) (code : Code) (p : Process) (regions : Vec RegionEntry Global) → regions.items ≡ p.regions.items → vec_capacity p.regions ≤ vec_capacity regions → HasRoomIn doing code p → HasRoomIn doing code (record p { regions = regions })
@@ -163,7 +163,7 @@ runs_with code p regions runs items more = record {
   stands = subst (StandsOn code) (sym (state_with p regions items)) runs.stands;
   short = runs.short;
   room = room_with p.doing code p regions items more runs.room;
-  few = runs.few
+  few = runs.few;
 }
 
 -- a process that runs on its code can set out, once there is room for one more region and for a request
@@ -183,5 +183,5 @@ sets_out code most p regions room height runs up least items more heights lists 
   heights = heights;
   lists = lists;
   leads = leads_nowhere code (state_of (record p { regions = regions }));
-  below = least
+  below = least;
 }

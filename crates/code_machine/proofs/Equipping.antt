@@ -34,7 +34,7 @@ lists_of_fewer most fewer room h lists = record {
   kept_alternatives = (lists.kept_alternatives.0, omega arith);
   bytes = (lists.bytes.0, omega arith, lists.bytes.2);
   kept_bytes = (lists.kept_bytes.0, omega arith, lists.kept_bytes.2);
-  slots = (lists.slots.0, omega arith)
+  slots = (lists.slots.0, omega arith);
 }
 
 -- a body of the code isn't higher than so much
@@ -80,15 +80,15 @@ equipped code p room height instr stands short r heights lists running here =
       there = at.body;
       lists = lists_of_fewer height (finds code p.top.body instr) room (omega arith) lists;
       returns = λ rest caller e.
-        let framed_on : s.frames ≡ top ∷ frame_of caller ∷ callers_of rest = framed ∙ ap (λ (fs : List Frame). top ∷ fs) (caller_next rest p.below.items caller e) in
-        let taken = can_take code stands.0 s top (frame_of caller) (callers_of rest) stands.1 framed_on in
-        let both = All-pop (HasRoom r.height r.locals) p.below.items rest (Some caller) e r.room.below in
-        let caller_low = row_low code r.height caller.body taken.0.row r.heights taken.0.is_body in
-        let caller_wide = both.1.stack in
-        let caller_room = taken.0.room in
-        let caller_inside = taken.1.place in
-        (omega arith, omega arith);
-      spare = spare_room code p r
+          let framed_on : s.frames ≡ top ∷ frame_of caller ∷ callers_of rest = framed ∙ ap (λ (fs : List Frame). top ∷ fs) (caller_next rest p.below.items caller e) in
+          let taken = can_take code stands.0 s top (frame_of caller) (callers_of rest) stands.1 framed_on in
+          let both = All-pop (HasRoom r.height r.locals) p.below.items rest (Some caller) e r.room.below in
+          let caller_low = row_low code r.height caller.body taken.0.row r.heights taken.0.is_body in
+          let caller_wide = both.1.stack in
+          let caller_room = taken.0.room in
+          let caller_inside = taken.1.place in
+          (omega arith, omega arith);
+      spare = spare_room code p r;
     }
 
 -- a process that runs, whatever its instruction is
@@ -124,7 +124,7 @@ equipped_to_enter code p stands r called =
       found = rw can.is_body can.operands;
       holds = rw can.is_body can.holds;
       few = omega arith;
-      room = r
+      room = r;
     }
 
 -- a process that has raised an exception

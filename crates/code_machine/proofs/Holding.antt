@@ -117,7 +117,7 @@ places_roomy height locals old new k r =
       spare = rw k.spare r.spare;
       count = rw (k.below, k.spare) r.count;
       depth = rw k.below r.depth;
-      unused = rw k.spare r.unused
+      unused = rw k.spare r.unused;
     }
 
 places_stay : (code : Code) (old new : Process) → KeepsPlaces old new → HasRoomFor code old → HasRoomFor code new
@@ -187,7 +187,7 @@ answer_runs code old new answer runs fits state kept few going =
       stands = subst (StandsOn code) (sym state) after.0;
       short = runs.short;
       room = room_after code old new answer new.doing fits going kept after.1;
-      few = few
+      few = few;
     }
 
 leads_by_doing : (code : Code) (s : State) (doing : Doing) (answer : Answer) → s.mode ≡ mode_of doing → IsTrue (takes_answer (mode_of doing) answer) → Leads code s (answer ∷ []) [] (after_answer s answer)

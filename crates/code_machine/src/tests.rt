@@ -31,7 +31,12 @@ fn guarded(alloc: Global, instrs: &[Instr]) -> Result<Guarded, Fail> {
 }
 
 // A burst of one tick asks this request at once, and goes on after Done.
-fn asks(rt: &impl Abort, guarded: &Guarded, machine: &mut Machine, wanted: &Request) -> Result<(), Fail>
+fn asks(
+    rt: &impl Abort,
+    guarded: &Guarded,
+    machine: &mut Machine,
+    wanted: &Request,
+) -> Result<(), Fail>
     requires { RunsOn guarded.now machine.old }
     ensures { RunsOn guarded.now machine.new }
 {
@@ -55,7 +60,12 @@ fn puts_three(rt: &impl Abort, alloc: Global, guarded: &Guarded) -> Result<(), F
     let mut machine = Machine::start(alloc, guarded, 1, 0, scalars)?;
     let bytes: Text = List::from_vec(vec![in alloc; b'3']?);
     asks(rt, guarded, &mut machine, &Request::Put { bytes })?;
-    asks(rt, guarded, &mut machine, &Request::End { how: How::Normal })?;
+    asks(
+        rt,
+        guarded,
+        &mut machine,
+        &Request::End { how: How::Normal },
+    )?;
     assert!(rt; !machine.can_burst());
     assert!(rt; !machine.can_answer(&Answer::Done));
     Ok(())

@@ -57,13 +57,7 @@ impl Process {
     }
 
     /// Asks to take a value from one of some buffers, or RANGEFAIL.
-    pub fn take_one(
-        &mut self,
-        code: &Code,
-        count: u32,
-        otherwise: bool,
-        room: &mut Room,
-    ) -> Stepped
+    pub fn take_one(&mut self, code: &Code, count: u32, otherwise: bool, room: &mut Room) -> Stepped
         requires running { self.old.doing ≡ Doing.Running }
         requires here { slice_get code.now.instrs self.old.top.place ≡ Some (Take count otherwise) }
         requires found { 3 * count ≤ length self.old.top.stack.items }

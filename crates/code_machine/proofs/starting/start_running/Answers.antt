@@ -14,5 +14,5 @@ returns-clause-runs c =
       stands = (c.code.ensures.agrees, starts_well code c.code.ensures.agrees c.args.instance c.args.process c.args.scalars (state_of p) c.in_ok-started.ensures.starts);
       short = search rules;
       room = subst (λ (doing : Doing). HasRoomIn doing code p) (sym c.in_ok-started.ensures.running) c.in_ok-started.ensures.room;
-      few = subst HasFewSlots (sym c.in_ok-started.ensures.running) tt
+      few = subst HasFewSlots (sym c.in_ok-started.ensures.running) tt;
     }

@@ -9,5 +9,5 @@ returns-clause-frames c = record {
   below = search rules;
   depth = c.push.ensures.capacity;
   spare = refl;
-  regions = refl
+  regions = refl;
 }
