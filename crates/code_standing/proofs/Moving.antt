@@ -20,7 +20,7 @@ use Rattle.code_types.specs.State.{Frame, Slot, State, Mode, Running, Called, As
 use Rattle.code_types.specs.Steps.{Move, Goes, Makes, Asks, Awaits, Stays, with_frames, moved, new_frame, left_with, made, executed, entered, called, unhandled, caught, move_in, move, Run, At, Over, run_after}
 use Rattle.code_types.specs.Talk.{Leads}
 use Rattle.code_standing.specs.Leading.{WaitsWith, LeadsBy}
-use Rattle.code_standing.proofs.Actions.{when}
+use Rattle.code_standing.proofs.Actions.{by_test}
 
 -- a move that asks leaves the process waiting
 abbrev AskWaits : Move → Type 0
@@ -50,12 +50,12 @@ executed_waits code s f below None = tt
 executed_waits code s f below (Some instr) =
     let count = finds code f.body instr in
     let action = action_of s f instr (topmost count f.stack) in
-    when AskWaits (nat_le count (length f.stack)) (made s f below (below_topmost count f.stack) action) Stays (λ e. made_waits s f below (below_topmost count f.stack) action) (λ e. tt)
+    by_test AskWaits (nat_le count (length f.stack)) (made s f below (below_topmost count f.stack) action) Stays (λ e. made_waits s f below (below_topmost count f.stack) action) (λ e. tt)
 
 entered_waits : (s : State) (f : Frame) (below : List Frame) (callee : ℕ) (o : Option BodyRow) → AskWaits (entered s f below callee o)
 entered_waits s f below callee None = tt
 entered_waits s f below callee (Some row) =
-    when AskWaits (nat_le row.params (length f.stack))
+    by_test AskWaits (nat_le row.params (length f.stack))
     (Goes (with_frames s (new_frame callee row (topmost row.params f.stack) ∷ moved f f.place (below_topmost row.params f.stack) ∷ below) Running)) Stays (λ e. tt) (λ e. tt)
 
 called_waits : (code : Code) (s : State) (f : Frame) (below : List Frame) (o : Option Instr) → AskWaits (called code s f below o)
@@ -66,7 +66,7 @@ called_waits code s f below (Some instr) = tt
 unhandled_waits : (code : Code) (s : State) (exception : Exc) (f : Frame) (below : List Frame) → AskWaits (unhandled code s exception f below)
 unhandled_waits code s exception f [] = ([], refl)
 unhandled_waits code s exception f (caller ∷ below) =
-    when AskWaits (names_exception (listed_of (slice_get code.bodies f.body)) exception) (Goes (with_frames s (caller ∷ below) (Raising exception)))
+    by_test AskWaits (names_exception (listed_of (slice_get code.bodies f.body)) exception) (Goes (with_frames s (caller ∷ below) (Raising exception)))
     (Asks (End (Raised exception)) (record s { mode = Asking (End (Raised exception)) [] })) (λ e. tt) (λ e. ([], refl))
 
 caught_waits : (code : Code) (s : State) (exception : Exc) (f : Frame) (below : List Frame) (o : Option Handler) → AskWaits (caught code s exception f below o)
