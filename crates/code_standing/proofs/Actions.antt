@@ -13,39 +13,40 @@ use Rattle.code_types.specs.Operands.{part_of, offset_of, number_in, with_triple
 use Rattle.code_types.specs.Actions.{Action, Pushes, Sets, Throws, Requests, Halts, with_one, with_two, with_lowest, result_or, numbers_or, member_or_empty, at_offset, in_frame, set_in_frame, set_at, asks, with_number, receives, delays, puts}
 use Rattle.code_types.specs.State.{Slot}
 
-pub one : (P : Action → Type 0) (next : ℤ → Action) (xs : List ℤ) → length xs ≡ 1 → ((x : ℤ) → P (next x)) → P (with_one xs next)
-one P next [] h each = absurd (omega arith)
-one P next (x ∷ []) h each = each x
-one P next (x ∷ y ∷ zs) h each = absurd (omega arith)
+pub keeps_one : (P : Action → Type 0) (next : ℤ → Action) (xs : List ℤ) → length xs ≡ 1 → ((x : ℤ) → P (next x)) → P (with_one xs next)
+keeps_one P next [] h each = absurd (omega arith)
+keeps_one P next (x ∷ []) h each = each x
+keeps_one P next (x ∷ y ∷ zs) h each = absurd (omega arith)
 
-pub two : (P : Action → Type 0) (next : ℤ → ℤ → Action) (xs : List ℤ) → length xs ≡ 2 → ((x y : ℤ) → P (next x y)) → P (with_two xs next)
-two P next [] h each = absurd (omega arith)
-two P next (x ∷ []) h each = absurd (omega arith)
-two P next (x ∷ y ∷ []) h each = each x y
-two P next (x ∷ y ∷ z ∷ zs) h each = absurd (omega arith)
+pub keeps_two : (P : Action → Type 0) (next : ℤ → ℤ → Action) (xs : List ℤ) → length xs ≡ 2 → ((x y : ℤ) → P (next x y)) → P (with_two xs next)
+keeps_two P next [] h each = absurd (omega arith)
+keeps_two P next (x ∷ []) h each = absurd (omega arith)
+keeps_two P next (x ∷ y ∷ []) h each = each x y
+keeps_two P next (x ∷ y ∷ z ∷ zs) h each = absurd (omega arith)
 
-pub lowest : (P : Action → Type 0) (next : ℤ → List ℤ → Action) (n : ℕ) (xs : List ℤ) → length xs ≡ 1 + n → ((x : ℤ) (ys : List ℤ) → length ys ≡ n → P (next x ys)) → P (with_lowest xs next)
-lowest P next n [] h each = absurd (omega arith)
-lowest P next n (x ∷ xs) h each = each x xs (omega arith)
+pub keeps_lowest : (P : Action → Type 0) (next : ℤ → List ℤ → Action) (n : ℕ) (xs : List ℤ) → length xs ≡ 1 + n → ((x : ℤ) (ys : List ℤ) → length ys ≡ n → P (next x ys)) → P (with_lowest xs next)
+keeps_lowest P next n [] h each = absurd (omega arith)
+keeps_lowest P next n (x ∷ xs) h each = each x xs (omega arith)
 
-pub result : (P : Action → Type 0) (exception : Exc) (o : Option ℤ) → P (Throws exception) → ((z : ℤ) → P (Pushes (z ∷ []))) → P (result_or exception o)
-result P exception None throws pushes = throws
-result P exception (Some z) throws pushes = pushes z
+pub keeps_result : (P : Action → Type 0) (exception : Exc) (o : Option ℤ) → P (Throws exception) → ((z : ℤ) → P (Pushes (z ∷ []))) → P (result_or exception o)
+keeps_result P exception None throws pushes = throws
+keeps_result P exception (Some z) throws pushes = pushes z
 
-pub member : (P : Action → Type 0) (o : Option ℕ) → P (Throws Empty) → ((z : ℤ) → P (Pushes (z ∷ []))) → P (member_or_empty o)
-member P None throws pushes = throws
-member P (Some k) throws pushes = pushes _
+pub keeps_member : (P : Action → Type 0) (o : Option ℕ) → P (Throws Empty) → ((z : ℤ) → P (Pushes (z ∷ []))) → P (member_or_empty o)
+keeps_member P None throws pushes = throws
+keeps_member P (Some k) throws pushes = pushes _
 
-pub offset : (P : Action → Type 0) (o : Option ℕ) (next : ℕ → Action) → P (Throws Rangefail) → ((k : ℕ) → P (next k)) → P (at_offset o next)
-offset P None next throws each = throws
-offset P (Some k) next throws each = each k
+pub keeps_offset : (P : Action → Type 0) (o : Option ℕ) (next : ℕ → Action) → P (Throws Rangefail) → ((k : ℕ) → P (next k)) → P (at_offset o next)
+keeps_offset P None next throws each = throws
+keeps_offset P (Some k) next throws each = each k
 
-pub numbered : (P : Action → Type 0) (z : ℤ) (next : ℕ → Action) → P (Throws Rangefail) → ((k : ℕ) → P (next k)) → P (with_number z next)
-numbered P z next throws each = offset P (number_in z) next throws each
+pub keeps_number : (P : Action → Type 0) (z : ℤ) (next : ℕ → Action) → P (Throws Rangefail) → ((k : ℕ) → P (next k)) → P (with_number z next)
+keeps_number P z next throws each = keeps_offset P (number_in z) next throws each
 
-pub when : {A : Type 0} (P : A → Type 0) (b : Bool) (x y : A) → (b ≡ true → P x) → (b ≡ false → P y) → P (if b then x else y)
-when P true x y holds fails = holds refl
-when P false x y holds fails = fails refl
+-- what a test chooses between
+pub by_test : {A : Type 0} (P : A → Type 0) (b : Bool) (x y : A) → (b ≡ true → P x) → (b ≡ false → P y) → P (if b then x else y)
+by_test P true x y holds fails = holds refl
+by_test P false x y holds fails = fails refl
 
 pub le_tells : (m n : ℕ) → nat_le m n ≡ true → m ≤ n
 le_tells m n h = search (rules, tests)
@@ -57,33 +58,33 @@ le_true m n h = search (rules, tests)
 part_long : (xs : List ℤ) (first count : ℕ) → first + count ≤ length xs → length (take count (drop first xs)) ≡ count
 part_long xs first count h = simp (length-take, length-drop) (omega arith)
 
-pub part : (P : Action → Type 0) (exception : Exc) (xs : List ℤ) (first count : ℕ) → P (Throws exception) → ((zs : List ℤ) → length zs ≡ count → P (Pushes zs)) → P (numbers_or exception (part_of xs first count))
-part P exception xs first count throws pushes =
-    when (λ o. P (numbers_or exception o)) (nat_le (first + count) (length xs)) (Some (take count (drop first xs))) None
+pub keeps_part : (P : Action → Type 0) (exception : Exc) (xs : List ℤ) (first count : ℕ) → P (Throws exception) → ((zs : List ℤ) → length zs ≡ count → P (Pushes zs)) → P (numbers_or exception (part_of xs first count))
+keeps_part P exception xs first count throws pushes =
+    by_test (λ o. P (numbers_or exception o)) (nat_le (first + count) (length xs)) (Some (take count (drop first xs))) None
     (λ e. pushes (take count (drop first xs)) (part_long xs first count (le_tells (first + count) (length xs) e)))
     (λ e. throws)
 
-pub framed : (P : Action → Type 0) (xs : List ℤ) (first count : ℕ) → first + count ≤ length xs → ((zs : List ℤ) → length zs ≡ count → P (Pushes zs)) → P (in_frame (part_of xs first count))
-framed P xs first count within pushes =
-    when (λ o. P (in_frame o)) (nat_le (first + count) (length xs)) (Some (take count (drop first xs))) None
+pub keeps_framed : (P : Action → Type 0) (xs : List ℤ) (first count : ℕ) → first + count ≤ length xs → ((zs : List ℤ) → length zs ≡ count → P (Pushes zs)) → P (in_frame (part_of xs first count))
+keeps_framed P xs first count within pushes =
+    by_test (λ o. P (in_frame o)) (nat_le (first + count) (length xs)) (Some (take count (drop first xs))) None
     (λ e. pushes (take count (drop first xs)) (part_long xs first count within))
     (λ e. let yes = le_true (first + count) (length xs) within in absurd (let no : ⊥ = cc in no))
 
-pub set_framed : (P : Action → Type 0) (locals first : ℕ) (zs : List ℤ) → first + length zs ≤ locals → P (Sets first zs) → P (set_in_frame locals first zs)
-set_framed P locals first zs within sets =
-    when P (nat_le (first + length zs) locals) (Sets first zs) Halts (λ e. sets) (λ e. let yes = le_true (first + length zs) locals within in absurd (let no : ⊥ = cc in no))
+pub keeps_set_in_frame : (P : Action → Type 0) (locals first : ℕ) (zs : List ℤ) → first + length zs ≤ locals → P (Sets first zs) → P (set_in_frame locals first zs)
+keeps_set_in_frame P locals first zs within sets =
+    by_test P (nat_le (first + length zs) locals) (Sets first zs) Halts (λ e. sets) (λ e. let yes = le_true (first + length zs) locals within in absurd (let no : ⊥ = cc in no))
 
-pub set_offset : (P : Action → Type 0) (locals first : ℕ) (zs : List ℤ) → P (Throws Rangefail) → (first + length zs ≤ locals → P (Sets first zs)) → P (set_at locals first zs)
-set_offset P locals first zs throws sets =
-    when P (nat_le (first + length zs) locals) (Sets first zs) (Throws Rangefail) (λ e. sets (le_tells (first + length zs) locals e)) (λ e. throws)
+pub keeps_set_at : (P : Action → Type 0) (locals first : ℕ) (zs : List ℤ) → P (Throws Rangefail) → (first + length zs ≤ locals → P (Sets first zs)) → P (set_at locals first zs)
+keeps_set_at P locals first zs throws sets =
+    by_test P (nat_le (first + length zs) locals) (Sets first zs) (Throws Rangefail) (λ e. sets (le_tells (first + length zs) locals e)) (λ e. throws)
 
-pub delay : (P : Action → Type 0) (priority : ℕ) (o : Option (List Alternative)) → P (Throws Rangefail) → ((events : List Alternative) → P (asks (AsksDelay events priority))) → P (delays priority o)
-delay P priority None throws each = throws
-delay P priority (Some events) throws each = each events
+pub keeps_delays : (P : Action → Type 0) (priority : ℕ) (o : Option (List Alternative)) → P (Throws Rangefail) → ((events : List Alternative) → P (asks (AsksDelay events priority))) → P (delays priority o)
+keeps_delays P priority None throws each = throws
+keeps_delays P priority (Some events) throws each = each events
 
-pub put : (P : Action → Type 0) (o : Option (List ℕ)) → P (Throws Rangefail) → ((bytes : List ℕ) → P (asks (Put bytes))) → P (puts o)
-put P None throws each = throws
-put P (Some bytes) throws each = each bytes
+pub keeps_puts : (P : Action → Type 0) (o : Option (List ℕ)) → P (Throws Rangefail) → ((bytes : List ℕ) → P (asks (Put bytes))) → P (puts o)
+keeps_puts P None throws each = throws
+keeps_puts P (Some bytes) throws each = each bytes
 
 -- slots that lie in so many locals
 abbrev pub Lie : ℕ → List Slot → Type 0
@@ -100,7 +101,7 @@ SlotLies locals (Some slot) = slot.local + slot.count ≤ locals
 
 slot_lies : (locals : ℕ) (local count : Option ℕ) → SlotLies locals (slot_in locals local count)
 slot_lies locals (Some local) (Some count) =
-    when (SlotLies locals) (nat_le (local + count) locals) (Some (record { local = local; count = count })) None (λ e. le_tells (local + count) locals e) (λ e. tt)
+    by_test (SlotLies locals) (nat_le (local + count) locals) (Some (record { local = local; count = count })) None (λ e. le_tells (local + count) locals e) (λ e. tt)
 slot_lies locals (Some local) None = tt
 slot_lies locals None count = tt
 
@@ -121,7 +122,7 @@ triples_lie locals number (thing ∷ local ∷ count ∷ rest) =
     more_lie locals (length rest) number (number_in thing) (slot_in locals (offset_of local) (offset_of count)) (triples_of locals (suc number) rest)
     (slot_lies locals (offset_of local) (offset_of count)) (triples_lie locals (suc number) rest)
 
-pub receive : (P : Action → Type 0) (locals most : ℕ) (o : Option Triples) (request : Triples → Request) → TriplesLie locals most o → P (Throws Rangefail)
+pub keeps_receives : (P : Action → Type 0) (locals most : ℕ) (o : Option Triples) (request : Triples → Request) → TriplesLie locals most o → P (Throws Rangefail)
     → ((triples : Triples) → Lie locals triples.slots → length triples.slots ≤ most → P (Requests (request triples) triples.slots)) → P (receives o request)
-receive P locals most None request lie throws each = throws
-receive P locals most (Some triples) request lie throws each = each triples lie.0 lie.1
+keeps_receives P locals most None request lie throws each = throws
+keeps_receives P locals most (Some triples) request lie throws each = each triples lie.0 lie.1

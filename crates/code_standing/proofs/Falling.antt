@@ -1,5 +1,6 @@
 -- Between two ticks code only goes forward.
 use Rattle.std.proofs.Common.{◌≡◌, refl, ℕ, ◌+◌, ◌-◌, ◌*◌, ◌<◌, ◌≤◌, List, [], ◌∷◌, ℤ, length, Option, Some, None, nat_le, slice_get, subst, sym, ap, ◌∙◌, arith}
+use Rattle.std.proofs.Math.Nat.{mul-le-mul_right}
 use Rattle.std.proofs.lemmas.Option.{slice_get_within}
 use Rattle.chill_base.specs.declared.ends.Exc.{Exc}
 use Rattle.chill_base.specs.declared.ends.How.TheVariants.{Raised}
@@ -10,13 +11,13 @@ use Rattle.code_types.specs.declared.code.BodyRow.{BodyRow}
 use Rattle.code_types.specs.declared.code.Code.{Code}
 use Rattle.code_types.specs.Places.{listed_of, names_exception, taker, finds}
 use Rattle.code_types.specs.Operands.{topmost, below_topmost}
-use Rattle.code_types.specs.Actions.{Action, Pushes, Sets, GoesTo, TicksTo, Calls, Returns, Throws, Requests, Halts, action_of}
+use Rattle.code_types.specs.Actions.{Action, Pushes, Sets, GoesTo, TicksTo, Calls, Returns, Throws, Requests, Halts, action_of, most_frames}
 use Rattle.code_types.specs.Agreement.{Agrees}
 use Rattle.code_types.specs.State.{Frame, OpenRegion, State, Mode, Running, Called, Asking, Raising, Ended}
 use Rattle.code_types.specs.Steps.{Goes, Asks, Stays, moved, new_frame, made, executed, entered, called, unhandled, caught, left_with, move_in, move}
-use Rattle.code_standing.specs.Standing.{Stands, IsAtCall, IsUnpopped, IsHighIn, StandAtCalls, FramesStand, StandsWell}
-use Rattle.code_standing.specs.Weights.{Falls}
-use Rattle.code_standing.proofs.Actions.{when}
+use Rattle.code_standing.specs.Standing.{Stands, IsAtCall, IsUnpopped, IsHighIn, StandAtCalls, FramesStand, frames_due, StandsWell}
+use Rattle.code_standing.specs.Weights.{frames_weight, mode_weight, most_weight, weight, Falls}
+use Rattle.code_standing.proofs.Actions.{by_test}
 use Rattle.code_standing.proofs.Acts.{ActsWell}
 use Rattle.code_standing.proofs.Handling.{taken, lands}
 use Rattle.code_standing.proofs.Moves.{process, action_stands}
@@ -65,7 +66,7 @@ executed_falls code agrees instance regions f below st calls =
     let count = finds code f.body st.instr in
     let action = action_of s f st.instr (topmost count f.stack) in
     let step : Falls code s (executed code s f below (Some st.instr)) =
-    when (Falls code s) (nat_le count (length f.stack)) (made s f below (below_topmost count f.stack) action) Stays
+    by_test (Falls code s) (nat_le count (length f.stack)) (made s f below (below_topmost count f.stack) action) Stays
     (λ e. made_falls code agrees instance regions f below (below_topmost count f.stack) st.instr action (in_the_code code agrees.heights f (IsHighIn code Running f) st) calls (action_stands code agrees instance regions f below st))
     (λ e. tt) in
     subst (λ (o : Option Instr). Falls code s (executed code s f below o)) (sym st.inside.is_instr) step
@@ -76,7 +77,7 @@ entered_falls : (code : Code) (instance : ℕ) (regions : List OpenRegion) (f : 
 entered_falls code instance regions f below callee None = tt
 entered_falls code instance regions f below callee (Some row) =
     let s = process instance regions Called (f ∷ below) in
-    when (Falls code s) (nat_le row.params (length f.stack))
+    by_test (Falls code s) (nat_le row.params (length f.stack))
     (Goes (process instance regions Running (new_frame callee row (topmost row.params f.stack) ∷ moved f f.place (below_topmost row.params f.stack) ∷ below))) Stays
     (λ e. omega arith) (λ e. tt)
 
@@ -94,7 +95,7 @@ unhandled_falls code instance regions exception f [] inside = omega arith
 unhandled_falls code instance regions exception f (caller ∷ below) inside =
     let s = process instance regions (Raising exception) (f ∷ caller ∷ below) in
     let gone = leaves (length code.instrs) f.place inside in
-    when (Falls code s) (names_exception (listed_of (slice_get code.bodies f.body)) exception)
+    by_test (Falls code s) (names_exception (listed_of (slice_get code.bodies f.body)) exception)
     (Goes (process instance regions (Raising exception) (caller ∷ below)))
     (Asks (End (Raised exception)) (process instance regions (Asking (End (Raised exception)) []) (f ∷ caller ∷ below)))
     (λ e. omega arith) (λ e. omega arith)
@@ -122,3 +123,18 @@ moves_fall_in code agrees instance regions (Raising exception) (f ∷ below) st 
 
 pub moves_fall : (code : Code) (agrees : Agrees code) (s : State) → StandsWell code agrees.heights s → Falls code s (move code s)
 moves_fall code agrees s well = moves_fall_in code agrees s.instance s.regions s.mode s.frames well.frames
+
+-- so many frames weigh at most as much as whole ones
+frames_weigh : (code : Code) (frames : List Frame) → frames_weight code frames ≤ length frames * (3 * length code.instrs)
+frames_weigh code [] = omega arith
+frames_weigh code (f ∷ below) = let rest = frames_weigh code below in omega arith
+
+weighs_in : (code : Code) (mode : Mode) (frames : List Frame) (count : ℕ) → length frames ≡ count → frames_due mode count ≤ most_frames → frames_weight code frames ≤ count * (3 * length code.instrs) → mode_weight code mode + frames_weight code frames ≤ most_weight code
+weighs_in code Running frames count e few low = let whole = mul-le-mul_right (3 * length code.instrs) few in omega arith
+weighs_in code Called frames count e few low = let less : count ≤ 249 = omega arith in let whole = mul-le-mul_right (3 * length code.instrs) less in omega arith
+weighs_in code (Asking request slots) frames count e few low = let whole = mul-le-mul_right (3 * length code.instrs) few in omega arith
+weighs_in code (Raising exception) frames count e few low = let whole = mul-le-mul_right (3 * length code.instrs) few in omega arith
+weighs_in code Ended frames count e few low = let whole = mul-le-mul_right (3 * length code.instrs) few in omega arith
+
+pub weighs : (code : Code) (agrees : Agrees code) (s : State) → StandsWell code agrees.heights s → weight code s ≤ most_weight code
+weighs code agrees s well = weighs_in code s.mode s.frames (length s.frames) refl well.few (frames_weigh code s.frames)

@@ -11,3 +11,5 @@ pub mod Reaching
 pub mod Needing
 pub mod Talking
 pub mod Prefixes
+pub mod Moving
+pub mod StandingOn

@@ -22,7 +22,7 @@ use Rattle.code_types.specs.Steps.{Goes, Asks, Stays, moved, new_frame, made, ex
 use Rattle.code_standing.specs.Standing.{Stands, IsAtCall, IsCalling, IsUnpopped, IsHighIn, StandAtCalls, FramesStand, frames_due, StandsWell}
 use Rattle.code_standing.specs.Laws.{MovesWell}
 use Rattle.code_standing.proofs.Places.{IsTold, next_told, jump_told, stands_told}
-use Rattle.code_standing.proofs.Actions.{when, le_true}
+use Rattle.code_standing.proofs.Actions.{by_test, le_true}
 use Rattle.code_standing.proofs.Acts.{ActsWell, acts_well}
 use Rattle.code_standing.proofs.Starting.{stands_first}
 use Rattle.code_standing.proofs.Handling.{taken, lands}
@@ -159,7 +159,7 @@ executed_well code agrees instance regions f below st calls few =
     let left : length rest + count ≡ st.height = length-below count f.stack found ∙ st.stack in
     let action = action_of s f st.instr (topmost count f.stack) in
     let step : MovesWell code agrees.heights s (executed code s f below (Some st.instr)) =
-    when (MovesWell code agrees.heights s) (nat_le count (length f.stack)) (made s f below rest action) Stays
+    by_test (MovesWell code agrees.heights s) (nat_le count (length f.stack)) (made s f below rest action) Stays
     (λ e. made_well code agrees instance regions f below rest action st calls few left (action_stands code agrees instance regions f below st))
     (λ e. let yes = le_true count (length f.stack) found in absurd (let no : ⊥ = cc in no)) in
     subst (λ (o : Option Instr). MovesWell code agrees.heights s (executed code s f below o)) (sym st.inside.is_instr) step
@@ -179,7 +179,7 @@ entered_well code agrees instance regions f below callee row st calls few is_cal
     let left : length (below_topmost row.params f.stack) + params_of (slice_get code.bodies callee) ≡ st.height = omega arith in
     let caller : Stands code agrees.heights (moved f f.place (below_topmost row.params f.stack)) (IsCalling code callee (moved f f.place (below_topmost row.params f.stack))) =
     record { row = st.row; instr = st.instr; height = st.height; inside = st.inside; has = st.has; locals = st.locals; stack = record { calls = is_call; left = left } } in
-    when (MovesWell code agrees.heights s) (nat_le row.params (length f.stack))
+    by_test (MovesWell code agrees.heights s) (nat_le row.params (length f.stack))
     (Goes (process instance regions Running (new_frame callee row (topmost row.params f.stack) ∷ moved f f.place (below_topmost row.params f.stack) ∷ below))) Stays
     (λ e. record { frames = (stands_first code agrees callee row (topmost row.params f.stack) is_body (length-topmost row.params f.stack found), (caller, calls)); few = few })
     (λ e. let yes = le_true row.params (length f.stack) found in absurd (let no : ⊥ = cc in no))
@@ -214,7 +214,7 @@ unhandled_well code agrees instance regions exception f (caller ∷ below) st ca
     let popped : pops code caller.body c.instr ≡ params_of (slice_get code.bodies f.body) = ap (pops code caller.body) c.stack.calls in
     let left = c.stack.left in
     let high : IsUnpopped code caller c.instr c.height = omega arith in
-    when (MovesWell code agrees.heights s) (names_exception (listed_of (slice_get code.bodies f.body)) exception)
+    by_test (MovesWell code agrees.heights s) (names_exception (listed_of (slice_get code.bodies f.body)) exception)
     (Goes (process instance regions (Raising exception) (caller ∷ below)))
     (Asks (End (Raised exception)) (process instance regions (Asking (End (Raised exception)) []) (f ∷ caller ∷ below)))
     (λ e. record { frames = (record { row = c.row; instr = c.instr; height = c.height; inside = c.inside; has = c.has; locals = c.locals; stack = high }, calls.1); few = omega arith })

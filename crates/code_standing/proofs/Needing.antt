@@ -1,7 +1,7 @@
 -- What stands well has what its next step asks.
 use Rattle.std.proofs.Common.{◌≡◌, ◌≢◌, refl, ℕ, ◌+◌, ◌≤◌, ◌⊎◌, inl, inr, Bool, true, false, List, ◌∷◌, length, Some, IsTrue, slice_get, subst, sym, ap, ◌∙◌, arith}
 use Rattle.std.proofs.lemmas.Bool.{eqb-true}
-use Rattle.std.proofs.lemmas.Option.{slice_get_within}
+use Rattle.std.proofs.lemmas.Option.{same_Some, slice_get_within}
 use Rattle.chill_base.specs.declared.ends.Exc.{Exc}
 use Rattle.chill_base.specs.declared.ends.How.{How}
 use Rattle.chill_base.specs.declared.request.Request.{Request}
@@ -65,14 +65,11 @@ has_room code agrees body row place instr height at has = by-last (is_last instr
         let found = (agrees.are_heights.operands body row place instr at height has).0 in
         omega arith
 
-some_is : {A : Type 0} {x y : A} → Some x ≡ Some y → x ≡ y
-some_is e = cc
-
 pub can_make : (code : Code) (agrees : Agrees code) (s : State) (f : Frame) (below : List Frame) (instr : Instr)
     → StandsWell code agrees.heights s → s.frames ≡ f ∷ below → s.mode ≡ Running → slice_get code.instrs f.place ≡ Some instr → CanMake code f instr
 can_make code agrees s f below instr well e m here =
     let st = (frames_in code agrees s Running f below well e m).0 in
-    let same : st.instr ≡ instr = some_is (sym st.inside.is_instr ∙ here) in
+    let same : st.instr ≡ instr = same_Some st.instr instr (sym st.inside.is_instr ∙ here) in
     let held = agrees.are_heights.operands f.body st.row f.place st.instr st.inside st.height st.has in
     let found = held.0 in
     let low = held.1 in

@@ -1,6 +1,7 @@
 -- With further answers and more ticks a talk begins as before.
-use Rattle.std.proofs.Common.{◌≡◌, refl, sym, ◌∙◌, ap, subst, ℕ, zero, suc, ◌+◌, ◌-◌, ◌≤◌, ◌⊎◌, inl, inr, Bool, true, false, List, [], ◌∷◌, ◌++◌, ℤ, Option, Some, None, append_assoc, append-nil, arith}
+use Rattle.std.proofs.Common.{◌≡◌, refl, sym, ◌∙◌, ap, subst, ℕ, zero, suc, ◌+◌, ◌-◌, ◌<◌, ◌≤◌, ◌⊎◌, inl, inr, Bool, true, false, List, [], ◌∷◌, ◌++◌, ℤ, Option, Some, None, append_assoc, append-nil, arith}
 use Rattle.std.specs.Prelude.{if◌then◌else◌}
+use Rattle.std.proofs.lemmas.Bool.{cases_lt}
 use Rattle.chill_base.specs.declared.request.Request.{Request}
 use Rattle.chill_base.specs.declared.answer.Answer.{Answer}
 use Rattle.world_model.specs.Session.{Item, Tick, Ask, Session, first_answer, session_of, tick_of}
@@ -94,12 +95,9 @@ shows behind more code (suc count) s stands session trace e = by-next (run_after
         record { count = suc there.count; begins = subst (λ (r : Run). Begins trace (trace_of (steps code there.count r))) (sym one) there.begins }
 
 shown_of_all : (code : Code) (r : Run) (stands : State) (trace longer : List Item) (count : ℕ) → steps code count r ≡ Over stands longer → Shows code r trace → Begins trace longer
-shown_of_all code r stands trace longer count e s = by-order (total s.count count)
+shown_of_all code r stands trace longer count e s = by-order (cases_lt s.count count)
   where
-    total : (a b : ℕ) → (a ≤ b) ⊎ (b ≤ a)
-    total a b = grind arith
-
-    by-order : (s.count ≤ count) ⊎ (count ≤ s.count) → Begins trace longer
+    by-order : (s.count < count) ⊎ (count ≤ s.count) → Begins trace longer
     by-order (inl h) =
         let n : s.count + (count - s.count) ≡ count = omega arith in
         let on : steps code (count - s.count) (steps code s.count r) ≡ Over stands longer = sym (steps-+ code s.count (count - s.count) r) ∙ (ap (λ (k : ℕ). steps code k r) n ∙ e) in

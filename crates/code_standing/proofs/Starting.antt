@@ -2,6 +2,7 @@
 use Rattle.std.proofs.Common.{◌≡◌, refl, ℕ, ◌+◌, ◌-◌, ◌<◌, ◌≤◌, ◌⊎◌, inl, inr, Bool, true, false, List, [], ◌∷◌, ◌++◌, ℤ, pos, length, ◌==◌, Option, Some, None, slice_get, subst, replicate, arith, sym}
 use Rattle.std.specs.Prelude.{if◌then◌else◌}
 use Rattle.std.proofs.lemmas.Bool.{eqb-true}
+use Rattle.std.proofs.lemmas.Option.{same_Some}
 use Rattle.std.proofs.lemmas.List.{length-append, length-replicate}
 use Rattle.code_guard.proofs.Lists.{all_at, item_or_past}
 use Rattle.code_guard.proofs.Belonging.{end_next, end_last}
@@ -34,9 +35,6 @@ stands_first code agrees body row arguments e count =
     let from : row.first ≤ row.first = omega arith in
     stands_of code agrees f row 0 (λ instr height. length f.stack ≡ height) e from (first_inside code agrees body row e) has locals (λ instr. refl)
 
-some_is : {A : Type 0} {x y : A} → Some x ≡ Some y → x ≡ y
-some_is e = cc
-
 pub starts_well : (code : Code) (agrees : Agrees code) (instance process : ℕ) (arguments : List ℤ) (state : State) → start_of code instance process arguments ≡ Some state → StandsWell code agrees.heights state
 starts_well code agrees instance process arguments state e = by-row (slice_get code.bodies process) refl e
   where
@@ -45,7 +43,7 @@ starts_well code agrees instance process arguments state e = by-row (slice_get c
         → StandsWell code agrees.heights state
     by-count row is true same starts =
         let count : row.params ≡ length arguments = eqb-true row.params (length arguments) same in
-        subst (StandsWell code agrees.heights) (some_is starts) (record { frames = (stands_first code agrees process row arguments is (sym count), tt); few = omega arith })
+        subst (StandsWell code agrees.heights) (same_Some _ state starts) (record { frames = (stands_first code agrees process row arguments is (sym count), tt); few = omega arith })
     by-count row is false same starts = absurd (let no : ⊥ = cc in no)
 
     by-row : (o : Option BodyRow) → slice_get code.bodies process ≡ o → start_in instance process arguments o ≡ Some state → StandsWell code agrees.heights state

@@ -3,3 +3,4 @@ pub mod Laws
 pub mod Needs
 pub mod Weights
 pub mod Talks
+pub mod Leading

@@ -1,5 +1,5 @@
 -- How far a process can go without a tick: between two ticks code only goes forward.
-use Rattle.std.specs.Prelude.{ℕ, ◌+◌, ◌-◌, ◌*◌, ◌<◌, List, [], ◌∷◌, length}
+use Rattle.std.specs.Prelude.{ℕ, ◌+◌, ◌-◌, ◌*◌, ◌<◌, ◌≤◌, List, [], ◌∷◌, length}
 use Rattle.code_types.specs.declared.code.Code.{Code}
 use Rattle.code_types.specs.Agreement.{Agrees}
 use Rattle.code_types.specs.State.{Frame, State, Mode, Running, Called, Asking, Raising, Ended}
@@ -23,6 +23,10 @@ mode_weight code Called = 3 * length code.instrs + 3
 abbrev pub weight : Code → State → ℕ
 weight code s = mode_weight code s.mode + frames_weight code s.frames
 
+-- the most that a process of at most 250 frames weighs
+abbrev pub most_weight : Code → ℕ
+most_weight code = 750 * length code.instrs + 3
+
 -- without a tick or an answer the weight falls
 abbrev pub Falls : Code → State → Move → Type 0
 Falls code s (Goes next) = weight code next < weight code s
@@ -36,3 +40,9 @@ abbrev pub FallLaw : Type 0
 FallLaw = (code : Code) (agrees : Agrees code) (s : State)
     → StandsWell code agrees.heights s
     → Falls code s (move code s)
+
+-- Whatever stands well weighs no more than the most: so between two ticks it makes no more moves than that.
+abbrev pub WeightLaw : Type 0
+WeightLaw = (code : Code) (agrees : Agrees code) (s : State)
+    → StandsWell code agrees.heights s
+    → weight code s ≤ most_weight code
