@@ -6,8 +6,8 @@ use Rattle.code_types.specs.declared.code.Code.{Code}
 use Rattle.code_types.specs.State.{State}
 use Rattle.code_types.specs.Talk.{Leads}
 use Rattle.code_standing.specs.Standing.{StandsOn}
-use Rattle.code_standing.specs.Laws.{MovesWell}
-use Rattle.code_standing.proofs.Moves.{moves_well}
+use Rattle.code_standing.proofs.Moving.{no_move_leads}
+use Rattle.code_standing.proofs.StandingOn.{stands_after_going, stands_after_tick, stands_after_asking}
 use Rattle.machine_steps.specs.declared.process.Doing.{Doing}
 use Rattle.machine_steps.specs.declared.process.Doing.TheVariants.{Running, Called, Asking, Raising, Ended}
 use Rattle.machine_steps.specs.declared.process.Process.{Process}
@@ -22,7 +22,7 @@ use Rattle.code_machine.specs.Equipment.{IsEquippedToStep}
 use Rattle.code_machine.specs.Running.{Bursts, HasRoomIn, IsUnderway, IsUp, RunsOn}
 use Rattle.code_machine.specs.declared.burst.Stop.TheVariants.{Asks as StopsAsking, Paused}
 use Rattle.code_machine.proofs.Equipping.{equipped_to_step}
-use Rattle.code_machine.proofs.Leading.{leads_nowhere, goes_more, makes_more, asks_more, move_about, IsAbout}
+use Rattle.code_machine.proofs.Leading.{goes_more, makes_more, asks_more, move_up, GoesUp}
 
 -- what is underway can make a step
 pub can_step : (code : Code) (most : ℕ) (from : State) (ticks : ℕ) (p : Process) (room : Room) → IsUnderway code most from ticks p room → IsEquippedToStep code p room
@@ -41,24 +41,17 @@ pub goes_on : (code : Code) (most : ℕ) (from : State) (ticks : ℕ) (old new :
     → Steps code old new GoesOn → StaysRoomy old new → StaysUnlessAsked GoesOn room after
     → IsUnderway code most from ticks new after
 goes_on code most from ticks old new room after u steps stays kept = record {
-  stands = (u.stands.0, subst (MovesWell code u.stands.0.heights (state_of old)) steps (moves_well code u.stands.0 (state_of old) u.stands.1));
+  stands = stands_after_going code (state_of old) (state_of new) u.stands steps;
   short = u.short;
   frames = frames_stay code old new stays u.frames;
   regions = regions_stay old new stays u.regions;
-  up = subst IsAbout steps (move_about code (state_of old));
+  up = subst GoesUp steps (move_up code (state_of old));
   height = u.height;
   heights = u.heights;
   lists = kept u.height u.lists;
   leads = goes_more code from (state_of old) (state_of new) ticks u.leads steps;
   below = u.below;
 }
-
--- what stands well behind a tick
-pub ticks_stand : (code : Code) (most : ℕ) (from : State) (ticks : ℕ) (old new : Process) (room : Room)
-    → IsUnderway code most from ticks old room
-    → Steps code old new Ticks
-    → StandsOn code (state_of new)
-ticks_stand code most from ticks old new room u steps = (u.stands.0, subst (MovesWell code u.stands.0.heights (state_of old)) steps (moves_well code u.stands.0 (state_of old) u.stands.1))
 
 -- a tick that isn't the last
 pub ticks_on : (code : Code) (most : ℕ) (from : State) (ticks : ℕ) (old new : Process) (room after : Room)
@@ -67,11 +60,11 @@ pub ticks_on : (code : Code) (most : ℕ) (from : State) (ticks : ℕ) (old new 
     → ticks + 1 < most
     → IsUnderway code most from (ticks + 1) new after
 ticks_on code most from ticks old new room after u steps stays kept fewer = record {
-  stands = (u.stands.0, subst (MovesWell code u.stands.0.heights (state_of old)) steps (moves_well code u.stands.0 (state_of old) u.stands.1));
+  stands = stands_after_tick code (state_of old) (state_of new) u.stands steps;
   short = u.short;
   frames = frames_stay code old new stays u.frames;
   regions = regions_stay old new stays u.regions;
-  up = subst IsAbout steps (move_about code (state_of old));
+  up = subst GoesUp steps (move_up code (state_of old));
   height = u.height;
   heights = u.heights;
   lists = kept u.height u.lists;
@@ -111,14 +104,14 @@ pub asks_runs : (code : Code) (most : ℕ) (from : State) (ticks : ℕ) (old new
     → Steps code old new (Asks request) → StaysRoomy old new → HasFewSlots new.doing
     → RunsOn code new
 asks_runs code most from ticks old new room request u steps stays few =
-    stays_on code most from ticks old new room u (u.stands.0, subst (MovesWell code u.stands.0.heights (state_of old)) steps (moves_well code u.stands.0 (state_of old) u.stands.1)) stays few
+    stays_on code most from ticks old new room u (stands_after_asking code (state_of old) (state_of new) request u.stands steps) stays few
 
 pub pauses_runs : (code : Code) (most : ℕ) (from : State) (ticks : ℕ) (old new : Process) (room : Room)
     → IsUnderway code most from ticks old room
     → Steps code old new Ticks → StaysRoomy old new → HasFewSlots new.doing
     → RunsOn code new
 pauses_runs code most from ticks old new room u steps stays few =
-    stays_on code most from ticks old new room u (u.stands.0, subst (MovesWell code u.stands.0.heights (state_of old)) steps (moves_well code u.stands.0 (state_of old) u.stands.1)) stays few
+    stays_on code most from ticks old new room u (stands_after_tick code (state_of old) (state_of new) u.stands steps) stays few
 
 -- the burst ends with a request
 pub asks_bursts : (code : Code) (most : ℕ) (from : State) (ticks : ℕ) (old new : Process) (room : Room) (request : Request)
@@ -126,7 +119,7 @@ pub asks_bursts : (code : Code) (most : ℕ) (from : State) (ticks : ℕ) (old n
     → Steps code old new (Asks request)
     → Bursts code most from (state_of new) (StopsAsking ticks request)
 asks_bursts code most from ticks old new room request u steps =
-    (u.below, asks_more code from (state_of old) (state_of new) ticks request u.leads steps, subst IsAbout steps (move_about code (state_of old)))
+    (let more = asks_more code from (state_of old) (state_of new) ticks request u.leads steps in (u.below, more.0, more.1))
 
 -- the burst ends with its last tick
 pub pauses_bursts : (code : Code) (most : ℕ) (from : State) (ticks : ℕ) (old new : Process) (room : Room)
@@ -135,7 +128,7 @@ pub pauses_bursts : (code : Code) (most : ℕ) (from : State) (ticks : ℕ) (old
     → ticks + 1 ≡ most
     → Bursts code most from (state_of new) (Paused (ticks + 1))
 pauses_bursts code most from ticks old new room u steps last =
-    (last, subst (λ (n : ℕ). Leads code from [] (ticks_of n) (state_of new)) last (makes_more code from (state_of old) (state_of new) ticks u.leads steps), subst IsAbout steps (move_about code (state_of old)))
+    (last, subst (λ (n : ℕ). Leads code from [] (ticks_of n) (state_of new)) last (makes_more code from (state_of old) (state_of new) ticks u.leads steps), subst GoesUp steps (move_up code (state_of old)))
 
 -- a process with other room for its regions is the same process
 state_with : (p : Process) (regions : Vec RegionEntry Global) → regions.items ≡ p.regions.items → state_of (record p { regions = regions }) ≡ state_of p
@@ -182,6 +175,6 @@ sets_out code most p regions room height runs up least items more heights lists 
   height = height;
   heights = heights;
   lists = lists;
-  leads = leads_nowhere code (state_of (record p { regions = regions }));
+  leads = no_move_leads code (state_of (record p { regions = regions }));
   below = least;
 }

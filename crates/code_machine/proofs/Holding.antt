@@ -15,7 +15,8 @@ use Rattle.code_types.specs.State.{Asking as AskingMode}
 use Rattle.code_types.specs.Talk.{Leads}
 use Rattle.code_standing.specs.Needs.{HasItsPlace}
 use Rattle.code_standing.specs.Standing.{StandsOn}
-use Rattle.code_standing.proofs.Answered.{answers_well}
+use Rattle.code_standing.proofs.Moving.{answer_leads as answer_that_fits_leads}
+use Rattle.code_standing.proofs.StandingOn.{stands_after_answer}
 use Rattle.code_standing.proofs.Needing.{placed, can_hold}
 use Rattle.machine_frames.specs.Frames.{frame_of}
 use Rattle.machine_steps.specs.declared.process.Doing.{Doing}
@@ -28,7 +29,6 @@ use Rattle.machine_steps.specs.Rooms.{HasRoomFor, IsRoomy, KeepsPlaces, KeepsUnl
 use Rattle.machine_steps.specs.Taking.{GoesOnBehind as GoesOnBehindNow, HasAnswerRoom, HoldsAnswer, IsAnswered, IsStored, after_answer, answered_in}
 use Rattle.machine_steps.specs.Views.{callers_of, mode_of, slot_of, state_of}
 use Rattle.code_machine.specs.Running.{GoesOnBehind, HasRoomIn, IsUp, RunsOn}
-use Rattle.code_machine.proofs.Leading.{answers_lead}
 
 is_stored : (slots : List Slot) (locals : ℕ) (answer : Answer) → HasItsPlace slots locals answer → IsStored slots locals answer
 is_stored slots locals (Value scalars) h = tt
@@ -168,9 +168,9 @@ answered_by_doing code p Running answer runs is fits = absurd (let no : ⊥ = cc
 answered_by_doing code p Called answer runs is fits = absurd (let no : ⊥ = cc in no)
 answered_by_doing code p (Asking request slots) answer runs is fits =
     let mode : (state_of p).mode ≡ AskingMode request (map slot_of slots.items) = rw is refl in
-    let well = answers_well code runs.stands.0 (state_of p) request (map slot_of slots.items) answer runs.stands.1 mode fits in
+    let well = stands_after_answer code (state_of p) request (map slot_of slots.items) answer runs.stands mode fits in
     let room : HasRoomIn (Asking request slots) code p = subst (λ (d : Doing). HasRoomIn d code p) is runs.room in
-    (subst (λ (m : Mode). StandsOn code (answered_in (state_of p) m answer)) (sym mode) (runs.stands.0, well), room.0)
+    (subst (λ (m : Mode). StandsOn code (answered_in (state_of p) m answer)) (sym mode) well, room.0)
 answered_by_doing code p (Raising exception) answer runs is fits = absurd (let no : ⊥ = cc in no)
 answered_by_doing code p Ended answer runs is fits = absurd (let no : ⊥ = cc in no)
 
@@ -193,7 +193,8 @@ answer_runs code old new answer runs fits state kept few going =
 leads_by_doing : (code : Code) (s : State) (doing : Doing) (answer : Answer) → s.mode ≡ mode_of doing → IsTrue (takes_answer (mode_of doing) answer) → Leads code s (answer ∷ []) [] (after_answer s answer)
 leads_by_doing code s Running answer is fits = absurd (let no : ⊥ = cc in no)
 leads_by_doing code s Called answer is fits = absurd (let no : ⊥ = cc in no)
-leads_by_doing code s (Asking request slots) answer is fits = answers_lead code s request (map slot_of slots.items) answer is fits
+leads_by_doing code s (Asking request slots) answer is fits =
+    subst (λ (m : Mode). Leads code s (answer ∷ []) [] (answered_in s m answer)) (sym is) (answer_that_fits_leads code s request (map slot_of slots.items) answer is fits)
 leads_by_doing code s (Raising exception) answer is fits = absurd (let no : ⊥ = cc in no)
 leads_by_doing code s Ended answer is fits = absurd (let no : ⊥ = cc in no)
 

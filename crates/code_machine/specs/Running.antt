@@ -1,13 +1,13 @@
 -- Machines that run a code, and what a burst makes of them.
-use Rattle.std.specs.Prelude.{◌≡◌, ℕ, ◌+◌, ◌^◌, ◌<◌, ◌≤◌, All, List, [], ◌∷◌, ◌++◌, length, vec_capacity}
-use Rattle.chill_base.specs.declared.request.Request.{Request}
+use Rattle.std.specs.Prelude.{◌≡◌, ℕ, ◌+◌, ◌^◌, ◌<◌, ◌≤◌, All, [], ◌∷◌, ◌++◌, length, vec_capacity}
 use Rattle.chill_base.specs.declared.request.Request.TheVariants.{End}
 use Rattle.world_model.specs.Session.{Ask}
 use Rattle.world_model.specs.Journal.{ticks_of}
 use Rattle.code_types.specs.declared.code.Code.{Code}
-use Rattle.code_types.specs.State.{Slot, State, Mode}
+use Rattle.code_types.specs.State.{State, Mode}
 use Rattle.code_types.specs.State.{Running as RunningMode, Called as CalledMode, Asking as AskingMode, Raising as RaisingMode, Ended as EndedMode}
 use Rattle.code_types.specs.Talk.{Leads}
+use Rattle.code_standing.specs.Leading.{WaitsWith}
 use Rattle.code_standing.specs.Standing.{StandsOn}
 use Rattle.machine_steps.specs.declared.process.Doing.{Doing}
 use Rattle.machine_steps.specs.declared.process.Doing.TheVariants.{Running, Called, Asking, Raising, Ended}
@@ -68,10 +68,6 @@ pub record IsUnderway (code : Code) (most : ℕ) (from : State) (ticks : ℕ) (p
 -- what is known of each machine: it was started on some code
 abbrev pub RunsOnSome : Process → Type 0
 RunsOnSome p = (code : Code) × RunsOn code p
-
--- a process waits for an answer to a request
-abbrev pub WaitsWith : Request → State → Type 0
-WaitsWith request s = (slots : List Slot) × (s.mode ≡ AskingMode request slots)
 
 -- What a burst of at most so many ticks makes of a process. The code's own steps lead from the first state to the second. Where
 -- the burst asks, they made fewer ticks, and then asked the request that now waits; where it pauses, they made exactly so many

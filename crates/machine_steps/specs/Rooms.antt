@@ -16,21 +16,21 @@ pub record HasRoom (height locals : ℕ) (a : Activation) : Type 0 where
   pub store : locals ≤ vec_capacity a.locals
 
 -- a process whose 250 frames have such room, and that has room for the frames below the innermost one
-pub record IsRoomy (height locals : ℕ) (m : Process) : Type 0 where
-  pub top : HasRoom height locals m.top
-  pub below : All (HasRoom height locals) m.below.items
-  pub spare : All (HasRoom height locals) m.spare.items
-  pub count : length m.below.items + length m.spare.items ≡ 249
-  pub depth : 249 ≤ vec_capacity m.below
-  pub unused : 249 ≤ vec_capacity m.spare
+pub record IsRoomy (height locals : ℕ) (p : Process) : Type 0 where
+  pub top : HasRoom height locals p.top
+  pub below : All (HasRoom height locals) p.below.items
+  pub spare : All (HasRoom height locals) p.spare.items
+  pub count : length p.below.items + length p.spare.items ≡ 249
+  pub depth : 249 ≤ vec_capacity p.below
+  pub unused : 249 ≤ vec_capacity p.spare
 
 -- a process that has room for 250 frames of any body of the code
-pub record HasRoomFor (code : Code) (m : Process) : Type 0 where
+pub record HasRoomFor (code : Code) (p : Process) : Type 0 where
   pub height : ℕ
   pub locals : ℕ
   pub heights : All (λ row. row.height ≤ height) code.bodies
   pub stores : All (λ row. row.locals ≤ locals) code.bodies
-  pub room : IsRoomy height locals m
+  pub room : IsRoomy height locals p
 
 -- a step keeps the memory of all frames where it was, and no frame gives up room
 pub record KeepsFrames (old new : Process) : Type 0 where

@@ -39,12 +39,12 @@ IsStored slots locals (Handed p) = Unit {0}
 IsStored slots locals Stored = Unit {0}
 
 -- a process that asks with these slots has room for what the answer brings
-pub record HoldsAnswer (slots : List SlotEntry) (answer : Answer) (m : Process) : Type 0 where
-  pub stack : length m.top.stack.items + length (pushed_by (length slots) answer) ≤ vec_capacity m.top.stack
-  pub store : IsStored (map slot_of slots) (length m.top.locals.items) answer
+pub record HoldsAnswer (slots : List SlotEntry) (answer : Answer) (p : Process) : Type 0 where
+  pub stack : length p.top.stack.items + length (pushed_by (length slots) answer) ≤ vec_capacity p.top.stack
+  pub store : IsStored (map slot_of slots) (length p.top.locals.items) answer
   pub few : length slots < 2 ^ 32
-  pub place : m.top.place + 1 < 2 ^ 64
-  pub regions : length m.regions.items + 1 ≤ vec_capacity m.regions
+  pub place : p.top.place + 1 < 2 ^ 64
+  pub regions : length p.regions.items + 1 ≤ vec_capacity p.regions
 
 -- the request isn't that of the end
 abbrev pub IsNoEnd : Request → Type 0
@@ -63,17 +63,17 @@ IsNoEnd (Put bytes) = Unit {0}
 IsNoEnd Get = Unit {0}
 IsNoEnd (End how) = ⊥
 
--- the process that the process is, about something
+-- the state of the process, were it about this
 abbrev pub process_in : Process → Mode → State
-process_in m mode = record { instance = m.instance; frames = frame_of m.top ∷ callers_of m.below.items; regions = map region_of m.regions.items; mode = mode }
+process_in p mode = record { instance = p.instance; frames = frame_of p.top ∷ callers_of p.below.items; regions = map region_of p.regions.items; mode = mode }
 
 -- a process that asks has room for what the answer brings
 abbrev pub HasAnswerRoom : Doing → Answer → Process → Type 0
-HasAnswerRoom RunsNow answer m = Unit {0}
-HasAnswerRoom CalledNow answer m = Unit {0}
-HasAnswerRoom (AsksNow request slots) answer m = HoldsAnswer slots.items answer m
-HasAnswerRoom (RaisesNow exception) answer m = Unit {0}
-HasAnswerRoom EndedNow answer m = Unit {0}
+HasAnswerRoom RunsNow answer p = Unit {0}
+HasAnswerRoom CalledNow answer p = Unit {0}
+HasAnswerRoom (AsksNow request slots) answer p = HoldsAnswer slots.items answer p
+HasAnswerRoom (RaisesNow exception) answer p = Unit {0}
+HasAnswerRoom EndedNow answer p = Unit {0}
 
 -- behind an answer the process goes on, but behind that to a request to end, by which it has ended
 abbrev pub GoesOnBehind : Request → Doing → Type 0

@@ -1,4 +1,4 @@
--- What a process is seen as: a process of the code.
+-- What a process that is held is seen as: a state of the definitions of `code_types`.
 use Rattle.std.specs.Prelude.{List, [], ◌∷◌, map, reverse}
 use Rattle.code_types.specs.State.{Frame, Slot, OpenRegion, Mode, State}
 use Rattle.code_types.specs.State.{Running as RunningMode, Called as CalledMode, Asking as AskingMode, Raising as RaisingMode, Ended as EndedMode}
@@ -36,11 +36,11 @@ frames_of (Asking request slots) top below = frame_of top ∷ callers_of below
 frames_of (Raising exception) top below = frame_of top ∷ callers_of below
 frames_of Ended top below = []
 
--- the process that the process is
+-- the state of the process
 abbrev pub state_of : Process → State
-state_of m = record {
-  instance = m.instance;
-  frames = frames_of m.doing m.top m.below.items;
-  regions = map region_of m.regions.items;
-  mode = mode_of m.doing;
+state_of p = record {
+  instance = p.instance;
+  frames = frames_of p.doing p.top p.below.items;
+  regions = map region_of p.regions.items;
+  mode = mode_of p.doing;
 }

@@ -84,9 +84,9 @@ fn process_of(
     locals: usize,
 ) -> Result<Process, Memory>
     requires { HasRoom height locals top }
-    ensures state { IfOk result (λ m. state_of m ≡ record { instance = instance; frames = frame_of top ∷ []; regions = []; mode = Running }) }
+    ensures state { IfOk result (λ p. state_of p ≡ record { instance = instance; frames = frame_of top ∷ []; regions = []; mode = Running }) }
     ensures room { IfOk result (IsRoomy height locals) }
-    ensures running { IfOk result (λ m. m.doing ≡ Doing.Running) }
+    ensures running { IfOk result (λ p. p.doing ≡ Doing.Running) }
 {
     let spare = free_frames(alloc, MOST_BELOW, height, locals)?;
     let below = Vec::with_capacity(alloc, MOST_BELOW)?;
@@ -120,9 +120,9 @@ impl Process {
         scalars: Scalars,
     ) -> Result<Process, Memory>
         requires { IsSomeAnd (slice_get guarded.now.bodies process) (λ row. row.params ≡ length scalars) }
-        ensures starts { IfOk result (λ m. start_of guarded.now instance process scalars ≡ Some (state_of m)) }
-        ensures room { IfOk result (λ m. HasRoomFor guarded.now m) }
-        ensures running { IfOk result (λ m. m.doing ≡ Doing.Running) }
+        ensures starts { IfOk result (λ p. start_of guarded.now instance process scalars ≡ Some (state_of p)) }
+        ensures room { IfOk result (λ p. HasRoomFor guarded.now p) }
+        ensures running { IfOk result (λ p. p.doing ≡ Doing.Running) }
     {
         let code = guarded.code();
         let height = greatest_height(code) as usize;

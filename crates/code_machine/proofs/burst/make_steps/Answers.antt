@@ -1,6 +1,7 @@
 use Rattle.std.proofs.Common.{◌+◌, ◌-◌, ◌<◌, arith}
 use Rattle.machine_steps.specs.Views.{state_of}
-use Rattle.code_machine.proofs.Bursting.{can_step, goes_on, ticks_on, ticks_stand, asks_runs, pauses_runs, asks_bursts, pauses_bursts}
+use Rattle.code_standing.proofs.StandingOn.{stands_after_tick}
+use Rattle.code_machine.proofs.Bursting.{can_step, goes_on, ticks_on, asks_runs, pauses_runs, asks_bursts, pauses_bursts}
 use Rattle.code_machine.proofs.Weighing.{goes_falls, makes_falls}
 use Rattle.code_machine.proofs.burst.make_steps.Goals as goal
 
@@ -23,7 +24,7 @@ pub steps-smaller : goal.steps-smaller
 steps-smaller c =
     let below : c.steps.ticks < c.args.most = c.steps.invariant.below in
     makes_falls c.args.code.now (c.args.most - c.steps.ticks) (c.args.most - (c.steps.ticks + 1)) (state_of c.steps.process) (state_of c.step.new.process)
-    (ticks_stand c.args.code.now c.args.most (state_of c.args.process.now) c.steps.ticks c.steps.process c.step.new.process c.steps.room c.steps.invariant c.in-Ticks.ensures.steps) (omega arith)
+    (stands_after_tick c.args.code.now (state_of c.steps.process) (state_of c.step.new.process) c.steps.invariant.stands c.in-Ticks.ensures.steps) (omega arith)
 
 pub steps-preserved : goal.steps-preserved
 steps-preserved c =
