@@ -44,7 +44,7 @@ pub record IsEquippedToRaise (code : Code) (exception : Exc) (p : Process) : Typ
   pub there : p.top.body < length code.bodies
   pub spare : HasSpare p
 
--- A process can make its next step.
+-- what a process has for its next step, by what it is about
 abbrev pub IsEquippedIn : Doing → Code → Process → Room → Type 0
 IsEquippedIn Running code p room = IsSomeAnd (slice_get code.instrs p.top.place) (λ instr. IsEquipped code instr p room)
 IsEquippedIn Called code p room = IsEquippedToEnter code p
@@ -52,5 +52,6 @@ IsEquippedIn (Asking request slots) code p room = ⊥
 IsEquippedIn (Raising exception) code p room = IsEquippedToRaise code exception p
 IsEquippedIn Ended code p room = ⊥
 
+-- A process can make its next step.
 abbrev pub IsEquippedToStep : Code → Process → Room → Type 0
 IsEquippedToStep code p room = IsEquippedIn p.doing code p room

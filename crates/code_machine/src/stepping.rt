@@ -1,5 +1,5 @@
 // One step of a process, whatever it is about.
-ghost use Rattle.std.specs.Prelude.{◌≡◌, IsSomeAnd, IsTrue, slice_get};
+ghost use Rattle.std.specs.Prelude.{IsSomeAnd, IsTrue, slice_get};
 ghost use Rattle.machine_frames.specs.Frames.{is_elsewhere};
 ghost use Rattle.machine_steps.specs.Asking.{HasFewSlots};
 ghost use Rattle.machine_steps.specs.Rooms.{StaysRoomy, StaysUnlessAsked};

@@ -1,5 +1,5 @@
 // Which handler takes an exception, and where it goes on.
-ghost use Rattle.std.specs.Prelude.{◌≡◌, ◌↔◌, IsTrue, IsSomeAnd, MatchOption, None};
+ghost use Rattle.std.specs.Prelude.{◌≡◌, IsSomeAnd, MatchOption, None};
 ghost use Rattle.code_types.specs.Places.{names_exception, taker, takes};
 ghost use Rattle.machine_steps.specs.Asking.{HasFewSlots};
 ghost use Rattle.machine_steps.specs.Rooms.{KeepsFrames};

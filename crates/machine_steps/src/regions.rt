@@ -1,5 +1,5 @@
 // Regions that are entered and left.
-ghost use Rattle.std.specs.Prelude.{◌≡◌, ◌+◌, ◌≤◌, length, map, slice_get, Some};
+ghost use Rattle.std.specs.Prelude.{◌≡◌, map, slice_get, Some};
 ghost use Rattle.code_types.specs.Actions.{is_last_of, is_open};
 ghost use Rattle.code_types.specs.declared.instr.Instr.TheVariants.{Enter, Leave};
 ghost use Rattle.machine_frames.specs.Frames.{IsReady};
