@@ -1,0 +1,15 @@
+pub mod Places
+pub mod Actions
+pub mod Answering
+pub mod Acts
+pub mod Starting
+pub mod Handling
+pub mod Moves
+pub mod Falling
+pub mod Answered
+pub mod Reaching
+pub mod Needing
+pub mod Talking
+pub mod Prefixes
+pub mod Moving
+pub mod StandingOn
