@@ -38,7 +38,7 @@ struct Case {
     err: &'static str,
 }
 
-const CASES: [Case; 10] = [
+const CASES: [Case; 12] = [
     Case {
         text: TEXT,
         read: 0,
@@ -78,6 +78,22 @@ const CASES: [Case; 10] = [
         status: 3,
         out: "",
         err: "1:11: T1 no token\n",
+    },
+    Case {
+        text: "M: MODULE SYN a = b, b = a; END M;",
+        read: 0,
+        put: 0,
+        status: 3,
+        out: "",
+        err: "1:15: N6 name a depends on itself\n1:22: N6 name b depends on itself\n",
+    },
+    Case {
+        text: "M: MODULE x := y; END M;",
+        read: 0,
+        put: 0,
+        status: 3,
+        out: "",
+        err: "1:11: N2 name x is not seen here\n1:16: N2 name y is not seen here\n",
     },
     Case {
         text: "M: MODULE ; END M;",
