@@ -16,3 +16,6 @@ pub use group::Group;
 pub use law::testing_law;
 
 
+
+#[cfg(test)]
+mod tests;
