@@ -17,6 +17,7 @@ abbrev mutual
   Measured (grant_all at) = ⊤
   Measured (stray n) = ⊤
 
+  -- so does each of some parts
   pub AllMeasured : PartNodes → Type 0
   AllMeasured no_parts = ⊤
   AllMeasured (more_parts p ps) = Measured p × AllMeasured ps

@@ -4,10 +4,12 @@ ghost use Rattle.std.specs.Prelude.{◌≡◌, []};
 use crate::table::Table;
 use names_model::{Definition, Kind, Need, Spelling};
 
-/// The definitions of a text with the predefined ones behind them, and the numbers of the predefined ones by name.
+/// All definitions of a program.
 #[derive(Drop)]
 pub struct Book {
+    /// The definitions of the text in its order, and behind them the predefined ones.
     pub all: Vec<Definition>,
+    /// The numbers of the predefined ones.
     pub predefined: Table,
     /// The name of a number that no definition has.
     pub nameless: Spelling,

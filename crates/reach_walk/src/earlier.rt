@@ -31,6 +31,7 @@ impl Earlier {
     ghost use Rattle.std.specs.Str.{bytes_eq};
     ghost use Rattle.reach_walk.specs.Earliers.{differs};
 
+    /// No entry was met. It takes no memory.
     pub fn new(alloc: Global) -> Earlier
         ensures { result ≡ [] }
     {

@@ -22,6 +22,7 @@ impl Marked {
     ghost use Rattle.std.specs.Prelude.{◌≡◌, ℕ, [], true, not, nat_eq, IfOk, OnOk, if◌then◌else◌};
     ghost use Rattle.reach_walk.specs.Marks.{is_marked};
 
+    /// No number is marked. It takes no memory.
     pub fn new(alloc: Global) -> Marked
         ensures { result ≡ [] }
     {

@@ -46,9 +46,9 @@ pub fn shown<'a>(book: &'a Book, scope: &'a Scope<'a>, name: &Spelling) -> &'a [
             book.predefined.find(name)
         }
         Scope::Block { table, outer } => {
-            let own = table.find(name);
-            if !own.is_empty() {
-                return own;
+            let local = table.find(name);
+            if !local.is_empty() {
+                return local;
             }
             shown(book, outer, name)
         }

@@ -22,6 +22,7 @@ impl Model for Table {
 }
 
 impl Table {
+    /// The table with no definition. It takes no memory.
     pub fn new(alloc: Global) -> Table
         ensures { (n : List ℕ) → held result n ≡ [] }
     {

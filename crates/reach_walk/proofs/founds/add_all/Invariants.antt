@@ -1,8 +1,0 @@
-use Rattle.std.proofs.Common.{◌≡◌, ℕ, List, drop}
-use Rattle.names_model.specs.Definitions.{under}
-use Rattle.names_model.specs.Entries.{once_behind}
-use Rattle.reach_walk.specs.Held.{held}
-use Rattle.reach_walk.proofs.founds.add_all.Given as goal
-
-abbrev pub invariant-loop-number : goal.invariant-loop-number
-invariant-loop-number l = (n : List ℕ) → once_behind (held l.table n) (under l.book.all.items n (drop l.number-index l.numbers)) ≡ once_behind (held l.fn.table n) (under l.book.all.items n l.numbers)
