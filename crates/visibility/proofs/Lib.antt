@@ -1,0 +1,3 @@
+pub mod FoundParts
+pub mod Phase
+pub mod SelfSteps

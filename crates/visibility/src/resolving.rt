@@ -30,8 +30,9 @@ pub fn resolve(alloc: Global, tree: &Tree) -> Result<Names, Refusal>
     tell_selves(alloc, &book, count, &groups, &mut told)?;
     tell_surplus(alloc, &book, count, &mut told)?;
     list_once(&mut told);
-    if !told.is_empty() {
-        return Err(Refusal::Broken(Diagnostics::from_vec(told)));
+    let broken = Diagnostics::from_vec(told);
+    if !broken.is_empty() {
+        return Err(Refusal::Broken(broken));
     }
     Ok(Names {
         definitions: List::from_vec(book.all),

@@ -1,5 +1,5 @@
 // N6: what depends on itself.
-ghost use Rattle.std.specs.Prelude.{◌≡◌, ◌++◌, ℕ, List, IfOk, OnOk, length, false, slice_index_or, option_copied};
+ghost use Rattle.std.specs.Prelude.{◌≡◌, ◌++◌, ℕ, List, IfOk, OnOk, Some, length, false, slice_get, slice_index_or};
 ghost use Rattle.names_model.specs.declared.definition.Definition.{Definition};
 ghost use Rattle.group_dependence.specs.declared.group.Group.{Group};
 ghost use Rattle.names_model.specs.Kinds.{is_constant};
@@ -58,21 +58,35 @@ fn is_self(book: &Book, flags: &Flags, number: u32) -> bool
 }
 
 // Tells N6 of a definition, where it holds.
-fn tell_self(
+fn push_self(
     alloc: Global,
     holds: bool,
-    definition: Option<&Definition>,
+    definition: &Definition,
     out: &mut Vec<Diagnostic>,
 ) -> Result<(), Memory>
-    ensures { OnOk result (out.new.items ≡ out.old.items ++ told_self holds (option_copied definition)) }
+    ensures { OnOk result (out.new.items ≡ out.old.items ++ told_self holds (Some definition.now)) }
 {
-    match definition {
-        Some(definition) if holds => {
-            let name = &definition.name;
-            push_told(alloc, name.at, Rule::N6, &name.spelling, out)?;
-            Ok(())
-        }
-        _ => Ok(()),
+    if holds {
+        let name = &definition.name;
+        push_told(alloc, name.at, Rule::N6, &name.spelling, out)?;
+    }
+    Ok(())
+}
+
+// Tells N6 of the definition of a number, where it holds.
+fn tell_self(
+    alloc: Global,
+    book: &Book,
+    flags: &Flags,
+    number: u32,
+    out: &mut Vec<Diagnostic>,
+) -> Result<(), Memory>
+    ensures { (gs : List Group) → Tests flags.now book.now.all.items gs → OnOk result (out.new.items ≡ out.old.items ++ told_self (is_self book.now.all.items gs number) (slice_get book.now.all.items number)) }
+{
+    let holds = is_self(book, flags, number);
+    match book.all.get(number as usize) {
+        Some(definition) => push_self(alloc, holds, definition, out),
+        None => Ok(()),
     }
 }
 
@@ -88,8 +102,7 @@ pub fn tell_selves(
 {
     let flags = flags_of(alloc, book, groups)?;
     for number in 0..count {
-        let holds = is_self(book, &flags, number);
-        tell_self(alloc, holds, book.all.get(number as usize), out)?;
+        tell_self(alloc, book, &flags, number, out)?;
     }
     Ok(())
 }

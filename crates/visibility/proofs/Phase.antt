@@ -1,0 +1,36 @@
+-- The list of the phase and the names, by what is found of a program.
+use Rattle.std.proofs.Common.{◌≡◌, ◌∙◌, List, [], ◌++◌, ap, sym, subst}
+use Rattle.chill_base.specs.declared.diagnostic.Diagnostic.{Diagnostic}
+use Rattle.chill_tree.specs.ItemTree.{ProgramTree}
+use Rattle.group_dependence.specs.declared.group.Group.{Group}
+use Rattle.rule_lists.specs.Listing.{listed}
+use Rattle.rule_lists.specs.Order.{diagnostic_cmp}
+use Rattle.names_model.specs.declared.definition.Definition.{Definition}
+use Rattle.names_model.specs.declared.names.Resolved.{Resolved}
+use Rattle.names_model.specs.declared.names.Names.{Names}
+use Rattle.names_model.specs.Definitions.{text_definitions, with_predefined}
+use Rattle.names_model.specs.Dependence.{told_selves}
+use Rattle.names_model.specs.NameRules.{told_in, told_surplus}
+use Rattle.names_model.specs.Seeing.{outermost}
+use Rattle.names_model.specs.Resolving.{broken_names, level_of, names_of}
+use Rattle.reach_walk.specs.Books.{Keeps}
+use Rattle.visibility.specs.declared.finding.Found.{Found}
+use Rattle.visibility.specs.Found.{IsFound}
+
+-- all that was told, in order and once, is the list of the phase
+pub broken_are : (tree : ProgramTree) (found : Found) (first second list : List Diagnostic) → IsFound tree found
+    → first ≡ found.findings.told.items ++ told_selves (text_definitions (level_of tree)) found.findings.groups.items
+    → second ≡ first ++ told_surplus (text_definitions (level_of tree)) → list ≡ listed diagnostic_cmp second → list ≡ broken_names (level_of tree)
+broken_are tree found first second list f selves surplus is =
+    let text = text_definitions (level_of tree) in
+    is ∙ ap (listed diagnostic_cmp)
+      (surplus ∙ ap (λ (l : List Diagnostic). l ++ told_surplus text)
+        (selves ∙ ap (λ (l : List Diagnostic). l ++ told_selves text found.findings.groups.items) f.told ∙ ap (λ (gs : List Group). told_in text (outermost (level_of tree)) 0 (level_of tree) ++ told_selves text gs) f.groups))
+
+-- its definitions and uses are the names of the program
+pub names_are : (tree : ProgramTree) (found : Found) (definitions : List Definition) (uses : List Resolved) → IsFound tree found
+    → definitions ≡ found.book.all.items → uses ≡ found.findings.uses.items → ◌≡◌ {A = Names} (record { definitions = definitions; uses = uses }) (names_of (level_of tree))
+names_are tree found definitions uses f ds us =
+    let whole = ds ∙ f.keeps.all in
+    let resolved = us ∙ f.uses in
+    λ i. record { definitions = whole i; uses = resolved i }
