@@ -1,4 +1,4 @@
-// Small codes, of which each breaks one condition of agreement, and beside each the code mended by one number.
+// Small codes, of which each breaks one condition of agreement, and beside each the code mended by one number or instruction.
 mod bodies;
 mod effects;
 mod heights;
@@ -95,7 +95,7 @@ fn is_guarded(alloc: Global, code: Code) -> Result<bool, Fail> {
     match guard(alloc, code) {
         Ok(_) => Ok(true),
         Err(GuardRefusal::Disagrees(_)) => Ok(false),
-        Err(GuardRefusal::Memory) => Err(Fail::from(AllocError)),
+        Err(GuardRefusal::Memory) => Err(Fail::from(GuardRefusal::Memory)),
     }
 }
 

@@ -352,7 +352,7 @@ fn started(alloc: Global, guarded: &Guarded, process: u32, numbers: &[i64]) -> R
 {
     let scalars = scalars_of(alloc, numbers)?;
     if !Machine::can_start(guarded, process, &scalars) {
-        return Err(Fail::from(AllocError));
+        return Err(Fail::from("a process that can't start"));
     }
     Ok(Machine::start(alloc, guarded, 5, process, scalars)?)
 }

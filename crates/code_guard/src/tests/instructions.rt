@@ -1,7 +1,8 @@
 // Conditions on what an instruction names, and on where it leads.
 use super::{Body, OUTERMOST, Pair, Shape};
 use code_types::Instr::{
-    Again, Call, Finish, Jump, Local, LocalAt, Part, Pop, Push, SetLocal, SetLocalAt, Start, Unless,
+    Again, Call, Finish, Jump, Local, LocalAt, Part, Pop, Push, Raise, Return, SetLocal,
+    SetLocalAt, Start, Stop, Unless,
 };
 
 // One body of two locals.
@@ -141,9 +142,25 @@ pub const JUMPS: &[Pair] = &[
         broken: Shape(&[Pop(0), Finish, Finish], &[], SECOND_AT_1),
         mended: Shape(&[Pop(0), Finish, Finish], &[], SECOND_AT_2),
     },
-    // The last instruction of the code goes on.
+    // The last instruction of the code goes on; each of these doesn't.
     Pair {
         broken: Shape(&[Pop(0)], &[], ONE),
         mended: Shape(&[Finish], &[], ONE),
+    },
+    Pair {
+        broken: Shape(&[Pop(0)], &[], ONE),
+        mended: Shape(&[Stop], &[], ONE),
+    },
+    Pair {
+        broken: Shape(&[Pop(0)], &[], ONE),
+        mended: Shape(&[Return], &[], ONE),
+    },
+    Pair {
+        broken: Shape(&[Pop(0)], &[], ONE),
+        mended: Shape(&[Raise(0)], &[], ONE),
+    },
+    Pair {
+        broken: Shape(&[Pop(0)], &[], ONE),
+        mended: Shape(&[Again(0)], &[], ONE),
     },
 ];
