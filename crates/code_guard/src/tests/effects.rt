@@ -7,7 +7,7 @@ use code_types::Instr::{
     SetLocal, SetLocalAt, Signal, Span, Start, Sub, Succ, Take, Thing, This, Within, Write, Xor,
 };
 
-/// An instruction that goes on, how many numbers it has to find, and how many it leaves of them.
+/// An instruction that goes on, how many numbers it has to find, and how many there are behind it where it finds just these.
 pub const EFFECTS: &[(Instr, u8, u8)] = &[
     (Push(7), 0, 1),
     (Pop(2), 2, 0),
