@@ -60,6 +60,20 @@ pub const HANDLERS: &[Scene] = &[
         ),
         &[Ends(0, Raised(Overflow))],
     ),
+    // It is before the range.
+    Scene(
+        Shape(
+            &[Raise(0), Finish, Push(1), PutInt, Finish],
+            &[Range {
+                from: 1,
+                until: 2,
+                target: 2,
+                ..FIRST
+            }],
+            ONE,
+        ),
+        &[Ends(0, Raised(Overflow))],
+    ),
     // The innermost stands first.
     Scene(
         Shape(
