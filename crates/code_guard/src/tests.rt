@@ -1,52 +1,187 @@
+// Small codes, of which each breaks one condition of agreement, and beside each the code mended by one number or instruction.
+mod bodies;
+mod effects;
+mod heights;
+mod instructions;
+
 use super::*;
 use chill_base::List;
-use code_types::{BodyRow, Code, Instr};
+use code_types::{BodyRow, Code, Handler, Instr};
 use std::alloc::{AllocError, Global};
 use std::process::Abort;
 use std::test::Fail;
 
-// The code of one body whose stack has at most two numbers.
-fn code(alloc: Global, instrs: &[Instr]) -> Result<Code, AllocError> {
-    let body = BodyRow {
-        first: 0,
-        params: 0,
-        locals: 0,
-        results: 0,
-        height: 2,
-        listed: List::new(alloc),
-    };
+/// A handler as a table can hold it.
+#[derive(Drop)]
+pub struct Range {
+    pub from: u32,
+    pub until: u32,
+    pub height: u32,
+    pub target: u32,
+}
+
+/// A body as a table can hold it.
+#[derive(Drop)]
+pub struct Body {
+    pub first: u32,
+    pub params: u32,
+    pub locals: u32,
+    pub results: u32,
+    pub height: u32,
+}
+
+/// The outermost process, with at most two numbers on its stack.
+pub const OUTERMOST: Body = Body {
+    first: 0,
+    params: 0,
+    locals: 0,
+    results: 0,
+    height: 2,
+};
+
+/// A code as a table can hold it: its instructions, handlers and bodies.
+pub struct Shape(
+    pub &'static [Instr],
+    pub &'static [Range],
+    pub &'static [Body],
+);
+
+/// A code that breaks one condition, and the same code mended.
+pub struct Pair {
+    pub broken: Shape,
+    pub mended: Shape,
+}
+
+fn handlers_of(alloc: Global, ranges: &[Range]) -> Result<Vec<Handler>, AllocError> {
+    let mut handlers = Vec::new(alloc);
+    for range in ranges {
+        handlers.push(Handler {
+            from: range.from,
+            until: range.until,
+            height: range.height,
+            names: List::new(alloc),
+            otherwise: true,
+            target: range.target,
+        })?;
+    }
+    Ok(handlers)
+}
+
+fn rows_of(alloc: Global, bodies: &[Body]) -> Result<Vec<BodyRow>, AllocError> {
+    let mut rows = Vec::new(alloc);
+    for body in bodies {
+        rows.push(BodyRow {
+            first: body.first,
+            params: body.params,
+            locals: body.locals,
+            results: body.results,
+            height: body.height,
+            listed: List::new(alloc),
+        })?;
+    }
+    Ok(rows)
+}
+
+fn code_of(alloc: Global, shape: &Shape) -> Result<Code, AllocError> {
     Ok(Code {
-        instrs: List::from_vec(instrs.to_vec(alloc)?),
-        handlers: List::new(alloc),
-        bodies: List::from_vec(vec![in alloc; body]?),
+        instrs: List::from_vec(shape.0.to_vec(alloc)?),
+        handlers: List::from_vec(handlers_of(alloc, shape.1)?),
+        bodies: List::from_vec(rows_of(alloc, shape.2)?),
     })
 }
 
-fn is_accepted(rt: &impl Abort, alloc: Global, instrs: &[Instr]) -> Result<(), Fail> {
-    let answer = guard(alloc, code(alloc, instrs)?);
-    assert!(rt; answer.is_ok());
-    Ok(())
+/// Whether the code is guarded.
+fn is_guarded(alloc: Global, code: Code) -> Result<bool, Fail> {
+    match guard(alloc, code) {
+        Ok(_) => Ok(true),
+        Err(GuardRefusal::Disagrees(_)) => Ok(false),
+        Err(GuardRefusal::Memory) => Err(Fail::from(GuardRefusal::Memory)),
+    }
 }
 
-fn comes_back(rt: &impl Abort, alloc: Global, instrs: &[Instr]) -> Result<(), Fail> {
-    let answer = guard(alloc, code(alloc, instrs)?);
-    assert!(rt; matches!(answer, Err(GuardRefusal::Disagrees(_))));
+/// The broken codes come back, and the mended are accepted.
+fn all_part(rt: &impl Abort, alloc: Global, pairs: &[Pair]) -> Result<(), Fail> {
+    for (i, pair) in pairs.iter().enumerate() {
+        let broken = is_guarded(alloc, code_of(alloc, &pair.broken)?)?;
+        assert!(rt; !broken, "broken code {i}");
+        let mended = is_guarded(alloc, code_of(alloc, &pair.mended)?)?;
+        assert!(rt; mended, "mended code {i}");
+    }
     Ok(())
 }
 
 #[test]
-fn a_sum_is_accepted(rt: HostRuntime) -> Result<(), Fail> {
-    let sum = [
-        Instr::Push(1),
-        Instr::Push(2),
-        Instr::Add,
-        Instr::PutInt,
-        Instr::Finish,
-    ];
-    is_accepted(&rt, rt.alloc(), &sum)
+fn bodies_rise_in_the_code(rt: HostRuntime) -> Result<(), Fail> {
+    all_part(&rt, rt.alloc(), bodies::PAIRS)
 }
 
 #[test]
-fn missing_operands_come_back(rt: HostRuntime) -> Result<(), Fail> {
-    comes_back(&rt, rt.alloc(), &[Instr::Add, Instr::Finish])
+fn handlers_lie_in_one_body(rt: HostRuntime) -> Result<(), Fail> {
+    all_part(&rt, rt.alloc(), bodies::HANDLERS)
+}
+
+#[test]
+fn names_are_there(rt: HostRuntime) -> Result<(), Fail> {
+    all_part(&rt, rt.alloc(), instructions::NAMES)
+}
+
+#[test]
+fn jumps_stay_in_their_body(rt: HostRuntime) -> Result<(), Fail> {
+    all_part(&rt, rt.alloc(), instructions::JUMPS)
+}
+
+#[test]
+fn heights_meet(rt: HostRuntime) -> Result<(), Fail> {
+    all_part(&rt, rt.alloc(), heights::PAIRS)
+}
+
+#[test]
+fn handlers_find_their_height(rt: HostRuntime) -> Result<(), Fail> {
+    all_part(&rt, rt.alloc(), heights::HANDLED)
+}
+
+/// A code whose first body pushes so many numbers and makes the instruction, and whose second takes 2 scalars and gives back 3.
+fn code_around(alloc: Global, count: u8, instr: Instr, height: u8) -> Result<Code, AllocError> {
+    let mut instrs = Vec::new(alloc);
+    for _ in 0..count {
+        instrs.push(Instr::Push(0))?;
+    }
+    instrs.extend_from_slice(&[instr, Instr::Finish])?;
+    instrs.extend_from_slice(&[Instr::Push(0), Instr::Local(0, 2), Instr::Return])?;
+    let outermost = Body {
+        locals: 4,
+        height: u32::from(height),
+        ..OUTERMOST
+    };
+    let second = Body {
+        first: u32::from(count) + 2,
+        params: 2,
+        locals: 2,
+        results: 3,
+        height: 3,
+    };
+    Ok(Code {
+        instrs: List::from_vec(instrs),
+        handlers: List::new(alloc),
+        bodies: List::from_vec(rows_of(alloc, &[outermost, second])?),
+    })
+}
+
+#[test]
+fn instructions_find_their_operands(rt: HostRuntime) -> Result<(), Fail> {
+    let alloc = rt.alloc();
+    for (instr, found, left) in effects::EFFECTS {
+        let (instr, found, height) = (*instr, *found, *found.max(left));
+        let enough = is_guarded(alloc, code_around(alloc, found, instr, height)?)?;
+        assert!(rt; enough, "{instr:?}");
+        if found > 0 {
+            let fewer = is_guarded(alloc, code_around(alloc, found - 1, instr, height)?)?;
+            assert!(rt; !fewer, "{instr:?} with an operand missing");
+        }
+        if height > 0 {
+            let lower = is_guarded(alloc, code_around(alloc, found, instr, height - 1)?)?;
+            assert!(rt; !lower, "{instr:?} with a stack that is too low");
+        }
+    }
+    Ok(())
 }

@@ -1,107 +1,518 @@
+// Small codes and what they do, written down from the definitions by hand.
+ghost use Rattle.std.specs.Prelude.{IfOk};
 ghost use Rattle.code_machine.specs.Running.{RunsOn};
 
+mod exceptions;
+mod frames;
+mod operators;
+mod raising;
+mod requests;
+
 use super::*;
-use chill_base::{Answer, How, Item, List, Request, Text};
-use code_guard::{GuardRefusal, Guarded, guard};
-use code_types::{BodyRow, Code, Instr};
+use chill_base::{Alternative, Answer, Exc, How, List, Place, Request, Scalars};
+use code_guard::{Guarded, guard};
+use code_types::{BodyRow, Code, Handler, Instr};
 use std::alloc::{AllocError, Global};
 use std::process::Abort;
 use std::test::Fail;
 
-// The code of one body whose stack has at most two numbers.
-fn code(alloc: Global, instrs: &[Instr]) -> Result<Code, AllocError> {
-    let body = BodyRow {
-        first: 0,
-        params: 0,
-        locals: 0,
-        results: 0,
-        height: 2,
-        listed: List::new(alloc),
+/// A handler as a table can hold it.
+#[derive(Drop)]
+pub struct Range {
+    pub from: u32,
+    pub until: u32,
+    pub height: u32,
+    pub names: &'static [u32],
+    pub otherwise: bool,
+    pub target: u32,
+}
+
+/// A body as a table can hold it.
+#[derive(Drop)]
+pub struct Body {
+    pub first: u32,
+    pub params: u32,
+    pub locals: u32,
+    pub results: u32,
+    pub height: u32,
+    pub listed: &'static [u32],
+}
+
+/// The outermost process, with four locals.
+pub const OUTERMOST: Body = Body {
+    first: 0,
+    params: 0,
+    locals: 4,
+    results: 0,
+    height: 16,
+    listed: &[],
+};
+
+/// A code as a table can hold it: its instructions, handlers and bodies.
+#[derive(Drop)]
+pub struct Shape(
+    pub &'static [Instr],
+    pub &'static [Range],
+    pub &'static [Body],
+);
+
+/// A request as a table can hold it, with its parts in the order in which the instruction has them.
+#[derive(Drop)]
+pub enum Asked {
+    Read(Place),
+    Write(Place, &'static [i64]),
+    Enter(u32),
+    Leave(u32),
+    Delay(&'static [Alternative], u32),
+    Continue(u32),
+    SendBuffer(u32, &'static [i64], u32),
+    ReceiveBuffer(&'static [Alternative], bool),
+    SendSignal(u32, &'static [i64], Option<u32>, u32),
+    ReceiveSignal(&'static [Alternative], bool),
+    Start(u32, &'static [i64]),
+    Put(&'static str),
+    Get,
+    End(How),
+}
+
+/// An answer as a table can hold it.
+#[derive(Drop)]
+pub enum Given {
+    Value(&'static [i64]),
+    Done,
+    /// The alternative, and the instance that continued.
+    Woken(u32, u32),
+    /// The alternative, the send number, the scalars, and the instance that sent.
+    Got(u32, u32, &'static [i64], u32),
+    Otherwise,
+    Instance(u32),
+    Fail(Exc),
+    Chose(Option<u32>),
+    Handed(u32),
+    Stored,
+}
+
+/// What is done with a machine, and what it has to do.
+pub enum Turn {
+    /// A burst makes so many ticks and asks this request.
+    Asks(u32, Asked),
+    /// It asks to put this text, which is done.
+    Puts(u32, &'static str),
+    /// It asks to end, which is done, and it has ended.
+    Ends(u32, How),
+    /// A burst of so many ticks makes them all and asks nothing.
+    Pauses(u32),
+    /// The answer doesn't fit.
+    Refuses(Given),
+    /// The answer fits and is given.
+    Takes(Given),
+}
+
+/// A code, and the turns of its outermost process, which is instance 5.
+pub struct Scene(pub Shape, pub &'static [Turn]);
+
+/// Instructions of one body with four locals: the texts that they put one by one before they end normally, or the exception
+/// that ends them before they ask anything else.
+pub enum Row {
+    Puts(&'static [Instr], &'static [&'static str]),
+    Raises(&'static [Instr], Exc),
+}
+
+fn handlers_of(alloc: Global, ranges: &[Range]) -> Result<Vec<Handler>, AllocError> {
+    let mut handlers = Vec::new(alloc);
+    for range in ranges {
+        handlers.push(Handler {
+            from: range.from,
+            until: range.until,
+            height: range.height,
+            names: List::from_vec(range.names.to_vec(alloc)?),
+            otherwise: range.otherwise,
+            target: range.target,
+        })?;
+    }
+    Ok(handlers)
+}
+
+fn rows_of(alloc: Global, bodies: &[Body]) -> Result<Vec<BodyRow>, AllocError> {
+    let mut rows = Vec::new(alloc);
+    for body in bodies {
+        rows.push(BodyRow {
+            first: body.first,
+            params: body.params,
+            locals: body.locals,
+            results: body.results,
+            height: body.height,
+            listed: List::from_vec(body.listed.to_vec(alloc)?),
+        })?;
+    }
+    Ok(rows)
+}
+
+fn guarded_of(alloc: Global, shape: &Shape) -> Result<Guarded, Fail> {
+    let code = Code {
+        instrs: List::from_vec(shape.0.to_vec(alloc)?),
+        handlers: List::from_vec(handlers_of(alloc, shape.1)?),
+        bodies: List::from_vec(rows_of(alloc, shape.2)?),
     };
-    Ok(Code {
-        instrs: List::from_vec(instrs.to_vec(alloc)?),
-        handlers: List::new(alloc),
-        bodies: List::from_vec(vec![in alloc; body]?),
+    Ok(guard(alloc, code)?)
+}
+
+fn scalars_of(alloc: Global, numbers: &[i64]) -> Result<Scalars, AllocError> {
+    Ok(List::from_vec(numbers.to_vec(alloc)?))
+}
+
+fn answer_of(alloc: Global, given: &Given) -> Result<Answer, AllocError> {
+    Ok(match given {
+        Given::Value(scalars) => Answer::Value(scalars_of(alloc, scalars)?),
+        Given::Done => Answer::Done,
+        Given::Woken(alternative, by) => Answer::Woken {
+            alternative: *alternative,
+            by: *by,
+        },
+        Given::Got(alternative, send, scalars, by) => Answer::Got {
+            alternative: *alternative,
+            send: *send,
+            scalars: scalars_of(alloc, scalars)?,
+            by: *by,
+        },
+        Given::Otherwise => Answer::Otherwise,
+        Given::Instance(instance) => Answer::Instance(*instance),
+        Given::Fail(exception) => Answer::Fail(*exception),
+        Given::Chose(process) => Answer::Chose(*process),
+        Given::Handed(process) => Answer::Handed(*process),
+        Given::Stored => Answer::Stored,
     })
 }
 
-// The code, which has to be accepted.
-fn guarded(alloc: Global, instrs: &[Instr]) -> Result<Guarded, Fail> {
-    Ok(guard(alloc, code(alloc, instrs)?)?)
+/// Whether the request is the one of the table.
+fn is_asked(request: &Request, asked: &Asked) -> bool {
+    match (request, asked) {
+        (Request::Read { place }, Asked::Read(p)) => *place == *p,
+        (Request::Write { place, scalars }, Asked::Write(p, s)) => {
+            *place == *p && scalars.as_slice() == *s
+        }
+        (Request::Enter { region }, Asked::Enter(r)) => *region == *r,
+        (Request::Leave { region }, Asked::Leave(r)) => *region == *r,
+        (Request::Delay { events, priority }, Asked::Delay(e, p)) => {
+            events.as_slice() == *e && *priority == *p
+        }
+        (Request::Continue { event }, Asked::Continue(e)) => *event == *e,
+        (Request::Start { process, scalars }, Asked::Start(p, s)) => {
+            *process == *p && scalars.as_slice() == *s
+        }
+        (Request::Put { bytes }, Asked::Put(text)) => bytes.as_slice() == text.as_bytes(),
+        (Request::Get, Asked::Get) => true,
+        (Request::End { how }, Asked::End(h)) => *how == *h,
+        _ => is_message(request, asked),
+    }
 }
 
-// A burst of one tick asks this request at once, and goes on after Done.
-fn asks(
-    rt: &impl Abort,
-    guarded: &Guarded,
-    machine: &mut Machine,
-    wanted: &Request,
-) -> Result<(), Fail>
+/// Whether the request is the one of the table, which is of a buffer or a signal.
+fn is_message(request: &Request, asked: &Asked) -> bool {
+    match (request, asked) {
+        (
+            Request::SendBuffer {
+                buffer,
+                scalars,
+                priority,
+            },
+            Asked::SendBuffer(b, s, p),
+        ) => *buffer == *b && scalars.as_slice() == *s && *priority == *p,
+        (
+            Request::SendSignal {
+                signal,
+                scalars,
+                to,
+                priority,
+            },
+            Asked::SendSignal(n, s, t, p),
+        ) => *signal == *n && scalars.as_slice() == *s && *to == *t && *priority == *p,
+        (Request::ReceiveBuffer { buffers, otherwise }, Asked::ReceiveBuffer(b, o)) => {
+            buffers.as_slice() == *b && *otherwise == *o
+        }
+        (Request::ReceiveSignal { signals, otherwise }, Asked::ReceiveSignal(s, o)) => {
+            signals.as_slice() == *s && *otherwise == *o
+        }
+        _ => false,
+    }
+}
+
+/// Whether a burst makes so many ticks and asks this request.
+fn asks(guarded: &Guarded, machine: &mut Machine, ticks: u32, asked: &Asked) -> Result<bool, Fail>
     requires { RunsOn guarded.now machine.old }
     ensures { RunsOn guarded.now machine.new }
 {
-    assert!(rt; machine.can_burst());
-    match machine.burst(guarded, 1)? {
-        Stop::Asks { ticks, request } => {
-            assert_eq!(rt; ticks, 0);
-            assert!(rt; request.equals(wanted));
-        }
-        Stop::Paused { ticks } => assert_eq!(rt; ticks, 0),
+    if !machine.can_burst() {
+        return Ok(false);
     }
-    let answer = Answer::Done;
-    assert!(rt; machine.can_answer(&answer));
+    match machine.burst(guarded, u32::MAX)? {
+        Stop::Asks {
+            ticks: made,
+            request,
+        } => Ok(made == ticks && is_asked(&request, asked)),
+        Stop::Paused { .. } => Ok(false),
+    }
+}
+
+/// Whether a burst of so many ticks makes them all and asks nothing.
+fn pauses(guarded: &Guarded, machine: &mut Machine, most: u32) -> Result<bool, Fail>
+    requires { RunsOn guarded.now machine.old }
+    ensures { RunsOn guarded.now machine.new }
+{
+    if most == 0 || !machine.can_burst() {
+        return Ok(false);
+    }
+    match machine.burst(guarded, most)? {
+        Stop::Asks { .. } => Ok(false),
+        Stop::Paused { ticks } => Ok(ticks == most),
+    }
+}
+
+/// Whether the answer doesn't fit.
+fn refuses(alloc: Global, machine: &Machine, given: &Given) -> Result<bool, Fail> {
+    Ok(!machine.can_answer(&answer_of(alloc, given)?))
+}
+
+/// Whether the answer fits, which is given then.
+fn takes(
+    alloc: Global,
+    guarded: &Guarded,
+    machine: &mut Machine,
+    given: &Given,
+) -> Result<bool, Fail>
+    requires { RunsOn guarded.now machine.old }
+    ensures { RunsOn guarded.now machine.new }
+{
+    let answer = answer_of(alloc, given)?;
+    if !machine.can_answer(&answer) {
+        return Ok(false);
+    }
     machine.answer(answer);
+    Ok(true)
+}
+
+/// Whether a burst makes so many ticks and asks this request, which is done then.
+fn does(
+    alloc: Global,
+    guarded: &Guarded,
+    machine: &mut Machine,
+    ticks: u32,
+    asked: &Asked,
+) -> Result<bool, Fail>
+    requires { RunsOn guarded.now machine.old }
+    ensures { RunsOn guarded.now machine.new }
+{
+    if asks(guarded, machine, ticks, asked)? {
+        takes(alloc, guarded, machine, &Given::Done)
+    } else {
+        Ok(false)
+    }
+}
+
+/// Whether a burst makes so many ticks and asks to end, and the machine has ended then.
+fn ends(
+    alloc: Global,
+    guarded: &Guarded,
+    machine: &mut Machine,
+    ticks: u32,
+    how: How,
+) -> Result<bool, Fail>
+    requires { RunsOn guarded.now machine.old }
+    ensures { RunsOn guarded.now machine.new }
+{
+    if !does(alloc, guarded, machine, ticks, &Asked::End(how))? {
+        return Ok(false);
+    }
+    Ok(!machine.can_burst() && !machine.can_answer(&Answer::Done))
+}
+
+/// Whether the machine makes the turn.
+fn makes_turn(
+    alloc: Global,
+    guarded: &Guarded,
+    machine: &mut Machine,
+    turn: &Turn,
+) -> Result<bool, Fail>
+    requires { RunsOn guarded.now machine.old }
+    ensures { RunsOn guarded.now machine.new }
+{
+    match turn {
+        Turn::Asks(ticks, asked) => asks(guarded, machine, *ticks, asked),
+        Turn::Puts(ticks, text) => does(alloc, guarded, machine, *ticks, &Asked::Put(text)),
+        Turn::Ends(ticks, how) => ends(alloc, guarded, machine, *ticks, *how),
+        Turn::Pauses(most) => pauses(guarded, machine, *most),
+        Turn::Refuses(given) => refuses(alloc, machine, given),
+        Turn::Takes(given) => takes(alloc, guarded, machine, given),
+    }
+}
+
+/// A machine of instance 5 at the first instruction of a body that has as many parameters.
+fn started(alloc: Global, guarded: &Guarded, process: u32, numbers: &[i64]) -> Result<Machine, Fail>
+    ensures { IfOk result (RunsOn guarded.now) }
+{
+    let scalars = scalars_of(alloc, numbers)?;
+    if !Machine::can_start(guarded, process, &scalars) {
+        return Err(Fail::from("a process that can't start"));
+    }
+    Ok(Machine::start(alloc, guarded, 5, process, scalars)?)
+}
+
+/// The number of turns that are made up to the first that isn't.
+fn turns_made(alloc: Global, scene: &Scene) -> Result<usize, Fail> {
+    let guarded = guarded_of(alloc, &scene.0)?;
+    let mut machine = started(alloc, &guarded, 0, &[])?;
+    for (i, turn) in scene.1.iter().enumerate() {
+        if !makes_turn(alloc, &guarded, &mut machine, turn)? {
+            return Ok(i);
+        }
+    }
+    Ok(scene.1.len())
+}
+
+/// Whether the instructions put these texts and end.
+fn puts_all(alloc: Global, instrs: &'static [Instr], texts: &[&'static str]) -> Result<bool, Fail> {
+    let guarded = guarded_of(alloc, &Shape(instrs, &[], &[OUTERMOST]))?;
+    let mut machine = started(alloc, &guarded, 0, &[])?;
+    for text in texts {
+        if !does(alloc, &guarded, &mut machine, 0, &Asked::Put(text))? {
+            return Ok(false);
+        }
+    }
+    ends(alloc, &guarded, &mut machine, 0, How::Normal)
+}
+
+/// Whether the instructions end with the exception.
+fn raises(alloc: Global, instrs: &'static [Instr], exception: Exc) -> Result<bool, Fail> {
+    let guarded = guarded_of(alloc, &Shape(instrs, &[], &[OUTERMOST]))?;
+    let mut machine = started(alloc, &guarded, 0, &[])?;
+    ends(alloc, &guarded, &mut machine, 0, How::Raised(exception))
+}
+
+/// Each row holds.
+fn all_rows(rt: &impl Abort, alloc: Global, rows: &[Row]) -> Result<(), Fail> {
+    for (i, row) in rows.iter().enumerate() {
+        let holds = match row {
+            Row::Puts(instrs, texts) => puts_all(alloc, instrs, texts)?,
+            Row::Raises(instrs, exception) => raises(alloc, instrs, *exception)?,
+        };
+        assert!(rt; holds, "row {i}");
+    }
     Ok(())
 }
 
-fn puts_three(rt: &impl Abort, alloc: Global, guarded: &Guarded) -> Result<(), Fail> {
-    let scalars = List::new(alloc);
-    assert!(rt; Machine::can_start(guarded, 0, &scalars));
-    let mut machine = Machine::start(alloc, guarded, 1, 0, scalars)?;
-    let bytes: Text = List::from_vec(vec![in alloc; b'3']?);
-    asks(rt, guarded, &mut machine, &Request::Put { bytes })?;
-    asks(
-        rt,
-        guarded,
-        &mut machine,
-        &Request::End { how: How::Normal },
-    )?;
-    assert!(rt; !machine.can_burst());
-    assert!(rt; !machine.can_answer(&Answer::Done));
+/// Each scene is played to its end.
+fn all_scenes(rt: &impl Abort, alloc: Global, scenes: &[Scene]) -> Result<(), Fail> {
+    for (i, scene) in scenes.iter().enumerate() {
+        let made = turns_made(alloc, scene)?;
+        assert_eq!(rt; made, scene.1.len(), "scene {i}");
+    }
     Ok(())
 }
 
 #[test]
-fn a_sum_is_put(rt: HostRuntime) -> Result<(), Fail> {
-    let sum = [
-        Instr::Push(1),
-        Instr::Push(2),
-        Instr::Add,
-        Instr::PutInt,
-        Instr::Finish,
-    ];
-    puts_three(&rt, rt.alloc(), &guarded(rt.alloc(), &sum)?)
+fn numbers_stand_on_the_stack_and_in_locals(rt: HostRuntime) -> Result<(), Fail> {
+    all_rows(&rt, rt.alloc(), operators::STACK)
 }
 
 #[test]
-fn missing_operands_come_back(rt: HostRuntime) -> Result<(), Fail> {
-    let answer = guard(rt.alloc(), code(rt.alloc(), &[Instr::Add, Instr::Finish])?);
-    assert!(rt; matches!(answer, Err(GuardRefusal::Disagrees(_))));
-    Ok(())
-}
-
-fn pauses(rt: &impl Abort, alloc: Global, guarded: &Guarded) -> Result<(), Fail> {
-    let scalars = List::new(alloc);
-    assert!(rt; Machine::can_start(guarded, 0, &scalars));
-    let mut machine = Machine::start(alloc, guarded, 1, 0, scalars)?;
-    assert!(rt; machine.can_burst());
-    let stop = machine.burst(guarded, 7)?;
-    assert!(rt; matches!(stop, Stop::Paused { ticks: 7 }));
-    assert!(rt; machine.can_burst());
-    Ok(())
+fn operators_on_numbers_give_their_results(rt: HostRuntime) -> Result<(), Fail> {
+    all_rows(&rt, rt.alloc(), operators::NUMBERS)
 }
 
 #[test]
-fn a_loop_pauses(rt: HostRuntime) -> Result<(), Fail> {
-    pauses(&rt, rt.alloc(), &guarded(rt.alloc(), &[Instr::Again(0)])?)
+fn operators_on_truths_give_their_results(rt: HostRuntime) -> Result<(), Fail> {
+    all_rows(&rt, rt.alloc(), operators::TRUTHS)
+}
+
+#[test]
+fn operators_on_powersets_give_their_results(rt: HostRuntime) -> Result<(), Fail> {
+    all_rows(&rt, rt.alloc(), operators::POWERSETS)
+}
+
+#[test]
+fn results_outside_int_raise_overflow(rt: HostRuntime) -> Result<(), Fail> {
+    all_rows(&rt, rt.alloc(), raising::OVERFLOWS)
+}
+
+#[test]
+fn numbers_outside_their_range_raise_rangefail(rt: HostRuntime) -> Result<(), Fail> {
+    all_rows(&rt, rt.alloc(), raising::RANGEFAILS)
+}
+
+#[test]
+fn other_exceptions_are_raised(rt: HostRuntime) -> Result<(), Fail> {
+    all_rows(&rt, rt.alloc(), raising::OTHERS)
+}
+
+#[test]
+fn places_are_read_and_written(rt: HostRuntime) -> Result<(), Fail> {
+    all_scenes(&rt, rt.alloc(), requests::PLACES)
+}
+
+#[test]
+fn regions_are_entered_and_left_once(rt: HostRuntime) -> Result<(), Fail> {
+    all_scenes(&rt, rt.alloc(), requests::REGIONS)
+}
+
+#[test]
+fn events_are_awaited_and_continued(rt: HostRuntime) -> Result<(), Fail> {
+    all_scenes(&rt, rt.alloc(), requests::EVENTS)
+}
+
+#[test]
+fn values_are_sent(rt: HostRuntime) -> Result<(), Fail> {
+    all_scenes(&rt, rt.alloc(), requests::SENDS)
+}
+
+#[test]
+fn values_are_received(rt: HostRuntime) -> Result<(), Fail> {
+    all_scenes(&rt, rt.alloc(), requests::RECEIVES)
+}
+
+#[test]
+fn other_requests_are_answered(rt: HostRuntime) -> Result<(), Fail> {
+    all_scenes(&rt, rt.alloc(), requests::OTHERS)
+}
+
+#[test]
+fn calls_give_back_their_results(rt: HostRuntime) -> Result<(), Fail> {
+    all_scenes(&rt, rt.alloc(), frames::CALLS)
+}
+
+#[test]
+fn a_process_has_at_most_250_frames(rt: HostRuntime) -> Result<(), Fail> {
+    all_scenes(&rt, rt.alloc(), frames::DEPTHS)
+}
+
+#[test]
+fn ticks_are_counted(rt: HostRuntime) -> Result<(), Fail> {
+    all_scenes(&rt, rt.alloc(), frames::TICKS)
+}
+
+#[test]
+fn regions_belong_to_their_frame(rt: HostRuntime) -> Result<(), Fail> {
+    all_scenes(&rt, rt.alloc(), frames::REGIONS)
+}
+
+#[test]
+fn handlers_take_exceptions(rt: HostRuntime) -> Result<(), Fail> {
+    all_scenes(&rt, rt.alloc(), exceptions::HANDLERS)
+}
+
+#[test]
+fn exceptions_leave_bodies_that_list_them(rt: HostRuntime) -> Result<(), Fail> {
+    all_scenes(&rt, rt.alloc(), exceptions::CALLS)
+}
+
+#[test]
+fn a_process_starts_with_its_scalars(rt: HostRuntime) -> Result<(), Fail> {
+    let alloc = rt.alloc();
+    let guarded = guarded_of(alloc, &frames::TAKES_TWO)?;
+    assert!(rt; !Machine::can_start(&guarded, 2, &scalars_of(alloc, &[8, 9])?));
+    assert!(rt; !Machine::can_start(&guarded, 1, &scalars_of(alloc, &[8])?));
+    let mut machine = started(alloc, &guarded, 1, &[8, 9])?;
+    for text in ["0", "0", "9", "8"] {
+        assert!(rt; does(alloc, &guarded, &mut machine, 0, &Asked::Put(text))?);
+    }
+    Ok(())
 }
