@@ -17,6 +17,7 @@ reached_low base marks v r = at_side (cases_lt v base)
     at_side (inr h) = let cut = length-take base marks in let wrong : false ≡ true = sym (get_or_past (take base marks) v false (omega (arith, cut, h))) ∙ r in absurd cc
 
 pub cut_exact : (base : ℕ) (gs : List Group) (marks : List Bool) → LieBelow base gs → ((v : ℕ) → v < base + length gs → IsSet marks v ↔ Depends (stars base gs) v v) → (v : ℕ) → IsSet (take base marks) v ↔ Depends (edges_of gs) v v
-cut_exact base gs marks low exact v =
-    ( (λ r. let h = reached_low base marks v r in comes_back base gs low v v h h ((exact v (omega (arith, h))).0 (sym (get_or-take base marks v false h) ∙ r)))
-    , (λ d. let h = only_below base gs low v v d in get_or-take base marks v false h ∙ (exact v (omega (arith, h))).1 (goes_through base gs low v v d)) )
+cut_exact base gs marks low exact v = (
+  (λ r. let h = reached_low base marks v r in comes_back base gs low v v h h ((exact v (omega (arith, h))).0 (sym (get_or-take base marks v false h) ∙ r))),
+  (λ d. let h = only_below base gs low v v d in get_or-take base marks v false h ∙ (exact v (omega (arith, h))).1 (goes_through base gs low v v d)),
+)

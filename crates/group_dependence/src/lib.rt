@@ -10,12 +10,9 @@ mod group;
 mod law;
 mod stars;
 
-
 pub use cycles::selves;
 pub use group::Group;
 pub use law::testing_law;
-
-
 
 #[cfg(test)]
 mod tests;

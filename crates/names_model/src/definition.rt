@@ -1,6 +1,6 @@
 // Definitions of names.
-use crate::kind::Kind;
 use crate::identifier::Identifier;
+use crate::kind::Kind;
 
 /// Where a definition stands. A modulion, a procedure and a process are known by the numbers of their own definitions.
 #[derive(Clone, Copy, Debug, PartialEq, Eq)]

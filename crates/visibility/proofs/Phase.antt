@@ -24,8 +24,8 @@ pub broken_are : (tree : ProgramTree) (found : Found) (first second list : List 
 broken_are tree found first second list f selves surplus is =
     let text = text_definitions (level_of tree) in
     is ∙ ap (listed diagnostic_cmp)
-      (surplus ∙ ap (λ (l : List Diagnostic). l ++ told_surplus text)
-        (selves ∙ ap (λ (l : List Diagnostic). l ++ told_selves text found.findings.groups.items) f.told ∙ ap (λ (gs : List Group). told_in text (outermost (level_of tree)) 0 (level_of tree) ++ told_selves text gs) f.groups))
+    (surplus ∙ ap (λ (l : List Diagnostic). l ++ told_surplus text)
+    (selves ∙ ap (λ (l : List Diagnostic). l ++ told_selves text found.findings.groups.items) f.told ∙ ap (λ (gs : List Group). told_in text (outermost (level_of tree)) 0 (level_of tree) ++ told_selves text gs) f.groups))
 
 -- its definitions and uses are the names of the program
 pub names_are : (tree : ProgramTree) (found : Found) (definitions : List Definition) (uses : List Resolved) → IsFound tree found

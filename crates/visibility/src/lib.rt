@@ -14,4 +14,3 @@ mod surplus;
 
 pub use refusal::Refusal;
 pub use resolving::resolve;
-

@@ -9,11 +9,11 @@ loop-group-preserved c =
     let second = c.greatest-last-in-loop-group in
     let g = c.group-item.result in
     one_more_low c.args.groups.now c.loop-group.last second.result c.loop-group.group-index g c.loop-group-test.true c.group-item.is c.loop-group.invariant
-      (omega (arith, first.ensures.least, second.ensures.least))
-      (record {
-        from = λ k d l. let a = subst (All (λ v. v ≤ first.result)) c.as_slice.ensures first.ensures.all k d l in omega (arith, a, second.ensures.least);
-        to = subst (All (λ v. v ≤ second.result)) c.as_slice-in-loop-group.ensures second.ensures.all;
-      })
+    (omega (arith, first.ensures.least, second.ensures.least))
+    (record {
+      from = λ k d l. let a = subst (All (λ v. v ≤ first.result)) c.as_slice.ensures first.ensures.all k d l in omega (arith, a, second.ensures.least);
+      to = subst (All (λ v. v ≤ second.result)) c.as_slice-in-loop-group.ensures second.ensures.all;
+    })
 
 pub returns-in_default : goal.returns-in_default
 returns-in_default c = lie_below c.args.groups.now c.loop-group.last c.loop-group.group-index c.loop-group-test.false c.loop-group.invariant

@@ -17,5 +17,5 @@ returns c = λ text keeps count.
     let gs = c.args.groups.now in
     let end : c.loop-number.number ≡ length text = omega (arith, count, c.loop-number.auto.number-end, c.loop-number-test.false) in
     c.loop-number.invariant
-      ∙ ap (λ (all : List Definition). c.args.out.now.items ++ flat_map (λ d. told_self (is_self all gs d) (slice_get all d)) (numbers_on 0 c.loop-number.number)) keeps.all
-      ∙ ap (λ (n : ℕ). c.args.out.now.items ++ flat_map (λ d. told_self (is_self (with_predefined text) gs d) (slice_get (with_predefined text) d)) (numbers_on 0 n)) end
+    ∙ ap (λ (all : List Definition). c.args.out.now.items ++ flat_map (λ d. told_self (is_self all gs d) (slice_get all d)) (numbers_on 0 c.loop-number.number)) keeps.all
+    ∙ ap (λ (n : ℕ). c.args.out.now.items ++ flat_map (λ d. told_self (is_self (with_predefined text) gs d) (slice_get (with_predefined text) d)) (numbers_on 0 n)) end
