@@ -1,11 +1,10 @@
-//! What the reaches of a program see, and what their parts tell, depend on and use.
+//! What the reaches of a program see, and what their parts tell, depend on and use: `find_in_program` meets the definitions
+//! of `names_model`.
 //!
-//! `resolve` meets the definitions of `names_model`. It stands on `reach_parts`, which finds the parts of the reaches, and
-//! below the checks of the later phases: they have the numbers of definitions from it.
-//!
-//! Its walk goes once over all parts with the tables of the reaches around. At each part `note_here` tells which rules on
-//! names are broken and notes what depends on what and what each use stands for. A rule of a later phase that is told of one
-//! part is told there too, by a function of its own that `note_here` calls.
+//! It stands on `names_model`, and below `visibility`, which makes the answer of the phase of names of what is found here.
+//! One walk goes over all parts with the tables of the reaches around. At each part `note_here` tells which rules on names
+//! are broken, and notes what depends on what and what each use stands for. A rule of a later phase that is told of one part
+//! is told there too, by a function of its own that `note_here` calls.
 #![tactic(auto)]
 
 mod book;
