@@ -12,3 +12,5 @@ pub mod Fresh
 pub mod Measuring
 pub mod ProgramMeasures
 pub mod Marking
+pub mod Lending
+pub mod Entering

@@ -43,7 +43,7 @@ marked_new false true xs d e b h k m = m ∙ sym (any-behind (λ x. x == e) xs d
 marked_new false false xs d e b h k m = m
 
 pub added-new : (all : List Definition) (d : ℕ) (t t' : Holdings) (marks marks' : List ℕ) → Marks marks t all → is_marked marks d ≡ false → ((e : ℕ) → is_marked marks' e ≡ (if nat_eq d e then true else is_marked marks e))
-    → ((n : List ℕ) → held t' n ≡ (if bytes_eq (spelling_at all d) n then held t n ++ d ∷ [] else held t n)) → Added all d t t' marks'
+    → ((n : List ℕ) → held t' n ≡ (if bytes_eq (spelling_at all d) n then held t n ++ d ∷ [] else held t n)) → Added all (d ∷ []) t t' marks'
 added-new all d t t' marks marks' m h by put = record {
   by = λ n. put n ∙ new (bytes_eq (spelling_at all d) n) (held t n) d (same_name t all d n false (sym (m.by d) ∙ h));
   marks = record {

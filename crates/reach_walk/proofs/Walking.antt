@@ -12,6 +12,7 @@ use Rattle.names_model.specs.NameRules.{Node, node, nodes, nodes_inside, told, t
 use Rattle.names_model.specs.Dependence.{groups_in}
 use Rattle.names_model.specs.Resolving.{resolved_in}
 use Rattle.reach_walk.specs.Findings.{AddsInside, AddsNodes, AddsReach}
+use Rattle.reach_walk.specs.Givens.{GivenTree, given_of}
 use Rattle.reach_walk.specs.Offsets.{FitsInside, nodes_of}
 use Rattle.reach_walk.specs.declared.findings.Findings.{Findings}
 use Rattle.reach_walk.proofs.PartLists.{nodes-at}
@@ -44,5 +45,5 @@ found-reach text r from ps old opened new twice a e g u b = record {
 }
 
 -- what is found in a part that opens a reach, by a call that returned a result
-abbrev pub InsideFound : List Definition → Reach → ℕ → Result Unit Memory → (new old : Findings) → PartTree → Type 0
-InsideFound text r from result new old p = from + size_of p < 2 ^ 32 → FitsInside from p → OnOk result (AddsInside old new text r from p)
+abbrev pub InsideFound : List Definition → Reach → List Definition → List GivenTree → ℕ → Result Unit Memory → (new old : Findings) → PartTree → Type 0
+InsideFound text r all own from result new old p = from + size_of p < 2 ^ 32 → FitsInside from p → own ≡ given_of all from p → OnOk result (AddsInside old new text r from p)

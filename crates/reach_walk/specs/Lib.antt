@@ -7,3 +7,6 @@ pub mod Named
 pub mod Findings
 pub mod Measures
 pub mod Marks
+pub mod Givens
+pub mod Places
+pub mod Opens

@@ -1,5 +1,5 @@
 -- Which numbers are in a table.
-use Rattle.std.specs.Prelude.{◌≡◌, ℕ, Bool, List, [], ◌∷◌, nat_eq}
+use Rattle.std.specs.Prelude.{◌≡◌, ℕ, Bool, List, nat_eq}
 use Rattle.std.specs.List.{list_any}
 use Rattle.names_model.specs.declared.definition.Definition.{Definition}
 use Rattle.names_model.specs.Definitions.{spelling_at, under}
@@ -14,7 +14,7 @@ is_marked marks d = list_any (nat_eq d) marks
 pub record Marks (marks : List ℕ) (t : Holdings) (all : List Definition) : Type 0 where
   pub by : (d : ℕ) → is_marked marks d ≡ is_among d (held t (spelling_at all d))
 
--- a number is put into a table, once under its own name, and marked
-pub record Added (all : List Definition) (d : ℕ) (t t' : Holdings) (new : List ℕ) : Type 0 where
-  pub by : (n : List ℕ) → held t' n ≡ once_behind (held t n) (under all n (d ∷ []))
+-- numbers are put into a table, each once under its own name, and marked
+pub record Added (all : List Definition) (ds : List ℕ) (t t' : Holdings) (new : List ℕ) : Type 0 where
+  pub by : (n : List ℕ) → held t' n ≡ once_behind (held t n) (under all n ds)
   pub marks : Marks new t' all

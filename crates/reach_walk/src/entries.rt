@@ -1,55 +1,45 @@
-// What is defined directly in a reach.
+// What is defined directly in a reach: entries of one definition each.
 ghost use Rattle.std.specs.Prelude.{◌≡◌, ◌++◌, ◌∷◌, [], suc, ◌+◌, ◌<◌, ◌^◌, length, OnOk};
 ghost use Rattle.names_model.specs.Parts.{part_tree};
 ghost use Rattle.names_model.specs.Sizes.{clause_size, clauses_size, elements_in, head_size, size_of};
 ghost use Rattle.names_model.specs.Entries.{entry, named_entries, numbers_of, own_entries, own_numbers, param_elements, param_names};
 ghost use Rattle.reach_walk.specs.Offsets.{Fits, nodes_of};
+ghost use Rattle.reach_walk.specs.Places.{singles};
 
 use crate::offsets::{clause_size, clauses_size, names_size, size_of};
+use crate::place::Place;
 use chill_base::{Memory, Numbers, Pos};
 use names_model::{Clause, Entry, Identifier, Mention, Part};
 use std::alloc::Global;
 
 /// Enters one definition.
-fn enter(alloc: Global, at: Pos, number: u32, out: &mut Vec<Entry>) -> Result<(), Memory>
-    ensures { OnOk result (out.new.items ≡ out.old.items ++ entry at (number ∷ []) ∷ []) }
+fn enter(at: Pos, number: u32, out: &mut Vec<Place>) -> Result<(), Memory>
+    ensures { OnOk result (singles out.new.items ≡ singles out.old.items ++ entry at (number ∷ []) ∷ []) }
 {
-    let mut numbers = Numbers::new(alloc);
-    numbers.push(number)?;
-    out.push(Entry { at, numbers })?;
+    out.push(Place { at, number })?;
     Ok(())
 }
 
 /// Enters names, the first of which has the number `from`.
-pub fn enter_names(
-    alloc: Global,
-    from: u32,
-    names: &[Identifier],
-    out: &mut Vec<Entry>,
-) -> Result<(), Memory>
-    ensures { from + length names.now < 2 ^ 32 → OnOk result (out.new.items ≡ out.old.items ++ named_entries from names.now) }
+pub fn enter_names(from: u32, names: &[Identifier], out: &mut Vec<Place>) -> Result<(), Memory>
+    ensures { from + length names.now < 2 ^ 32 → OnOk result (singles out.new.items ≡ singles out.old.items ++ named_entries from names.now) }
 {
     let mut next = from;
     for name in names {
-        enter(alloc, name.at, next, out)?;
+        enter(name.at, next, out)?;
         next = next.saturating_add(1);
     }
     Ok(())
 }
 
 /// Enters the elements that the SETs among mentions define.
-pub fn enter_elements(
-    alloc: Global,
-    from: u32,
-    text: &[Mention],
-    out: &mut Vec<Entry>,
-) -> Result<(), Memory>
-    ensures { from + length (elements_in text.now) < 2 ^ 32 → OnOk result (out.new.items ≡ out.old.items ++ named_entries from (elements_in text.now)) }
+pub fn enter_elements(from: u32, text: &[Mention], out: &mut Vec<Place>) -> Result<(), Memory>
+    ensures { from + length (elements_in text.now) < 2 ^ 32 → OnOk result (singles out.new.items ≡ singles out.old.items ++ named_entries from (elements_in text.now)) }
 {
     let mut next = from;
     for mention in text {
         if let Mention::Element(name) = mention {
-            enter(alloc, name.at, next, out)?;
+            enter(name.at, next, out)?;
             next = next.saturating_add(1);
         }
     }
@@ -57,100 +47,72 @@ pub fn enter_elements(
 }
 
 /// Enters parameters, which stand in the body.
-pub fn enter_params(
-    alloc: Global,
-    from: u32,
-    params: &[Clause],
-    out: &mut Vec<Entry>,
-) -> Result<(), Memory>
-    ensures { from + clauses_size params.now < 2 ^ 32 → OnOk result (out.new.items ≡ out.old.items ++ param_names from params.now) }
+pub fn enter_params(from: u32, params: &[Clause], out: &mut Vec<Place>) -> Result<(), Memory>
+    ensures { from + clauses_size params.now < 2 ^ 32 → OnOk result (singles out.new.items ≡ singles out.old.items ++ param_names from params.now) }
 {
     let mut next = from;
     for clause in params {
-        enter_names(alloc, next, clause.names.as_slice(), out)?;
+        enter_names(next, clause.names.as_slice(), out)?;
         next = next.saturating_add(clause_size(clause));
     }
     Ok(())
 }
 
 /// Enters the elements in the modes of parameters, which stand around the body.
-fn enter_param_elements(
-    alloc: Global,
-    from: u32,
-    params: &[Clause],
-    out: &mut Vec<Entry>,
-) -> Result<(), Memory>
-    ensures { from + clauses_size params.now < 2 ^ 32 → OnOk result (out.new.items ≡ out.old.items ++ param_elements from params.now) }
+fn enter_param_elements(from: u32, params: &[Clause], out: &mut Vec<Place>) -> Result<(), Memory>
+    ensures { from + clauses_size params.now < 2 ^ 32 → OnOk result (singles out.new.items ≡ singles out.old.items ++ param_elements from params.now) }
 {
     let mut next = from;
     for clause in params {
         let first = next.saturating_add(names_size(clause.names.as_slice()));
-        enter_elements(alloc, first, clause.text.as_slice(), out)?;
+        enter_elements(first, clause.text.as_slice(), out)?;
         next = next.saturating_add(clause_size(clause));
     }
     Ok(())
 }
 
 /// Enters the names of a clause and its elements.
-fn enter_clause(
-    alloc: Global,
-    from: u32,
-    clause: &Clause,
-    out: &mut Vec<Entry>,
-) -> Result<(), Memory>
-    ensures { from + clause_size clause.now < 2 ^ 32 → OnOk result (out.new.items ≡ out.old.items ++ (named_entries from clause.now.names ++ named_entries (from + length clause.now.names) (elements_in clause.now.text))) }
+fn enter_clause(from: u32, clause: &Clause, out: &mut Vec<Place>) -> Result<(), Memory>
+    ensures { from + clause_size clause.now < 2 ^ 32 → OnOk result (singles out.new.items ≡ singles out.old.items ++ (named_entries from clause.now.names ++ named_entries (from + length clause.now.names) (elements_in clause.now.text))) }
 {
     let first = from.saturating_add(names_size(clause.names.as_slice()));
-    enter_names(alloc, from, clause.names.as_slice(), out)?;
-    enter_elements(alloc, first, clause.text.as_slice(), out)?;
+    enter_names(from, clause.names.as_slice(), out)?;
+    enter_elements(first, clause.text.as_slice(), out)?;
     Ok(())
 }
 
 /// Enters a procedure or process, and the elements in the modes of its head.
 fn enter_routine(
-    alloc: Global,
     from: u32,
     name: &Identifier,
     params: &[Clause],
     returned: &[Mention],
-    out: &mut Vec<Entry>,
+    out: &mut Vec<Place>,
 ) -> Result<(), Memory>
-    ensures { from + head_size params.now returned.now < 2 ^ 32 → OnOk result (out.new.items ≡ out.old.items ++ (entry name.now.at (from ∷ []) ∷ param_elements (suc from) params.now ++ named_entries (suc from + clauses_size params.now) (elements_in returned.now))) }
+    ensures { from + head_size params.now returned.now < 2 ^ 32 → OnOk result (singles out.new.items ≡ singles out.old.items ++ (entry name.now.at (from ∷ []) ∷ param_elements (suc from) params.now ++ named_entries (suc from + clauses_size params.now) (elements_in returned.now))) }
 {
     let first = from.saturating_add(1);
     let behind = first.saturating_add(clauses_size(params));
-    enter(alloc, name.at, from, out)?;
-    enter_param_elements(alloc, first, params, out)?;
-    enter_elements(alloc, behind, returned, out)?;
+    enter(name.at, from, out)?;
+    enter_param_elements(first, params, out)?;
+    enter_elements(behind, returned, out)?;
     Ok(())
 }
 
 /// Enters what a part defines directly in its reach.
 #[tactic(auto, using(names_model::proofs::PartViews::part_built, crate::proofs::Appends::nothing_more))]
-pub fn own_entries(
-    alloc: Global,
-    from: u32,
-    part: &Part,
-    out: &mut Vec<Entry>,
-) -> Result<(), Memory>
-    ensures { from + size_of (part_tree part.now) < 2 ^ 32 → OnOk result (out.new.items ≡ out.old.items ++ own_entries from (part_tree part.now)) }
+pub fn own_entries(from: u32, part: &Part, out: &mut Vec<Place>) -> Result<(), Memory>
+    ensures { from + size_of (part_tree part.now) < 2 ^ 32 → OnOk result (singles out.new.items ≡ singles out.old.items ++ own_entries from (part_tree part.now)) }
 {
     match part {
-        Part::Define(clause) => enter_clause(alloc, from, clause, out),
-        Part::Modulion { name, .. } => enter(alloc, name.at, from, out),
+        Part::Define(clause) => enter_clause(from, clause, out),
+        Part::Modulion { name, .. } => enter(name.at, from, out),
         Part::Routine {
             name,
             params,
             result: returned,
             ..
-        } => enter_routine(
-            alloc,
-            from,
-            name,
-            params.as_slice(),
-            returned.as_slice(),
-            out,
-        ),
+        } => enter_routine(from, name, params.as_slice(), returned.as_slice(), out),
         Part::Mention(_)
         | Part::Seize(_)
         | Part::SeizeAll(_)
@@ -181,13 +143,23 @@ pub fn push_numbers(entries: &[Entry], out: &mut Numbers) -> Result<(), Memory>
     Ok(())
 }
 
-// The numbers of what a part defines directly in its reach.
-fn push_own(alloc: Global, from: u32, part: &Part, out: &mut Numbers) -> Result<(), Memory>
+// The numbers of places.
+fn push_places(places: &[Place], out: &mut Numbers) -> Result<(), Memory>
+    ensures { OnOk result (out.new ≡ out.old ++ numbers_of (singles places.now)) }
+{
+    for place in places {
+        out.push(place.number)?;
+    }
+    Ok(())
+}
+
+/// The numbers of what a part defines directly in its reach.
+pub fn push_own(alloc: Global, from: u32, part: &Part, out: &mut Numbers) -> Result<(), Memory>
     ensures { from + size_of (part_tree part.now) < 2 ^ 32 → OnOk result (out.new ≡ out.old ++ numbers_of (own_entries from (part_tree part.now))) }
 {
-    let mut entries = Vec::new(alloc);
-    own_entries(alloc, from, part, &mut entries)?;
-    push_numbers(entries.as_slice(), out)?;
+    let mut places = Vec::new(alloc);
+    own_entries(from, part, &mut places)?;
+    push_places(places.as_slice(), out)?;
     Ok(())
 }
 

@@ -66,8 +66,8 @@ fn push_along_all(
     Ok(())
 }
 
-// What passes under a name, with the elements that go along.
-fn push_passed(
+/// What passes under a name, with the elements that go along.
+pub fn push_passed(
     book: &Book,
     source: &Source,
     name: &Spelling,
@@ -81,8 +81,8 @@ fn push_passed(
     Ok(())
 }
 
-/// Enters what passes under a name.
-pub fn enter_passed(
+// Enters what passes under a name.
+fn enter_passed(
     alloc: Global,
     book: &Book,
     source: &Source,

@@ -1,35 +1,82 @@
 // The entries of reaches.
-ghost use Rattle.std.specs.Prelude.{◌≡◌, ◌++◌, ◌+◌, ◌<◌, ◌^◌, OnOk};
+ghost use Rattle.std.specs.Prelude.{◌≡◌, ◌++◌, ◌∷◌, [], ◌+◌, ◌<◌, ◌^◌, List, OnOk};
 ghost use Rattle.names_model.specs.Parts.{part_tree};
 ghost use Rattle.names_model.specs.Sizes.{size_of};
-ghost use Rattle.names_model.specs.Entries.{given_entries, own_entries};
+ghost use Rattle.names_model.specs.declared.entry.Entry.{Entry};
+ghost use Rattle.names_model.specs.Entries.{entry, given_entries, own_entries, passed};
 ghost use Rattle.names_model.specs.Seeing.{entries_in, is_seize_all, seized_entries, seizes_all};
-ghost use Rattle.reach_walk.specs.Offsets.{Fits, FitsInside, nodes_of};
+ghost use Rattle.reach_walk.specs.Givens.{given_of, given_trees, givens};
+ghost use Rattle.reach_walk.specs.Offsets.{Fits, nodes_of};
+ghost use Rattle.reach_walk.specs.Opens.{Opens};
+ghost use Rattle.reach_walk.specs.Places.{singles};
 ghost use Rattle.reach_walk.specs.Scopes.{told_by};
 
 use crate::book::Book;
 use crate::entries::own_entries;
-use crate::given::given_entries;
+use crate::given::{Given, lent_entries, split_given};
 use crate::offsets::size_of;
-use crate::passing::enter_passed;
+use crate::opening::Opening;
+use crate::passing::push_passed;
+use crate::place::Place;
 use crate::source::Source;
-use chill_base::Memory;
-use names_model::{Entry, Part};
+use chill_base::{Memory, Numbers};
+use names_model::{Entry, Identifier, Part};
 use std::alloc::Global;
 
-/// What a part takes by name from around its reach.
+/// Enters definitions, each at its place.
+pub fn enter_places(
+    alloc: Global,
+    book: &Book,
+    places: &[Place],
+    out: &mut Opening,
+) -> Result<(), Memory>
+    ensures { (es : List Entry) → Opens out.old book.now.all.items es → OnOk result (Opens out.new book.now.all.items (es ++ singles places.now)) }
+{
+    for place in places {
+        out.enter(alloc, book, place.at, &[place.number])?;
+    }
+    Ok(())
+}
+
+// Enters what is lent.
+fn enter_lent(alloc: Global, book: &Book, lent: &[Entry], out: &mut Opening) -> Result<(), Memory>
+    ensures { (es : List Entry) → Opens out.old book.now.all.items es → OnOk result (Opens out.new book.now.all.items (es ++ lent.now)) }
+{
+    for entry in lent {
+        out.enter(alloc, book, entry.at, entry.numbers.as_slice())?;
+    }
+    Ok(())
+}
+
+// Enters what is seized under a name.
+fn enter_seized(
+    alloc: Global,
+    book: &Book,
+    around: &Source,
+    name: &Identifier,
+    out: &mut Opening,
+) -> Result<(), Memory>
+    ensures { (es : List Entry) → Opens out.old book.now.all.items es → OnOk result (Opens out.new book.now.all.items (es ++ entry name.now.at (passed book.now.all.items (told_by around.now) name.now.spelling) ∷ [])) }
+{
+    let mut numbers = Numbers::new(alloc);
+    push_passed(book, around, &name.spelling, &mut numbers)?;
+    out.enter(alloc, book, name.at, numbers.as_slice())?;
+    Ok(())
+}
+
+// Enters what a part takes by name from around its reach.
 #[tactic(auto, using(names_model::proofs::PartViews::part_built, crate::proofs::Appends::nothing_more))]
-fn seized_entries(
+fn enter_taken(
     alloc: Global,
     book: &Book,
     around: &Source,
     part: &Part,
-    out: &mut Vec<Entry>,
+    out: &mut Opening,
 ) -> Result<(), Memory>
-    ensures { OnOk result (out.new.items ≡ out.old.items ++ seized_entries book.now.all.items (told_by around.now) (part_tree part.now)) }
+    ensures { (es : List Entry) → Opens out.old book.now.all.items es → OnOk result (Opens out.new book.now.all.items (es ++ seized_entries book.now.all.items (told_by around.now) (part_tree part.now))) }
 {
     match part {
-        Part::Seize(name) => enter_passed(alloc, book, around, name, out),
+        Part::Seize(name) => enter_seized(alloc, book, around, name, out),
         Part::Define(_)
         | Part::Mention(_)
         | Part::SeizeAll(_)
@@ -42,38 +89,47 @@ fn seized_entries(
     }
 }
 
-// What a part enters into its reach.
-fn part_entries(
+// Enters what a part defines, what it takes and what it is lent. The places are a buffer.
+fn enter_part(
     alloc: Global,
     book: &Book,
     around: &Source,
+    given: &[Given],
     from: u32,
     part: &Part,
-    out: &mut Vec<Entry>,
+    places: &mut Vec<Place>,
+    out: &mut Opening,
 ) -> Result<(), Memory>
-    ensures { from + size_of (part_tree part.now) < 2 ^ 32 → FitsInside from (part_tree part.now) → OnOk result (out.new.items ≡ out.old.items ++ (own_entries from (part_tree part.now) ++ seized_entries book.now.all.items (told_by around.now) (part_tree part.now) ++ given_entries book.now.all.items from (part_tree part.now))) }
+    ensures { from + size_of (part_tree part.now) < 2 ^ 32 → given_trees given.now ≡ given_of book.now.all.items from (part_tree part.now) → (es : List Entry) → Opens out.old book.now.all.items es → OnOk result (Opens out.new book.now.all.items (es ++ (own_entries from (part_tree part.now) ++ seized_entries book.now.all.items (told_by around.now) (part_tree part.now) ++ given_entries book.now.all.items from (part_tree part.now)))) }
 {
-    own_entries(alloc, from, part, out)?;
-    seized_entries(alloc, book, around, part, out)?;
-    given_entries(alloc, book, from, part, out)?;
+    places.clear();
+    own_entries(from, part, places)?;
+    enter_places(alloc, book, places.as_slice(), out)?;
+    enter_taken(alloc, book, around, part, out)?;
+    enter_lent(alloc, book, lent_entries(given), out)?;
     Ok(())
 }
 
-/// The entries of a reach in the order of the text: what it defines, what it seizes by name from the source around it, and
-/// what its modulions give.
-pub fn entries_in(
+/// Enters into a reach in the order of the text: what it defines, what it seizes by name from the source around it, and what
+/// its modulions give.
+pub fn enter_parts(
     alloc: Global,
     book: &Book,
     around: &Source,
+    given: &[Given],
     from: u32,
     parts: &[Part],
-    out: &mut Vec<Entry>,
+    out: &mut Opening,
 ) -> Result<(), Memory>
-    ensures { Fits from (nodes_of parts.now) → OnOk result (out.new.items ≡ out.old.items ++ entries_in book.now.all.items (told_by around.now) from (nodes_of parts.now)) }
+    ensures { Fits from (nodes_of parts.now) → given_trees given.now ≡ givens book.now.all.items from (nodes_of parts.now) → (es : List Entry) → Opens out.old book.now.all.items es → OnOk result (Opens out.new book.now.all.items (es ++ entries_in book.now.all.items (told_by around.now) from (nodes_of parts.now))) }
 {
+    let mut places = Vec::new(alloc);
     let mut next = from;
+    let mut left = given;
     for part in parts {
-        part_entries(alloc, book, around, next, part, out)?;
+        let (own, behind) = split_given(part, left);
+        enter_part(alloc, book, around, own, next, part, &mut places, out)?;
+        left = behind;
         next = next.saturating_add(size_of(part));
     }
     Ok(())

@@ -2,14 +2,13 @@
 ghost use Rattle.std.specs.Prelude.{◌≡◌, ◌++◌, ◌∷◌, [], ◌||◌, ℕ, List, OnOk, flat_map, if◌then◌else◌};
 ghost use Rattle.chill_base.specs.declared.rule.Rule.TheVariants as rules;
 ghost use Rattle.names_model.specs.Definitions.{spelling_at};
-ghost use Rattle.names_model.specs.NameRules.{tell, told_behind, told_number};
+ghost use Rattle.names_model.specs.NameRules.{tell, told_number};
 ghost use Rattle.reach_walk.specs.Earliers.{Knows, differs, is_other_among};
 
 use crate::book::Book;
 use crate::earlier::Earlier;
 use crate::told::push_told;
 use chill_base::{Diagnostic, Memory, Pos, Rule};
-use names_model::Entry;
 use std::alloc::Global;
 
 // Tells of a number, if an earlier one of its name is another.
@@ -30,8 +29,8 @@ fn tell_number(
     Ok(())
 }
 
-// Tells of the numbers of one place.
-fn tell_numbers(
+/// Tells of the numbers of one place.
+pub fn tell_numbers(
     alloc: Global,
     book: &Book,
     earlier: &Earlier,
@@ -47,8 +46,8 @@ fn tell_numbers(
     Ok(())
 }
 
-// Notes the numbers of one place.
-fn note_numbers(
+/// Notes the numbers of one place.
+pub fn note_numbers(
     alloc: Global,
     book: &Book,
     earlier: &mut Earlier,
@@ -58,24 +57,6 @@ fn note_numbers(
 {
     for number in numbers {
         earlier.note(alloc, book.spelling(*number as usize), *number)?;
-    }
-    Ok(())
-}
-
-/// Tells N1 of the entries of a reach.
-pub fn tell_twice(
-    alloc: Global,
-    book: &Book,
-    entries: &[Entry],
-    out: &mut Vec<Diagnostic>,
-) -> Result<(), Memory>
-    ensures { OnOk result (out.new.items ≡ out.old.items ++ told_behind book.now.all.items [] entries.now) }
-{
-    let mut earlier = Earlier::new(alloc);
-    for entry in entries {
-        let numbers = entry.numbers.as_slice();
-        tell_numbers(alloc, book, &earlier, entry.at, numbers, out)?;
-        note_numbers(alloc, book, &mut earlier, numbers)?;
     }
     Ok(())
 }

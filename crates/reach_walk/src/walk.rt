@@ -7,49 +7,54 @@ ghost use Rattle.names_model.specs.Entries.{param_names};
 ghost use Rattle.names_model.specs.Seeing.{Reach, in_block, in_modulion, outermost, entries_in};
 ghost use Rattle.names_model.specs.NameRules.{nodes, told_behind};
 ghost use Rattle.reach_walk.specs.Books.{Keeps};
+ghost use Rattle.reach_walk.specs.Givens.{given_of, given_trees, givens};
 ghost use Rattle.reach_walk.specs.Findings.{AddsInside, AddsNodes, AddsReach};
 ghost use Rattle.reach_walk.specs.Offsets.{Fits, FitsInside, nodes_of};
+ghost use Rattle.reach_walk.specs.Places.{singles};
 ghost use Rattle.reach_walk.specs.Scopes.{Holds, Shows, shown, told_by};
 
 use crate::book::Book;
 use crate::entries::enter_params;
 use crate::findings::{Findings, note_here};
-use crate::founds::table_of;
+use crate::given::{Given, lent_inner, split_given};
+use crate::giving::givens_of;
 use crate::offsets::{head_size, size_of};
-use crate::reached::{entries_in, seizes_all};
+use crate::opening::Opening;
+use crate::place::Place;
+use crate::reached::{enter_parts, enter_places, seizes_all};
 use crate::scope::Scope;
 use crate::source::Source;
 use crate::table::Table;
-use crate::twice::tell_twice;
 use chill_base::{Diagnostic, List, Memory};
-use names_model::{Clause, Entry, Part};
+use names_model::{Clause, Part};
 use std::alloc::Global;
 
-/// The table of a reach with a head, and N1 of it. Its entries are made once.
+/// The table of a reach with a head, and N1 of it.
 fn open_reach(
     alloc: Global,
     book: &Book,
     around: &Source,
-    head: Vec<Entry>,
+    head: &[Place],
+    given: &[Given],
     from: u32,
     parts: &[Part],
     out: &mut Vec<Diagnostic>,
 ) -> Result<Table, Memory>
-    ensures table { Fits from (nodes_of parts.now) → IfOk result (λ t. Holds t book.now.all.items (head.items ++ entries_in book.now.all.items (told_by around.now) from (nodes_of parts.now))) }
-    ensures told { Fits from (nodes_of parts.now) → OnOk result (out.new.items ≡ out.old.items ++ told_behind book.now.all.items [] (head.items ++ entries_in book.now.all.items (told_by around.now) from (nodes_of parts.now))) }
+    ensures table { Fits from (nodes_of parts.now) → given_trees given.now ≡ givens book.now.all.items from (nodes_of parts.now) → IfOk result (λ t. Holds t book.now.all.items (singles head.now ++ entries_in book.now.all.items (told_by around.now) from (nodes_of parts.now))) }
+    ensures told { Fits from (nodes_of parts.now) → given_trees given.now ≡ givens book.now.all.items from (nodes_of parts.now) → OnOk result (out.new.items ≡ out.old.items ++ told_behind book.now.all.items [] (singles head.now ++ entries_in book.now.all.items (told_by around.now) from (nodes_of parts.now))) }
 {
-    let mut entries = head;
-    entries_in(alloc, book, around, from, parts, &mut entries)?;
-    tell_twice(alloc, book, entries.as_slice(), out)?;
-    table_of(alloc, book, entries.as_slice())
+    let mut opening = Opening::new(alloc);
+    enter_places(alloc, book, head, &mut opening)?;
+    enter_parts(alloc, book, around, given, from, parts, &mut opening)?;
+    opening.close(out)
 }
 
 // What a procedure or process enters into its body.
-fn params_of(alloc: Global, from: u32, params: &List<Clause>) -> Result<Vec<Entry>, Memory>
-    ensures { from + clauses_size params.now < 2 ^ 32 → IfOk result (λ v. v.items ≡ param_names from params.now) }
+fn params_of(alloc: Global, from: u32, params: &List<Clause>) -> Result<Vec<Place>, Memory>
+    ensures { from + clauses_size params.now < 2 ^ 32 → IfOk result (λ v. singles v.items ≡ param_names from params.now) }
 {
     let mut head = Vec::new(alloc);
-    enter_params(alloc, from, params.as_slice(), &mut head)?;
+    enter_params(from, params.as_slice(), &mut head)?;
     Ok(head)
 }
 
@@ -58,16 +63,17 @@ fn open_inner<'a>(
     alloc: Global,
     book: &'a Book,
     scope: &'a Scope<'a>,
-    head: Vec<Entry>,
+    head: &[Place],
+    given: &[Given],
     from: u32,
     parts: &[Part],
     out: &mut Vec<Diagnostic>,
 ) -> Result<Table, Memory>
-    ensures table { Fits from (nodes_of parts.now) → IfOk result (λ t. Holds t book.now.all.items (head.items ++ entries_in book.now.all.items (shown book.now scope.now) from (nodes_of parts.now))) }
-    ensures told { Fits from (nodes_of parts.now) → OnOk result (out.new.items ≡ out.old.items ++ told_behind book.now.all.items [] (head.items ++ entries_in book.now.all.items (shown book.now scope.now) from (nodes_of parts.now))) }
+    ensures table { Fits from (nodes_of parts.now) → given_trees given.now ≡ givens book.now.all.items from (nodes_of parts.now) → IfOk result (λ t. Holds t book.now.all.items (singles head.now ++ entries_in book.now.all.items (shown book.now scope.now) from (nodes_of parts.now))) }
+    ensures told { Fits from (nodes_of parts.now) → given_trees given.now ≡ givens book.now.all.items from (nodes_of parts.now) → OnOk result (out.new.items ≡ out.old.items ++ told_behind book.now.all.items [] (singles head.now ++ entries_in book.now.all.items (shown book.now scope.now) from (nodes_of parts.now))) }
 {
     let around = Source::Around { book, scope };
-    open_reach(alloc, book, &around, head, from, parts, out)
+    open_reach(alloc, book, &around, head, given, from, parts, out)
 }
 
 /// Finds what there is in the parts of a reach and in those inside it.
@@ -78,14 +84,18 @@ fn walk<'a>(
     scope: &'a Scope<'a>,
     from: u32,
     parts: &[Part],
+    given: &[Given],
     out: &mut Findings,
 ) -> Result<(), Memory>
-    ensures { (text : List Definition) (r : Reach) → Shows book.now scope.now text r → Fits from (nodes_of parts.now) → OnOk result (AddsNodes out.old out.new text (nodes r from (nodes_of parts.now))) }
+    ensures { (text : List Definition) (r : Reach) → Shows book.now scope.now text r → Fits from (nodes_of parts.now) → given_trees given.now ≡ givens book.now.all.items from (nodes_of parts.now) → OnOk result (AddsNodes out.old out.new text (nodes r from (nodes_of parts.now))) }
 {
     let mut next = from;
+    let mut left = given;
     for part in parts {
+        let (own, behind) = split_given(part, left);
         note_here(alloc, book, scope, next, part, out)?;
-        walk_inside(alloc, book, scope, next, part, out)?;
+        walk_inside(alloc, book, scope, next, part, own, out)?;
+        left = behind;
         next = next.saturating_add(size_of(part));
     }
     Ok(())
@@ -100,13 +110,23 @@ fn walk_inside<'a>(
     scope: &'a Scope<'a>,
     from: u32,
     part: &Part,
+    given: &[Given],
     out: &mut Findings,
 ) -> Result<(), Memory>
-    ensures { (text : List Definition) (r : Reach) → Shows book.now scope.now text r → from + size_of (part_tree part.now) < 2 ^ 32 → FitsInside from (part_tree part.now) → OnOk result (AddsInside out.old out.new text r from (part_tree part.now)) }
+    ensures { (text : List Definition) (r : Reach) → Shows book.now scope.now text r → from + size_of (part_tree part.now) < 2 ^ 32 → FitsInside from (part_tree part.now) → given_trees given.now ≡ given_of book.now.all.items from (part_tree part.now) → OnOk result (AddsInside out.old out.new text r from (part_tree part.now)) }
 {
     match part {
         Part::Modulion { parts, .. } => {
-            walk_modulion(alloc, book, scope, from.saturating_add(1), parts, out)
+            let inner = lent_inner(given);
+            walk_modulion(
+                alloc,
+                book,
+                scope,
+                from.saturating_add(1),
+                parts,
+                inner,
+                out,
+            )
         }
         Part::Routine {
             params,
@@ -116,11 +136,9 @@ fn walk_inside<'a>(
         } => {
             let head = params_of(alloc, from.saturating_add(1), params)?;
             let first = from.saturating_add(head_size(params.as_slice(), returned.as_slice()));
-            walk_block(alloc, book, scope, head, first, parts, out)
+            walk_block(alloc, book, scope, head.as_slice(), first, parts, out)
         }
-        Part::Block { parts, .. } => {
-            walk_block(alloc, book, scope, Vec::new(alloc), from, parts, out)
-        }
+        Part::Block { parts, .. } => { walk_block(alloc, book, scope, &[], from, parts, out) }
         Part::Define(_) => Ok(()),
         Part::Mention(_) => Ok(()),
         Part::Seize(_) => Ok(()),
@@ -139,26 +157,19 @@ fn walk_modulion<'a>(
     scope: &'a Scope<'a>,
     from: u32,
     parts: &List<Part>,
+    given: &[Given],
     out: &mut Findings,
 ) -> Result<(), Memory>
-    ensures { (text : List Definition) (r : Reach) → Shows book.now scope.now text r → Fits from (nodes_of parts.now) → OnOk result (AddsReach out.old out.new text (in_modulion r from (nodes_of parts.now)) from (nodes_of parts.now)) }
+    ensures { (text : List Definition) (r : Reach) → Shows book.now scope.now text r → Fits from (nodes_of parts.now) → given_trees given.now ≡ givens book.now.all.items from (nodes_of parts.now) → OnOk result (AddsReach out.old out.new text (in_modulion r from (nodes_of parts.now)) from (nodes_of parts.now)) }
 {
     let parts = parts.as_slice();
-    let table = open_inner(
-        alloc,
-        book,
-        scope,
-        Vec::new(alloc),
-        from,
-        parts,
-        &mut out.told,
-    )?;
+    let table = open_inner(alloc, book, scope, &[], given, from, parts, &mut out.told)?;
     let inner = Scope::Modulion {
         table,
         takes_all: seizes_all(parts),
         outer: scope,
     };
-    walk(alloc, &*book, &inner, from, parts, out)?;
+    walk(alloc, &*book, &inner, from, parts, given, out)?;
     Ok(())
 }
 
@@ -168,20 +179,22 @@ fn walk_block<'a>(
     alloc: Global,
     book: &'a Book,
     scope: &'a Scope<'a>,
-    head: Vec<Entry>,
+    head: &[Place],
     from: u32,
     parts: &List<Part>,
     out: &mut Findings,
 ) -> Result<(), Memory>
-    ensures { (text : List Definition) (r : Reach) → Shows book.now scope.now text r → Fits from (nodes_of parts.now) → OnOk result (AddsReach out.old out.new text (in_block r head.items from (nodes_of parts.now)) from (nodes_of parts.now)) }
+    ensures { (text : List Definition) (r : Reach) → Shows book.now scope.now text r → Fits from (nodes_of parts.now) → OnOk result (AddsReach out.old out.new text (in_block r (singles head.now) from (nodes_of parts.now)) from (nodes_of parts.now)) }
 {
     let parts = parts.as_slice();
-    let table = open_inner(alloc, book, scope, head, from, parts, &mut out.told)?;
+    let made = givens_of(alloc, book, from, parts)?;
+    let given = made.as_slice();
+    let table = open_inner(alloc, book, scope, head, given, from, parts, &mut out.told)?;
     let inner = Scope::Block {
         table,
         outer: scope,
     };
-    walk(alloc, &*book, &inner, from, parts, out)?;
+    walk(alloc, &*book, &inner, from, parts, given, out)?;
     Ok(())
 }
 
@@ -196,15 +209,19 @@ pub fn find_in_program(
     ensures { (text : List Definition) → Keeps book.now text → Fits 0 (nodes_of parts.now) → OnOk result (AddsReach out.old out.new text (outermost (nodes_of parts.now)) 0 (nodes_of parts.now)) }
 {
     let parts = parts.as_slice();
+    let made = givens_of(alloc, book, 0, parts)?;
+    let given = made.as_slice();
     let table = open_reach(
         alloc,
         book,
         &Source::Nothing,
-        Vec::new(alloc),
+        &[],
+        given,
         0,
         parts,
         &mut out.told,
     )?;
-    walk(alloc, book, &Scope::Outermost { table }, 0, parts, out)?;
+    let scope = Scope::Outermost { table };
+    walk(alloc, book, &scope, 0, parts, given, out)?;
     Ok(())
 }
