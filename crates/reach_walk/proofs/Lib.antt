@@ -3,7 +3,7 @@ pub mod Filters
 pub mod Appends
 pub mod Elements
 pub mod Granting
-pub mod Noting
+pub mod Anys
 pub mod Showing
 pub mod Walking
 pub mod Defining

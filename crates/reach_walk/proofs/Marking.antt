@@ -9,7 +9,7 @@ use Rattle.names_model.specs.Definitions.{spelling_at}
 use Rattle.names_model.specs.Entries.{once_behind, is_among}
 use Rattle.reach_walk.specs.Held.{Holdings, held}
 use Rattle.reach_walk.specs.Marks.{Marks, Added, is_marked}
-use Rattle.reach_walk.proofs.Noting.{any-behind}
+use Rattle.reach_walk.proofs.Anys.{any-behind}
 
 -- what is put behind others, where the truth value says that it is of the name
 abbrev at_name : Bool → List ℕ → ℕ → List ℕ

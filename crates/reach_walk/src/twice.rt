@@ -1,62 +1,60 @@
 // Second entries of a name in one reach, for another definition.
-ghost use Rattle.std.specs.Prelude.{◌≡◌, ◌++◌, ◌∷◌, [], ◌||◌, ℕ, List, OnOk, flat_map, if◌then◌else◌};
-ghost use Rattle.chill_base.specs.declared.rule.Rule.TheVariants as rules;
-ghost use Rattle.names_model.specs.Definitions.{spelling_at};
-ghost use Rattle.names_model.specs.NameRules.{tell, told_number};
-ghost use Rattle.reach_walk.specs.Earliers.{Knows, differs, is_other_among};
+ghost use Rattle.std.specs.Prelude.{◌≡◌, ◌++◌, ◌∷◌, [], ◌==◌, not, List, OnOk, flat_map, if◌then◌else◌};
+ghost use Rattle.std.specs.List.{list_any};
+ghost use Rattle.names_model.specs.declared.entry.Entry.{Entry};
+ghost use Rattle.names_model.specs.Entries.{numbers_of};
+ghost use Rattle.names_model.specs.NameRules.{told_number};
+ghost use Rattle.reach_walk.specs.Scopes.{Holds};
 
 use crate::book::Book;
-use crate::earlier::Earlier;
+use crate::table::Table;
 use crate::told::push_told;
 use chill_base::{Diagnostic, Memory, Pos, Rule};
 use std::alloc::Global;
 
-// Tells of a number, if an earlier one of its name is another.
+// Whether there is another than the number. A table has each once, so the second of them settles it.
+fn is_other_among(number: u32, numbers: &[u32]) -> bool
+    ensures { result ≡ list_any (λ e. not (e == number)) numbers.now }
+{
+    for other in numbers {
+        if *other != number {
+            return true;
+        }
+    }
+    false
+}
+
+// Tells of a number, if the entries before have another of its name.
 fn tell_number(
     alloc: Global,
     book: &Book,
-    earlier: &Earlier,
+    table: &Table,
     at: Pos,
     number: u32,
     out: &mut Vec<Diagnostic>,
 ) -> Result<(), Memory>
-    ensures { (known : List ℕ) → Knows earlier.now book.now.all.items known → OnOk result (out.new.items ≡ out.old.items ++ told_number book.now.all.items known at number) }
+    ensures { (es : List Entry) → Holds table.now book.now.all.items es → OnOk result (out.new.items ≡ out.old.items ++ told_number book.now.all.items (numbers_of es) at number) }
 {
     let name = book.spelling(number as usize);
-    if earlier.differs(name, number) {
+    if is_other_among(number, table.find(name)) {
         push_told(alloc, at, Rule::N1, name, out)?;
     }
     Ok(())
 }
 
-/// Tells of the numbers of one place.
+/// Tells N1 of the numbers of one place, by the table of the entries before it.
 pub fn tell_numbers(
     alloc: Global,
     book: &Book,
-    earlier: &Earlier,
+    table: &Table,
     at: Pos,
     numbers: &[u32],
     out: &mut Vec<Diagnostic>,
 ) -> Result<(), Memory>
-    ensures { (known : List ℕ) → Knows earlier.now book.now.all.items known → OnOk result (out.new.items ≡ out.old.items ++ flat_map (told_number book.now.all.items known at) numbers.now) }
+    ensures { (es : List Entry) → Holds table.now book.now.all.items es → OnOk result (out.new.items ≡ out.old.items ++ flat_map (told_number book.now.all.items (numbers_of es) at) numbers.now) }
 {
     for number in numbers {
-        tell_number(alloc, book, earlier, at, *number, out)?;
-    }
-    Ok(())
-}
-
-/// Notes the numbers of one place.
-pub fn note_numbers(
-    alloc: Global,
-    book: &Book,
-    earlier: &mut Earlier,
-    numbers: &[u32],
-) -> Result<(), Memory>
-    ensures { (known : List ℕ) → Knows earlier.old book.now.all.items known → OnOk result (Knows earlier.new book.now.all.items (known ++ numbers.now)) }
-{
-    for number in numbers {
-        earlier.note(alloc, book.spelling(*number as usize), *number)?;
+        tell_number(alloc, book, table, at, *number, out)?;
     }
     Ok(())
 }

@@ -1,6 +1,6 @@
-use Rattle.names_model.specs.Entries.{entry, numbers_of}
+use Rattle.names_model.specs.Entries.{entry}
 use Rattle.reach_walk.proofs.Entering.{opens-more}
 use Rattle.reach_walk.proofs.opening.Opening.enter.Goals as goal
 
 pub returns : goal.returns
-returns c = λ es o. opens-more _ _ c.args.book.now.all.items es (entry c.args.at c.args.numbers.now) o (c.in_ok-add_numbers.ensures o.marks) (c.in_ok-note_numbers.ensures (numbers_of es) o.knows) (c.in_ok-tell_numbers.ensures (numbers_of es) o.knows)
+returns c = λ es o. opens-more _ _ c.args.book.now.all.items es (entry c.args.at c.args.numbers.now) o (c.in_ok-add_numbers.ensures o.marks) (c.in_ok-tell_numbers.ensures es o.table)
