@@ -73,11 +73,11 @@ further text rest tokens at piece n far e =
           ∙ ap (behind_all first_place) (sym (joined-push far.cuts cut));
     }
 
-pub further_between : (text rest : List ℕ) (tokens : List Token) (at : Pos) (n : ℕ) (next : Pos) → IsSoFar text tokens at rest → piece_at rest ≡ Some (between, n)
-    → next ≡ behind_all at (take n rest) → IsSoFar text tokens next (drop n rest)
-further_between text rest tokens at n next far e place =
-    subst (λ (p : Pos). IsSoFar text tokens p (drop n rest)) (sym place)
-    (subst (λ (ts : List Token). IsSoFar text ts (behind_all at (take n rest)) (drop n rest)) (append-nil tokens) (further text rest tokens at between n far e))
+pub further_between : (text rest : List ℕ) (tokens new : List Token) (at : Pos) (n : ℕ) (next : Pos) → IsSoFar text tokens at rest → piece_at rest ≡ Some (between, n)
+    → new ≡ tokens → next ≡ behind_all at (take n rest) → IsSoFar text new next (drop n rest)
+further_between text rest tokens new at n next far e is_new place =
+    subst (λ (p : Pos). IsSoFar text new p (drop n rest)) (sym place)
+    (subst (λ (ts : List Token). IsSoFar text ts (behind_all at (take n rest)) (drop n rest)) (append-nil tokens ∙ sym is_new) (further text rest tokens at between n far e))
 
 -- a token's bytes stand on one line
 numeral_line : (base : ℕ) (bs : List ℕ) → base ≤ 16 → IsNumeral base bs → list_all is_in_line bs ≡ true

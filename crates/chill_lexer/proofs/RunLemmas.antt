@@ -330,3 +330,17 @@ based_undigited base (b ∷ c ∷ []) none = by_mark (eqb c 39)
     by_mark false = refl
 based_undigited base (b ∷ c ∷ d ∷ bs) none =
     unbased (is_digit base d) (eqb c 39) (more_length base bs) (digits_at base (d ∷ bs)) (name_at (b ∷ c ∷ d ∷ bs)) none
+
+based_by : (t u : Bool) (k : ℕ) (x y : Found) → t ≡ true → u ≡ true → x ≡ cond (u && ltb 0 (cond t (suc k) 0)) x y
+based_by true true k x y e f = let some : ltb 0 (suc k) ≡ true = grind (arith, nat_tests) in rw some refl
+based_by true false k x y e f = absurd cc
+based_by false u k x y e f = absurd cc
+
+-- a literal of a base begins
+pub based_digited : (base : ℕ) (text : List ℕ) → get_or text 1 0 ≡ 39 → begins_numeral base (drop 2 text) ≡ true → digits_at base (drop 2 text) ≡ based_at (Some base) text
+based_digited base [] mark some = absurd cc
+based_digited base (b ∷ []) mark some = absurd cc
+based_digited base (b ∷ c ∷ []) mark some = absurd cc
+based_digited base (b ∷ c ∷ d ∷ bs) mark some =
+    let e : eqb c 39 ≡ true = grind (arith, nat_tests) in
+    based_by (is_digit base d) (eqb c 39) (more_length base bs) (digits_at base (d ∷ bs)) (name_at (b ∷ c ∷ d ∷ bs)) some e

@@ -1,5 +1,7 @@
 -- What the lexer's own functions say beside the definition.
-use Rattle.std.specs.Prelude.{ℕ, Bool, false, ◌==◌, ◌&&◌, List, [], ◌∷◌, Option, Some, None}
+use Rattle.std.specs.Prelude.{◌≡◌, ◌++◌, ℕ, Bool, false, ◌==◌, ◌&&◌, List, [], ◌∷◌, Option, Some, None}
+use Rattle.chill_base.specs.declared.pos.Pos.{Pos}
+use Rattle.chill_tree.specs.declared.token.Token.{Token}
 use Rattle.chill_tree.specs.declared.token.TokenKind.{TokenKind}
 use Rattle.rules_model.specs.TokensShapes.{Piece, token}
 use Rattle.rules_model.specs.TokensReading.{is_digit}
@@ -13,6 +15,11 @@ is_apart base bs = false
 abbrev pub begins_numeral : ℕ → List ℕ → Bool
 begins_numeral base [] = false
 begins_numeral base (b ∷ bs) = is_digit base b
+
+-- the token that the piece is stands behind the others, and has so many bytes; or there is no piece
+abbrev pub IsPut : Pos → Option (Piece × ℕ) → List Token → List Token → Option ℕ → Type 0
+IsPut at piece old new None = piece ≡ None
+IsPut at piece old new (Some length) = (kind : TokenKind) × (piece ≡ Some (token kind, length)) × (new ≡ old ++ record { at = at; kind = kind } ∷ [])
 
 -- the piece that a token is, if any
 abbrev pub as_token : Option (TokenKind × ℕ) → Option (Piece × ℕ)

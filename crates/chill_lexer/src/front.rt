@@ -2,29 +2,37 @@
 ghost use Rattle.std.specs.Prelude.{◌≡◌, ◌+◌, ◌^◌, ◌<◌, length, true, false, slice_index, IfOk};
 ghost use Rattle.rules_model.specs.TokensShapes.{is_separator};
 ghost use Rattle.rules_model.specs.TokensReading.{piece_at};
-ghost use Rattle.chill_lexer.specs.Front.{IsFront, starts};
-ghost use Rattle.chill_lexer.specs.Runs.{as_token};
+ghost use Rattle.chill_lexer.specs.Front.{IsFront, IsBetween, starts};
+ghost use Rattle.chill_lexer.specs.Runs.{IsPut};
 
+use crate::put::put_found;
 use crate::{literal, run};
 use chill_base::{Memory, Pos};
-use chill_tree::TokenKind;
+use chill_tree::Token;
 use std::alloc::Global;
 
-/// What stands at the front of a text, and how many bytes it has.
+/// What stood at the front of a text, and how many bytes it has.
 #[derive(Drop)]
 pub(crate) enum Front {
     /// A separator or a comment, and the place behind it.
     Between { length: usize, behind: Pos },
-    Token { kind: TokenKind, length: usize },
+    /// A token, which now stands behind the others.
+    Token { length: usize },
     /// No piece begins.
     Bad,
 }
 
-// What stands at the front of a text that begins at a place.
-pub(crate) fn at_front(alloc: Global, at: Pos, text: &[u8]) -> Result<Front, Memory>
+// What stands at the front of a text that begins at a place. A token is put behind the others.
+#[inline(always)]
+pub(crate) fn at_front(
+    alloc: Global,
+    at: Pos,
+    text: &[u8],
+    tokens: &mut Vec<Token>,
+) -> Result<Front, Memory>
     requires line { at.line + length text.now < 2 ^ 32 }
     requires column { at.column + length text.now < 2 ^ 32 }
-    ensures { IfOk result (λ front. IsFront at text.now front) }
+    ensures { IfOk result (λ front. IsFront at text.now tokens.old.items tokens.new.items front) }
 {
     let [first, behind @ ..] = text else {
         return Ok(Front::Bad)
@@ -41,8 +49,8 @@ pub(crate) fn at_front(alloc: Global, at: Pos, text: &[u8]) -> Result<Front, Mem
     if *first == b'/' && literal::begins_with(behind, b'*') {
         return Ok(comment(at, text));
     }
-    match token(alloc, text)? {
-        Some((kind, length)) => Ok(Front::Token { kind, length }),
+    match token(alloc, at, text, tokens)? {
+        Some(length) => Ok(Front::Token { length }),
         None => Ok(Front::Bad),
     }
 }
@@ -51,7 +59,7 @@ pub(crate) fn at_front(alloc: Global, at: Pos, text: &[u8]) -> Result<Front, Mem
 fn line_comment(at: Pos, text: &[u8]) -> Front
     requires column { at.column + length text.now < 2 ^ 32 }
     requires starts { starts 45 45 text.now ≡ true }
-    ensures { IsFront at text.now result }
+    ensures { IsBetween at text.now result }
 {
     let length = 2 + run::line_length(&text[2..]);
     Front::Between {
@@ -65,7 +73,7 @@ fn comment(at: Pos, text: &[u8]) -> Front
     requires line { at.line + length text.now < 2 ^ 32 }
     requires column { at.column + length text.now < 2 ^ 32 }
     requires starts { starts 47 42 text.now ≡ true }
-    ensures { IsFront at text.now result }
+    ensures { IsBetween at text.now result }
 {
     match run::closing(&text[2..], right(at, 2)) {
         Some((length, behind)) => Front::Between {
@@ -95,25 +103,31 @@ fn is_separator(byte: u8) -> bool
 }
 
 // A token, where neither a separator nor a comment stands.
-fn token(alloc: Global, text: &[u8]) -> Result<Option<(TokenKind, usize)>, Memory>
+#[inline(always)]
+fn token(
+    alloc: Global,
+    at: Pos,
+    text: &[u8],
+    tokens: &mut Vec<Token>,
+) -> Result<Option<usize>, Memory>
     requires room { length text.now < 2 ^ 32 }
     requires no_separator { is_separator (slice_index text.now 0) ≡ false }
     requires no_line { starts 45 45 text.now ≡ false }
     requires no_comment { starts 47 42 text.now ≡ false }
-    ensures { IfOk result (λ found. as_token found ≡ piece_at text.now) }
+    ensures { IfOk result (λ length. IsPut at (piece_at text.now) tokens.old.items tokens.new.items length) }
 {
     let [first, behind @ ..] = text else {
         return Ok(None)
     };
     if run::is_letter(*first) {
-        return literal::word(alloc, text);
+        return literal::word(alloc, at, text, tokens);
     }
     if run::is_decimal(*first) {
-        return Ok(literal::whole(text));
+        return put_found(tokens, at, literal::whole(text));
     }
     match *first {
-        b'\'' => Ok(literal::character(behind)),
-        b'"' => literal::text(alloc, behind),
-        first => Ok(literal::sign(first, behind)),
+        b'\'' => put_found(tokens, at, literal::character(behind)),
+        b'"' => put_found(tokens, at, literal::text(alloc, behind)?),
+        first => put_found(tokens, at, literal::sign(first, behind)),
     }
 }

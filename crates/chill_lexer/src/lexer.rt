@@ -32,24 +32,30 @@ pub fn lex(alloc: Global, text: &[u8]) -> Result<Tokens, LexRefusal>
     ensures tokens { IfOk result (λ tokens. AreTokensOf text.now tokens) }
     ensures refused { IfErr result (λ refusal. IsRefusal text.now refusal) }
 {
-    let mut tokens = Tokens::new(alloc);
+    let mut tokens = with_room(alloc, text.len())?;
     let mut at = Pos { line: 1, column: 1 };
     let mut rest = text;
     while !rest.is_empty() {
-        match front::at_front(alloc, at, rest)? {
+        match front::at_front(alloc, at, rest, &mut tokens)? {
             Front::Between { length, behind } => {
                 at = behind;
                 rest = rest.split_at(length).1;
             }
-            Front::Token { kind, length } => {
-                tokens.push(Token { at, kind })?;
+            Front::Token { length } => {
                 at = front::right(at, length);
                 rest = rest.split_at(length).1;
             }
             Front::Bad => return Err(LexRefusal::Bad(no_token(alloc, at))),
         }
     }
-    Ok(tokens)
+    Ok(Tokens::from_vec(tokens))
+}
+
+// No tokens yet, and room for those of a dense text of that length: one for three bytes.
+fn with_room(alloc: Global, length: usize) -> Result<Vec<Token>, Memory>
+    ensures { IfOk result (λ tokens. tokens.items ≡ []) }
+{
+    Ok(Vec::with_capacity(alloc, length / 3)?)
 }
 
 // What is told of a byte that begins no token.

@@ -6,6 +6,8 @@
 mod front;
 mod lexer;
 mod literal;
+mod name_bytes;
+mod put;
 mod run;
 #[cfg(test)]
 mod tests;

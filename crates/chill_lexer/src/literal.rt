@@ -1,13 +1,15 @@
 // Names, literals and signs at the front of a text, each with the number of its bytes. None begins where a limit is
 // passed.
-ghost use Rattle.std.specs.Prelude.{◌≡◌, ◌+◌, ◌^◌, ◌<◌, ◌≤◌, length, take, true, slice_index, IfOk, IfSome, SomeIff};
+ghost use Rattle.std.specs.Prelude.{◌≡◌, ◌+◌, ◌^◌, ◌<◌, ◌≤◌, ◌∷◌, ◌++◌, [], length, take, true, slice_index, IfOk, OnOk, IfSome, SomeIff};
 ghost use Rattle.rules_model.specs.TokensShapes.{base_of, number_of};
 ghost use Rattle.rules_model.specs.TokensReading.{is_digit, numeral_length, unquoted, name_at, whole_at, digits_at, based_at, begins_with, character_at, quoted_at, sign_at, limited, text_length};
-ghost use Rattle.chill_lexer.specs.Runs.{as_token, begins_numeral};
+ghost use Rattle.chill_tree.specs.declared.token.TokenKind.TheVariants as kinds;
+ghost use Rattle.chill_lexer.specs.Runs.{as_token, IsPut, begins_numeral};
 
+use crate::put::{put, put_found};
 use crate::run;
-use chill_base::{Memory, Text};
-use chill_tree::{Sign, TokenKind, Word};
+use chill_base::{Memory, Pos, Text};
+use chill_tree::{NameText, Sign, Token, TokenKind, Word};
 use std::alloc::Global;
 
 /// How many bytes a name has at most.
@@ -16,21 +18,27 @@ const NAME_BYTES: usize = 64;
 /// How many bytes a text literal stands for at most.
 const TEXT_BYTES: usize = 256;
 
-// A literal of a base, or a name, at a letter.
-pub(crate) fn word(alloc: Global, text: &[u8]) -> Result<Option<(TokenKind, usize)>, Memory>
+// Puts a literal of a base, or a name, at a letter.
+#[inline(always)]
+pub(crate) fn word(
+    alloc: Global,
+    at: Pos,
+    text: &[u8],
+    tokens: &mut Vec<Token>,
+) -> Result<Option<usize>, Memory>
     requires { length text.now < 2 ^ 32 }
-    ensures { IfOk result (λ found.
-        as_token found ≡ limited (based_at (base_of (slice_index text.now 0)) text.now)) }
+    ensures { IfOk result (λ length.
+        IsPut at (limited (based_at (base_of (slice_index text.now 0)) text.now)) tokens.old.items tokens.new.items length) }
 {
     let [letter, mark, digits @ ..] = text else {
-        return name(alloc, text)
+        return name(alloc, at, text, tokens)
     };
     if *mark != b'\'' {
-        return name(alloc, text);
+        return name(alloc, at, text, tokens);
     }
     match base_of(*letter) {
-        Some(base) if begins_numeral(base, digits) => Ok(based(base, digits)),
-        _ => name(alloc, text),
+        Some(base) if begins_numeral(base, digits) => put_found(tokens, at, based(base, digits)),
+        _ => name(alloc, at, text, tokens),
     }
 }
 
@@ -47,20 +55,50 @@ fn base_of(letter: u8) -> Option<u64>
     }
 }
 
-// A name or a reserved word.
-fn name(alloc: Global, text: &[u8]) -> Result<Option<(TokenKind, usize)>, Memory>
-    ensures { IfOk result (λ found. as_token found ≡ limited (name_at text.now)) }
+// Puts a name or a reserved word.
+#[inline(always)]
+fn name(
+    alloc: Global,
+    at: Pos,
+    text: &[u8],
+    tokens: &mut Vec<Token>,
+) -> Result<Option<usize>, Memory>
+    ensures { IfOk result (λ length. IsPut at (limited (name_at text.now)) tokens.old.items tokens.new.items length) }
 {
     let length = run::name_length(text);
     if length > NAME_BYTES {
         return Ok(None);
     }
-    let bytes = &text[..length];
-    let kind = match Word::spelled(bytes) {
-        Some(word) => TokenKind::Word(word),
-        None => TokenKind::Name(Text::from_vec(Vec::from_slice(alloc, bytes)?)),
-    };
-    Ok(Some((kind, length)))
+    match Word::spelled(&text[..length]) {
+        Some(word) => put(tokens, at, TokenKind::Word(word))?,
+        None => own_name(alloc, at, text, length, tokens)?,
+    }
+    Ok(Some(length))
+}
+
+// Puts a name that isn't reserved. Where it is short it is copied with what follows it, since a copy of fixed size is
+// fast.
+#[inline(always)]
+fn own_name(
+    alloc: Global,
+    at: Pos,
+    text: &[u8],
+    size: usize,
+    tokens: &mut Vec<Token>,
+) -> Result<(), Memory>
+    requires { size ≤ length text.now }
+    ensures { OnOk result (tokens.new.items ≡ tokens.old.items ++ record { at = at; kind = kinds.Name (take size text.now) } ∷ []) }
+{
+    match text.split_first_chunk() {
+        Some((bytes, _)) if size <= NameText::INLINE_BYTES => {
+            let kind = TokenKind::Name(NameText::inline(*bytes, size));
+            put(tokens, at, kind)
+        }
+        _ => {
+            let kind = TokenKind::Name(NameText::from_bytes(alloc, &text[..size])?);
+            put(tokens, at, kind)
+        }
+    }
 }
 
 // Whether a numeral begins.
@@ -157,6 +195,7 @@ fn unquoted(alloc: Global, text: &[u8]) -> Result<Text, Memory>
 }
 
 // A sign: of two that begin alike the longer.
+#[inline(always)]
 pub(crate) fn sign(first: u8, behind: &[u8]) -> Option<(TokenKind, usize)>
     ensures { as_token result ≡ limited (sign_at first behind.now) }
 {

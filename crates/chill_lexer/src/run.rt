@@ -6,6 +6,7 @@ ghost use Rattle.rules_model.specs.TokensCut.{behind, behind_all};
 ghost use Rattle.rules_model.specs.TokensReading.{more_length, closing_length, text_length};
 ghost use Rattle.chill_lexer.specs.Runs.{is_apart};
 
+use crate::name_bytes::NAME_BYTES;
 use chill_base::Pos;
 
 // Whether a name may begin with the byte.
@@ -26,7 +27,7 @@ pub(crate) fn is_decimal(byte: u8) -> bool
 pub(crate) fn is_name_byte(byte: u8) -> bool
     ensures { result ≡ is_name_byte byte }
 {
-    is_letter(byte) || is_decimal(byte) || byte == b'_'
+    NAME_BYTES[byte as usize]
 }
 
 // What a digit counts, or 16.

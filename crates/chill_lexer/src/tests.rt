@@ -524,3 +524,40 @@ fn texts_stand_for_at_most_256_bytes(rt: HostRuntime) -> Result<(), Fail> {
     );
     Ok(())
 }
+
+/// Whether a text begins with a name of so many bytes.
+fn begins_with_name(alloc: Global, text: &[u8], size: usize) -> bool {
+    if text.len() >= 1_000 || size > text.len() {
+        return false;
+    }
+    let Ok(tokens) = lex(alloc, text) else {
+        return false
+    };
+    match tokens.as_slice() {
+        [first, ..] => match &first.kind {
+            TokenKind::Name(name) => name.as_slice() == &text[..size],
+            _ => false,
+        },
+        [] => false,
+    }
+}
+
+/// Whether a name of so many bytes is read, alone and before signs.
+fn is_read(alloc: Global, size: usize) -> Result<bool, AllocError> {
+    let mut text = Vec::new(alloc);
+    for i in 0..size {
+        text.push(b'a' + (i % 26) as u8)?;
+    }
+    let alone = is_name(alloc, text.as_slice());
+    text.extend_from_slice(b";;;;;;;;;;;;;;;;;;;;;;;;;;;;;;")?;
+    Ok(alone && begins_with_name(alloc, text.as_slice(), size))
+}
+
+#[test]
+fn names_have_at_most_64_bytes(rt: HostRuntime) -> Result<(), Fail> {
+    for size in [1, 7, 21, 22, 23, 24, 25, 63, 64] {
+        assert!(rt; is_read(rt.alloc(), size)?, "{size}");
+    }
+    assert!(rt; !is_read(rt.alloc(), 65)?);
+    Ok(())
+}

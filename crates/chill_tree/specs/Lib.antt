@@ -1,3 +1,4 @@
+pub mod NameText
 pub mod Spelling
 pub mod ExprTree
 pub mod ItemTree

@@ -1,5 +1,5 @@
 -- How words and signs are spelled (Z.200, chapter on the lexical elements).
-use Rattle.std.specs.Prelude.{◌≡◌, ℕ, ◌+◌, Bool, ◌==◌, ◌||◌, ◌⊎◌, List, [], ◌∷◌, Option, map, if◌then◌else◌, codes}
+use Rattle.std.specs.Prelude.{◌≡◌, ℕ, ◌+◌, ◌-◌, ◌*◌, ◌/◌, ◌%◌, Bool, ◌||◌, ◌⊎◌, List, [], ◌∷◌, length, slice_index, Option, map, codes}
 use Rattle.std.specs.List.{find}
 use Rattle.std.specs.Str.{bytes_eq}
 use Rattle.chill_tree.specs.declared.token.Word.{Word}
@@ -133,24 +133,7 @@ all_words =
 unfoldable pub word_of : List ℕ → Option Word
 word_of bytes = find (is_spelled bytes) all_words
 
--- the words that begin with a letter in upper case
-unfoldable pub words_beginning : ℕ → List Word
-words_beginning letter =
-    if letter == 65 then words.All ∷ words.And ∷ words.AndIf ∷ words.Array ∷ words.Assert ∷ []
-    else (if letter == 66 then words.Begin ∷ words.Buffer ∷ words.By ∷ []
-    else (if letter == 67 then words.Call ∷ words.Case ∷ words.Cause ∷ words.Chars ∷ words.Continue ∷ []
-    else (if letter == 68 then words.Dcl ∷ words.Delay ∷ words.Do ∷ words.Down ∷ []
-    else (if letter == 69 then words.Else ∷ words.ElsIf ∷ words.End ∷ words.Esac ∷ words.Event ∷ words.Ever ∷ words.Exceptions ∷ words.Exit ∷ []
-    else (if letter == 70 then words.Fi ∷ words.For ∷ []
-    else (if letter == 71 then words.Grant ∷ []
-    else (if letter == 73 then words.If ∷ words.In ∷ words.Init ∷ words.InOut ∷ []
-    else (if letter == 77 then words.Mod ∷ words.Module ∷ []
-    else (if letter == 78 then words.NewMode ∷ words.NoPack ∷ words.Not ∷ []
-    else (if letter == 79 then words.Od ∷ words.Of ∷ words.On ∷ words.Or ∷ words.OrIf ∷ words.Out ∷ []
-    else (if letter == 80 then words.Pack ∷ words.Pos ∷ words.Powerset ∷ words.Priority ∷ words.Proc ∷ words.Process ∷ []
-    else (if letter == 82 then words.Read ∷ words.Receive ∷ words.Region ∷ words.Rem ∷ words.Result ∷ words.Return ∷ words.Returns ∷ []
-    else (if letter == 83 then words.Seize ∷ words.Send ∷ words.Set ∷ words.Signal ∷ words.Start ∷ words.Step ∷ words.Stop ∷ words.Struct ∷ words.Syn ∷ words.SynMode ∷ []
-    else (if letter == 84 then words.Then ∷ words.This ∷ words.To ∷ []
-    else (if letter == 87 then words.While ∷ []
-    else (if letter == 88 then words.Xor ∷ []
-    else []))))))))))))))))
+-- a number below 256 for bytes, the same in upper and in lower case: no two words have the same
+abbrev pub place_of : List ℕ → ℕ
+place_of bytes =
+    (31 * (slice_index bytes 0 % 32) + 21 * (slice_index bytes (length bytes / 2) % 32) + slice_index bytes (length bytes - 1) % 32 + 5 * (length bytes % 32)) % 256

@@ -4,8 +4,11 @@
 //! have. A contract sees a tree of the program as a plain tree of `specs/`, without where it lies in memory.
 #![tactic(auto)]
 
+mod name_text;
+mod places;
 mod spelling;
 mod token;
 pub mod tree;
 
+pub use name_text::NameText;
 pub use token::{Sign, Token, TokenKind, Tokens, Word};

@@ -1,8 +1,9 @@
 // How words and signs are spelled (Z.200, chapter on the lexical elements): the one table, read by all that read or
 // write tokens.
-ghost use Rattle.std.specs.Prelude.{◌≡◌, ◌-◌, ◌↔◌, IsTrue, IfSome, IfNone, nat_le, if◌then◌else◌};
-ghost use Rattle.chill_tree.specs.Spelling.{word_spelling, sign_spelling, lower_case, IsSpelled, word_of, words_beginning};
+ghost use Rattle.std.specs.Prelude.{◌≡◌, ◌<◌, ◌↔◌, length, IsTrue, IfSome, IfNone};
+ghost use Rattle.chill_tree.specs.Spelling.{word_spelling, sign_spelling, lower_case, IsSpelled, word_of, place_of};
 
+use crate::places::WORDS_BY_PLACE;
 use crate::{Sign, Word};
 
 impl Word {
@@ -86,18 +87,21 @@ impl Word {
     }
 
     /// The reserved word that the bytes spell, all in upper or all in lower case. Mixed case spells none.
+    #[inline(always)]
     pub fn spelled(bytes: &[u8]) -> Option<Word>
         ensures found { IfSome result (λ word. IsSpelled word bytes.now) }
         ensures none { IfNone result ((word : Word) → IsSpelled word bytes.now → ⊥) }
         ensures exact { result ≡ word_of bytes.now }
     {
-        let [first, ..] = bytes else { return None };
-        for word in beginning_with(upper_case(*first)) {
-            if word.is_spelled(bytes) {
-                return Some(*word);
-            }
+        if bytes.is_empty() {
+            return None;
         }
-        None
+        let word = WORDS_BY_PLACE[place_of(bytes)];
+        if word.is_spelled(bytes) {
+            Some(word)
+        } else {
+            None
+        }
     }
 
     // Whether the bytes are the word, in upper or in lower case.
@@ -138,86 +142,16 @@ impl Sign {
     }
 }
 
-// A letter in upper case. Of other bytes it says nothing.
-fn upper_case(letter: u8) -> u8
-    ensures { result ≡ (if nat_le 97 letter then letter - 32 else letter) }
+// The place at which the table has the one word that the bytes may spell. No two words have the same.
+fn place_of(bytes: &[u8]) -> usize
+    requires { 0 < length bytes.now }
+    ensures { result ≡ place_of bytes.now }
 {
-    if letter >= b'a' { letter - 32 } else { letter }
-}
-
-// The words that begin with a letter, given in upper case: few, so that few are compared.
-#[tactic(auto, unfolding(crate::specs::Spelling::words_beginning))]
-fn beginning_with(letter: u8) -> &'static [Word]
-    ensures { result.now ≡ words_beginning letter }
-{
-    match letter {
-        b'A' => &[Word::All, Word::And, Word::AndIf, Word::Array, Word::Assert],
-        b'B' => &[Word::Begin, Word::Buffer, Word::By],
-        b'C' => &[
-            Word::Call,
-            Word::Case,
-            Word::Cause,
-            Word::Chars,
-            Word::Continue,
-        ],
-        b'D' => &[Word::Dcl, Word::Delay, Word::Do, Word::Down],
-        b'E' => &[
-            Word::Else,
-            Word::ElsIf,
-            Word::End,
-            Word::Esac,
-            Word::Event,
-            Word::Ever,
-            Word::Exceptions,
-            Word::Exit,
-        ],
-        b'F' => &[Word::Fi, Word::For],
-        b'G' => &[Word::Grant],
-        b'I' => &[Word::If, Word::In, Word::Init, Word::InOut],
-        b'M' => &[Word::Mod, Word::Module],
-        b'N' => &[Word::NewMode, Word::NoPack, Word::Not],
-        b'O' => &[
-            Word::Od,
-            Word::Of,
-            Word::On,
-            Word::Or,
-            Word::OrIf,
-            Word::Out,
-        ],
-        b'P' => &[
-            Word::Pack,
-            Word::Pos,
-            Word::Powerset,
-            Word::Priority,
-            Word::Proc,
-            Word::Process,
-        ],
-        b'R' => &[
-            Word::Read,
-            Word::Receive,
-            Word::Region,
-            Word::Rem,
-            Word::Result,
-            Word::Return,
-            Word::Returns,
-        ],
-        b'S' => &[
-            Word::Seize,
-            Word::Send,
-            Word::Set,
-            Word::Signal,
-            Word::Start,
-            Word::Step,
-            Word::Stop,
-            Word::Struct,
-            Word::Syn,
-            Word::SynMode,
-        ],
-        b'T' => &[Word::Then, Word::This, Word::To],
-        b'W' => &[Word::While],
-        b'X' => &[Word::Xor],
-        _ => &[],
-    }
+    let first = bytes[0] % 32;
+    let middle = bytes[bytes.len() / 2] % 32;
+    let last = bytes[bytes.len() - 1] % 32;
+    let sum = 31 * usize::from(first) + 21 * usize::from(middle) + usize::from(last);
+    (sum + 5 * (bytes.len() % 32)) % 256
 }
 
 // Whether the bytes are these letters in lower case.

@@ -1,4 +1,5 @@
 // The tokens of a text (Z.200, chapter on the lexical elements).
+use crate::NameText;
 use chill_base::{List, Pos, Text};
 
 /// A reserved word, spelled in a text all in upper or all in lower case.
@@ -125,7 +126,7 @@ pub enum Sign {
 pub enum TokenKind {
     Word(Word),
     /// Any other name, as it is spelled.
-    Name(Text),
+    Name(NameText),
     /// A whole literal, by its value.
     Whole(u64),
     /// A character literal.

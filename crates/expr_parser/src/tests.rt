@@ -2,7 +2,7 @@
 use crate::{ParseRefusal, parse_expr};
 use chill_base::{List, Pos};
 use chill_tree::tree::{Expr, Operator};
-use chill_tree::{Sign, Token, TokenKind, Tokens, Word};
+use chill_tree::{NameText, Sign, Token, TokenKind, Tokens, Word};
 use std::alloc::Global;
 use std::process::Abort;
 use std::test::Fail;
@@ -68,7 +68,7 @@ fn kind_of(alloc: Global, piece: &str) -> Result<TokenKind, Fail> {
         "START" => TokenKind::Word(Word::Start),
         "0" => TokenKind::Whole(0),
         "1" => TokenKind::Whole(1),
-        _ => TokenKind::Name(List::from_vec(Vec::from_slice(alloc, piece.as_bytes())?)),
+        _ => TokenKind::Name(NameText::from_bytes(alloc, piece.as_bytes())?),
     };
     Ok(kind)
 }

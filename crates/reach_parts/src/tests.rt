@@ -1,6 +1,7 @@
 // The parts of one small tree, which were written by hand.
 use crate::program_parts;
-use chill_base::{List, Pos, Text};
+use chill_base::{List, Pos};
+use chill_tree::NameText;
 use chill_tree::tree::{
     Base, Discrete, Item, Local, Mode, ModeDefinition, Modulion, ModulionKind, Name, Simple,
     Statement, Tree,
@@ -13,10 +14,10 @@ use std::test::Fail;
 const AT: Pos = Pos { line: 1, column: 1 };
 
 fn name(alloc: Global, text: &str) -> Result<Name, AllocError> {
-    Ok(Name {
-        at: AT,
-        text: Text::from_vec(text.as_bytes().to_vec(alloc)?),
-    })
+    match NameText::from_bytes(alloc, text.as_bytes()) {
+        Ok(text) => Ok(Name { at: AT, text }),
+        Err(_) => Err(AllocError),
+    }
 }
 
 // SYNMODE c = SET (a, b);

@@ -3,9 +3,9 @@ ghost use Rattle.std.specs.Prelude.{◌≡◌, option_map};
 ghost use Rattle.expr_parser.specs.Giving.{Gives};
 ghost use Rattle.rules_model.specs.StatementReading as reading;
 
-use chill_base::{Item, Text};
+use chill_base::Item;
 use chill_tree::tree::Name;
-use chill_tree::{Token, TokenKind};
+use chill_tree::{NameText, Token, TokenKind};
 use expr_parser::ParseRefusal;
 
 /// Reads the name again, if a name stands there.
@@ -29,7 +29,7 @@ pub fn read_closing<'a>(
 fn closed<'a>(
     name: Option<&Name>,
     token: &Token,
-    text: &Text,
+    text: &NameText,
     rest: &'a [Token],
 ) -> Result<(Option<Name>, &'a [Token]), ParseRefusal>
     ensures { Gives (λ x. (x.0, x.1.now)) result (reading.closed_at (option_map (λ n. n.now) name.entry) token.now text.now rest.now) }
@@ -48,7 +48,7 @@ fn closed<'a>(
 }
 
 // Whether two names are one.
-fn same_name(text: &Text, other: &Text) -> bool
+fn same_name(text: &NameText, other: &NameText) -> bool
     ensures { result ≡ reading.same_name text.now other.now }
 {
     text.equals(other)
