@@ -2,6 +2,8 @@
 use Rattle.std.proofs.Common.{◌≡◌, ℕ, List, [], ◌∷◌, ◌++◌, append-nil, append_assoc, refl, ap, sym, ◌∙◌, subst, if◌then◌else◌, ◌+◌, ◌<◌, take, get_or, length}
 use Rattle.std.proofs.lemmas.List.{map-append, take_more}
 use Rattle.std.specs.Prelude.{flat_map}
+use Rattle.rule_lists.specs.Listing.{SameMembers}
+use Rattle.chill_base.specs.declared.diagnostic.Diagnostic.{Diagnostic}
 use Rattle.names_model.specs.declared.definition.Definition.{Definition}
 use Rattle.names_model.specs.declared.entry.Entry.{Entry}
 use Rattle.names_model.specs.Definitions.{spelling_at, under}
@@ -15,10 +17,11 @@ use Rattle.reach_walk.specs.Opens.{Opens, Entering}
 use Rattle.reach_walk.specs.declared.place.Place.{Place}
 use Rattle.reach_walk.specs.Places.{single, singles}
 use Rattle.reach_walk.proofs.Appends.{flat_map-append}
+use Rattle.reach_walk.proofs.Members.{same-behind, same-trans}
 use Rattle.reach_walk.proofs.Filters.{filter-append}
 
 -- numbers behind others, in two steps
-once-append : (xs ys zs : List ℕ) → once_behind xs (ys ++ zs) ≡ once_behind (once_behind xs ys) zs
+pub once-append : (xs ys zs : List ℕ) → once_behind xs (ys ++ zs) ≡ once_behind (once_behind xs ys) zs
 once-append xs [] zs = refl
 once-append xs (y ∷ ys) zs = once-append (if is_among y xs then xs else xs ++ y ∷ []) ys zs
 
@@ -38,13 +41,17 @@ told-more all known (x ∷ xs) e = ap (λ r. flat_map (told_number all known x.a
 
 -- the entry is told of, noted and added
 pub opens-more : (o o' : Opening) (all : List Definition) (es : List Entry) (e : Entry) → Opens o all es → Added all e.numbers o.table o'.table o'.marked → Knows o'.earlier all (numbers_of es ++ e.numbers)
-    → o'.told.items ≡ o.told.items ++ flat_map (told_number all (numbers_of es) e.at) e.numbers → Opens o' all (es ++ e ∷ [])
+    → SameMembers o'.told.items (o.told.items ++ flat_map (told_number all (numbers_of es) e.at) e.numbers) → Opens o' all (es ++ e ∷ [])
 opens-more o o' all es e h added knows told = record {
   table = record { by = λ n. added.by n ∙ ap (λ xs. once_behind xs (under all n e.numbers)) (h.table.by n) ∙ found-more all es e n };
   marks = added.marks;
   knows = subst (λ ds. Knows o'.earlier all ds) (sym (numbers-more es e)) knows;
-  told = told ∙ ap (λ ds. ds ++ flat_map (told_number all (numbers_of es) e.at) e.numbers) h.told ∙ sym (told-more all [] es e);
+  told = same-trans o'.told.items (o.told.items ++ here) (told_behind all [] (es ++ e ∷ [])) told
+      (subst (λ ds. SameMembers (o.told.items ++ here) ds) (sym (told-more all [] es e)) (same-behind o.told.items (told_behind all [] es) here h.told));
 }
+  where
+    here : List Diagnostic
+    here = flat_map (told_number all (numbers_of es) e.at) e.numbers
 
 -- more is entered behind what was
 pub opens-behind : (o : Opening) (all : List Definition) (es fs gs hs : List Entry) → Opens o all ((es ++ fs) ++ gs) → fs ++ gs ≡ hs → Opens o all (es ++ hs)

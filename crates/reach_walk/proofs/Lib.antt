@@ -14,3 +14,7 @@ pub mod ProgramMeasures
 pub mod Marking
 pub mod Lending
 pub mod Entering
+pub mod Members
+pub mod Telling
+pub mod Within
+pub mod Known

@@ -1,7 +1,7 @@
 // A reach that is being opened: its table, and N1 of it, entry by entry.
 use crate::book::Book;
 use crate::earlier::Earlier;
-use crate::founds::add_numbers;
+use crate::founds::{add_numbers, split_known};
 use crate::marked::Marked;
 use crate::table::Table;
 use crate::twice::{note_numbers, tell_numbers};
@@ -47,8 +47,9 @@ impl Opening {
         ensures { (es : List Entry) → Opens self.old book.now.all.items es → OnOk result (Opens self.new book.now.all.items (es ++ entry at numbers.now ∷ [])) }
     {
         tell_numbers(alloc, book, &self.earlier, at, numbers, &mut self.told)?;
-        note_numbers(alloc, book, &mut self.earlier, numbers)?;
-        add_numbers(alloc, &mut self.table, &mut self.marked, book, numbers)?;
+        let (_, fresh) = split_known(&self.table, book, numbers);
+        note_numbers(alloc, book, &mut self.earlier, fresh)?;
+        add_numbers(alloc, &mut self.table, &mut self.marked, book, fresh)?;
         Ok(())
     }
 
