@@ -7,7 +7,7 @@ use Rattle.chill_base.specs.declared.diagnostic.Diagnostic.{Diagnostic}
 use Rattle.names_model.specs.declared.definition.Definition.{Definition}
 use Rattle.names_model.specs.declared.entry.Entry.{Entry}
 use Rattle.names_model.specs.Definitions.{spelling_at, under}
-use Rattle.names_model.specs.Entries.{entry, found, is_among, numbers_of, once_behind}
+use Rattle.names_model.specs.Entries.{found, is_among, numbers_of, once_behind}
 use Rattle.names_model.specs.NameRules.{told_behind, told_number}
 use Rattle.std.specs.Str.{bytes_eq}
 use Rattle.reach_walk.specs.declared.opening.Opening.{Opening}
@@ -79,12 +79,11 @@ pub opens-three : (o : Opening) (all : List Definition) (es own taken lent own' 
 opens-three o all es own taken lent own' lent' a b h = subst (λ xs. Opens o all xs)
     (ap (λ r. r ++ lent) (append_assoc es own taken) ∙ append_assoc es (own ++ taken) lent ∙ (λ i. es ++ ((a i ++ taken) ++ b i))) h
 
--- one entry of a list is entered
-pub opens-entry : (o : Opening) (all : List Definition) (es lent : List Entry) (i : ℕ) (x : Entry) (ns : List ℕ) → i < length lent → x ≡ get_or lent i x → ns ≡ x.numbers
-    → Opens o all ((es ++ take i lent) ++ entry x.at ns ∷ []) → Opens o all (es ++ take (i + 1) lent)
-opens-entry o all es lent i x ns h is numbers opens = opens-behind o all es (take i lent) (entry x.at ns ∷ []) (take (i + 1) lent) opens
-    (ap (λ ds. take i lent ++ entry x.at ds ∷ []) numbers ∙ ap (λ e. take i lent ++ e ∷ []) is ∙ sym (take_more lent i x h))
+-- two lists of entries, one behind the other
+pub opens-two : (o : Opening) (all : List Definition) (es own own' more : List Entry) → own ≡ own' → Opens o all ((es ++ own) ++ more) → Opens o all (es ++ (own' ++ more))
+opens-two o all es own own' more a h = subst (λ xs. Opens o all xs) (append_assoc es own more ∙ ap (λ r. es ++ (r ++ more)) a) h
 
+-- one place of a list is entered
 pub opens-place : (o : Opening) (all : List Definition) (es : List Entry) (places : List Place) (i : ℕ) (d : Place) → i < length places
     → Opens o all ((es ++ singles (take i places)) ++ single (get_or places i d) ∷ []) → Opens o all (es ++ singles (take (i + 1) places))
 opens-place o all es places i d h opens = opens-behind o all es (singles (take i places)) (single (get_or places i d) ∷ []) (singles (take (i + 1) places)) opens

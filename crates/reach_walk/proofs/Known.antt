@@ -1,5 +1,5 @@
 -- The numbers that a table has already add nothing to what is known of a reach.
-use Rattle.std.proofs.Common.{◌≡◌, ℕ, Bool, true, false, List, [], ◌∷◌, ◌++◌, ◌⊎◌, inl, inr, refl, ap, sym, ◌∙◌, append_assoc, length, take, subst}
+use Rattle.std.proofs.Common.{◌≡◌, ℕ, true, List, [], ◌++◌, ◌⊎◌, inl, inr, refl, ap, sym, ◌∙◌, append_assoc, length, take, subst}
 use Rattle.std.specs.Prelude.{◌==◌, ◌&&◌, not}
 use Rattle.std.specs.Str.{bytes_eq}
 use Rattle.std.proofs.lemmas.List.{take_at}
@@ -7,7 +7,7 @@ use Rattle.std.proofs.lemmas.Slice.Eq.{bytes_eq-Decides}
 use Rattle.names_model.specs.declared.definition.Definition.{Definition}
 use Rattle.names_model.specs.declared.entry.Entry.{Entry}
 use Rattle.names_model.specs.Definitions.{spelling_at, under}
-use Rattle.names_model.specs.Entries.{found, is_among, numbers_of, once_behind}
+use Rattle.names_model.specs.Entries.{is_among, numbers_of, once_behind}
 use Rattle.reach_walk.specs.Earliers.{Keeping, Knows}
 use Rattle.reach_walk.specs.Held.{Holdings, held}
 use Rattle.reach_walk.specs.Marks.{Added, EachHeld, Marks}

@@ -53,6 +53,13 @@ impl Opening {
         Ok(())
     }
 
+    /// The table alone.
+    pub fn into_table(self) -> Table
+        ensures { result ≡ self.table }
+    {
+        self.table
+    }
+
     /// The table, and N1 behind what was told before.
     pub fn close(self, out: &mut Vec<Diagnostic>) -> Result<Table, Memory>
         ensures table { IfOk result (λ t. t ≡ self.table) }
