@@ -11,7 +11,6 @@ use Rattle.names_model.specs.Entries.{found, is_among, numbers_of, once_behind}
 use Rattle.names_model.specs.NameRules.{told_behind, told_number}
 use Rattle.std.specs.Str.{bytes_eq}
 use Rattle.reach_walk.specs.declared.opening.Opening.{Opening}
-use Rattle.reach_walk.specs.Earliers.{Knows}
 use Rattle.reach_walk.specs.Marks.{Added}
 use Rattle.reach_walk.specs.Opens.{Opens, Entering}
 use Rattle.reach_walk.specs.declared.place.Place.{Place}
@@ -40,12 +39,11 @@ told-more all known (x ∷ xs) e = ap (λ r. flat_map (told_number all known x.a
     ∙ sym (append_assoc (flat_map (told_number all known x.at) x.numbers) (told_behind all (known ++ x.numbers) xs) (flat_map (told_number all (known ++ numbers_of (x ∷ xs)) e.at) e.numbers))
 
 -- the entry is told of, noted and added
-pub opens-more : (o o' : Opening) (all : List Definition) (es : List Entry) (e : Entry) → Opens o all es → Added all e.numbers o.table o'.table o'.marked → Knows o'.earlier all (numbers_of es ++ e.numbers)
+pub opens-more : (o o' : Opening) (all : List Definition) (es : List Entry) (e : Entry) → Opens o all es → Added all e.numbers o.table o'.table o'.marked
     → SameMembers o'.told.items (o.told.items ++ flat_map (told_number all (numbers_of es) e.at) e.numbers) → Opens o' all (es ++ e ∷ [])
-opens-more o o' all es e h added knows told = record {
+opens-more o o' all es e h added told = record {
   table = record { by = λ n. added.by n ∙ ap (λ xs. once_behind xs (under all n e.numbers)) (h.table.by n) ∙ found-more all es e n };
   marks = added.marks;
-  knows = subst (λ ds. Knows o'.earlier all ds) (sym (numbers-more es e)) knows;
   told = same-trans o'.told.items (o.told.items ++ here) (told_behind all [] (es ++ e ∷ [])) told
       (subst (λ ds. SameMembers (o.told.items ++ here) ds) (sym (told-more all [] es e)) (same-behind o.told.items (told_behind all [] es) here h.told));
 }

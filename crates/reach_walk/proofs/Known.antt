@@ -1,20 +1,16 @@
 -- The numbers that a table has already add nothing to what is known of a reach.
-use Rattle.std.proofs.Common.{◌≡◌, ℕ, true, List, [], ◌++◌, ◌⊎◌, inl, inr, refl, ap, sym, ◌∙◌, append_assoc, length, take, subst}
-use Rattle.std.specs.Prelude.{◌==◌, ◌&&◌, not}
+use Rattle.std.proofs.Common.{◌≡◌, ℕ, true, List, [], ◌++◌, refl, ap, sym, ◌∙◌, length, take}
 use Rattle.std.specs.Str.{bytes_eq}
 use Rattle.std.proofs.lemmas.List.{take_at}
 use Rattle.std.proofs.lemmas.Slice.Eq.{bytes_eq-Decides}
 use Rattle.names_model.specs.declared.definition.Definition.{Definition}
-use Rattle.names_model.specs.declared.entry.Entry.{Entry}
 use Rattle.names_model.specs.Definitions.{spelling_at, under}
-use Rattle.names_model.specs.Entries.{is_among, numbers_of, once_behind}
-use Rattle.reach_walk.specs.Earliers.{Keeping, Knows}
+use Rattle.names_model.specs.Entries.{is_among, once_behind}
 use Rattle.reach_walk.specs.Held.{Holdings, held}
 use Rattle.reach_walk.specs.Marks.{Added, EachHeld, Marks}
-use Rattle.reach_walk.specs.Scopes.{Holds}
 use Rattle.reach_walk.proofs.Entering.{once-append}
 use Rattle.reach_walk.proofs.Filters.{filter-append}
-use Rattle.reach_walk.proofs.Within.{Within, any-within, filter-from, once-from, once-within}
+use Rattle.reach_walk.proofs.Within.{Within, filter-from, once-within}
 
 -- none is held
 pub none-held : (t : Holdings) (all : List Definition) → EachHeld all t []
@@ -42,24 +38,6 @@ added-known all xs ys zs t t' new h is a = record {
       ∙ ap (λ ds. once_behind ds (under all n ys)) (once-within (held t n) (under all n xs) (under-held all t n xs h)));
   marks = a.marks;
 }
-
--- the held ones are among the numbers of the entries
-held-within : (all : List Definition) (t : Holdings) (es : List Entry) (xs : List ℕ) → Holds t all es → EachHeld all t xs → Within xs (numbers_of es)
-held-within all t es xs holds h d k = side (once-from d [] (under all (spelling_at all d) (numbers_of es)) (ap (is_among d) (sym (holds.by (spelling_at all d))) ∙ h.by d k))
-  where
-    side : (is_among d [] ≡ true) ⊎ (is_among d (under all (spelling_at all d) (numbers_of es)) ≡ true) → is_among d (numbers_of es) ≡ true
-    side (inl e) = cc
-    side (inr e) = (filter-from (λ x. bytes_eq (spelling_at all x) (spelling_at all d)) d (numbers_of es) e).1
-
--- they tell nothing new of earlier names
-pub knows-known : (e : Keeping) (all : List Definition) (t : Holdings) (es : List Entry) (xs : List ℕ) → Holds t all es → EachHeld all t xs → Knows e all (numbers_of es) → Knows e all (numbers_of es ++ xs)
-knows-known e all t es xs holds h k = record {
-  by = λ n d. k.by n d ∙ sym (any-within (λ x. bytes_eq (spelling_at all x) n && not (x == d)) (numbers_of es) xs (held-within all t es xs holds h));
-}
-
--- all of a place are noted
-pub knows-whole : (e : Keeping) (all : List Definition) (ks xs ys zs : List ℕ) → zs ≡ xs ++ ys → Knows e all ((ks ++ xs) ++ ys) → Knows e all (ks ++ zs)
-knows-whole e all ks xs ys zs is k = subst (λ ds. Knows e all ds) (append_assoc ks xs ys ∙ ap (λ ds. ks ++ ds) (sym is)) k
 
 -- the first numbers are those of a name
 pub front-is : (xs ys known front : List ℕ) → xs ≡ known ++ ys → front ≡ take (length known) xs → front ≡ known

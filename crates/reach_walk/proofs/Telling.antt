@@ -1,6 +1,7 @@
 -- N1 is told once for numbers of one name that stand together.
 use Rattle.std.proofs.Common.{◌≡◌, ℕ, ◌+◌, ◌<◌, ◌≤◌, Bool, true, false, List, [], ◌∷◌, ◌++◌, Option, Some, None, inl, inr, append-nil, append_assoc, refl, ap, sym, ◌∙◌, subst, length, get_or, drop, drop-cons, add-one, if◌then◌else◌}
-use Rattle.std.specs.Prelude.{flat_map}
+use Rattle.std.specs.Prelude.{flat_map, not, ◌==◌}
+use Rattle.std.specs.Str.{bytes_eq}
 use Rattle.std.proofs.lemmas.List.{at_drop_all}
 use Rattle.std.proofs.lemmas.Slice.Eq.{bytes_eq-Decides}
 use Rattle.chill_base.specs.declared.pos.Pos.{Pos}
@@ -9,8 +10,13 @@ use Rattle.chill_base.specs.declared.diagnostic.Diagnostic.{Diagnostic}
 use Rattle.rule_lists.specs.Listing.{IsIn, SameMembers}
 use Rattle.names_model.specs.declared.definition.Definition.{Definition}
 use Rattle.names_model.specs.Definitions.{spelling_at}
+use Rattle.names_model.specs.declared.entry.Entry.{Entry}
+use Rattle.names_model.specs.Entries.{numbers_of}
 use Rattle.names_model.specs.NameRules.{clashes, tell, told_number}
-use Rattle.reach_walk.specs.Tellings.{IsTold, Tells, is_last}
+use Rattle.reach_walk.specs.Held.{Holdings, held}
+use Rattle.reach_walk.specs.Scopes.{Holds}
+use Rattle.reach_walk.specs.Tellings.{IsTold, Tells, is_another_among, is_last}
+use Rattle.reach_walk.proofs.Within.{any-had}
 use Rattle.reach_walk.proofs.Members.{same-as, same-behind, same-there, same-trans, in-right}
 
 -- the name is told already
@@ -50,3 +56,8 @@ told-on f ds i out out' whole h before more = same-trans (out' ++ flat_map f (dr
 
 pub told-end : {X Y : Type 0} (f : Y → List X) (ds : List Y) (i : ℕ) (out whole : List X) → length ds ≤ i → SameMembers (out ++ flat_map f (drop i ds)) whole → SameMembers out whole
 told-end f ds i out whole h before = subst (λ zs. SameMembers zs whole) (ap (λ r. out ++ r) (at_drop_all (flat_map f) ds i h) ∙ append-nil out) before
+
+-- a number clashes where its name's list in the table has another
+pub clash-by : (t : Holdings) (all : List Definition) (es : List Entry) (n : List ℕ) (d : ℕ) → Holds t all es → n ≡ spelling_at all d → clashes all (numbers_of es) d ≡ is_another_among d (held t n)
+clash-by t all es n d h is = sym (ap (λ m. is_another_among d (held t m)) is ∙ ap (is_another_among d) (h.by (spelling_at all d))
+    ∙ any-had (λ e. bytes_eq (spelling_at all e) (spelling_at all d)) (λ e. not (e == d)) (numbers_of es))

@@ -1,6 +1,6 @@
 -- Numbers that are there already add nothing.
 use Rattle.std.proofs.Common.{◌≡◌, ℕ, Bool, true, false, List, [], ◌∷◌, ◌++◌, ◌⊎◌, inl, inr, refl, ap, sym, ◌∙◌, if◌then◌else◌}
-use Rattle.std.specs.Prelude.{◌||◌, ◌==◌}
+use Rattle.std.specs.Prelude.{◌||◌, ◌&&◌, ◌==◌}
 use Rattle.std.specs.List.{filter, list_any}
 use Rattle.std.proofs.lemmas.Bool.{eqb-true}
 use Rattle.std.proofs.lemmas.Bool.Decides.{Decides-eqb}
@@ -22,6 +22,13 @@ or-left false b h = cc
 or-right : (a b : Bool) → b ≡ true → (a || b) ≡ true
 or-right true b h = refl
 or-right false b h = h
+
+or-none : (a : Bool) → (a || false) ≡ a
+or-none true = refl
+or-none false = refl
+
+false-true : false ≡ true → ⊥
+false-true h = cc
 
 pub same-self : (y : ℕ) → (y == y) ≡ true
 same-self y = (Decides-eqb y y).1 refl
@@ -69,14 +76,6 @@ filter-from p d (y ∷ ys) h = at (p y) refl (λ k. filter-from p d ys k) h
     at true is rest k = here is rest (either (y == d) (is_among d (filter p ys)) k)
     at false is rest k = later (rest k)
 
-any-append : (p : ℕ → Bool) (xs ys : List ℕ) → list_any p (xs ++ ys) ≡ (list_any p xs || list_any p ys)
-any-append p [] ys = refl
-any-append p (x ∷ xs) ys = ap (λ b. p x || b) (any-append p xs ys) ∙ assoc (p x) (list_any p xs) (list_any p ys)
-  where
-    assoc : (a b c : Bool) → (a || (b || c)) ≡ ((a || b) || c)
-    assoc true b c = refl
-    assoc false b c = refl
-
 any-at : (p : ℕ → Bool) (d : ℕ) (xs : List ℕ) → is_among d xs ≡ true → p d ≡ true → list_any p xs ≡ true
 any-at p d [] h k = cc
 any-at p d (x ∷ xs) h k = side (λ e. any-at p d xs e k) (either (x == d) (is_among d xs) h)
@@ -85,19 +84,32 @@ any-at p d (x ∷ xs) h k = side (λ e. any-at p d xs e k) (either (x == d) (is_
     side rest (inl e) = or-left (p x) (list_any p xs) (ap p (eqb-true x d e) ∙ k)
     side rest (inr e) = or-right (p x) (list_any p xs) (rest e)
 
-any-both : (p : ℕ → Bool) (xs ys : List ℕ) → Within ys xs → list_any p ys ≡ true → list_any p xs ≡ true
-any-both p xs [] h k = cc
-any-both p xs (y ∷ ys) h k = side (λ e. any-both p xs ys (λ d j. h d (later-among d y ys j)) e) (either (p y) (list_any p ys) k)
+-- whether any passes is told by those that were there and those that were put behind them
+any-once : (q : ℕ → Bool) (xs ys : List ℕ) → list_any q (once_behind xs ys) ≡ (list_any q xs || list_any q ys)
+any-once q xs [] = sym (or-none (list_any q xs))
+any-once q xs (y ∷ ys) = any-once q (if is_among y xs then xs else xs ++ y ∷ []) ys ∙ side (is_among y xs) refl
   where
-    side : (list_any p ys ≡ true → list_any p xs ≡ true) → (p y ≡ true) ⊎ (list_any p ys ≡ true) → list_any p xs ≡ true
-    side rest (inl e) = any-at p y xs (h y (first-among y ys)) e
-    side rest (inr e) = rest e
+    absorbed : (a b c : Bool) → (b ≡ true → a ≡ true) → (a || c) ≡ (a || (b || c))
+    absorbed true b c h = refl
+    absorbed false true c h = absurd (false-true (h refl))
+    absorbed false false c h = refl
 
--- whether any passes is told by those that were there
-pub any-within : (p : ℕ → Bool) (xs ys : List ℕ) → Within ys xs → list_any p (xs ++ ys) ≡ list_any p xs
-any-within p xs ys h = any-append p xs ys ∙ absorbed (list_any p xs) (list_any p ys) (any-both p xs ys h)
+    assoc : (a b c : Bool) → ((a || b) || c) ≡ (a || (b || c))
+    assoc true b c = refl
+    assoc false b c = refl
+
+    side : (b : Bool) → is_among y xs ≡ b → (list_any q (if b then xs else xs ++ y ∷ []) || list_any q ys) ≡ (list_any q xs || (q y || list_any q ys))
+    side true is = absorbed (list_any q xs) (q y) (list_any q ys) (λ k. any-at q y xs is k)
+    side false is = ap (λ b. b || list_any q ys) (any-behind q xs y) ∙ assoc (list_any q xs) (q y) (list_any q ys)
+
+any-filter : (p q : ℕ → Bool) (xs : List ℕ) → list_any q (filter p xs) ≡ list_any (λ x. p x && q x) xs
+any-filter p q [] = refl
+any-filter p q (x ∷ xs) = side (p x) (any-filter p q xs)
   where
-    absorbed : (a b : Bool) → (b ≡ true → a ≡ true) → (a || b) ≡ a
-    absorbed true b k = refl
-    absorbed false true k = sym (k refl)
-    absorbed false false k = refl
+    side : (b : Bool) → list_any q (filter p xs) ≡ list_any (λ y. p y && q y) xs → list_any q (if b then x ∷ filter p xs else filter p xs) ≡ ((b && q x) || list_any (λ y. p y && q y) xs)
+    side true h = ap (λ b. q x || b) h
+    side false h = h
+
+-- of what is had once of those that pass a test, any passes another where any passes both
+pub any-had : (p q : ℕ → Bool) (xs : List ℕ) → list_any q (once_behind [] (filter p xs)) ≡ list_any (λ x. p x && q x) xs
+any-had p q xs = any-once q [] (filter p xs) ∙ any-filter p q xs

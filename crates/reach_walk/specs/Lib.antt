@@ -2,7 +2,6 @@ pub mod Held
 pub mod Books
 pub mod Scopes
 pub mod Offsets
-pub mod Earliers
 pub mod Named
 pub mod Findings
 pub mod Measures

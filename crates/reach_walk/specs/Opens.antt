@@ -3,18 +3,15 @@ use Rattle.std.specs.Prelude.{◌≡◌, List, [], ◌++◌}
 use Rattle.rule_lists.specs.Listing.{SameMembers}
 use Rattle.names_model.specs.declared.definition.Definition.{Definition}
 use Rattle.names_model.specs.declared.entry.Entry.{Entry}
-use Rattle.names_model.specs.Entries.{numbers_of}
 use Rattle.names_model.specs.NameRules.{told_behind}
 use Rattle.reach_walk.specs.declared.opening.Opening.{Opening}
-use Rattle.reach_walk.specs.Earliers.{Knows}
 use Rattle.reach_walk.specs.Marks.{Marks}
 use Rattle.reach_walk.specs.Scopes.{Holds}
 
--- its table, its marks, its earlier names and its N1 are those of these entries; N1 may be told once for many
+-- its table, its marks and its N1 are those of these entries; N1 may be told once for many
 pub record Opens (o : Opening) (all : List Definition) (es : List Entry) : Type 0 where
   pub table : Holds o.table all es
   pub marks : Marks o.marked o.table all
-  pub knows : Knows o.earlier all (numbers_of es)
   pub told : SameMembers o.told.items (told_behind all [] es)
 
 -- of the whole that is to be entered behind its entries, the rest is left

@@ -1,5 +1,6 @@
 -- What is told of the numbers of one place.
-use Rattle.std.specs.Prelude.{ℕ, Bool, false, List, ◌++◌, Option, Some, None, ⊤}
+use Rattle.std.specs.Prelude.{ℕ, Bool, false, not, ◌==◌, List, ◌++◌, Option, Some, None, ⊤}
+use Rattle.std.specs.List.{list_any}
 use Rattle.std.specs.Str.{bytes_eq}
 use Rattle.chill_base.specs.declared.pos.Pos.{Pos}
 use Rattle.chill_base.specs.declared.rule.Rule.TheVariants as rules
@@ -13,6 +14,10 @@ use Rattle.names_model.specs.NameRules.{tell, told_number}
 abbrev pub IsTold : List Definition → Pos → List Diagnostic → Option ℕ → Type 0
 IsTold all at ds None = ⊤
 IsTold all at ds (Some d) = IsIn (tell at rules.N1 (spelling_at all d)) ds
+
+-- a number other than this one is among some
+abbrev pub is_another_among : ℕ → List ℕ → Bool
+is_another_among d ds = list_any (λ e. not (e == d)) ds
 
 -- the number has the name of the one that was told of last
 abbrev pub is_last : List Definition → Option ℕ → ℕ → Bool

@@ -29,15 +29,15 @@ fn add(
 }
 
 /// The first of some numbers, where they are all that the table has under the name of the first, and those behind them. A
-/// list that passes again is known by comparing it.
+/// list that passes again is known by comparing it; a single number is looked up as fast.
 pub fn split_known<'a>(table: &Table, book: &Book, numbers: &'a [u32]) -> (&'a [u32], &'a [u32])
     ensures parts { numbers.now ≡ result.0.now ++ result.1.now }
     ensures known { (marks : List ℕ) → Marks marks table.now book.now.all.items → EachHeld book.now.all.items table.now result.0.now }
 {
-    let Some(first) = numbers.first() else {
+    if numbers.len() < 2 {
         return numbers.split_at(0);
-    };
-    let known = table.find(book.spelling(*first as usize));
+    }
+    let known = table.find(book.spelling(numbers[0] as usize));
     if numbers.starts_with(known) {
         return numbers.split_at(known.len());
     }

@@ -10,7 +10,6 @@
 mod book;
 mod collect;
 mod definitions;
-mod earlier;
 mod entries;
 mod findings;
 mod founds;

@@ -1,10 +1,9 @@
 // A reach that is being opened: its table, and N1 of it, entry by entry.
 use crate::book::Book;
-use crate::earlier::Earlier;
 use crate::founds::{add_numbers, split_known};
 use crate::marked::Marked;
 use crate::table::Table;
-use crate::twice::{note_numbers, tell_numbers};
+use crate::twice::tell_numbers;
 use chill_base::{Diagnostic, Memory, Pos};
 use std::alloc::Global;
 
@@ -13,7 +12,6 @@ use std::alloc::Global;
 pub struct Opening {
     pub table: Table,
     pub marked: Marked,
-    pub earlier: Earlier,
     pub told: Vec<Diagnostic>,
 }
 
@@ -31,7 +29,6 @@ impl Opening {
         Opening {
             table: Table::new(alloc),
             marked: Marked::new(alloc),
-            earlier: Earlier::new(alloc),
             told: Vec::new(alloc),
         }
     }
@@ -46,9 +43,8 @@ impl Opening {
     ) -> Result<(), Memory>
         ensures { (es : List Entry) → Opens self.old book.now.all.items es → OnOk result (Opens self.new book.now.all.items (es ++ entry at numbers.now ∷ [])) }
     {
-        tell_numbers(alloc, book, &self.earlier, at, numbers, &mut self.told)?;
+        tell_numbers(alloc, book, &self.table, at, numbers, &mut self.told)?;
         let (_, fresh) = split_known(&self.table, book, numbers);
-        note_numbers(alloc, book, &mut self.earlier, fresh)?;
         add_numbers(alloc, &mut self.table, &mut self.marked, book, fresh)?;
         Ok(())
     }

@@ -1,15 +1,31 @@
 // Second entries of a name in one reach, for another definition.
-ghost use Rattle.std.specs.Prelude.{◌≡◌, ◌++◌, ℕ, List, IfOk, OnOk, flat_map};
+ghost use Rattle.std.specs.Prelude.{◌≡◌, ◌++◌, List, IfOk, OnOk, flat_map};
 ghost use Rattle.rule_lists.specs.Listing.{SameMembers};
+ghost use Rattle.names_model.specs.declared.entry.Entry.{Entry};
+ghost use Rattle.names_model.specs.Entries.{numbers_of};
 ghost use Rattle.names_model.specs.NameRules.{told_number};
-ghost use Rattle.reach_walk.specs.Earliers.{Knows};
-ghost use Rattle.reach_walk.specs.Tellings.{IsTold, Tells, is_last};
+ghost use Rattle.reach_walk.specs.Held.{held};
+ghost use Rattle.reach_walk.specs.Scopes.{Holds};
+ghost use Rattle.reach_walk.specs.Tellings.{IsTold, Tells, is_another_among, is_last};
 
 use crate::book::Book;
-use crate::earlier::Earlier;
+use crate::table::Table;
 use crate::told::push_told;
 use chill_base::{Diagnostic, Memory, Pos, Rule};
+use names_model::Spelling;
 use std::alloc::Global;
+
+// Whether the table has another number than this one under a name. It has no number twice, so one of the first two tells.
+fn is_another_under(table: &Table, name: &Spelling, number: u32) -> bool
+    ensures { result ≡ is_another_among number (held table.now name.now) }
+{
+    for other in table.find(name) {
+        if *other != number {
+            return true;
+        }
+    }
+    false
+}
 
 // Whether a number has the name of the one that was told of last.
 fn is_last(book: &Book, last: Option<u32>, number: u32) -> bool
@@ -26,19 +42,19 @@ fn is_last(book: &Book, last: Option<u32>, number: u32) -> bool
 fn tell_number(
     alloc: Global,
     book: &Book,
-    earlier: &Earlier,
+    table: &Table,
     at: Pos,
     last: Option<u32>,
     number: u32,
     out: &mut Vec<Diagnostic>,
 ) -> Result<Option<u32>, Memory>
-    ensures { (known : List ℕ) → Knows earlier.now book.now.all.items known → IsTold book.now.all.items at out.old.items last → IfOk result (Tells book.now.all.items at known number out.old.items out.new.items) }
+    ensures { (es : List Entry) → Holds table.now book.now.all.items es → IsTold book.now.all.items at out.old.items last → IfOk result (Tells book.now.all.items at (numbers_of es) number out.old.items out.new.items) }
 {
     if is_last(book, last, number) {
         return Ok(last);
     }
     let name = book.spelling(number as usize);
-    if !earlier.differs(name, number) {
+    if !is_another_under(table, name, number) {
         return Ok(last);
     }
     push_told(alloc, at, Rule::N1, name, out)?;
@@ -49,31 +65,16 @@ fn tell_number(
 pub fn tell_numbers(
     alloc: Global,
     book: &Book,
-    earlier: &Earlier,
+    table: &Table,
     at: Pos,
     numbers: &[u32],
     out: &mut Vec<Diagnostic>,
 ) -> Result<(), Memory>
-    ensures { (known : List ℕ) → Knows earlier.now book.now.all.items known → OnOk result (SameMembers out.new.items (out.old.items ++ flat_map (told_number book.now.all.items known at) numbers.now)) }
+    ensures { (es : List Entry) → Holds table.now book.now.all.items es → OnOk result (SameMembers out.new.items (out.old.items ++ flat_map (told_number book.now.all.items (numbers_of es) at) numbers.now)) }
 {
     let mut last = None;
     for number in numbers {
-        last = tell_number(alloc, book, earlier, at, last, *number, out)?;
-    }
-    Ok(())
-}
-
-/// Notes the numbers of one place.
-pub fn note_numbers(
-    alloc: Global,
-    book: &Book,
-    earlier: &mut Earlier,
-    numbers: &[u32],
-) -> Result<(), Memory>
-    ensures { (known : List ℕ) → Knows earlier.old book.now.all.items known → OnOk result (Knows earlier.new book.now.all.items (known ++ numbers.now)) }
-{
-    for number in numbers {
-        earlier.note(alloc, book.spelling(*number as usize), *number)?;
+        last = tell_number(alloc, book, table, at, last, *number, out)?;
     }
     Ok(())
 }
