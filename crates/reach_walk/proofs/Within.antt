@@ -43,23 +43,6 @@ pub once-within : (xs ys : List ℕ) → Within ys xs → once_behind xs ys ≡ 
 once-within xs [] h = refl
 once-within xs (y ∷ ys) h = ap (λ b. once_behind (if b then xs else xs ++ y ∷ []) ys) (h y (first-among y ys)) ∙ once-within xs ys (λ d k. h d (later-among d y ys k))
 
--- what is put behind others once is of those or of these
-pub once-from : (d : ℕ) (xs ys : List ℕ) → is_among d (once_behind xs ys) ≡ true → (is_among d xs ≡ true) ⊎ (is_among d ys ≡ true)
-once-from d xs [] h = inl h
-once-from d xs (y ∷ ys) h = side (once-from d (if is_among y xs then xs else xs ++ y ∷ []) ys h)
-  where
-    last : (b : Bool) → is_among d (if b then xs else xs ++ y ∷ []) ≡ true → (is_among d xs ≡ true) ⊎ ((y == d) ≡ true)
-    last true k = inl k
-    last false k = either (is_among d xs) (y == d) (sym (any-behind (λ e. e == d) xs y) ∙ k)
-
-    front : (is_among d xs ≡ true) ⊎ ((y == d) ≡ true) → (is_among d xs ≡ true) ⊎ (is_among d (y ∷ ys) ≡ true)
-    front (inl k) = inl k
-    front (inr k) = inr (or-left (y == d) (is_among d ys) k)
-
-    side : (is_among d (if is_among y xs then xs else xs ++ y ∷ []) ≡ true) ⊎ (is_among d ys ≡ true) → (is_among d xs ≡ true) ⊎ (is_among d (y ∷ ys) ≡ true)
-    side (inl k) = front (last (is_among y xs) k)
-    side (inr k) = inr (later-among d y ys k)
-
 -- what passes a test is there, and passes it
 pub filter-from : (p : ℕ → Bool) (d : ℕ) (ys : List ℕ) → is_among d (filter p ys) ≡ true → (p d ≡ true) × (is_among d ys ≡ true)
 filter-from p d [] h = cc
