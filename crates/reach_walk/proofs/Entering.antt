@@ -2,10 +2,12 @@
 use Rattle.std.proofs.Common.{◌≡◌, ℕ, List, [], ◌∷◌, ◌++◌, append-nil, append_assoc, refl, ap, sym, ◌∙◌, subst, if◌then◌else◌, ◌+◌, ◌<◌, take, get_or, length}
 use Rattle.std.proofs.lemmas.List.{map-append, take_more}
 use Rattle.std.specs.Prelude.{flat_map}
+use Rattle.rule_lists.specs.Listing.{SameMembers}
+use Rattle.chill_base.specs.declared.diagnostic.Diagnostic.{Diagnostic}
 use Rattle.names_model.specs.declared.definition.Definition.{Definition}
 use Rattle.names_model.specs.declared.entry.Entry.{Entry}
 use Rattle.names_model.specs.Definitions.{spelling_at, under}
-use Rattle.names_model.specs.Entries.{entry, found, is_among, numbers_of, once_behind}
+use Rattle.names_model.specs.Entries.{found, is_among, numbers_of, once_behind}
 use Rattle.names_model.specs.NameRules.{told_behind, told_number}
 use Rattle.std.specs.Str.{bytes_eq}
 use Rattle.reach_walk.specs.declared.opening.Opening.{Opening}
@@ -14,10 +16,11 @@ use Rattle.reach_walk.specs.Opens.{Opens, Entering}
 use Rattle.reach_walk.specs.declared.place.Place.{Place}
 use Rattle.reach_walk.specs.Places.{single, singles}
 use Rattle.reach_walk.proofs.Appends.{flat_map-append}
+use Rattle.reach_walk.proofs.Members.{same-behind, same-trans}
 use Rattle.reach_walk.proofs.Filters.{filter-append}
 
 -- numbers behind others, in two steps
-once-append : (xs ys zs : List ℕ) → once_behind xs (ys ++ zs) ≡ once_behind (once_behind xs ys) zs
+pub once-append : (xs ys zs : List ℕ) → once_behind xs (ys ++ zs) ≡ once_behind (once_behind xs ys) zs
 once-append xs [] zs = refl
 once-append xs (y ∷ ys) zs = once-append (if is_among y xs then xs else xs ++ y ∷ []) ys zs
 
@@ -35,14 +38,18 @@ told-more all known (x ∷ xs) e = ap (λ r. flat_map (told_number all known x.a
     ∙ ap (λ ks. flat_map (told_number all known x.at) x.numbers ++ (told_behind all (known ++ x.numbers) xs ++ flat_map (told_number all ks e.at) e.numbers)) (append_assoc known x.numbers (numbers_of xs))
     ∙ sym (append_assoc (flat_map (told_number all known x.at) x.numbers) (told_behind all (known ++ x.numbers) xs) (flat_map (told_number all (known ++ numbers_of (x ∷ xs)) e.at) e.numbers))
 
--- the entry is told of and added
+-- the entry is told of, noted and added
 pub opens-more : (o o' : Opening) (all : List Definition) (es : List Entry) (e : Entry) → Opens o all es → Added all e.numbers o.table o'.table o'.marked
-    → o'.told.items ≡ o.told.items ++ flat_map (told_number all (numbers_of es) e.at) e.numbers → Opens o' all (es ++ e ∷ [])
+    → SameMembers o'.told.items (o.told.items ++ flat_map (told_number all (numbers_of es) e.at) e.numbers) → Opens o' all (es ++ e ∷ [])
 opens-more o o' all es e h added told = record {
   table = record { by = λ n. added.by n ∙ ap (λ xs. once_behind xs (under all n e.numbers)) (h.table.by n) ∙ found-more all es e n };
   marks = added.marks;
-  told = told ∙ ap (λ ds. ds ++ flat_map (told_number all (numbers_of es) e.at) e.numbers) h.told ∙ sym (told-more all [] es e);
+  told = same-trans o'.told.items (o.told.items ++ here) (told_behind all [] (es ++ e ∷ [])) told
+      (subst (λ ds. SameMembers (o.told.items ++ here) ds) (sym (told-more all [] es e)) (same-behind o.told.items (told_behind all [] es) here h.told));
 }
+  where
+    here : List Diagnostic
+    here = flat_map (told_number all (numbers_of es) e.at) e.numbers
 
 -- more is entered behind what was
 pub opens-behind : (o : Opening) (all : List Definition) (es fs gs hs : List Entry) → Opens o all ((es ++ fs) ++ gs) → fs ++ gs ≡ hs → Opens o all (es ++ hs)
@@ -70,12 +77,11 @@ pub opens-three : (o : Opening) (all : List Definition) (es own taken lent own' 
 opens-three o all es own taken lent own' lent' a b h = subst (λ xs. Opens o all xs)
     (ap (λ r. r ++ lent) (append_assoc es own taken) ∙ append_assoc es (own ++ taken) lent ∙ (λ i. es ++ ((a i ++ taken) ++ b i))) h
 
--- one entry of a list is entered
-pub opens-entry : (o : Opening) (all : List Definition) (es lent : List Entry) (i : ℕ) (x : Entry) (ns : List ℕ) → i < length lent → x ≡ get_or lent i x → ns ≡ x.numbers
-    → Opens o all ((es ++ take i lent) ++ entry x.at ns ∷ []) → Opens o all (es ++ take (i + 1) lent)
-opens-entry o all es lent i x ns h is numbers opens = opens-behind o all es (take i lent) (entry x.at ns ∷ []) (take (i + 1) lent) opens
-    (ap (λ ds. take i lent ++ entry x.at ds ∷ []) numbers ∙ ap (λ e. take i lent ++ e ∷ []) is ∙ sym (take_more lent i x h))
+-- two lists of entries, one behind the other
+pub opens-two : (o : Opening) (all : List Definition) (es own own' more : List Entry) → own ≡ own' → Opens o all ((es ++ own) ++ more) → Opens o all (es ++ (own' ++ more))
+opens-two o all es own own' more a h = subst (λ xs. Opens o all xs) (append_assoc es own more ∙ ap (λ r. es ++ (r ++ more)) a) h
 
+-- one place of a list is entered
 pub opens-place : (o : Opening) (all : List Definition) (es : List Entry) (places : List Place) (i : ℕ) (d : Place) → i < length places
     → Opens o all ((es ++ singles (take i places)) ++ single (get_or places i d) ∷ []) → Opens o all (es ++ singles (take (i + 1) places))
 opens-place o all es places i d h opens = opens-behind o all es (singles (take i places)) (single (get_or places i d) ∷ []) (singles (take (i + 1) places)) opens

@@ -5,7 +5,7 @@ use Rattle.std.specs.List.{filter}
 use Rattle.std.proofs.lemmas.Bool.{ne_eqb}
 use Rattle.names_model.specs.Definitions.{numbers_on}
 use Rattle.names_model.specs.Entries.{once_behind, is_among}
-use Rattle.reach_walk.proofs.Anys.{any-behind}
+use Rattle.reach_walk.proofs.Noting.{any-behind}
 
 -- no number from one on is there
 pub record Fresh (xs : List ℕ) (from : ℕ) : Type 0 where

@@ -3,7 +3,7 @@ pub mod Filters
 pub mod Appends
 pub mod Elements
 pub mod Granting
-pub mod Anys
+pub mod Noting
 pub mod Showing
 pub mod Walking
 pub mod Defining
@@ -14,3 +14,7 @@ pub mod ProgramMeasures
 pub mod Marking
 pub mod Lending
 pub mod Entering
+pub mod Members
+pub mod Telling
+pub mod Within
+pub mod Known

@@ -1,6 +1,7 @@
 -- Steps of the walk over parts.
-use Rattle.std.proofs.Common.{◌≡◌, ℕ, ◌+◌, ◌<◌, List, ◌++◌, append_assoc, ap, sym, ◌∙◌, length, get_or, drop}
+use Rattle.std.proofs.Common.{◌≡◌, ℕ, ◌+◌, ◌<◌, List, ◌++◌, append_assoc, refl, ap, sym, ◌∙◌, length, get_or, drop, subst}
 use Rattle.std.specs.Prelude.{flat_map, OnOk, Result, ◌^◌}
+use Rattle.rule_lists.specs.Listing.{SameMembers}
 use Rattle.chill_base.specs.declared.memory.Memory.{Memory}
 use Rattle.chill_base.specs.declared.diagnostic.Diagnostic.{Diagnostic}
 use Rattle.names_model.specs.declared.definition.Definition.{Definition}
@@ -17,6 +18,7 @@ use Rattle.reach_walk.specs.Offsets.{FitsInside, nodes_of}
 use Rattle.reach_walk.specs.declared.findings.Findings.{Findings}
 use Rattle.reach_walk.proofs.PartLists.{nodes-at}
 use Rattle.reach_walk.proofs.Appends.{flat_map-append}
+use Rattle.reach_walk.proofs.Members.{same-behind, same-trans}
 
 regroup : {X : Type 0} (f u v w r : List X) → ((f ++ u) ++ (v ++ w)) ++ r ≡ f ++ ((u ++ v) ++ (w ++ r))
 regroup f u v w r = simp append_assoc
@@ -35,14 +37,32 @@ found-on f r ps i next next' x here opened out out' out'' whole h is step gives 
     ∙ ap (λ z. out ++ (z ++ (flat_map f inner ++ flat_map f rest))) (sym gives)
     ∙ ap (λ z. out ++ (f (node r next (part_tree x)) ++ z)) (sym (flat_map-append f inner rest)) ∙ ap (λ z. out ++ z) (sym d) ∙ before)
 
+-- the same of what is told, where the vectors have the same members
+pub told-walk : (text : List Definition) (r : Reach) (ps : List Part) (i next next' : ℕ) (x : Part) (here opened out out' out'' whole : List Diagnostic) → i < length ps → x ≡ get_or ps i x → next' ≡ next + size_of (part_tree x)
+    → told text (node r next (part_tree x)) ≡ here ++ opened
+    → SameMembers (out ++ flat_map (told text) (nodes r next (nodes_of (drop i ps)))) whole
+    → SameMembers out' (out ++ here) → SameMembers out'' (out' ++ (opened ++ flat_map (told text) (nodes_inside r next (part_tree x))))
+    → SameMembers (out'' ++ flat_map (told text) (nodes r next' (nodes_of (drop (i + 1) ps)))) whole
+told-walk text r ps i next next' x here opened out out' out'' whole h is step gives before own inside =
+    let inner = opened ++ flat_map (told text) (nodes_inside r next (part_tree x)) in
+    let rest = flat_map (told text) (nodes r next' (nodes_of (drop (i + 1) ps))) in
+    let all = out ++ flat_map (told text) (nodes r next (nodes_of (drop i ps))) in
+    let exact : ((out ++ here) ++ inner) ++ rest ≡ all = found-on (told text) r ps i next next' x here opened out (out ++ here) ((out ++ here) ++ inner) all h is step gives refl refl refl in
+    let there = same-trans out'' (out' ++ inner) ((out ++ here) ++ inner) inside (same-behind out' (out ++ here) inner own) in
+    same-trans (out'' ++ rest) all whole (subst (λ ds. SameMembers (out'' ++ rest) ds) exact (same-behind out'' ((out ++ here) ++ inner) rest there)) before
+
 -- N1 of a reach is told, and then its parts are walked over
-pub found-reach : (text : List Definition) (r : Reach) (from : ℕ) (ps : PartNodes) (old opened new : Findings) (twice : List Diagnostic) → opened.told.items ≡ old.told.items ++ twice → twice ≡ told_twice text r
+pub found-reach : (text : List Definition) (r : Reach) (from : ℕ) (ps : PartNodes) (old opened new : Findings) (twice : List Diagnostic) → SameMembers opened.told.items (old.told.items ++ twice) → twice ≡ told_twice text r
     → opened.groups.items ≡ old.groups.items → opened.uses.items ≡ old.uses.items → AddsNodes opened new text (nodes r from ps) → AddsReach old new text r from ps
 found-reach text r from ps old opened new twice a e g u b = record {
-  told = b.told ∙ ap (λ z. z ++ flat_map (told text) (nodes r from ps)) (a ∙ ap (λ z. old.told.items ++ z) e) ∙ append_assoc old.told.items (told_twice text r) (flat_map (told text) (nodes r from ps));
+  told = same-trans new.told.items (opened.told.items ++ rest) (old.told.items ++ (told_twice text r ++ rest)) b.told
+      (subst (λ ds. SameMembers (opened.told.items ++ rest) ds) (ap (λ z. (old.told.items ++ z) ++ rest) e ∙ append_assoc old.told.items (told_twice text r) rest) (same-behind opened.told.items (old.told.items ++ twice) rest a));
   groups = b.groups ∙ ap (λ z. z ++ groups_in text r from ps) g;
   uses = b.uses ∙ ap (λ z. z ++ resolved_in text r from ps) u;
 }
+  where
+    rest : List Diagnostic
+    rest = flat_map (told text) (nodes r from ps)
 
 -- what is found in a part that opens a reach, by a call that returned a result
 abbrev pub InsideFound : List Definition → Reach → List Definition → List GivenTree → ℕ → Result Unit Memory → (new old : Findings) → PartTree → Type 0

@@ -1,6 +1,7 @@
 -- What is found behind what was found before.
 use Rattle.std.specs.Prelude.{◌≡◌, ℕ, List, ◌++◌, flat_map}
 use Rattle.chill_base.specs.declared.diagnostic.Diagnostic.{Diagnostic}
+use Rattle.rule_lists.specs.Listing.{SameMembers}
 use Rattle.group_dependence.specs.declared.group.Group.{Group}
 use Rattle.names_model.specs.declared.definition.Definition.{Definition}
 use Rattle.names_model.specs.declared.names.Resolved.{Resolved}
@@ -11,9 +12,9 @@ use Rattle.names_model.specs.Dependence.{groups_in, groups_of}
 use Rattle.names_model.specs.Resolving.{resolved_here, resolved_in}
 use Rattle.reach_walk.specs.declared.findings.Findings.{Findings}
 
--- each vector has these behind what it had
+-- each vector has these behind what it had; what is told may be told once for many
 pub record Adds (old new : Findings) (ds : List Diagnostic) (gs : List Group) (us : List Resolved) : Type 0 where
-  pub told : new.told.items ≡ old.told.items ++ ds
+  pub told : SameMembers new.told.items (old.told.items ++ ds)
   pub groups : new.groups.items ≡ old.groups.items ++ gs
   pub uses : new.uses.items ≡ old.uses.items ++ us
 

@@ -9,3 +9,4 @@ pub mod Marks
 pub mod Givens
 pub mod Places
 pub mod Opens
+pub mod Tellings

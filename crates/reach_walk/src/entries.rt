@@ -9,7 +9,7 @@ ghost use Rattle.reach_walk.specs.Places.{singles};
 use crate::offsets::{clause_size, clauses_size, names_size, size_of};
 use crate::place::Place;
 use chill_base::{Memory, Numbers, Pos};
-use names_model::{Clause, Entry, Identifier, Mention, Part};
+use names_model::{Clause, Identifier, Mention, Part};
 use std::alloc::Global;
 
 /// Enters one definition.
@@ -129,16 +129,6 @@ pub fn push_all(numbers: &[u32], out: &mut Numbers) -> Result<(), Memory>
 {
     for number in numbers {
         out.push(*number)?;
-    }
-    Ok(())
-}
-
-/// The numbers of entries.
-pub fn push_numbers(entries: &[Entry], out: &mut Numbers) -> Result<(), Memory>
-    ensures { OnOk result (out.new ≡ out.old ++ numbers_of entries.now) }
-{
-    for entry in entries {
-        push_all(entry.numbers.as_slice(), out)?;
     }
     Ok(())
 }

@@ -1,9 +1,9 @@
 // What is found under each name.
-ghost use Rattle.std.specs.Prelude.{◌≡◌, ◌∷◌, [], ℕ, List, IfOk, OnOk};
+ghost use Rattle.std.specs.Prelude.{◌≡◌, ◌∷◌, ◌++◌, [], ℕ, List, IfOk, OnOk};
 ghost use Rattle.names_model.specs.Definitions.{under};
 ghost use Rattle.names_model.specs.Entries.{once_behind};
 ghost use Rattle.reach_walk.specs.Held.{held};
-ghost use Rattle.reach_walk.specs.Marks.{Added, Marks};
+ghost use Rattle.reach_walk.specs.Marks.{Added, EachHeld, Marks};
 
 use crate::book::Book;
 use crate::marked::Marked;
@@ -26,6 +26,22 @@ fn add(
     }
     table.append(alloc, book.spelling(number as usize), number)?;
     Ok(())
+}
+
+/// The first of some numbers, where they are all that the table has under the name of the first, and those behind them. A
+/// list that passes again is known by comparing it; a single number is looked up as fast.
+pub fn split_known<'a>(table: &Table, book: &Book, numbers: &'a [u32]) -> (&'a [u32], &'a [u32])
+    ensures parts { numbers.now ≡ result.0.now ++ result.1.now }
+    ensures known { (marks : List ℕ) → Marks marks table.now book.now.all.items → EachHeld book.now.all.items table.now result.0.now }
+{
+    if numbers.len() < 2 {
+        return numbers.split_at(0);
+    }
+    let known = table.find(book.spelling(numbers[0] as usize));
+    if numbers.starts_with(known) {
+        return numbers.split_at(known.len());
+    }
+    numbers.split_at(0)
 }
 
 /// Adds definitions, each once under its own name.

@@ -1,16 +1,22 @@
-// What modulions enter into the reaches around them, made once for each and lent to whoever opens a reach.
+// What is kept of modulions to make what they give, made once for each and lent to whoever opens a reach.
 ghost use Rattle.std.specs.Prelude.{◌≡◌, ◌++◌, ◌∷◌, [], ℕ, List};
 ghost use Rattle.names_model.specs.declared.definition.Definition.{Definition};
 ghost use Rattle.names_model.specs.Parts.{part_tree};
-ghost use Rattle.reach_walk.specs.Givens.{GivenTree, entries_lent, given_of, given_trees, inner_lent};
+ghost use Rattle.reach_walk.specs.Givens.{GivenTree, IsGiver, given_of, given_trees, inner_lent};
 
-use chill_base::List;
-use names_model::{Entry, Part};
+use crate::passing::Giver;
+use crate::source::Source;
+use crate::table::Table;
+use chill_base::{List, Numbers};
+use names_model::Part;
 
-/// What a modulion enters into the reach around it, and the same of the modulions directly in it, in their order.
-#[derive(Debug, Drop)]
+/// A modulion: whether it is a region, what it has from itself and from its modulions, what is defined directly in it, and the
+/// same of the modulions directly in it, in their order.
+#[derive(Drop)]
 pub struct Given {
-    pub entries: List<Entry>,
+    pub region: bool,
+    pub has: Table,
+    pub own: Numbers,
     pub inner: List<Given>,
 }
 
@@ -43,13 +49,17 @@ pub fn split_given<'a>(part: &Part, given: &'a [Given]) -> (&'a [Given], &'a [Gi
     }
 }
 
-/// The entries that are lent to a part.
-pub fn lent_entries(own: &[Given]) -> &[Entry]
-    ensures { result.now ≡ entries_lent (given_trees own.now) }
+/// The modulion that is lent to a part, as it is seen from around.
+pub fn lent_giver(own: &[Given]) -> Option<Giver<'_>>
+    ensures { IsGiver (given_trees own.now) result }
 {
     match own.first() {
-        Some(given) => given.entries.as_slice(),
-        None => &[],
+        Some(given) => Some(Giver {
+            region: given.region,
+            has: Source::Table(&given.has),
+            own: given.own.as_slice(),
+        }),
+        None => None,
     }
 }
 

@@ -1,46 +1,85 @@
-// What each modulion gives, from the innermost outwards.
-ghost use Rattle.std.specs.Prelude.{◌≡◌, ◌++◌, ◌∷◌, [], ◌+◌, ◌<◌, ◌^◌, IfOk, OnOk};
+// What is kept of each modulion to make what it gives, from the innermost outwards.
+ghost use Rattle.std.specs.Prelude.{◌≡◌, ◌++◌, ◌∷◌, [], ◌+◌, ◌<◌, ◌^◌, List, IfOk, OnOk};
+ghost use Rattle.names_model.specs.declared.entry.Entry.{Entry};
 ghost use Rattle.names_model.specs.Parts.{part_tree};
 ghost use Rattle.names_model.specs.Sizes.{size_of};
-ghost use Rattle.names_model.specs.Entries.{numbers_of, up_entries};
-ghost use Rattle.reach_walk.specs.Givens.{given, given_nodes, given_of, given_trees, givens, granted_by};
+ghost use Rattle.names_model.specs.Entries.{given_entries, own_entries, up_entries};
+ghost use Rattle.reach_walk.specs.Givens.{given_by, given_nodes, given_of, given_trees, givens};
 ghost use Rattle.reach_walk.specs.Offsets.{Fits, FitsInside, nodes_of};
+ghost use Rattle.reach_walk.specs.Opens.{Opens};
+ghost use Rattle.reach_walk.specs.Scopes.{Holds};
 
 use crate::book::Book;
-use crate::entries::{own_numbers, push_numbers, push_own};
-use crate::founds::table_of_numbers;
-use crate::given::{Given, lent_entries, split_given};
+use crate::entries::{own_entries, own_numbers};
+use crate::given::{Given, split_given};
+use crate::granted::enter_given;
 use crate::offsets::size_of;
-use crate::passing::{Giver, enter_given};
-use crate::source::Source;
+use crate::opening::Opening;
+use crate::place::Place;
+use crate::reached::enter_places;
+use crate::table::Table;
 use chill_base::{List, Memory, Numbers};
 use names_model::Part;
 use std::alloc::Global;
 
-/// The numbers of what a reach has from itself and from its modulions.
-fn push_up(
+// Enters what a part defines and what it gives. The places are a buffer.
+fn enter_up_part(
+    alloc: Global,
+    book: &Book,
+    given: &[Given],
+    from: u32,
+    part: &Part,
+    places: &mut Vec<Place>,
+    out: &mut Opening,
+) -> Result<(), Memory>
+    ensures { from + size_of (part_tree part.now) < 2 ^ 32 → given_trees given.now ≡ given_of book.now.all.items from (part_tree part.now) → (es : List Entry) → Opens out.old book.now.all.items es → OnOk result (Opens out.new book.now.all.items (es ++ (own_entries from (part_tree part.now) ++ given_entries book.now.all.items from (part_tree part.now)))) }
+{
+    places.clear();
+    own_entries(from, part, places)?;
+    enter_places(alloc, book, places.as_slice(), out)?;
+    enter_given(alloc, book, given, part, out)?;
+    Ok(())
+}
+
+// Enters what a reach has from itself and from its modulions.
+fn enter_up(
     alloc: Global,
     book: &Book,
     from: u32,
     parts: &[Part],
     given: &[Given],
-    out: &mut Numbers,
+    out: &mut Opening,
 ) -> Result<(), Memory>
-    ensures { Fits from (nodes_of parts.now) → given_trees given.now ≡ givens book.now.all.items from (nodes_of parts.now) → OnOk result (out.new ≡ out.old ++ numbers_of (up_entries book.now.all.items from (nodes_of parts.now))) }
+    ensures { Fits from (nodes_of parts.now) → given_trees given.now ≡ givens book.now.all.items from (nodes_of parts.now) → (es : List Entry) → Opens out.old book.now.all.items es → OnOk result (Opens out.new book.now.all.items (es ++ up_entries book.now.all.items from (nodes_of parts.now))) }
 {
+    let mut places = Vec::new(alloc);
     let mut next = from;
     let mut left = given;
     for part in parts {
         let (own, behind) = split_given(part, left);
-        push_own(alloc, next, part, out)?;
-        push_numbers(lent_entries(own), out)?;
+        enter_up_part(alloc, book, own, next, part, &mut places, out)?;
         left = behind;
         next = next.saturating_add(size_of(part));
     }
     Ok(())
 }
 
-// What a modulion of these parts gives, behind what others give.
+// The table of what a reach has from itself and from its modulions.
+fn table_up(
+    alloc: Global,
+    book: &Book,
+    from: u32,
+    parts: &[Part],
+    given: &[Given],
+) -> Result<Table, Memory>
+    ensures { Fits from (nodes_of parts.now) → given_trees given.now ≡ givens book.now.all.items from (nodes_of parts.now) → IfOk result (λ t. Holds t book.now.all.items (up_entries book.now.all.items from (nodes_of parts.now))) }
+{
+    let mut opening = Opening::new(alloc);
+    enter_up(alloc, book, from, parts, given, &mut opening)?;
+    Ok(opening.into_table())
+}
+
+// What is kept of a modulion of these parts, behind what is kept of others.
 #[cycle(giving)]
 fn push_modulion(
     alloc: Global,
@@ -50,29 +89,22 @@ fn push_modulion(
     parts: &[Part],
     out: &mut List<Given>,
 ) -> Result<(), Memory>
-    ensures { Fits from (nodes_of parts.now) → OnOk result (given_trees out.new ≡ given_trees out.old ++ given (granted_by book.now.all.items region from (nodes_of parts.now)) (given_nodes (givens book.now.all.items from (nodes_of parts.now))) ∷ []) }
+    ensures { Fits from (nodes_of parts.now) → OnOk result (given_trees out.new ≡ given_trees out.old ++ given_by book.now.all.items region from (nodes_of parts.now) (given_nodes (givens book.now.all.items from (nodes_of parts.now))) ∷ []) }
 {
     let inner = givens_of(alloc, book, from, parts)?;
-    let mut up = Numbers::new(alloc);
-    push_up(alloc, book, from, parts, inner.as_slice(), &mut up)?;
-    let table = table_of_numbers(alloc, book, up.as_slice())?;
+    let has = table_up(alloc, book, from, parts, inner.as_slice())?;
     let mut own = Numbers::new(alloc);
     own_numbers(alloc, from, parts, &mut own)?;
-    let giver = Giver {
-        region,
-        has: Source::Table(&table),
-        own: own.as_slice(),
-    };
-    let mut entries = Vec::new(alloc);
-    enter_given(alloc, book, &giver, parts, &mut entries)?;
     out.push(Given {
-        entries: List::from_vec(entries),
+        region,
+        has,
+        own,
         inner,
     })?;
     Ok(())
 }
 
-// What a part gives, if it is a modulion, behind what others give.
+// What is kept of a part, if it is a modulion, behind what is kept of others.
 #[tactic(auto, using(names_model::proofs::PartViews::part_built, crate::proofs::Appends::nothing_more))]
 #[cycle(giving)]
 fn push_given(
@@ -105,7 +137,7 @@ fn push_given(
     }
 }
 
-/// What the modulions directly among parts give, in their order.
+/// What is kept of the modulions directly among parts, in their order.
 #[cycle(giving)]
 pub fn givens_of(
     alloc: Global,

@@ -15,6 +15,7 @@ mod findings;
 mod founds;
 mod given;
 mod giving;
+mod granted;
 mod groups;
 mod laws;
 mod marked;

@@ -1,6 +1,6 @@
 // A reach that is being opened: its table, and N1 of it, entry by entry.
 use crate::book::Book;
-use crate::founds::add_numbers;
+use crate::founds::{add_numbers, split_known};
 use crate::marked::Marked;
 use crate::table::Table;
 use crate::twice::tell_numbers;
@@ -44,8 +44,16 @@ impl Opening {
         ensures { (es : List Entry) → Opens self.old book.now.all.items es → OnOk result (Opens self.new book.now.all.items (es ++ entry at numbers.now ∷ [])) }
     {
         tell_numbers(alloc, book, &self.table, at, numbers, &mut self.told)?;
-        add_numbers(alloc, &mut self.table, &mut self.marked, book, numbers)?;
+        let (_, fresh) = split_known(&self.table, book, numbers);
+        add_numbers(alloc, &mut self.table, &mut self.marked, book, fresh)?;
         Ok(())
+    }
+
+    /// The table alone.
+    pub fn into_table(self) -> Table
+        ensures { result ≡ self.table }
+    {
+        self.table
     }
 
     /// The table, and N1 behind what was told before.

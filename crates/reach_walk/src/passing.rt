@@ -1,17 +1,14 @@
 // What passes the border of a modulion.
-ghost use Rattle.std.specs.Prelude.{◌≡◌, ◌++◌, ◌∷◌, [], OnOk, flat_map, Option, Some, None, if◌then◌else◌};
-ghost use Rattle.names_model.specs.Parts.{part_tree, parts_in};
+ghost use Rattle.std.specs.Prelude.{◌≡◌, ◌++◌, ◌∷◌, [], OnOk, flat_map, Some, None, if◌then◌else◌};
 ghost use Rattle.names_model.specs.Definitions.{spelling_at};
-ghost use Rattle.names_model.specs.Entries.{along, entry, given_all, granted_entries, is_among, passed};
-ghost use Rattle.reach_walk.specs.Offsets.{nodes_of};
+ghost use Rattle.names_model.specs.Entries.{along, given_all, is_among, passed};
 ghost use Rattle.reach_walk.specs.Scopes.{told_by};
 
 use crate::book::Book;
 use crate::entries::push_all;
 use crate::source::Source;
-use chill_base::{Memory, Numbers, Pos};
-use names_model::{Entry, Identifier, Part, Spelling};
-use std::alloc::Global;
+use chill_base::{Memory, Numbers};
+use names_model::Spelling;
 
 // A number, where it is among others.
 fn among(number: usize, numbers: &[u32]) -> Option<u32>
@@ -81,27 +78,13 @@ pub fn push_passed(
     Ok(())
 }
 
-// Enters what passes under a name.
-fn enter_passed(
-    alloc: Global,
+/// What GRANT ALL gives; a region keeps its locations.
+pub fn push_given_all(
     book: &Book,
-    source: &Source,
-    name: &Identifier,
-    out: &mut Vec<Entry>,
+    region: bool,
+    own: &[u32],
+    out: &mut Numbers,
 ) -> Result<(), Memory>
-    ensures { OnOk result (out.new.items ≡ out.old.items ++ entry name.now.at (passed book.now.all.items (told_by source.now) name.now.spelling) ∷ []) }
-{
-    let mut numbers = Numbers::new(alloc);
-    push_passed(book, source, &name.spelling, &mut numbers)?;
-    out.push(Entry {
-        at: name.at,
-        numbers,
-    })?;
-    Ok(())
-}
-
-// What GRANT ALL gives; a region keeps its locations.
-fn push_given_all(book: &Book, region: bool, own: &[u32], out: &mut Numbers) -> Result<(), Memory>
     ensures { OnOk result (out.new ≡ out.old ++ given_all book.now.all.items region own.now) }
 {
     for number in own {
@@ -112,68 +95,10 @@ fn push_given_all(book: &Book, region: bool, own: &[u32], out: &mut Numbers) -> 
     Ok(())
 }
 
-// Enters what GRANT ALL gives.
-fn enter_given_all(
-    alloc: Global,
-    book: &Book,
-    region: bool,
-    own: &[u32],
-    at: Pos,
-    out: &mut Vec<Entry>,
-) -> Result<(), Memory>
-    ensures { OnOk result (out.new.items ≡ out.old.items ++ entry at (given_all book.now.all.items region own.now) ∷ []) }
-{
-    let mut numbers = Numbers::new(alloc);
-    push_given_all(book, region, own, &mut numbers)?;
-    out.push(Entry { at, numbers })?;
-    Ok(())
-}
-
 /// A modulion seen from around it: whether it is a region, what it has, and what is defined directly in it.
 #[derive(Drop)]
 pub struct Giver<'a> {
     pub region: bool,
     pub has: Source<'a>,
     pub own: &'a [u32],
-}
-
-// Enters what a part of a modulion gives.
-#[tactic(auto, using(names_model::proofs::PartViews::part_built, crate::proofs::Appends::nothing_more))]
-fn enter_granted(
-    alloc: Global,
-    book: &Book,
-    giver: &Giver,
-    part: &Part,
-    out: &mut Vec<Entry>,
-) -> Result<(), Memory>
-    ensures { OnOk result (out.new.items ≡ out.old.items ++ granted_entries book.now.all.items giver.now.region (told_by giver.now.has) giver.now.own.now (part_tree part.now)) }
-{
-    match part {
-        Part::Grant(name) => enter_passed(alloc, book, &giver.has, name, out),
-        Part::GrantAll(at) => enter_given_all(alloc, book, giver.region, giver.own, *at, out),
-        Part::Define(_)
-        | Part::Mention(_)
-        | Part::Seize(_)
-        | Part::SeizeAll(_)
-        | Part::Stray(_)
-        | Part::Modulion { .. }
-        | Part::Routine { .. }
-        | Part::Block { .. } => Ok(()),
-    }
-}
-
-/// Enters what the parts of a modulion give.
-pub fn enter_given(
-    alloc: Global,
-    book: &Book,
-    giver: &Giver,
-    parts: &[Part],
-    out: &mut Vec<Entry>,
-) -> Result<(), Memory>
-    ensures { OnOk result (out.new.items ≡ out.old.items ++ flat_map (granted_entries book.now.all.items giver.now.region (told_by giver.now.has) giver.now.own.now) (parts_in (nodes_of parts.now))) }
-{
-    for part in parts {
-        enter_granted(alloc, book, giver, part, out)?;
-    }
-    Ok(())
 }

@@ -1,9 +1,9 @@
 // The entries of reaches.
-ghost use Rattle.std.specs.Prelude.{◌≡◌, ◌++◌, ◌∷◌, [], ◌+◌, ◌<◌, ◌^◌, List, OnOk};
+ghost use Rattle.std.specs.Prelude.{◌≡◌, ◌++◌, ◌+◌, ◌<◌, ◌^◌, List, OnOk};
 ghost use Rattle.names_model.specs.Parts.{part_tree};
 ghost use Rattle.names_model.specs.Sizes.{size_of};
 ghost use Rattle.names_model.specs.declared.entry.Entry.{Entry};
-ghost use Rattle.names_model.specs.Entries.{entry, given_entries, own_entries, passed};
+ghost use Rattle.names_model.specs.Entries.{given_entries, own_entries};
 ghost use Rattle.names_model.specs.Seeing.{entries_in, is_seize_all, seized_entries, seizes_all};
 ghost use Rattle.reach_walk.specs.Givens.{given_of, given_trees, givens};
 ghost use Rattle.reach_walk.specs.Offsets.{Fits, nodes_of};
@@ -13,14 +13,14 @@ ghost use Rattle.reach_walk.specs.Scopes.{told_by};
 
 use crate::book::Book;
 use crate::entries::own_entries;
-use crate::given::{Given, lent_entries, split_given};
+use crate::given::{Given, split_given};
+use crate::granted::{enter_given, enter_passed};
 use crate::offsets::size_of;
 use crate::opening::Opening;
-use crate::passing::push_passed;
 use crate::place::Place;
 use crate::source::Source;
-use chill_base::{Memory, Numbers};
-use names_model::{Entry, Identifier, Part};
+use chill_base::Memory;
+use names_model::Part;
 use std::alloc::Global;
 
 /// Enters definitions, each at its place.
@@ -38,32 +38,6 @@ pub fn enter_places(
     Ok(())
 }
 
-// Enters what is lent.
-fn enter_lent(alloc: Global, book: &Book, lent: &[Entry], out: &mut Opening) -> Result<(), Memory>
-    ensures { (es : List Entry) → Opens out.old book.now.all.items es → OnOk result (Opens out.new book.now.all.items (es ++ lent.now)) }
-{
-    for entry in lent {
-        out.enter(alloc, book, entry.at, entry.numbers.as_slice())?;
-    }
-    Ok(())
-}
-
-// Enters what is seized under a name.
-fn enter_seized(
-    alloc: Global,
-    book: &Book,
-    around: &Source,
-    name: &Identifier,
-    out: &mut Opening,
-) -> Result<(), Memory>
-    ensures { (es : List Entry) → Opens out.old book.now.all.items es → OnOk result (Opens out.new book.now.all.items (es ++ entry name.now.at (passed book.now.all.items (told_by around.now) name.now.spelling) ∷ [])) }
-{
-    let mut numbers = Numbers::new(alloc);
-    push_passed(book, around, &name.spelling, &mut numbers)?;
-    out.enter(alloc, book, name.at, numbers.as_slice())?;
-    Ok(())
-}
-
 // Enters what a part takes by name from around its reach.
 #[tactic(auto, using(names_model::proofs::PartViews::part_built, crate::proofs::Appends::nothing_more))]
 fn enter_taken(
@@ -76,7 +50,7 @@ fn enter_taken(
     ensures { (es : List Entry) → Opens out.old book.now.all.items es → OnOk result (Opens out.new book.now.all.items (es ++ seized_entries book.now.all.items (told_by around.now) (part_tree part.now))) }
 {
     match part {
-        Part::Seize(name) => enter_seized(alloc, book, around, name, out),
+        Part::Seize(name) => enter_passed(alloc, book, around, name, out),
         Part::Define(_)
         | Part::Mention(_)
         | Part::SeizeAll(_)
@@ -89,7 +63,7 @@ fn enter_taken(
     }
 }
 
-// Enters what a part defines, what it takes and what it is lent. The places are a buffer.
+// Enters what a part defines, what it takes and what it gives. The places are a buffer.
 fn enter_part(
     alloc: Global,
     book: &Book,
@@ -106,7 +80,7 @@ fn enter_part(
     own_entries(from, part, places)?;
     enter_places(alloc, book, places.as_slice(), out)?;
     enter_taken(alloc, book, around, part, out)?;
-    enter_lent(alloc, book, lent_entries(given), out)?;
+    enter_given(alloc, book, given, part, out)?;
     Ok(())
 }
 

@@ -1,5 +1,6 @@
 // The walk over all parts, with the tables of the reaches around.
 ghost use Rattle.std.specs.Prelude.{◌≡◌, ◌++◌, ◌+◌, ◌<◌, ◌^◌, [], List, OnOk, IfOk};
+ghost use Rattle.rule_lists.specs.Listing.{SameMembers};
 ghost use Rattle.names_model.specs.declared.definition.Definition.{Definition};
 ghost use Rattle.names_model.specs.Parts.{part_tree};
 ghost use Rattle.names_model.specs.Sizes.{clauses_size, size_of};
@@ -41,7 +42,7 @@ fn open_reach(
     out: &mut Vec<Diagnostic>,
 ) -> Result<Table, Memory>
     ensures table { Fits from (nodes_of parts.now) → given_trees given.now ≡ givens book.now.all.items from (nodes_of parts.now) → IfOk result (λ t. Holds t book.now.all.items (singles head.now ++ entries_in book.now.all.items (told_by around.now) from (nodes_of parts.now))) }
-    ensures told { Fits from (nodes_of parts.now) → given_trees given.now ≡ givens book.now.all.items from (nodes_of parts.now) → OnOk result (out.new.items ≡ out.old.items ++ told_behind book.now.all.items [] (singles head.now ++ entries_in book.now.all.items (told_by around.now) from (nodes_of parts.now))) }
+    ensures told { Fits from (nodes_of parts.now) → given_trees given.now ≡ givens book.now.all.items from (nodes_of parts.now) → OnOk result (SameMembers out.new.items (out.old.items ++ told_behind book.now.all.items [] (singles head.now ++ entries_in book.now.all.items (told_by around.now) from (nodes_of parts.now)))) }
 {
     let mut opening = Opening::new(alloc);
     enter_places(alloc, book, head, &mut opening)?;
@@ -70,7 +71,7 @@ fn open_inner<'a>(
     out: &mut Vec<Diagnostic>,
 ) -> Result<Table, Memory>
     ensures table { Fits from (nodes_of parts.now) → given_trees given.now ≡ givens book.now.all.items from (nodes_of parts.now) → IfOk result (λ t. Holds t book.now.all.items (singles head.now ++ entries_in book.now.all.items (shown book.now scope.now) from (nodes_of parts.now))) }
-    ensures told { Fits from (nodes_of parts.now) → given_trees given.now ≡ givens book.now.all.items from (nodes_of parts.now) → OnOk result (out.new.items ≡ out.old.items ++ told_behind book.now.all.items [] (singles head.now ++ entries_in book.now.all.items (shown book.now scope.now) from (nodes_of parts.now))) }
+    ensures told { Fits from (nodes_of parts.now) → given_trees given.now ≡ givens book.now.all.items from (nodes_of parts.now) → OnOk result (SameMembers out.new.items (out.old.items ++ told_behind book.now.all.items [] (singles head.now ++ entries_in book.now.all.items (shown book.now scope.now) from (nodes_of parts.now)))) }
 {
     let around = Source::Around { book, scope };
     open_reach(alloc, book, &around, head, given, from, parts, out)
@@ -199,7 +200,7 @@ fn walk_block<'a>(
 }
 
 /// Tells N1 to N5 of the parts of a program, and notes what depends on what and what each use stands for, behind what `out`
-/// has. Where there is no memory, nothing is said of what `out` has then.
+/// has. N1 may be told once where a place breaks it more than once with one name. Where there is no memory, nothing is said of what `out` has then.
 pub fn find_in_program(
     alloc: Global,
     book: &Book,

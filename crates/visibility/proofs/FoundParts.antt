@@ -1,10 +1,13 @@
 -- What is found of a program's parts is found of its tree.
 use Rattle.std.proofs.Common.{◌≡◌, ℕ, ◌+◌, ◌-◌, ◌<◌, ◌^◌, List, [], ◌++◌, min, length, length-append, arith, refl, sym, ap, ◌∙◌, subst}
+use Rattle.chill_base.specs.declared.diagnostic.Diagnostic.{Diagnostic}
 use Rattle.chill_tree.specs.ItemTree.{ProgramTree}
+use Rattle.rule_lists.specs.Listing.{SameMembers}
 use Rattle.names_model.specs.declared.definition.Definition.{Definition}
 use Rattle.names_model.specs.Parts.{PartNodes}
 use Rattle.names_model.specs.Sizes.{sizes_of}
 use Rattle.names_model.specs.Definitions.{text_definitions, with_predefined, predefined}
+use Rattle.names_model.specs.NameRules.{told_in}
 use Rattle.names_model.specs.Resolving.{level_of}
 use Rattle.names_model.specs.Seeing.{outermost}
 use Rattle.reach_walk.specs.declared.book.Book.{Book}
@@ -43,7 +46,7 @@ found_at tree count book old new few fit size p =
     record {
       keeps = keeps;
       count = sizes ∙ sym own;
-      told = behind_none old.told.items new.told.items _ p.told adds.told;
+      told = subst (λ (l : List Diagnostic). SameMembers new.told.items (l ++ told_in (text_definitions (level_of tree)) (outermost (level_of tree)) 0 (level_of tree))) p.told adds.told;
       groups = behind_none old.groups.items new.groups.items _ p.groups adds.groups;
       uses = behind_none old.uses.items new.uses.items _ p.uses adds.uses;
     }

@@ -3,7 +3,7 @@ use Rattle.std.proofs.Common.{◌≡◌, ◌∙◌, List, [], ◌++◌, ap, sym,
 use Rattle.chill_base.specs.declared.diagnostic.Diagnostic.{Diagnostic}
 use Rattle.chill_tree.specs.ItemTree.{ProgramTree}
 use Rattle.group_dependence.specs.declared.group.Group.{Group}
-use Rattle.rule_lists.specs.Listing.{listed}
+use Rattle.rule_lists.specs.Listing.{SameMembers, listed}
 use Rattle.rule_lists.specs.Order.{diagnostic_cmp}
 use Rattle.names_model.specs.declared.definition.Definition.{Definition}
 use Rattle.names_model.specs.declared.names.Resolved.{Resolved}
@@ -14,18 +14,23 @@ use Rattle.names_model.specs.NameRules.{told_in, told_surplus}
 use Rattle.names_model.specs.Seeing.{outermost}
 use Rattle.names_model.specs.Resolving.{broken_names, level_of, names_of}
 use Rattle.reach_walk.specs.Books.{Keeps}
+use Rattle.reach_walk.proofs.Members.{same-behind}
 use Rattle.visibility.specs.declared.finding.Found.{Found}
 use Rattle.visibility.specs.Found.{IsFound}
 
--- all that was told, in order and once, is the list of the phase
-pub broken_are : (tree : ProgramTree) (found : Found) (first second list : List Diagnostic) → IsFound tree found
+-- all that was told, in order and once, is the list of the phase, where what has the same members has the same list
+pub broken_are : (tree : ProgramTree) (found : Found) (first second list : List Diagnostic) → ((xs ys : List Diagnostic) → SameMembers xs ys → listed diagnostic_cmp xs ≡ listed diagnostic_cmp ys) → IsFound tree found
     → first ≡ found.findings.told.items ++ told_selves (text_definitions (level_of tree)) found.findings.groups.items
     → second ≡ first ++ told_surplus (text_definitions (level_of tree)) → list ≡ listed diagnostic_cmp second → list ≡ broken_names (level_of tree)
-broken_are tree found first second list f selves surplus is =
+broken_are tree found first second list law f selves surplus is =
     let text = text_definitions (level_of tree) in
-    is ∙ ap (listed diagnostic_cmp)
-    (surplus ∙ ap (λ (l : List Diagnostic). l ++ told_surplus text)
-    (selves ∙ ap (λ (l : List Diagnostic). l ++ told_selves text found.findings.groups.items) f.told ∙ ap (λ (gs : List Group). told_in text (outermost (level_of tree)) 0 (level_of tree) ++ told_selves text gs) f.groups))
+    let told = told_in text (outermost (level_of tree)) 0 (level_of tree) in
+    let more : second ≡ (found.findings.told.items ++ told_selves text found.findings.groups.items) ++ told_surplus text = surplus ∙ ap (λ (l : List Diagnostic). l ++ told_surplus text) selves in
+    is ∙ ap (listed diagnostic_cmp) more
+    ∙ law ((found.findings.told.items ++ told_selves text found.findings.groups.items) ++ told_surplus text) ((told ++ told_selves text found.findings.groups.items) ++ told_surplus text)
+    (same-behind (found.findings.told.items ++ told_selves text found.findings.groups.items) (told ++ told_selves text found.findings.groups.items) (told_surplus text)
+    (same-behind found.findings.told.items told (told_selves text found.findings.groups.items) f.told))
+    ∙ ap (λ (gs : List Group). listed diagnostic_cmp ((told ++ told_selves text gs) ++ told_surplus text)) f.groups
 
 -- its definitions and uses are the names of the program
 pub names_are : (tree : ProgramTree) (found : Found) (definitions : List Definition) (uses : List Resolved) → IsFound tree found

@@ -10,7 +10,7 @@ use chill_base::{Diagnostics, List};
 use chill_tree::tree::Tree;
 use names_model::Names;
 use reach_walk::Findings;
-use rule_lists::list_once;
+use rule_lists::{list_once, same_list_law};
 use std::alloc::Global;
 
 /// What the names of a program stand for, or the rules N1 to N6 and L3 that it breaks.
@@ -29,6 +29,7 @@ pub fn resolve(alloc: Global, tree: &Tree) -> Result<Names, Refusal>
     } = findings;
     tell_selves(alloc, &book, count, &groups, &mut told)?;
     tell_surplus(alloc, &book, count, &mut told)?;
+    same_list_law();
     list_once(&mut told);
     let broken = Diagnostics::from_vec(told);
     if !broken.is_empty() {

@@ -1,11 +1,19 @@
+use Rattle.std.proofs.Common.{◌++◌, ◌∷◌, [], ap, sym, ◌∙◌}
+use Rattle.chill_base.specs.declared.rule.Rule.TheVariants as rules
 use Rattle.names_model.specs.Entries.{numbers_of}
-use Rattle.reach_walk.proofs.Anys.{clash-by, told-clash, told-no_clash}
+use Rattle.names_model.specs.NameRules.{tell}
+use Rattle.reach_walk.proofs.Telling.{clash-by, tells-again, tells-nothing, tells-first}
 use Rattle.reach_walk.proofs.twice.tell_number.Goals as goal
 
-pub returns-in_ok-push_told : goal.returns-in_ok-push_told
-returns-in_ok-push_told c = λ es h. told-clash c.args.book.now.all.items (numbers_of es) c.args.at c.args.number _ _ _
-    (clash-by c.args.table.now c.args.book.now.all.items es c.args.number _ _ _ _ h c.spelling-name.ensures c.find.ensures c.is_other_among.ensures c.if-is_other_among.true) c.spelling-name.ensures c.in_ok-push_told.ensures
+pub returns-then-is_last : goal.returns-then-is_last
+returns-then-is_last c = λ es k h. tells-again c.args.book.now.all.items c.args.at (numbers_of es) c.args.number c.args.out.now.items c.args.last h (sym c.is_last.ensures ∙ c.if-is_last.true)
 
-pub returns-else-is_other_among : goal.returns-else-is_other_among
-returns-else-is_other_among c = λ es h. told-no_clash c.args.book.now.all.items (numbers_of es) c.args.at c.args.number _
-    (clash-by c.args.table.now c.args.book.now.all.items es c.args.number _ _ _ _ h c.spelling-name.ensures c.find.ensures c.is_other_among.ensures c.if-is_other_among.false)
+pub returns-then-not-is_another_under : goal.returns-then-not-is_another_under
+returns-then-not-is_another_under c = λ es k h.
+    let clash = clash-by c.args.table.now c.args.book.now.all.items es _ c.args.number k c.spelling-name.ensures in
+    tells-nothing c.args.book.now.all.items c.args.at (numbers_of es) c.args.number c.args.out.now.items c.args.last h (clash ∙ sym c.is_another_under.ensures ∙ c.if-not-is_another_under.true)
+
+pub returns : goal.returns
+returns c = λ es k h.
+    let clash = clash-by c.args.table.now c.args.book.now.all.items es _ c.args.number k c.spelling-name.ensures in
+    tells-first c.args.book.now.all.items c.args.at (numbers_of es) c.args.number c.args.out.now.items _ (clash ∙ sym c.is_another_under.ensures ∙ c.if-not-is_another_under.false) (c.in_ok-push_told.ensures ∙ ap (λ n. c.args.out.now.items ++ tell c.args.at rules.N1 n ∷ []) c.spelling-name.ensures)

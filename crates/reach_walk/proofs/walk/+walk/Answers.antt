@@ -4,7 +4,7 @@ use Rattle.names_model.specs.Parts.{part_tree, modulion, routine, block}
 use Rattle.names_model.specs.Sizes.{size_of, head_size}
 use Rattle.names_model.specs.Entries.{param_names}
 use Rattle.names_model.specs.Seeing.{in_block, in_modulion}
-use Rattle.names_model.specs.NameRules.{told, told_here, twice_inside}
+use Rattle.names_model.specs.NameRules.{told_here, twice_inside}
 use Rattle.names_model.specs.Dependence.{groups_of}
 use Rattle.names_model.specs.Resolving.{resolved_here}
 use Rattle.names_model.proofs.PartViews.{tree-modulion, tree-routine, tree-block}
@@ -15,7 +15,7 @@ use Rattle.reach_walk.specs.Places.{singles}
 use Rattle.reach_walk.proofs.Lending.{given-at, givens-back}
 use Rattle.reach_walk.proofs.PartLists.{nodes-at}
 use Rattle.reach_walk.proofs.Showing.{shows-modulion, shows-block, twice-modulion, twice-block}
-use Rattle.reach_walk.proofs.Walking.{InsideFound, found-on, found-reach}
+use Rattle.reach_walk.proofs.Walking.{InsideFound, found-on, found-reach, told-walk}
 use Rattle.reach_walk.proofs.walk.+walk.Goals as goal
 
 pub walk-loop-part-preserved : goal.walk-loop-part-preserved
@@ -34,7 +34,7 @@ walk-loop-part-preserved t c = λ text r s h g.
     record {
       fits = rw step fits.2;
       left = rw step split.1;
-      told = found-on (told text) r c.args.parts.now k n _ x (told_here text r p) (twice_inside text r n p) _ _ _ _ c.loop-part-test.true c.part-item.is step refl i.told here.told inside.told;
+      told = told-walk text r c.args.parts.now k n _ x (told_here text r p) (twice_inside text r n p) _ _ _ _ c.loop-part-test.true c.part-item.is step refl i.told here.told inside.told;
       groups = found-on (groups_at text) r c.args.parts.now k n _ x (groups_of text r n p) [] _ _ _ _ c.loop-part-test.true c.part-item.is step (sym (append-nil (groups_of text r n p))) i.groups here.groups inside.groups;
       uses = found-on (uses_at text) r c.args.parts.now k n _ x (resolved_here text r p) [] _ _ _ _ c.loop-part-test.true c.part-item.is step (sym (append-nil (resolved_here text r p))) i.uses here.uses inside.uses;
     }
