@@ -5,7 +5,8 @@ use chill_base::{Item, Memory};
 use std::alloc::Global;
 use std::marker::Model;
 
-/// How many bytes lie in the value itself at most: a token is no larger for it than for a text literal and a tag.
+/// How many bytes lie in the value itself at most. With their number and a tag they are no larger than the vector of a
+/// longer name with its tag.
 const INLINE_BYTES: usize = 23;
 
 /// The bytes of a name as it is spelled, which contracts see as a list. Up to 23 take no memory of their own.
