@@ -1,16 +1,20 @@
 -- What is computed at the front of a text, by its first bytes.
-use Rattle.std.proofs.Common.{◌≡◌, ◌≢◌, ℕ, suc, ◌+◌, ◌<◌, ◌≤◌, true, false, eqb, List, [], ◌∷◌, length, take, drop, get_or, Option, Some, None, refl, sym, ap, subst, ◌∙◌, arith, add-zero}
+use Rattle.std.proofs.Common.{◌≡◌, ◌≢◌, inl, inr, ℕ, suc, ◌+◌, ◌<◌, ◌≤◌, ◌^◌, true, false, eqb, ltb, fold, List, [], ◌∷◌, length, take, drop, get_or, Option, Some, None, IfSome, refl, sym, ap, subst, ◌∙◌, arith, add-zero}
 use Rattle.std.specs.List.{prefix_len, list_all}
 use Rattle.std.proofs.lemmas.List.{length-drop, length-take-le, length-append}
 use Rattle.std.proofs.lemmas.List.Sums.{prefix_len-le-length}
 use Rattle.std.proofs.lemmas.Bool.Decides.{nat_tests}
 use Rattle.chill_base.specs.declared.pos.Pos.{Pos}
-use Rattle.rules_model.specs.TokensShapes.{is_separator, is_letter, is_decimal, is_in_line, digit_of, base_of, between}
+use Rattle.rules_model.specs.TokensShapes.{Piece, token, whole, number_of, with_digit, is_name_byte, is_separator, is_letter, is_decimal, is_in_line, digit_of, base_of, between}
 use Rattle.rules_model.specs.TokensCut.{behind, behind_all}
-use Rattle.rules_model.specs.TokensReading.{closing_length, text_length, based_at, whole_at, character_at, quoted_at, comment_at, sign_at, shape_at, limited, piece_at}
+use Rattle.rules_model.specs.TokensReading.{is_digit, more_length, numeral_length, closing_length, text_length, based_at, whole_at, character_at, quoted_at, comment_at, sign_at, shape_at, limited, piece_at}
 use Rattle.rules_model.proofs.TokensRuns.{letter_first, decimal_first, list_all-prefix, ClosingAt, closing_sound}
-use Rattle.chill_lexer.specs.Front.{starts}
-use Rattle.chill_lexer.specs.Runs.{begins_numeral}
+use Rattle.chill_tree.specs.declared.token.Token.{Token}
+use Rattle.chill_tree.specs.declared.token.TokenKind.{TokenKind}
+use Rattle.chill_tree.specs.declared.token.TokenKind.TheVariants as kinds
+use Rattle.chill_lexer.proofs.RunLemmas.{numeral_parts, lone_digit}
+use Rattle.chill_lexer.specs.Front.{IsFront, IsAlong, of_token, starts, goes_on}
+use Rattle.chill_lexer.specs.Runs.{IsPut, begins_numeral, begins_other}
 
 pub piece_empty : (text : List ℕ) → length text < 1 → piece_at text ≡ None
 unfolding shape_at
@@ -127,3 +131,63 @@ comment_place at text n e =
 pub one_place : (at : Pos) (text : List ℕ) → 1 ≤ length text → behind at (get_or text 0 0) ≡ behind_all at (take 1 text)
 one_place at [] h = absurd (omega arith)
 one_place at (b ∷ bs) h = refl
+
+-- a token that was put, or none
+pub front_put : (at : Pos) (text : List ℕ) (old new : List Token) (length : Option ℕ) → IsPut at (piece_at text) old new length
+    → IsFront at text old new (of_token length)
+front_put at text old new None put = put
+front_put at text old new (Some n) put = put
+
+-- a sign that stands alone
+pub lone_piece : (text : List ℕ) (kind : TokenKind) (n : ℕ) → 2 ≤ length text → goes_on (get_or text 1 0) ≡ false → begins_other (get_or text 0 0) ≡ false
+    → limited (sign_at (get_or text 0 0) []) ≡ Some (token kind, n) → piece_at text ≡ Some (token kind, n)
+lone_piece [] kind n h ends apart is = absurd (omega arith)
+lone_piece (b ∷ []) kind n h ends apart is = absurd (omega arith)
+lone_piece (b ∷ c ∷ bs) kind n h ends apart is =
+    let no_equal : eqb c 61 ≡ false = grind (arith, nat_tests) in
+    let no_dash : eqb c 45 ≡ false = grind (arith, nat_tests) in
+    let no_star : eqb c 42 ≡ false = grind (arith, nat_tests) in
+    let separator : is_separator b ≡ false = grind (arith, nat_tests) in
+    let letter : is_letter b ≡ false = grind (arith, nat_tests) in
+    let decimal : is_decimal b ≡ false = grind (arith, nat_tests) in
+    let mark : b ≢ 39 = λ e. grind (arith, nat_tests) in
+    let quote : b ≢ 34 = λ e. grind (arith, nat_tests) in
+    let line : starts 45 45 (b ∷ c ∷ bs) ≡ false = grind (arith, nat_tests) in
+    let comment : starts 47 42 (b ∷ c ∷ bs) ≡ false = grind (arith, nat_tests) in
+    sym (piece_sign (b ∷ c ∷ bs) (omega arith) separator letter decimal mark quote line comment) ∙ ap limited (alone b c bs no_equal) ∙ is
+  where
+    alone : (b c : ℕ) (bs : List ℕ) → eqb c 61 ≡ false → sign_at b (c ∷ bs) ≡ sign_at b []
+    alone b c bs e = rw e refl
+
+-- a blank
+pub blank_along : (at : Pos) (text : List ℕ) (old : List Token) → 1 ≤ length text → get_or text 0 0 ≡ 32 → IsAlong at text old old 1
+blank_along at [] old some is = absurd (omega arith)
+blank_along at (b ∷ bs) old some is =
+    let separator : is_separator b ≡ true = grind (arith, nat_tests) in
+    let in_line : is_in_line b ≡ true = grind (arith, nat_tests) in
+    inr (piece_separator (b ∷ bs) some separator, sym (behind_all-line at (b ∷ []) (rw in_line refl)), refl)
+
+-- a name that was read
+pub name_along : (at : Pos) (text : List ℕ) (old new : List Token) (found : Option ℕ) (read : Option (Piece × ℕ)) → read ≡ piece_at text
+    → IfSome found (λ n. IsPut at read old new (Some n)) → IfSome found (λ n. IsAlong at text old new n)
+name_along at text old new None read same h = h
+name_along at text old new (Some n) read same h = inl (subst (λ (o : Option (Piece × ℕ)). IsPut at o old new (Some n)) same h)
+
+-- a digit that stands alone
+pub digit_piece : (text : List ℕ) → 2 ≤ length text → is_decimal (get_or text 0 0) ≡ true → is_name_byte (get_or text 1 0) ≡ false
+    → piece_at text ≡ Some (token (kinds.Whole (digit_of (get_or text 0 0))), 1)
+digit_piece [] h decimal ends = absurd (omega arith)
+digit_piece (b ∷ []) h decimal ends = absurd (omega arith)
+digit_piece (b ∷ c ∷ bs) h decimal ends =
+    let no_digit : is_digit 10 c ≡ false = grind (arith, nat_tests) in
+    let no_mark : eqb c 95 ≡ false = grind (arith, nat_tests) in
+    let small : ltb (digit_of b) (2 ^ 64) ≡ true = grind (arith, nat_tests) in
+    let parts = numeral_parts 10 (b ∷ c ∷ bs) (omega arith) (decimal_begins (b ∷ c ∷ bs) (omega arith) decimal) in
+    let none : more_length 10 (c ∷ bs) ≡ 0 = lone_digit c bs no_digit no_mark in
+    let size : numeral_length 10 (b ∷ c ∷ bs) ≡ 1 = omega (arith, parts.0) in
+    let number : number_of 10 (take (numeral_length 10 (b ∷ c ∷ bs)) (b ∷ c ∷ bs)) ≡ digit_of b =
+    parts.1 ∙ ap (λ (n : ℕ). fold (with_digit 10) (digit_of b) (take n (c ∷ bs))) none in
+    sym (piece_whole (b ∷ c ∷ bs) (omega arith) decimal) ∙ (λ i. limited (Some (whole (number i), size i))) ∙ counted (digit_of b) small
+  where
+    counted : (n : ℕ) → ltb n (2 ^ 64) ≡ true → limited (Some (whole n, 1)) ≡ Some (token (kinds.Whole n), 1)
+    counted n e = rw e refl

@@ -1,5 +1,5 @@
 -- The pieces so far, and one more.
-use Rattle.std.proofs.Common.{◌≡◌, ◌≢◌, ℕ, ◌+◌, ◌<◌, ◌≤◌, Bool, true, false, cond, eqb, List, [], ◌∷◌, ◌++◌, length, take, drop, Some, None, refl, sym, ap, subst, ◌∙◌, arith, append_assoc}
+use Rattle.std.proofs.Common.{◌≡◌, ◌≢◌, inl, inr, ℕ, ◌+◌, ◌<◌, ◌≤◌, Bool, true, false, cond, eqb, List, [], ◌∷◌, ◌++◌, length, take, drop, get_or, Some, None, refl, sym, ap, subst, ◌∙◌, arith, append_assoc}
 use Rattle.std.specs.List.{list_all}
 use Rattle.std.proofs.lemmas.List.{length-drop, take-append-drop, length-take-le, append-nil}
 use Rattle.std.proofs.lemmas.Bool.Decides.{nat_tests}
@@ -9,12 +9,14 @@ use Rattle.chill_tree.specs.declared.token.TokenKind.{TokenKind}
 use Rattle.chill_tree.specs.declared.token.Sign.{Sign}
 use Rattle.chill_tree.specs.declared.token.Sign.TheVariants as signs
 use Rattle.chill_tree.specs.Spelling.{sign_spelling}
-use Rattle.rules_model.specs.TokensShapes.{is_letter, is_name_byte, is_in_line, base_of, IsNumeral, digit, more, apart, quoted, Shape, Spells, a_separator, a_line, a_comment, an_unclosed, a_name, a_whole, a_based, a_character, an_apostrophe, a_text, a_sign, Piece, between, token, piece_of}
+use Rattle.rules_model.specs.TokensShapes.{is_separator, is_letter, is_name_byte, is_in_line, base_of, IsNumeral, digit, more, apart, quoted, Shape, Spells, a_separator, a_line, a_comment, an_unclosed, a_name, a_whole, a_based, a_character, an_apostrophe, a_text, a_sign, Piece, between, token, piece_of}
 use Rattle.rules_model.specs.TokensCut.{behind, behind_all, first_place, IsPieceAt, Cut, joined, ArePieces, own_token, tokens_among, AreTokensOf, IsBadAt}
 use Rattle.rules_model.specs.TokensReading.{piece_at}
 use Rattle.rules_model.proofs.TokensLaws.{piece_begins, piece_none}
+use Rattle.chill_lexer.specs.declared.front.Front.{Front}
+use Rattle.chill_lexer.specs.Front.{IsFront, IsAlong}
 use Rattle.chill_lexer.proofs.RunLemmas.{behind-within}
-use Rattle.chill_lexer.proofs.FrontLemmas.{behind_all-line}
+use Rattle.chill_lexer.proofs.FrontLemmas.{behind_all-line, piece_separator}
 
 pub behind_all-append : (at : Pos) (xs ys : List ℕ) → behind_all at (xs ++ ys) ≡ behind_all (behind_all at xs) ys
 behind_all-append at [] ys = refl
@@ -198,3 +200,41 @@ pub token_place : (at next : Pos) (left n size limit : ℕ) → left + n ≡ siz
     → at.line + size ≤ limit → at.column + size ≤ limit → (next.line + left ≤ limit) × (next.column + left ≤ limit)
 token_place at next left n size limit within place line column =
     let is_line = ap (λ (p : Pos). p.line) place in let is_column = ap (λ (p : Pos). p.column) place in (omega arith, omega arith)
+
+-- what was found, where room was made before
+pub front_of : (at : Pos) (rest : List ℕ) (roomy old new : List Token) (found front : Front) → roomy ≡ old → found ≡ front
+    → IsFront at rest roomy new found → IsFront at rest old new front
+front_of at rest roomy old new found front same is h =
+    subst (λ (ts : List Token). IsFront at rest ts new front) same (subst (IsFront at rest roomy new) is h)
+
+-- a piece within a line
+pub further_along : (text rest : List ℕ) (tokens new : List Token) (at : Pos) (n : ℕ) (next : Pos) → IsSoFar text tokens at rest → IsAlong at rest tokens new n
+    → next ≡ record { line = at.line; column = at.column + n } → IsSoFar text new next (drop n rest)
+further_along text rest tokens new at n next far (inl put) is_next = further_token text rest tokens new at n next put.0 far put.1 put.2 is_next
+further_along text rest tokens new at n next far (inr blank) is_next = further_between text rest tokens new at n next far blank.0 blank.2 (is_next ∙ blank.1)
+
+pub along_size : (at : Pos) (rest : List ℕ) (old new : List Token) (n : ℕ) → IsAlong at rest old new n → (n ≤ length rest) × (0 < n)
+along_size at rest old new n (inl put) = piece_size rest (token put.0) n put.1
+along_size at rest old new n (inr blank) = piece_size rest between n blank.0
+
+-- where room was made before
+pub along_of : (at : Pos) (rest : List ℕ) (roomy old new : List Token) (n : ℕ) → roomy ≡ old → IsAlong at rest roomy new n → IsAlong at rest old new n
+along_of at rest roomy old new n same h = subst (λ (ts : List Token). IsAlong at rest ts new n) same h
+
+-- a line feed
+pub further_line : (text rest left : List ℕ) (tokens new : List Token) (at next : Pos) (limit : ℕ) → IsSoFar text tokens at rest → get_or rest 0 0 ≡ 10
+    → new ≡ tokens → next ≡ record { line = at.line + 1; column = 1 } → left ≡ drop 1 rest → at.line + length rest ≤ limit → at.column + length rest ≤ limit
+    → IsSoFar text new next left × (next.line + length left ≤ limit) × (next.column + length left ≤ limit)
+further_line text [] left tokens new at next limit far is is_new is_next is_left line column = absurd cc
+further_line text (b ∷ bs) left tokens new at next limit far is is_new is_next is_left line column =
+    let feed : b ≡ 10 = is in
+    let separator : is_separator b ≡ true = grind (arith, nat_tests) in
+    let here : eqb b 10 ≡ true = grind (arith, nat_tests) in
+    let place : behind at b ≡ record { line = at.line + 1; column = 1 } = rw here refl in
+    let is_line = ap (λ (p : Pos). p.line) is_next in let is_column = ap (λ (p : Pos). p.column) is_next in
+    let size = ap length is_left in
+    let one = piece_separator (b ∷ bs) (omega arith) separator in (
+      subst (IsSoFar text new next) (sym is_left) (further_between text (b ∷ bs) tokens new at 1 next far one is_new (is_next ∙ sym place)),
+      omega (arith, length-drop 1 (b ∷ bs)),
+      omega (arith, length-drop 1 (b ∷ bs)),
+    )

@@ -1,12 +1,15 @@
 -- The lexer's loops, byte by byte.
-use Rattle.std.proofs.Common.{◌≡◌, ◌≢◌, ◌⊎◌, inl, inr, ℕ, suc, ◌+◌, ◌*◌, ◌^◌, ◌<◌, ◌≤◌, Bool, true, false, ◌&&◌, cond, eqb, ltb, List, [], ◌∷◌, ◌++◌, length, take, drop, get_or, Option, Some, None, option_map, unwrap_or, fold, SomeIff, refl, sym, ap, subst, ◌∙◌, arith, append_assoc, length-append}
-use Rattle.std.proofs.lemmas.List.{drop_more, take_more, drop_all, length-drop, get_or-drop, append-nil}
+use Rattle.std.proofs.Common.{◌≡◌, ◌≢◌, ◌⊎◌, inl, inr, ℕ, zero, suc, ◌+◌, ◌*◌, ◌^◌, ◌<◌, ◌≤◌, Bool, true, false, ◌&&◌, cond, eqb, leb, ltb, List, [], ◌∷◌, ◌++◌, length, take, drop, get_or, Option, Some, None, option_map, unwrap_or, fold, SomeIff, refl, sym, ap, subst, ◌∙◌, arith, append_assoc, length-append}
+use Rattle.std.specs.List.{prefix_len}
+use Rattle.std.proofs.lemmas.List.{drop_more, take_more, drop_all, length-drop, length-take-le, get_or-drop, append-nil}
 use Rattle.std.proofs.lemmas.Bool.Decides.{nat_tests}
-use Rattle.std.proofs.lemmas.List.Sums.{fold_more}
+use Rattle.std.proofs.lemmas.List.Sums.{fold_more, prefix_len-le-length}
 use Rattle.chill_base.specs.declared.pos.Pos.{Pos}
-use Rattle.rules_model.specs.TokensShapes.{digit_of, closes, with_digit, number_of, quoted}
+use Rattle.chill_tree.specs.declared.token.TokenKind.{TokenKind}
+use Rattle.chill_tree.specs.Spelling.{word_of}
+use Rattle.rules_model.specs.TokensShapes.{digit_of, closes, with_digit, number_of, quoted, is_name_byte, name, named, token}
 use Rattle.rules_model.specs.TokensCut.{behind, behind_all}
-use Rattle.rules_model.specs.TokensReading.{Found, is_digit, more_length, numeral_length, closing_length, text_length, unquoted, name_at, digits_at, based_at}
+use Rattle.rules_model.specs.TokensReading.{Found, limited, is_digit, more_length, numeral_length, closing_length, text_length, unquoted, name_at, digits_at, based_at}
 use Rattle.rules_model.proofs.TokensRuns.{text_next, underline_apart, more_length-le, TextAt, text_sound}
 use Rattle.chill_lexer.specs.Runs.{is_apart, begins_numeral}
 
@@ -234,7 +237,7 @@ unquoted_byte b (c ∷ cs) = by_test (eqb b 34) refl
     by_test false is = refl
 
 -- a numeral is its first digit and what goes on behind it
-numeral_parts : (base : ℕ) (text : List ℕ) → base ≤ 16 → begins_numeral base text ≡ true
+pub numeral_parts : (base : ℕ) (text : List ℕ) → base ≤ 16 → begins_numeral base text ≡ true
     → (numeral_length base text ≡ suc (more_length base (drop 1 text)))
     × (number_of base (take (numeral_length base text) text) ≡ fold (with_digit base) (digit_of (get_or text 0 0)) (take (more_length base (drop 1 text)) (drop 1 text)))
 numeral_parts base [] small begins = absurd cc
@@ -344,3 +347,51 @@ based_digited base (b ∷ c ∷ []) mark some = absurd cc
 based_digited base (b ∷ c ∷ d ∷ bs) mark some =
     let e : eqb c 39 ≡ true = grind (arith, nat_tests) in
     based_by (is_digit base d) (eqb c 39) (more_length base bs) (digits_at base (d ∷ bs)) (name_at (b ∷ c ∷ d ∷ bs)) some e
+
+-- where few go on, all do that go on in the whole list
+prefix_short : (p : ℕ → Bool) (k : ℕ) (xs : List ℕ) → prefix_len p (take k xs) < k → prefix_len p (take k xs) ≡ prefix_len p xs
+prefix_short p zero xs h = absurd (omega arith)
+prefix_short p (suc k) [] h = refl
+prefix_short p (suc k) (x ∷ xs) h = first (p x) (prefix_len p (take k xs)) (prefix_len p xs) (prefix_short p k xs) h
+  where
+    first : (b : Bool) (m n : ℕ) → (m < k → m ≡ n) → cond b (1 + m) 0 < suc k → cond b (1 + m) 0 ≡ cond b (1 + n) 0
+    first true m n same h = ap (λ (i : ℕ). 1 + i) (same (omega arith))
+    first false m n same h = refl
+
+-- a short name, or a reserved word
+pub short_name : (text bytes : List ℕ) (n k : ℕ) (kind : TokenKind) → bytes ≡ take k text → n ≡ prefix_len is_name_byte bytes → n < k → k ≤ 64
+    → named (take n text) (word_of (take n text)) ≡ kind → limited (name_at text) ≡ Some (token kind, n)
+short_name text bytes n k kind is_bytes is_length short small is =
+    let in_front : n ≡ prefix_len is_name_byte (take k text) = is_length ∙ ap (prefix_len is_name_byte) is_bytes in
+    let same : n ≡ prefix_len is_name_byte text = in_front ∙ prefix_short is_name_byte k text (omega arith) in
+    subst (λ (m : ℕ). limited (Some (name (take m text), m)) ≡ Some (token kind, n)) same (named_so (omega (arith, length-take-le n text (omega (arith, prefix_len-le-length is_name_byte text)))))
+  where
+    named_so : length (take n text) ≤ 64 → limited (Some (name (take n text), n)) ≡ Some (token kind, n)
+    named_so few = let e : leb (length (take n text)) 64 ≡ true = grind (arith, nat_tests) in rw e (ap (λ (t : TokenKind). Some (token t, n)) is)
+
+-- no digit and no `_` goes on
+pub lone_digit : (c : ℕ) (bs : List ℕ) → is_digit 10 c ≡ false → eqb c 95 ≡ false → more_length 10 (c ∷ bs) ≡ 0
+lone_digit c bs digit mark = more_none 10 c bs digit (no_apart bs)
+  where
+    no_apart : (ds : List ℕ) → is_apart 10 (c ∷ ds) ≡ false
+    no_apart [] = refl
+    no_apart (d ∷ ds) = rw mark refl
+
+-- a list of fourteen is its items one by one
+pub fourteen : (xs : List ℕ) → length xs ≡ 14 → get_or xs 0 0 ∷ get_or xs 1 0 ∷ get_or xs 2 0 ∷ get_or xs 3 0 ∷ get_or xs 4 0 ∷ get_or xs 5 0 ∷ get_or xs 6 0 ∷ get_or xs 7 0 ∷ get_or xs 8 0 ∷ get_or xs 9 0 ∷ get_or xs 10 0 ∷ get_or xs 11 0 ∷ get_or xs 12 0 ∷ get_or xs 13 0 ∷ [] ≡ xs
+fourteen ([]) size = absurd (omega arith)
+fourteen (a ∷ []) size = absurd (omega arith)
+fourteen (a ∷ b ∷ []) size = absurd (omega arith)
+fourteen (a ∷ b ∷ c ∷ []) size = absurd (omega arith)
+fourteen (a ∷ b ∷ c ∷ d ∷ []) size = absurd (omega arith)
+fourteen (a ∷ b ∷ c ∷ d ∷ e ∷ []) size = absurd (omega arith)
+fourteen (a ∷ b ∷ c ∷ d ∷ e ∷ f ∷ []) size = absurd (omega arith)
+fourteen (a ∷ b ∷ c ∷ d ∷ e ∷ f ∷ g ∷ []) size = absurd (omega arith)
+fourteen (a ∷ b ∷ c ∷ d ∷ e ∷ f ∷ g ∷ h ∷ []) size = absurd (omega arith)
+fourteen (a ∷ b ∷ c ∷ d ∷ e ∷ f ∷ g ∷ h ∷ i ∷ []) size = absurd (omega arith)
+fourteen (a ∷ b ∷ c ∷ d ∷ e ∷ f ∷ g ∷ h ∷ i ∷ j ∷ []) size = absurd (omega arith)
+fourteen (a ∷ b ∷ c ∷ d ∷ e ∷ f ∷ g ∷ h ∷ i ∷ j ∷ k ∷ []) size = absurd (omega arith)
+fourteen (a ∷ b ∷ c ∷ d ∷ e ∷ f ∷ g ∷ h ∷ i ∷ j ∷ k ∷ l ∷ []) size = absurd (omega arith)
+fourteen (a ∷ b ∷ c ∷ d ∷ e ∷ f ∷ g ∷ h ∷ i ∷ j ∷ k ∷ l ∷ m ∷ []) size = absurd (omega arith)
+fourteen (a ∷ b ∷ c ∷ d ∷ e ∷ f ∷ g ∷ h ∷ i ∷ j ∷ k ∷ l ∷ m ∷ n ∷ []) size = refl
+fourteen (a ∷ b ∷ c ∷ d ∷ e ∷ f ∷ g ∷ h ∷ i ∷ j ∷ k ∷ l ∷ m ∷ n ∷ o ∷ rest) size = absurd (omega arith)

@@ -1,5 +1,5 @@
 -- What the lexer finds at the front of a text.
-use Rattle.std.specs.Prelude.{◌≡◌, ℕ, Bool, false, ◌==◌, ◌&&◌, List, [], ◌∷◌, take, Some, None}
+use Rattle.std.specs.Prelude.{◌≡◌, ℕ, ◌+◌, ◌⊎◌, Bool, false, ◌==◌, ◌&&◌, ◌||◌, List, [], ◌∷◌, take, Option, Some, None}
 use Rattle.chill_base.specs.declared.pos.Pos.{Pos}
 use Rattle.chill_tree.specs.declared.token.Token.{Token}
 use Rattle.chill_lexer.specs.declared.front.Front.{Front}
@@ -25,3 +25,18 @@ abbrev pub IsFront : Pos → List ℕ → List Token → List Token → Front �
 IsFront at text old new (fronts.Between length behind) = IsBetween at text (fronts.Between length behind) × (new ≡ old)
 IsFront at text old new (fronts.Token length) = IsPut at (piece_at text) old new (Some length)
 IsFront at text old new fronts.Bad = piece_at text ≡ None
+
+-- it is a token of so many bytes, which stands behind the others, or separates within a line, and there is no token more
+abbrev pub IsAlong : Pos → List ℕ → List Token → List Token → ℕ → Type 0
+IsAlong at text old new n =
+    IsPut at (piece_at text) old new (Some n)
+    ⊎ ((piece_at text ≡ Some (between, n)) × (record { line = at.line; column = at.column + n } ≡ behind_all at (take n text)) × (new ≡ old))
+
+-- a token of so many bytes, or none
+abbrev pub of_token : Option ℕ → Front
+of_token None = fronts.Bad
+of_token (Some length) = fronts.Token length
+
+-- two bytes can be a sign of two, or begin a comment, where the second is this
+abbrev pub goes_on : ℕ → Bool
+goes_on b = b == 61 || b == 45 || b == 42

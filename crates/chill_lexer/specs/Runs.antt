@@ -1,9 +1,9 @@
 -- What the lexer's own functions say beside the definition.
-use Rattle.std.specs.Prelude.{◌≡◌, ◌++◌, ℕ, Bool, false, ◌==◌, ◌&&◌, List, [], ◌∷◌, Option, Some, None}
+use Rattle.std.specs.Prelude.{◌≡◌, ◌++◌, ℕ, Bool, false, ◌==◌, ◌&&◌, ◌||◌, List, [], ◌∷◌, Option, Some, None}
 use Rattle.chill_base.specs.declared.pos.Pos.{Pos}
 use Rattle.chill_tree.specs.declared.token.Token.{Token}
 use Rattle.chill_tree.specs.declared.token.TokenKind.{TokenKind}
-use Rattle.rules_model.specs.TokensShapes.{Piece, token}
+use Rattle.rules_model.specs.TokensShapes.{Piece, token, is_separator, is_letter, is_decimal}
 use Rattle.rules_model.specs.TokensReading.{is_digit}
 
 -- a `_` stands at the front, and a digit behind it
@@ -25,3 +25,7 @@ IsPut at piece old new (Some length) = (kind : TokenKind) × (piece ≡ Some (to
 abbrev pub as_token : Option (TokenKind × ℕ) → Option (Piece × ℕ)
 as_token None = None
 as_token (Some found) = Some (token found.0, found.1)
+
+-- no sign begins with the byte, but a separator, a name or a literal
+abbrev pub begins_other : ℕ → Bool
+begins_other b = is_separator b || is_letter b || is_decimal b || b == 39 || b == 34

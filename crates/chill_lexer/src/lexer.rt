@@ -4,6 +4,7 @@ ghost use Rattle.rules_model.specs.TokensCut.{AreTokensOf};
 ghost use Rattle.chill_lexer.specs.Lexer.{IsRefusal, IsNoToken};
 
 use crate::front::{self, Front};
+use crate::put;
 use chill_base::{Diagnostic, Memory, Pos, Rule, Text};
 use chill_tree::{Token, Tokens};
 use std::alloc::Global;
@@ -36,7 +37,18 @@ pub fn lex(alloc: Global, text: &[u8]) -> Result<Tokens, LexRefusal>
     let mut at = Pos { line: 1, column: 1 };
     let mut rest = text;
     while !rest.is_empty() {
-        match front::at_front(alloc, at, rest, &mut tokens)? {
+        put::make_room(&mut tokens)?;
+        if let Some(length) = front::along(at, rest, &mut tokens) {
+            at = front::right(at, length);
+            rest = rest.split_at(length).1;
+            continue;
+        }
+        if rest[0] == b'\n' {
+            at = front::next_line(at);
+            rest = &rest[1..];
+            continue;
+        }
+        match front::any_front(alloc, at, rest, &mut tokens)? {
             Front::Between { length, behind } => {
                 at = behind;
                 rest = rest.split_at(length).1;

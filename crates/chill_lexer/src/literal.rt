@@ -1,15 +1,15 @@
 // Names, literals and signs at the front of a text, each with the number of its bytes. None begins where a limit is
 // passed.
-ghost use Rattle.std.specs.Prelude.{◌≡◌, ◌+◌, ◌^◌, ◌<◌, ◌≤◌, ◌∷◌, ◌++◌, [], length, take, true, slice_index, IfOk, OnOk, IfSome, SomeIff};
+ghost use Rattle.std.specs.Prelude.{◌≡◌, ◌+◌, ◌^◌, ◌<◌, ◌≤◌, ◌∷◌, ◌++◌, [], length, take, true, false, slice_index, IfOk, OnOk, Some, IfSome, IfNone, SomeIff, vec_len, vec_capacity};
 ghost use Rattle.rules_model.specs.TokensShapes.{base_of, number_of};
 ghost use Rattle.rules_model.specs.TokensReading.{is_digit, numeral_length, unquoted, name_at, whole_at, digits_at, based_at, begins_with, character_at, quoted_at, sign_at, limited, text_length};
 ghost use Rattle.chill_tree.specs.declared.token.TokenKind.TheVariants as kinds;
-ghost use Rattle.chill_lexer.specs.Runs.{as_token, IsPut, begins_numeral};
+ghost use Rattle.chill_lexer.specs.Runs.{as_token, IsPut, begins_numeral, begins_other};
 
 use crate::put::{put, put_found};
 use crate::run;
 use chill_base::{Memory, Pos, Text};
-use chill_tree::{NameText, Sign, Token, TokenKind, Word};
+use chill_tree::{NameText, Sign, TextLiteral, Token, TokenKind, Word};
 use std::alloc::Global;
 
 /// How many bytes a name has at most.
@@ -17,6 +17,40 @@ const NAME_BYTES: usize = 64;
 
 /// How many bytes a text literal stands for at most.
 const TEXT_BYTES: usize = 256;
+
+// Puts a reserved word or a short name, unless the text ends soon.
+#[inline(always)]
+pub(crate) fn short_name(at: Pos, text: &[u8], tokens: &mut Vec<Token>) -> Option<usize>
+    requires { vec_len tokens.old < vec_capacity tokens.old }
+    ensures found { IfSome result (λ length. IsPut at (limited (name_at text.now)) tokens.old.items tokens.new.items (Some length)) }
+    ensures none { IfNone result (tokens.new ≡ tokens.old) }
+{
+    let Some((bytes, _)) = text.split_first_chunk() else {
+        return None
+    };
+    let length = run::name_length(bytes);
+    if length >= NameText::INLINE_BYTES {
+        return None;
+    }
+    match Word::spelled(&text[..length]) {
+        Some(word) => put(tokens, at, TokenKind::Word(word)),
+        None => put(
+            tokens,
+            at,
+            TokenKind::Name(NameText::inline(copied(bytes), length)),
+        ),
+    }
+    Some(length)
+}
+
+// The same bytes, one by one: where LLVM copies the array whole, it does so by way of the stack.
+#[inline(always)]
+fn copied(bytes: &[u8; 14]) -> [u8; 14]
+    ensures { result ≡ bytes.now }
+{
+    let [a, b, c, d, e, f, g, h, i, j, k, l, m, n] = *bytes;
+    [a, b, c, d, e, f, g, h, i, j, k, l, m, n]
+}
 
 // Puts a literal of a base, or a name, at a letter.
 #[inline(always)]
@@ -26,7 +60,8 @@ pub(crate) fn word(
     text: &[u8],
     tokens: &mut Vec<Token>,
 ) -> Result<Option<usize>, Memory>
-    requires { length text.now < 2 ^ 32 }
+    requires small { length text.now < 2 ^ 32 }
+    requires room { vec_len tokens.old < vec_capacity tokens.old }
     ensures { IfOk result (λ length.
         IsPut at (limited (based_at (base_of (slice_index text.now 0)) text.now)) tokens.old.items tokens.new.items length) }
 {
@@ -37,9 +72,20 @@ pub(crate) fn word(
         return name(alloc, at, text, tokens);
     }
     match base_of(*letter) {
-        Some(base) if begins_numeral(base, digits) => put_found(tokens, at, based(base, digits)),
+        Some(base) if begins_numeral(base, digits) => Ok(put_based(tokens, at, base, digits)),
         _ => name(alloc, at, text, tokens),
     }
+}
+
+// Puts a literal of a base.
+fn put_based(tokens: &mut Vec<Token>, at: Pos, base: u64, digits: &[u8]) -> Option<usize>
+    requires begins { begins_numeral base digits.now ≡ true }
+    requires small { base ≤ 16 }
+    requires short { length digits.now < 2 ^ 32 }
+    requires room { vec_len tokens.old < vec_capacity tokens.old }
+    ensures { IsPut at (limited (digits_at base digits.now)) tokens.old.items tokens.new.items result }
+{
+    put_found(tokens, at, based(base, digits))
 }
 
 // The base that a letter before `'` names.
@@ -63,42 +109,20 @@ fn name(
     text: &[u8],
     tokens: &mut Vec<Token>,
 ) -> Result<Option<usize>, Memory>
+    requires { vec_len tokens.old < vec_capacity tokens.old }
     ensures { IfOk result (λ length. IsPut at (limited (name_at text.now)) tokens.old.items tokens.new.items length) }
 {
     let length = run::name_length(text);
     if length > NAME_BYTES {
         return Ok(None);
     }
-    match Word::spelled(&text[..length]) {
-        Some(word) => put(tokens, at, TokenKind::Word(word))?,
-        None => own_name(alloc, at, text, length, tokens)?,
-    }
+    let name = &text[..length];
+    let kind = match Word::spelled(name) {
+        Some(word) => TokenKind::Word(word),
+        None => TokenKind::Name(NameText::from_bytes(alloc, name)?),
+    };
+    put(tokens, at, kind);
     Ok(Some(length))
-}
-
-// Puts a name that isn't reserved. Where it is short it is copied with what follows it, since a copy of fixed size is
-// fast.
-#[inline(always)]
-fn own_name(
-    alloc: Global,
-    at: Pos,
-    text: &[u8],
-    size: usize,
-    tokens: &mut Vec<Token>,
-) -> Result<(), Memory>
-    requires { size ≤ length text.now }
-    ensures { OnOk result (tokens.new.items ≡ tokens.old.items ++ record { at = at; kind = kinds.Name (take size text.now) } ∷ []) }
-{
-    match text.split_first_chunk() {
-        Some((bytes, _)) if size <= NameText::INLINE_BYTES => {
-            let kind = TokenKind::Name(NameText::inline(*bytes, size));
-            put(tokens, at, kind)
-        }
-        _ => {
-            let kind = TokenKind::Name(NameText::from_bytes(alloc, &text[..size])?);
-            put(tokens, at, kind)
-        }
-    }
 }
 
 // Whether a numeral begins.
@@ -174,6 +198,7 @@ pub(crate) fn text(alloc: Global, text: &[u8]) -> Result<Option<(TokenKind, usiz
     if value.len() > TEXT_BYTES {
         return Ok(None);
     }
+    let value = TextLiteral::new(alloc, value)?;
     Ok(Some((TokenKind::Text(value), length + 1)))
 }
 
@@ -223,6 +248,15 @@ pub(crate) fn sign(first: u8, behind: &[u8]) -> Option<(TokenKind, usize)>
         _ => return None,
     };
     Some((TokenKind::Sign(sign), length))
+}
+
+// A sign of one byte. It stands alone where no other goes on with it.
+#[inline(always)]
+pub(crate) fn lone_sign(first: u8) -> Option<(TokenKind, usize)>
+    ensures found { as_token result ≡ limited (sign_at first []) }
+    ensures apart { IfSome result (λ _. begins_other first ≡ false) }
+{
+    sign(first, &[])
 }
 
 // Whether a byte stands at the front.

@@ -7,8 +7,10 @@
 mod name_text;
 mod places;
 mod spelling;
+mod text_literal;
 mod token;
 pub mod tree;
 
 pub use name_text::NameText;
+pub use text_literal::TextLiteral;
 pub use token::{Sign, Token, TokenKind, Tokens, Word};

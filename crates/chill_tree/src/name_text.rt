@@ -1,15 +1,15 @@
 // The bytes of a name, which lie in the value itself where they are few.
 ghost use Rattle.std.specs.Prelude.{◌≡◌, ◌≤◌, take, IfOk};
 
-use chill_base::{Item, Memory};
+use chill_base::{Item, Memory, Text};
 use std::alloc::Global;
 use std::marker::Model;
 
-/// How many bytes lie in the value itself at most. With their number and a tag they are no larger than the vector of a
+/// How many bytes lie in the value itself at most. With their number and a tag they are no larger than the pointer to a
 /// longer name with its tag.
-const INLINE_BYTES: usize = 23;
+const INLINE_BYTES: usize = 14;
 
-/// The bytes of a name as it is spelled, which contracts see as a list. Up to 23 take no memory of their own.
+/// The bytes of a name as it is spelled, which contracts see as a list. Up to 14 take no memory of their own.
 #[derive(Debug)]
 pub struct NameText {
     held: Held,
@@ -23,7 +23,7 @@ enum Held {
         length: u8,
         bytes: [u8; INLINE_BYTES],
     },
-    Heap(Vec<u8>),
+    Heap(Box<Text>),
 }
 
 impl Model for NameText {
@@ -44,7 +44,7 @@ impl NameText {
     /// The first bytes of an array. Contracts don't see the others.
     #[inline(always)]
     pub fn inline(bytes: [u8; INLINE_BYTES], size: usize) -> NameText
-        requires { size ≤ 23 }
+        requires { size ≤ 14 }
         ensures { result ≡ take size bytes }
     {
         NameText {
@@ -60,9 +60,9 @@ impl NameText {
         ensures { IfOk result (λ name. name ≡ bytes.now) }
     {
         if bytes.len() > INLINE_BYTES {
-            let bytes = Vec::from_slice(alloc, bytes)?;
+            let bytes = Text::from_vec(Vec::from_slice(alloc, bytes)?);
             return Ok(NameText {
-                held: Held::Heap(bytes),
+                held: Held::Heap(Box::new(alloc, bytes)?),
             });
         }
         let mut inline = [0; INLINE_BYTES];
@@ -96,9 +96,7 @@ impl Item for NameText {
                 length: *length,
                 bytes: *bytes,
             },
-            Held::Heap(bytes) => {
-                Held::Heap(Vec::from_slice(*bytes.allocator(), bytes.as_slice())?)
-            }
+            Held::Heap(bytes) => Held::Heap(Box::new(bytes.allocator(), bytes.copy()?)?),
         };
         Ok(NameText { held })
     }

@@ -8,6 +8,7 @@ use crate::{Sign, Word};
 
 impl Word {
     /// The word's spelling in upper case.
+    #[inline(always)]
     pub fn spelling(self) -> &'static str
         ensures { result.now ≡ word_spelling self }
     {
@@ -105,6 +106,7 @@ impl Word {
     }
 
     // Whether the bytes are the word, in upper or in lower case.
+    #[inline(always)]
     fn is_spelled(self, bytes: &[u8]) -> bool
         ensures { IsTrue result ↔ IsSpelled self bytes.now }
     {

@@ -1,6 +1,6 @@
 // The tokens of a text (Z.200, chapter on the lexical elements).
-use crate::NameText;
-use chill_base::{List, Pos, Text};
+use crate::{NameText, TextLiteral};
+use chill_base::{List, Pos};
 
 /// A reserved word, spelled in a text all in upper or all in lower case.
 #[derive(Clone, Copy, Debug, PartialEq, Eq)]
@@ -132,7 +132,7 @@ pub enum TokenKind {
     /// A character literal.
     Char(u8),
     /// A text literal, by its value.
-    Text(Text),
+    Text(TextLiteral),
     Sign(Sign),
 }
 

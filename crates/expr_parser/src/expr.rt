@@ -201,7 +201,7 @@ fn operand(alloc: Global, tokens: &[Token], inner: usize) -> Result<(Expr, &[Tok
         [token, rest @ ..] => match &token.kind {
             TokenKind::Whole(value) => Ok((Expr::whole(token.at, *value), rest)),
             TokenKind::Char(value) => Ok((Expr::character(token.at, *value), rest)),
-            TokenKind::Text(value) => Ok((Expr::text(token.at, value.copy()?), rest)),
+            TokenKind::Text(value) => Ok((Expr::text(token.at, value.as_text().copy()?), rest)),
             TokenKind::Name(text) => {
                 let text = text.copy()?;
                 begun(alloc, Name { at: token.at, text }, rest, inner)

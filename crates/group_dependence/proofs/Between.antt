@@ -1,8 +1,7 @@
 -- The edges through the own nodes of groups say the same as all edges.
-use Rattle.std.proofs.Common.{◌≡◌, ℕ, suc, ◌+◌, ◌<◌, ◌≤◌, List, [], ◌∷◌, ◌++◌, ◌⊎◌, inl, inr, arith, refl, sym, ap, subst, Contains, length, get_or}
-use Rattle.std.specs.Prelude.{map, flat_map}
+use Rattle.std.proofs.Common.{◌≡◌, ℕ, suc, ◌+◌, ◌<◌, ◌≤◌, List, [], ◌∷◌, ◌⊎◌, inl, inr, arith, refl, ap, subst, Contains, length, get_or}
+use Rattle.std.specs.Prelude.{map}
 use Rattle.std.proofs.lemmas.List.Elements.{Contains-append_left, Contains-append_right, Contains-append_cases, Contains-get_or}
-use Rattle.self_dependence.specs.declared.edge.Edge.{Edge}
 use Rattle.self_dependence.specs.Depends.{Depends, EndsBelow, directly, through}
 use Rattle.group_dependence.specs.declared.group.Group.{Group}
 use Rattle.group_dependence.specs.Groups.{edge, group_edges, edges_of}
@@ -82,7 +81,7 @@ has_node base (h ∷ gs) g c = at_front (λ d. has_node (suc base) gs g d) (in_c
     at_front behind (inr d) = let found = behind d in (found.0, later found.1)
 
 -- ---- an edge between nodes of a group, and back
-has_edge : (gs : List Group) (g : Group) (v w : ℕ) → Contains gs g → Contains g.from v → Contains g.to w → Contains (edges_of gs) (edge v w)
+pub has_edge : (gs : List Group) (g : Group) (v w : ℕ) → Contains gs g → Contains g.from v → Contains g.to w → Contains (edges_of gs) (edge v w)
 has_edge gs g v w c f t = in_flat group_edges gs g (edge v w) c (in_flat (λ x. map (edge x) g.to) g.from v (edge v w) f (in_map (edge v) g.to w t))
 
 pub record Between (gs : List Group) (v w : ℕ) : Type 0 where
@@ -91,7 +90,7 @@ pub record Between (gs : List Group) (v w : ℕ) : Type 0 where
   pub from : Contains group.from v
   pub to : Contains group.to w
 
-is_edge : (gs : List Group) (v w : ℕ) → Contains (edges_of gs) (edge v w) → Between gs v w
+pub is_edge : (gs : List Group) (v w : ℕ) → Contains (edges_of gs) (edge v w) → Between gs v w
 is_edge gs v w c =
     let in_group = from_flat group_edges gs (edge v w) c in
     let g = in_group.0 in

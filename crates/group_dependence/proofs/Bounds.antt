@@ -1,15 +1,10 @@
 -- Numbers at most others.
-use Rattle.std.proofs.Common.{◌≡◌, ℕ, suc, ◌+◌, ◌<◌, ◌≤◌, List, [], ◌∷◌, ◌++◌, ◌⊎◌, inl, inr, arith, refl, sym, ap, ◌∙◌, subst, Contains, length, take, get_or}
-use Rattle.std.specs.Prelude.{map}
+use Rattle.std.proofs.Common.{◌≡◌, ℕ, ◌+◌, ◌<◌, ◌≤◌, List, arith, subst, length, take, get_or}
 use Rattle.std.specs.List.{All}
-use Rattle.std.proofs.lemmas.List.{take_all, get_or_default}
-use Rattle.std.proofs.lemmas.List.Elements.{All-more, All-contains, Contains-append_left, Contains-append_right, Contains-append_cases}
-use Rattle.self_dependence.specs.declared.edge.Edge.{Edge}
-use Rattle.self_dependence.specs.Depends.{EndsBelow, Depends, IsSet}
+use Rattle.std.proofs.lemmas.List.{take_all}
+use Rattle.std.proofs.lemmas.List.Elements.{All-more, All-contains}
 use Rattle.group_dependence.specs.declared.group.Group.{Group}
-use Rattle.group_dependence.specs.Groups.{edge, edges_of}
-use Rattle.group_dependence.specs.Stars.{star, stars, LieBelow}
-use Rattle.group_dependence.proofs.Members.{in_cases, from_map}
+use Rattle.group_dependence.specs.Stars.{LieBelow}
 
 -- one more number, at most a greater one
 pub more_low : (xs : List ℕ) (g h i : ℕ) → i < length xs → All (λ n. n ≤ g) (take i xs) → g ≤ h → get_or xs i 0 ≤ h → All (λ n. n ≤ h) (take (i + 1) xs)

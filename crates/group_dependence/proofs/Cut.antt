@@ -9,7 +9,7 @@ use Rattle.group_dependence.specs.Stars.{stars, LieBelow}
 use Rattle.group_dependence.proofs.Between.{goes_through, comes_back, only_below}
 
 -- no mark behind the cut tells anything
-reached_low : (base : ℕ) (marks : List Bool) (v : ℕ) → IsSet (take base marks) v → v < base
+pub reached_low : (base : ℕ) (marks : List Bool) (v : ℕ) → IsSet (take base marks) v → v < base
 reached_low base marks v r = at_side (cases_lt v base)
   where
     at_side : (v < base) ⊎ (base ≤ v) → v < base

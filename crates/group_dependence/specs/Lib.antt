@@ -1,3 +1,5 @@
 pub mod Groups
+pub mod OwnNodes
 pub mod Stars
+pub mod Targets
 pub mod Testing

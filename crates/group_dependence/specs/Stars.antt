@@ -1,5 +1,5 @@
 -- Fewer edges that say the same: each group has a node of its own between its first nodes and its second.
-use Rattle.std.specs.Prelude.{ℕ, suc, ◌+◌, ◌<◌, List, [], ◌∷◌, ◌++◌, map, Contains}
+use Rattle.std.specs.Prelude.{ℕ, suc, ◌<◌, List, [], ◌∷◌, ◌++◌, map, Contains}
 use Rattle.self_dependence.specs.declared.edge.Edge.{Edge}
 use Rattle.group_dependence.specs.declared.group.Group.{Group}
 use Rattle.group_dependence.specs.Groups.{edge}

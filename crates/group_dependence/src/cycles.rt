@@ -1,9 +1,8 @@
 // Which nodes of groups depend on themselves.
-ghost use Rattle.std.specs.Prelude.{◌≡◌, ℕ, ◌+◌, ◌<◌, ◌^◌, ◌↔◌, false, IfOk, length, slice_index_or};
+ghost use Rattle.std.specs.Prelude.{ℕ, ◌+◌, ◌<◌, ◌^◌, ◌↔◌, IfOk, length};
 ghost use Rattle.self_dependence.specs.Depends.{Depends, IsSet};
 ghost use Rattle.group_dependence.specs.Groups.{edges_of};
 ghost use Rattle.group_dependence.specs.Stars.{LieBelow};
-ghost use Rattle.group_dependence.specs.Testing.{depends_on};
 
 use crate::group::Group;
 use crate::stars::{bound, star_edges};
@@ -24,9 +23,8 @@ fn selves_below(alloc: Global, base: u32, groups: &[Group]) -> Result<Vec<bool>,
 }
 
 /// For each node up to the last that is marked, whether it depends on itself; any other doesn't.
-pub fn selves(alloc: Global, groups: &[Group]) -> Result<Vec<bool>, Memory>
-    ensures exact { IfOk result (λ marks. (v : ℕ) → IsSet marks.items v ↔ Depends (edges_of groups.now) v v) }
-    ensures tested { IfOk result (λ marks. (v : ℕ) → slice_index_or marks.items v false ≡ depends_on (edges_of groups.now) v v) }
+pub fn selves_of_groups(alloc: Global, groups: &[Group]) -> Result<Vec<bool>, Memory>
+    ensures { IfOk result (λ marks. (v : ℕ) → IsSet marks.items v ↔ Depends (edges_of groups.now) v v) }
 {
     match bound(groups) {
         Some(base) if groups.len() <= (u32::MAX - base) as usize => {

@@ -8,8 +8,8 @@ use chill_base::Memory;
 use self_dependence::Edge;
 use std::alloc::Global;
 
-// The greatest of some numbers and of one more.
-fn greatest(numbers: &[u32], least: u32) -> u32
+/// The greatest of some numbers and of one more.
+pub fn greatest(numbers: &[u32], least: u32) -> u32
     ensures least { least ≤ result }
     ensures all { All (λ n. n ≤ result) numbers.now }
 {

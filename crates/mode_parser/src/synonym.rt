@@ -1,5 +1,5 @@
 // Readers of names for values and for modes.
-ghost use Rattle.std.specs.Prelude.{◌≡◌, ◌∷◌, [], map, option_map};
+ghost use Rattle.std.specs.Prelude.{◌≡◌, ◌∷◌, [], IfOk, map, option_map};
 ghost use Rattle.chill_tree.specs.ModeTree.{mode_tree};
 ghost use Rattle.chill_tree.specs.LocalTree.{synonym_tree, mode_definition_tree};
 ghost use Rattle.expr_parser.specs.Giving.{Gives};
@@ -7,7 +7,7 @@ ghost use Rattle.rules_model.specs.Reading.{repeat, push, another_at, listed_at}
 ghost use Rattle.rules_model.specs.ModeReading.{written_mode_at, synonym_at, mode_definition_at};
 
 use crate::mode::read_mode;
-use chill_base::List;
+use chill_base::{List, Memory};
 use chill_tree::tree::{Mode, ModeDefinition, Synonym};
 use chill_tree::{Sign, Token};
 use expr_parser::{ParseRefusal, read_name, read_names, read_sign, read_value, starts};
@@ -23,9 +23,17 @@ pub fn read_synonyms(
     ensures { Gives (λ x. (map synonym_tree x.0, x.1.now)) result (listed_at (synonym_at inner) tokens.now) }
 {
     let (first, rest) = synonym(alloc, tokens, inner)?;
+    let items = only(alloc, first)?;
+    other_synonyms(alloc, items, rest, inner, tokens.len())
+}
+
+// The list of one name for a value.
+fn only(alloc: Global, first: Synonym) -> Result<List<Synonym>, Memory>
+    ensures { IfOk result (λ items. map synonym_tree items ≡ synonym_tree first ∷ []) }
+{
     let mut items = List::new(alloc);
     items.push(first)?;
-    other_synonyms(alloc, items, rest, inner, tokens.len())
+    Ok(items)
 }
 
 // Reads further names for values, each behind a comma.

@@ -58,6 +58,6 @@ pub told-end : {X Y : Type 0} (f : Y → List X) (ds : List Y) (i : ℕ) (out wh
 told-end f ds i out whole h before = subst (λ zs. SameMembers zs whole) (ap (λ r. out ++ r) (at_drop_all (flat_map f) ds i h) ∙ append-nil out) before
 
 -- a number clashes where its name's list in the table has another
-pub clash-by : (t : Holdings) (all : List Definition) (es : List Entry) (n : List ℕ) (d : ℕ) → Holds t all es → n ≡ spelling_at all d → clashes all (numbers_of es) d ≡ is_another_among d (held t n)
-clash-by t all es n d h is = sym (ap (λ m. is_another_among d (held t m)) is ∙ ap (is_another_among d) (h.by (spelling_at all d))
+pub clash-by : (around : List ℕ → List ℕ) (t : Holdings) (all : List Definition) (es : List Entry) (n : List ℕ) (d : ℕ) → Holds around t all es → n ≡ spelling_at all d → clashes all (numbers_of es) d ≡ is_another_among d (held around t n)
+clash-by around t all es n d h is = sym (ap (λ m. is_another_among d (held around t m)) is ∙ ap (is_another_among d) (h.by (spelling_at all d))
     ∙ any-had (λ e. bytes_eq (spelling_at all e) (spelling_at all d)) (λ e. not (e == d)) (numbers_of es))

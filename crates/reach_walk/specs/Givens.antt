@@ -6,8 +6,7 @@ use Rattle.names_model.specs.Sizes.{size_of}
 use Rattle.names_model.specs.Entries.{found, own_numbers, up_entries}
 use Rattle.reach_walk.specs.declared.given.Given.{Given, Given-F, fold-Given}
 use Rattle.reach_walk.specs.declared.passing.Giver.{Giver}
-use Rattle.reach_walk.specs.Held.{held}
-use Rattle.reach_walk.specs.Scopes.{told_by}
+use Rattle.reach_walk.specs.Held.{had}
 
 mutual
   -- what a modulion has under each name, what is defined directly in it, whether it is a region, and the modulions directly in it
@@ -27,7 +26,7 @@ givens_in no_givens = []
 givens_in (more_givens g gs) = g ∷ givens_in gs
 
 abbrev pub given_layer : Given-F GivenTree → GivenTree
-given_layer g = given (held g.has) g.own g.region (given_nodes g.inner)
+given_layer g = given (had g.has) g.own g.region (given_nodes g.inner)
 
 -- what is given, without where it lies in memory
 unfoldable pub given_tree : Given → GivenTree
@@ -64,7 +63,7 @@ abbrev pub IsGiver : List GivenTree → Option Giver → Type 0
 IsGiver [] None = ⊤
 IsGiver [] (Some g) = ⊥
 IsGiver (t ∷ ts) None = ⊥
-IsGiver (given has own region inner ∷ ts) (Some g) = (told_by g.has ≡ has) × (g.own.now ≡ own) × (g.region ≡ region)
+IsGiver (given has own region inner ∷ ts) (Some g) = (had g.has.now ≡ has) × (g.own.now ≡ own) × (g.region ≡ region)
 
 -- what is given inside the first
 abbrev pub inner_lent : List GivenTree → List GivenTree

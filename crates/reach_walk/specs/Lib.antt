@@ -1,3 +1,4 @@
+pub mod Asking
 pub mod Held
 pub mod Books
 pub mod Scopes
@@ -9,4 +10,8 @@ pub mod Marks
 pub mod Givens
 pub mod Places
 pub mod Opens
+pub mod Gathered
+pub mod Grants
 pub mod Tellings
+pub mod Placed
+pub mod Listed

@@ -1,21 +1,23 @@
 -- What is known of a reach that is being opened.
 use Rattle.std.specs.Prelude.{◌≡◌, List, [], ◌++◌}
 use Rattle.rule_lists.specs.Listing.{SameMembers}
-use Rattle.names_model.specs.declared.definition.Definition.{Definition}
 use Rattle.names_model.specs.declared.entry.Entry.{Entry}
 use Rattle.names_model.specs.NameRules.{told_behind}
+use Rattle.reach_walk.specs.declared.book.Book.{Book}
 use Rattle.reach_walk.specs.declared.opening.Opening.{Opening}
-use Rattle.reach_walk.specs.Marks.{Marks}
-use Rattle.reach_walk.specs.Scopes.{Holds}
+use Rattle.reach_walk.specs.declared.scope.Scope.{Scope}
+use Rattle.reach_walk.specs.Marks.{IsTended}
+use Rattle.reach_walk.specs.Scopes.{Holds, Sound, shown}
 
--- its table, its marks and its N1 are those of these entries; N1 may be told once for many
-pub record Opens (o : Opening) (all : List Definition) (es : List Entry) : Type 0 where
-  pub table : Holds o.table all es
-  pub marks : Marks o.marked o.table all
-  pub told : SameMembers o.told.items (told_behind all [] es)
+-- its table and its N1 are those of these entries; N1 may be told once for many
+pub record Opens (b : Book) (s : Scope) (o : Opening) (es : List Entry) : Type 0 where
+  pub sound : Sound b s
+  pub holds : Holds (shown b s) o.entered.table b.all.items es
+  pub tended : IsTended (shown b s) b.all.items o.entered
+  pub told : SameMembers o.told.items (told_behind b.all.items [] es)
 
 -- of the whole that is to be entered behind its entries, the rest is left
-pub record Entering (o : Opening) (all : List Definition) (es rest whole : List Entry) : Type 0 where
+pub record Entering (b : Book) (s : Scope) (o : Opening) (es rest whole : List Entry) : Type 0 where
   pub done : List Entry
-  pub opens : Opens o all (es ++ done)
+  pub opens : Opens b s o (es ++ done)
   pub is : done ++ rest ≡ whole

@@ -28,3 +28,7 @@ is_last all (Some e) d = bytes_eq (spelling_at all e) (spelling_at all d)
 pub record Tells (all : List Definition) (at : Pos) (known : List ℕ) (d : ℕ) (old new : List Diagnostic) (next : Option ℕ) : Type 0 where
   pub last : IsTold all at new next
   pub told : SameMembers new (old ++ told_number all known at d)
+
+-- one of some numbers is another than one of others
+abbrev pub clashes_any : List ℕ → List ℕ → Bool
+clashes_any ds others = list_any (λ d. is_another_among d others) ds

@@ -1,15 +1,17 @@
 // The book of a program.
-ghost use Rattle.std.specs.Prelude.{◌≡◌, ◌++◌, ◌+◌, ◌<◌, ◌^◌, ℕ, List, length, IfOk, OnOk};
+ghost use Rattle.std.specs.Prelude.{◌≡◌, ◌++◌, [], ◌+◌, ◌<◌, ◌^◌, ℕ, List, length, IfOk, OnOk};
 ghost use Rattle.names_model.specs.Definitions.{numbers_on, text_definitions, under, with_predefined};
+ghost use Rattle.names_model.specs.Entries.{once_behind};
 ghost use Rattle.reach_walk.specs.Books.{Keeps};
-ghost use Rattle.reach_walk.specs.Held.{held};
+ghost use Rattle.reach_walk.specs.Held.{had};
 ghost use Rattle.reach_walk.specs.Offsets.{Fits, nodes_of};
 
 use crate::book::Book;
 use crate::definitions::definitions_in;
-use crate::founds::table_of_numbers;
+use crate::entered::Entered;
 use crate::offsets::up_to_greatest;
 use crate::predefined::{COUNT, push_predefined};
+use crate::scope::Scope;
 use crate::table::Table;
 use chill_base::{Memory, Numbers};
 use names_model::{Inside, Part, Spelling};
@@ -25,9 +27,18 @@ fn push_on(first: u32, count: u32, out: &mut Numbers) -> Result<(), Memory>
     Ok(())
 }
 
+// The table of definitions, each once under its own name.
+fn table_of_numbers(alloc: Global, book: &Book, numbers: &[u32]) -> Result<Table, Memory>
+    ensures { IfOk result (λ t. (n : List ℕ) → had t n ≡ once_behind [] (under book.now.all.items n numbers.now)) }
+{
+    let mut entered = Entered::new(alloc);
+    entered.add_numbers(alloc, book, &Scope::Outside, numbers)?;
+    Ok(entered.table)
+}
+
 // The table of so many definitions from one on.
 fn table_on(alloc: Global, book: &Book, first: u32, count: u32) -> Result<Table, Memory>
-    ensures { first + count < 2 ^ 32 → IfOk result (λ t. (n : List ℕ) → held t n ≡ under book.now.all.items n (numbers_on first count)) }
+    ensures { first + count < 2 ^ 32 → IfOk result (λ t. (n : List ℕ) → had t n ≡ under book.now.all.items n (numbers_on first count)) }
 {
     let mut numbers = Numbers::new(alloc);
     push_on(first, count, &mut numbers)?;

@@ -5,7 +5,6 @@ ghost use Rattle.names_model.specs.Parts.{part_tree};
 ghost use Rattle.reach_walk.specs.Givens.{GivenTree, IsGiver, given_of, given_trees, inner_lent};
 
 use crate::passing::Giver;
-use crate::source::Source;
 use crate::table::Table;
 use chill_base::{List, Numbers};
 use names_model::Part;
@@ -56,7 +55,7 @@ pub fn lent_giver(own: &[Given]) -> Option<Giver<'_>>
     match own.first() {
         Some(given) => Some(Giver {
             region: given.region,
-            has: Source::Table(&given.has),
+            has: &given.has,
             own: given.own.as_slice(),
         }),
         None => None,

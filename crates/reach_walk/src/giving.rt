@@ -1,13 +1,13 @@
 // What is kept of each modulion to make what it gives, from the innermost outwards.
-ghost use Rattle.std.specs.Prelude.{◌≡◌, ◌++◌, ◌∷◌, [], ◌+◌, ◌<◌, ◌^◌, List, IfOk, OnOk};
+ghost use Rattle.std.specs.Prelude.{◌≡◌, ◌++◌, ◌∷◌, [], ℕ, ◌+◌, ◌<◌, ◌^◌, List, IfOk, OnOk};
 ghost use Rattle.names_model.specs.declared.entry.Entry.{Entry};
 ghost use Rattle.names_model.specs.Parts.{part_tree};
 ghost use Rattle.names_model.specs.Sizes.{size_of};
-ghost use Rattle.names_model.specs.Entries.{given_entries, own_entries, up_entries};
+ghost use Rattle.names_model.specs.Entries.{found, given_entries, own_entries, up_entries};
 ghost use Rattle.reach_walk.specs.Givens.{given_by, given_nodes, given_of, given_trees, givens};
 ghost use Rattle.reach_walk.specs.Offsets.{Fits, FitsInside, nodes_of};
 ghost use Rattle.reach_walk.specs.Opens.{Opens};
-ghost use Rattle.reach_walk.specs.Scopes.{Holds};
+ghost use Rattle.reach_walk.specs.Held.{had};
 
 use crate::book::Book;
 use crate::entries::{own_entries, own_numbers};
@@ -17,6 +17,7 @@ use crate::offsets::size_of;
 use crate::opening::Opening;
 use crate::place::Place;
 use crate::reached::enter_places;
+use crate::scope::Scope;
 use crate::table::Table;
 use chill_base::{List, Memory, Numbers};
 use names_model::Part;
@@ -26,18 +27,19 @@ use std::alloc::Global;
 fn enter_up_part(
     alloc: Global,
     book: &Book,
+    around: &Scope,
     given: &[Given],
     from: u32,
     part: &Part,
     places: &mut Vec<Place>,
     out: &mut Opening,
 ) -> Result<(), Memory>
-    ensures { from + size_of (part_tree part.now) < 2 ^ 32 → given_trees given.now ≡ given_of book.now.all.items from (part_tree part.now) → (es : List Entry) → Opens out.old book.now.all.items es → OnOk result (Opens out.new book.now.all.items (es ++ (own_entries from (part_tree part.now) ++ given_entries book.now.all.items from (part_tree part.now)))) }
+    ensures { from + size_of (part_tree part.now) < 2 ^ 32 → given_trees given.now ≡ given_of book.now.all.items from (part_tree part.now) → (es : List Entry) → Opens book.now around.now out.old es → OnOk result (Opens book.now around.now out.new (es ++ (own_entries from (part_tree part.now) ++ given_entries book.now.all.items from (part_tree part.now)))) }
 {
     places.clear();
     own_entries(from, part, places)?;
-    enter_places(alloc, book, places.as_slice(), out)?;
-    enter_given(alloc, book, given, part, out)?;
+    enter_places(alloc, book, around, places.as_slice(), out)?;
+    enter_given(alloc, book, around, given, part, out)?;
     Ok(())
 }
 
@@ -45,19 +47,20 @@ fn enter_up_part(
 fn enter_up(
     alloc: Global,
     book: &Book,
+    around: &Scope,
     from: u32,
     parts: &[Part],
     given: &[Given],
     out: &mut Opening,
 ) -> Result<(), Memory>
-    ensures { Fits from (nodes_of parts.now) → given_trees given.now ≡ givens book.now.all.items from (nodes_of parts.now) → (es : List Entry) → Opens out.old book.now.all.items es → OnOk result (Opens out.new book.now.all.items (es ++ up_entries book.now.all.items from (nodes_of parts.now))) }
+    ensures { Fits from (nodes_of parts.now) → given_trees given.now ≡ givens book.now.all.items from (nodes_of parts.now) → (es : List Entry) → Opens book.now around.now out.old es → OnOk result (Opens book.now around.now out.new (es ++ up_entries book.now.all.items from (nodes_of parts.now))) }
 {
     let mut places = Vec::new(alloc);
     let mut next = from;
     let mut left = given;
     for part in parts {
         let (own, behind) = split_given(part, left);
-        enter_up_part(alloc, book, own, next, part, &mut places, out)?;
+        enter_up_part(alloc, book, around, own, next, part, &mut places, out)?;
         left = behind;
         next = next.saturating_add(size_of(part));
     }
@@ -72,10 +75,18 @@ fn table_up(
     parts: &[Part],
     given: &[Given],
 ) -> Result<Table, Memory>
-    ensures { Fits from (nodes_of parts.now) → given_trees given.now ≡ givens book.now.all.items from (nodes_of parts.now) → IfOk result (λ t. Holds t book.now.all.items (up_entries book.now.all.items from (nodes_of parts.now))) }
+    ensures { Fits from (nodes_of parts.now) → given_trees given.now ≡ givens book.now.all.items from (nodes_of parts.now) → IfOk result (λ t. (n : List ℕ) → had t n ≡ found book.now.all.items (up_entries book.now.all.items from (nodes_of parts.now)) n) }
 {
     let mut opening = Opening::new(alloc);
-    enter_up(alloc, book, from, parts, given, &mut opening)?;
+    enter_up(
+        alloc,
+        book,
+        &Scope::Outside,
+        from,
+        parts,
+        given,
+        &mut opening,
+    )?;
     Ok(opening.into_table())
 }
 

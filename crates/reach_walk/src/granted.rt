@@ -1,52 +1,131 @@
 // What modulions give is entered into the reach around them.
-ghost use Rattle.std.specs.Prelude.{◌≡◌, ◌++◌, ◌∷◌, [], ℕ, List, OnOk, flat_map};
+ghost use Rattle.std.specs.Prelude.{◌≡◌, ◌++◌, ◌∷◌, [], ◌||◌, ℕ, true, List, OnOk, flat_map};
+ghost use Rattle.std.specs.List.{list_any};
+ghost use Rattle.std.specs.Str.{bytes_eq};
 ghost use Rattle.names_model.specs.declared.entry.Entry.{Entry};
 ghost use Rattle.names_model.specs.Parts.{part_tree, parts_in};
+ghost use Rattle.names_model.specs.Definitions.{spelling_at};
 ghost use Rattle.names_model.specs.Entries.{entry, given_all, given_entries, granted_entries, passed};
 ghost use Rattle.reach_walk.specs.Givens.{given_of, given_trees};
+ghost use Rattle.reach_walk.specs.Grants.{Gives, Listed};
+ghost use Rattle.reach_walk.specs.Held.{had};
+ghost use Rattle.reach_walk.specs.Marks.{is_named};
 ghost use Rattle.reach_walk.specs.Offsets.{nodes_of};
 ghost use Rattle.reach_walk.specs.Opens.{Opens};
-ghost use Rattle.reach_walk.specs.Scopes.{told_by};
+ghost use Rattle.reach_walk.specs.Scopes.{Orderly};
 
 use crate::book::Book;
 use crate::given::{Given, lent_giver};
+use crate::grants::Grants;
+use crate::names::Names;
 use crate::opening::Opening;
 use crate::passing::{Giver, push_given_all, push_passed};
-use crate::source::Source;
+use crate::scope::Scope;
 use chill_base::{Memory, Numbers, Pos};
 use names_model::{Identifier, Part};
 use std::alloc::Global;
 
-/// Enters what passes under a name. Its numbers are kept only meanwhile.
-pub fn enter_passed(
+// Enters what passes under a name, and notes the name where no elements go along. The numbers are kept only meanwhile.
+fn enter_passed(
     alloc: Global,
     book: &Book,
-    source: &Source,
+    around: &Scope,
+    giver: &Giver,
     name: &Identifier,
+    grants: &mut Grants,
     out: &mut Opening,
 ) -> Result<(), Memory>
-    ensures { (es : List Entry) → Opens out.old book.now.all.items es → OnOk result (Opens out.new book.now.all.items (es ++ entry name.now.at (passed book.now.all.items (told_by source.now) name.now.spelling) ∷ [])) }
+    ensures { (es : List Entry) → Gives book.now around.now giver.now grants.old out.old es → OnOk result (Gives book.now around.now giver.now grants.new out.new (es ++ entry name.now.at (passed book.now.all.items (had giver.now.has.now) name.now.spelling) ∷ [])) }
 {
     let mut numbers = Numbers::new(alloc);
-    push_passed(book, source, &name.spelling, &mut numbers)?;
-    out.enter(alloc, book, name.at, numbers.as_slice())?;
+    let alone = push_passed(book, giver.has, &name.spelling, &mut numbers)?;
+    out.enter(alloc, book, around, name.at, numbers.as_slice())?;
+    if alone {
+        grants.names.insert(alloc, &name.spelling)?;
+    }
     Ok(())
 }
 
-// Enters what GRANT ALL gives.
-fn enter_given_all(
+// Enters what is granted by name. What comes again adds nothing.
+fn enter_named(
     alloc: Global,
     book: &Book,
+    around: &Scope,
     giver: &Giver,
-    at: Pos,
+    name: &Identifier,
+    grants: &mut Grants,
     out: &mut Opening,
 ) -> Result<(), Memory>
-    ensures { (es : List Entry) → Opens out.old book.now.all.items es → OnOk result (Opens out.new book.now.all.items (es ++ entry at (given_all book.now.all.items giver.now.region giver.now.own.now) ∷ [])) }
+    ensures { (es : List Entry) → Gives book.now around.now giver.now grants.old out.old es → OnOk result (Gives book.now around.now giver.now grants.new out.new (es ++ entry name.now.at (passed book.now.all.items (had giver.now.has.now) name.now.spelling) ∷ [])) }
+{
+    if grants.names.contains(&name.spelling) {
+        return out.enter_again(alloc, name, giver.has.find(&name.spelling).before);
+    }
+    enter_passed(alloc, book, around, giver, name, grants, out)
+}
+
+// Enters what GRANT ALL gives.
+fn enter_whole(
+    alloc: Global,
+    book: &Book,
+    around: &Scope,
+    giver: &Giver,
+    at: Pos,
+    grants: &mut Grants,
+    out: &mut Opening,
+) -> Result<(), Memory>
+    ensures { (es : List Entry) → Gives book.now around.now giver.now grants.old out.old es → OnOk result (Gives book.now around.now giver.now grants.new out.new (es ++ entry at (given_all book.now.all.items giver.now.region giver.now.own.now) ∷ [])) }
 {
     let mut numbers = Numbers::new(alloc);
     push_given_all(book, giver.region, giver.own, &mut numbers)?;
-    out.enter(alloc, book, at, numbers.as_slice())?;
+    out.enter(alloc, book, around, at, numbers.as_slice())?;
+    grants.whole = true;
     Ok(())
+}
+
+// Puts the names of definitions to others.
+fn list_names(alloc: Global, book: &Book, numbers: &[u32], out: &mut Names) -> Result<(), Memory>
+    ensures { OnOk result ((n : List ℕ) → is_named out.new n ≡ (list_any (λ d. bytes_eq (spelling_at book.now.all.items d) n) numbers.now || is_named out.old n)) }
+{
+    for number in numbers {
+        out.insert(alloc, book.spelling(*number as usize))?;
+    }
+    Ok(())
+}
+
+// Lists the names of what GRANT ALL gives, unless they are listed.
+fn list_whole(alloc: Global, book: &Book, giver: &Giver, grants: &mut Grants) -> Result<(), Memory>
+    ensures { OnOk result (Listed book.now.all.items giver.now grants.old grants.new) }
+{
+    if grants.listed {
+        return Ok(());
+    }
+    let mut numbers = Numbers::new(alloc);
+    push_given_all(book, giver.region, giver.own, &mut numbers)?;
+    let mut all = Names::new(alloc);
+    list_names(alloc, book, numbers.as_slice(), &mut all)?;
+    grants.all = all;
+    grants.listed = true;
+    Ok(())
+}
+
+// Enters what GRANT ALL gives. What comes again adds nothing.
+fn enter_given_all(
+    alloc: Global,
+    book: &Book,
+    around: &Scope,
+    giver: &Giver,
+    at: Pos,
+    grants: &mut Grants,
+    out: &mut Opening,
+) -> Result<(), Memory>
+    ensures { (es : List Entry) → Gives book.now around.now giver.now grants.old out.old es → OnOk result (Gives book.now around.now giver.now grants.new out.new (es ++ entry at (given_all book.now.all.items giver.now.region giver.now.own.now) ∷ [])) }
+{
+    if !grants.whole {
+        return enter_whole(alloc, book, around, giver, at, grants, out);
+    }
+    list_whole(alloc, book, giver, grants)?;
+    out.enter_all_again(alloc, at, &grants.all)
 }
 
 // Enters what a part of a modulion gives.
@@ -54,15 +133,17 @@ fn enter_given_all(
 fn enter_granted(
     alloc: Global,
     book: &Book,
+    around: &Scope,
     giver: &Giver,
     part: &Part,
+    grants: &mut Grants,
     out: &mut Opening,
 ) -> Result<(), Memory>
-    ensures { (es : List Entry) → Opens out.old book.now.all.items es → OnOk result (Opens out.new book.now.all.items (es ++ granted_entries book.now.all.items giver.now.region (told_by giver.now.has) giver.now.own.now (part_tree part.now))) }
+    ensures { (es : List Entry) → Gives book.now around.now giver.now grants.old out.old es → OnOk result (Gives book.now around.now giver.now grants.new out.new (es ++ granted_entries book.now.all.items giver.now.region (had giver.now.has.now) giver.now.own.now (part_tree part.now))) }
 {
     match part {
-        Part::Grant(name) => enter_passed(alloc, book, &giver.has, name, out),
-        Part::GrantAll(at) => enter_given_all(alloc, book, giver, *at, out),
+        Part::Grant(name) => enter_named(alloc, book, around, giver, name, grants, out),
+        Part::GrantAll(at) => enter_given_all(alloc, book, around, giver, *at, grants, out),
         Part::Define(_)
         | Part::Mention(_)
         | Part::Seize(_)
@@ -78,14 +159,16 @@ fn enter_granted(
 fn enter_all_granted(
     alloc: Global,
     book: &Book,
+    around: &Scope,
     giver: &Giver,
     parts: &[Part],
     out: &mut Opening,
 ) -> Result<(), Memory>
-    ensures { (es : List Entry) → Opens out.old book.now.all.items es → OnOk result (Opens out.new book.now.all.items (es ++ flat_map (granted_entries book.now.all.items giver.now.region (told_by giver.now.has) giver.now.own.now) (parts_in (nodes_of parts.now)))) }
+    ensures { Orderly book.now.all.items (had giver.now.has.now) → (es : List Entry) → Opens book.now around.now out.old es → OnOk result (Opens book.now around.now out.new (es ++ flat_map (granted_entries book.now.all.items giver.now.region (had giver.now.has.now) giver.now.own.now) (parts_in (nodes_of parts.now)))) }
 {
+    let mut grants = Grants::new(alloc);
     for part in parts {
-        enter_granted(alloc, book, giver, part, out)?;
+        enter_granted(alloc, book, around, giver, part, &mut grants, out)?;
     }
     Ok(())
 }
@@ -95,15 +178,16 @@ fn enter_all_granted(
 pub fn enter_given(
     alloc: Global,
     book: &Book,
+    around: &Scope,
     given: &[Given],
     part: &Part,
     out: &mut Opening,
 ) -> Result<(), Memory>
-    ensures { (from : ℕ) → given_trees given.now ≡ given_of book.now.all.items from (part_tree part.now) → (es : List Entry) → Opens out.old book.now.all.items es → OnOk result (Opens out.new book.now.all.items (es ++ given_entries book.now.all.items from (part_tree part.now))) }
+    ensures { (from : ℕ) → given_trees given.now ≡ given_of book.now.all.items from (part_tree part.now) → (es : List Entry) → Opens book.now around.now out.old es → OnOk result (Opens book.now around.now out.new (es ++ given_entries book.now.all.items from (part_tree part.now))) }
 {
     match part {
         Part::Modulion { parts, .. } => match lent_giver(given) {
-            Some(giver) => enter_all_granted(alloc, book, &giver, parts.as_slice(), out),
+            Some(giver) => enter_all_granted(alloc, book, around, &giver, parts.as_slice(), out),
             None => Ok(()),
         },
         Part::Define(_)

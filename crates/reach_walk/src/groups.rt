@@ -1,19 +1,21 @@
 // What depends on what: the groups of the definitions of one text and of those that are seen under the names in it.
-ghost use Rattle.std.specs.Prelude.{◌≡◌, ◌++◌, ◌∷◌, [], suc, ◌+◌, ◌<◌, ◌^◌, length, List, IfOk, OnOk};
+ghost use Rattle.std.specs.Prelude.{◌≡◌, ℕ, ◌++◌, ◌∷◌, [], suc, ◌+◌, ◌<◌, ◌^◌, length, flat_map, List, IfOk, OnOk};
+ghost use Rattle.group_dependence.specs.Targets.{SameEdges, groups_with, target_nodes};
 ghost use Rattle.names_model.specs.declared.definition.Definition.{Definition};
 ghost use Rattle.names_model.specs.Definitions.{numbers_on};
 ghost use Rattle.names_model.specs.Dependence.{clause_group, group, groups_of, named_in, param_groups};
 ghost use Rattle.names_model.specs.Parts.{part_tree};
 ghost use Rattle.names_model.specs.Seeing.{Reach};
 ghost use Rattle.names_model.specs.Sizes.{clause_size, clauses_size, head_size, size_of};
+ghost use Rattle.reach_walk.specs.Listed.{AllListed, Leads, SameNumbers};
 ghost use Rattle.reach_walk.specs.Scopes.{Shows};
 
 use crate::book::Book;
-use crate::entries::push_all;
 use crate::offsets::clause_size;
-use crate::scope::{Scope, sees};
-use chill_base::{Memory, Numbers};
-use group_dependence::Group;
+use crate::scope::Scope;
+use crate::targets::push_targets;
+use chill_base::{List, Memory, Numbers};
+use group_dependence::{Target, TargetGroup};
 use names_model::{Clause, Identifier, Mention, Part};
 use std::alloc::Global;
 
@@ -30,27 +32,36 @@ fn numbers_on(alloc: Global, from: u32, names: &[Identifier]) -> Result<Numbers,
     Ok(numbers)
 }
 
-// Puts the definitions that are seen under the name that a mention uses behind others.
-#[tactic(auto, using(crate::proofs::Appends::nothing_more))]
-fn push_seen(book: &Book, scope: &Scope, mention: &Mention, out: &mut Numbers) -> Result<(), Memory>
-    ensures { (text : List Definition) (r : Reach) → Shows book.now scope.now text r → OnOk result (out.new ≡ out.old ++ named_in text r (mention.now ∷ [])) }
+// Puts the definitions that are seen under the name that a mention uses behind other targets.
+fn push_seen(
+    book: &Book,
+    scope: &Scope,
+    mention: &Mention,
+    out: &mut List<Target>,
+) -> Result<(), Memory>
+    ensures { (final : List (List ℕ)) (text : List Definition) (r : Reach) → Shows book.now scope.now text r → AllListed final scope.now → OnOk result (Leads final out.old out.new (named_in text r (mention.now ∷ []))) }
 {
     match mention {
-        Mention::Use { name, .. } => push_all(sees(book, scope, &name.spelling), out),
-        Mention::Argument { name, .. } => push_all(sees(book, scope, &name.spelling), out),
+        Mention::Use { name, .. } => push_targets(book, scope, &name.spelling, out),
+        Mention::Argument { name, .. } => push_targets(book, scope, &name.spelling, out),
         Mention::Element(_) => Ok(()),
     }
 }
 
 // All definitions that are seen under the names in a text.
-fn named_in(alloc: Global, book: &Book, scope: &Scope, text: &[Mention]) -> Result<Numbers, Memory>
-    ensures { (whole : List Definition) (r : Reach) → Shows book.now scope.now whole r → IfOk result (λ numbers. numbers ≡ named_in whole r text.now) }
+fn named_in(
+    alloc: Global,
+    book: &Book,
+    scope: &Scope,
+    text: &[Mention],
+) -> Result<List<Target>, Memory>
+    ensures { (final : List (List ℕ)) (whole : List Definition) (r : Reach) → Shows book.now scope.now whole r → AllListed final scope.now → IfOk result (λ targets. SameNumbers (flat_map (target_nodes final) targets) (named_in whole r text.now)) }
 {
-    let mut numbers = Numbers::new(alloc);
+    let mut targets = List::new(alloc);
     for mention in text {
-        push_seen(book, scope, mention, &mut numbers)?;
+        push_seen(book, scope, mention, &mut targets)?;
     }
-    Ok(numbers)
+    Ok(targets)
 }
 
 // Notes on what the names of a clause depend.
@@ -60,13 +71,13 @@ fn note_clause(
     scope: &Scope,
     from: u32,
     clause: &Clause,
-    out: &mut Vec<Group>,
+    out: &mut Vec<TargetGroup>,
 ) -> Result<(), Memory>
-    ensures { (text : List Definition) (r : Reach) → Shows book.now scope.now text r → from + clause_size clause.now < 2 ^ 32 → OnOk result (out.new.items ≡ out.old.items ++ clause_group text r from clause.now ∷ []) }
+    ensures { (final : List (List ℕ)) (text : List Definition) (r : Reach) → Shows book.now scope.now text r → AllListed final scope.now → from + clause_size clause.now < 2 ^ 32 → OnOk result (SameEdges (groups_with final out.new.items) (groups_with final out.old.items ++ clause_group text r from clause.now ∷ [])) }
 {
     let defined = numbers_on(alloc, from, clause.names.as_slice())?;
     let named = named_in(alloc, book, scope, clause.text.as_slice())?;
-    out.push(Group {
+    out.push(TargetGroup {
         from: defined,
         to: named,
     })?;
@@ -80,9 +91,9 @@ fn note_params(
     scope: &Scope,
     from: u32,
     params: &[Clause],
-    out: &mut Vec<Group>,
+    out: &mut Vec<TargetGroup>,
 ) -> Result<(), Memory>
-    ensures { (text : List Definition) (r : Reach) → Shows book.now scope.now text r → from + clauses_size params.now < 2 ^ 32 → OnOk result (out.new.items ≡ out.old.items ++ param_groups text r from params.now) }
+    ensures { (final : List (List ℕ)) (text : List Definition) (r : Reach) → Shows book.now scope.now text r → AllListed final scope.now → from + clauses_size params.now < 2 ^ 32 → OnOk result (SameEdges (groups_with final out.new.items) (groups_with final out.old.items ++ param_groups text r from params.now)) }
 {
     let mut next = from;
     for clause in params {
@@ -100,14 +111,14 @@ fn note_routine(
     from: u32,
     params: &[Clause],
     returned: &[Mention],
-    out: &mut Vec<Group>,
+    out: &mut Vec<TargetGroup>,
 ) -> Result<(), Memory>
-    ensures { (text : List Definition) (r : Reach) → Shows book.now scope.now text r → from + head_size params.now returned.now < 2 ^ 32 → OnOk result (out.new.items ≡ out.old.items ++ group (from ∷ []) (named_in text r returned.now) ∷ param_groups text r (suc from) params.now) }
+    ensures { (final : List (List ℕ)) (text : List Definition) (r : Reach) → Shows book.now scope.now text r → AllListed final scope.now → from + head_size params.now returned.now < 2 ^ 32 → OnOk result (SameEdges (groups_with final out.new.items) (groups_with final out.old.items ++ group (from ∷ []) (named_in text r returned.now) ∷ param_groups text r (suc from) params.now)) }
 {
     let mut defined = Numbers::new(alloc);
     defined.push(from)?;
     let named = named_in(alloc, book, scope, returned)?;
-    out.push(Group {
+    out.push(TargetGroup {
         from: defined,
         to: named,
     })?;
@@ -116,16 +127,16 @@ fn note_routine(
 }
 
 /// Notes what depends on what by a part, whose first definition has the number `from`.
-#[tactic(auto, using(names_model::proofs::PartViews::part_built, crate::proofs::Appends::nothing_more))]
+#[tactic(auto, using(names_model::proofs::PartViews::part_built, crate::proofs::Grouping::no_group))]
 pub fn note_groups(
     alloc: Global,
     book: &Book,
     scope: &Scope,
     from: u32,
     part: &Part,
-    out: &mut Vec<Group>,
+    out: &mut Vec<TargetGroup>,
 ) -> Result<(), Memory>
-    ensures { (text : List Definition) (r : Reach) → Shows book.now scope.now text r → from + size_of (part_tree part.now) < 2 ^ 32 → OnOk result (out.new.items ≡ out.old.items ++ groups_of text r from (part_tree part.now)) }
+    ensures { (final : List (List ℕ)) (text : List Definition) (r : Reach) → Shows book.now scope.now text r → AllListed final scope.now → from + size_of (part_tree part.now) < 2 ^ 32 → OnOk result (SameEdges (groups_with final out.new.items) (groups_with final out.old.items ++ groups_of text r from (part_tree part.now))) }
 {
     match part {
         Part::Define(clause) => note_clause(alloc, book, scope, from, clause, out),

@@ -7,27 +7,38 @@
 //! is told there too, by a function of its own that `note_here` calls.
 #![tactic(auto)]
 
+mod asked;
+mod asking;
 mod book;
 mod collect;
 mod definitions;
+mod entered;
 mod entries;
 mod findings;
-mod founds;
+mod gathering;
 mod given;
 mod giving;
 mod granted;
+mod grants;
 mod groups;
+mod holding;
 mod laws;
+mod lists;
 mod marked;
+mod names;
 mod offsets;
 mod opening;
 mod passing;
 mod place;
+mod places;
 mod predefined;
+mod qualities;
 mod reached;
 mod scope;
-mod source;
+mod seen;
+mod seizing;
 mod table;
+mod targets;
 mod told;
 mod twice;
 mod uses;
@@ -41,5 +52,7 @@ pub use predefined::COUNT as PREDEFINED_COUNT;
 pub use told::push_told;
 pub use walk::find_in_program;
 
+#[cfg(test)]
+mod list_tests;
 #[cfg(test)]
 mod tests;

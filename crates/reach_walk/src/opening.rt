@@ -1,34 +1,37 @@
 // A reach that is being opened: its table, and N1 of it, entry by entry.
 use crate::book::Book;
-use crate::founds::{add_numbers, split_known};
-use crate::marked::Marked;
+use crate::entered::Entered;
+use crate::names::Names;
+use crate::scope::Scope;
 use crate::table::Table;
-use crate::twice::tell_numbers;
+use crate::twice::{tell_again, tell_crowded, tell_numbers, tell_seized};
 use chill_base::{Diagnostic, Memory, Pos};
+use names_model::Identifier;
 use std::alloc::Global;
 
 /// What is known of a reach by the entries that it has so far: what they have under each name, and N1 of them.
 #[derive(Drop)]
 pub struct Opening {
-    pub table: Table,
-    pub marked: Marked,
+    pub entered: Entered,
     pub told: Vec<Diagnostic>,
 }
 
 impl Opening {
-    ghost use Rattle.std.specs.Prelude.{◌≡◌, ◌++◌, ◌∷◌, [], List, IfOk, OnOk};
-    ghost use Rattle.names_model.specs.declared.definition.Definition.{Definition};
+    ghost use Rattle.std.specs.Prelude.{◌≡◌, ◌++◌, ◌∷◌, [], ℕ, List, IfOk, OnOk};
     ghost use Rattle.names_model.specs.declared.entry.Entry.{Entry};
-    ghost use Rattle.names_model.specs.Entries.{entry};
+    ghost use Rattle.names_model.specs.Entries.{entry, numbers_of};
+    ghost use Rattle.reach_walk.specs.declared.book.Book.{Book};
+    ghost use Rattle.reach_walk.specs.declared.scope.Scope.{Scope};
+    ghost use Rattle.reach_walk.specs.Grants.{AreIn, AreNamed, AreNames};
     ghost use Rattle.reach_walk.specs.Opens.{Opens};
+    ghost use Rattle.reach_walk.specs.Scopes.{Sound, shown};
 
     /// A reach with no entry yet. It takes no memory.
     pub fn new(alloc: Global) -> Opening
-        ensures { (all : List Definition) → Opens result all [] }
+        ensures { (b : Book) (s : Scope) → Sound b s → Opens b s result [] }
     {
         Opening {
-            table: Table::new(alloc),
-            marked: Marked::new(alloc),
+            entered: Entered::new(alloc),
             told: Vec::new(alloc),
         }
     }
@@ -38,35 +41,93 @@ impl Opening {
         &mut self,
         alloc: Global,
         book: &Book,
+        around: &Scope,
         at: Pos,
         numbers: &[u32],
     ) -> Result<(), Memory>
-        ensures { (es : List Entry) → Opens self.old book.now.all.items es → OnOk result (Opens self.new book.now.all.items (es ++ entry at numbers.now ∷ [])) }
+        ensures { (es : List Entry) → Opens book.now around.now self.old es → OnOk result (Opens book.now around.now self.new (es ++ entry at numbers.now ∷ [])) }
     {
-        tell_numbers(alloc, book, &self.table, at, numbers, &mut self.told)?;
-        let (_, fresh) = split_known(&self.table, book, numbers);
-        add_numbers(alloc, &mut self.table, &mut self.marked, book, fresh)?;
+        tell_numbers(
+            alloc,
+            book,
+            around,
+            &self.entered.table,
+            at,
+            numbers,
+            &mut self.told,
+        )?;
+        self.entered.add_numbers(alloc, book, around, numbers)?;
         Ok(())
+    }
+
+    /// Enters what is seen around under a name, and elements that go along.
+    pub fn seize(
+        &mut self,
+        alloc: Global,
+        book: &Book,
+        around: &Scope,
+        name: &Identifier,
+        elements: &[u32],
+    ) -> Result<(), Memory>
+        ensures { (es : List Entry) → Opens book.now around.now self.old es → OnOk result (Opens book.now around.now self.new (es ++ entry name.now.at (shown book.now around.now name.now.spelling ++ elements.now) ∷ [])) }
+    {
+        tell_seized(
+            alloc,
+            book,
+            around,
+            &self.entered.table,
+            name,
+            &mut self.told,
+        )?;
+        tell_numbers(
+            alloc,
+            book,
+            around,
+            &self.entered.table,
+            name.at,
+            elements,
+            &mut self.told,
+        )?;
+        self.entered
+            .add_seized(alloc, book, around, &name.spelling)?;
+        self.entered.add_numbers(alloc, book, around, elements)?;
+        Ok(())
+    }
+
+    /// Enters definitions of a name again that are all there. They add nothing, and are told of once, if the name has more
+    /// than one definition.
+    pub fn enter_again(
+        &mut self,
+        alloc: Global,
+        name: &Identifier,
+        numbers: &[u32],
+    ) -> Result<(), Memory>
+        ensures { (b : Book) (s : Scope) (es : List Entry) → Opens b s self.old es → AreNamed b.all.items name.now.spelling numbers.now → AreIn numbers.now (numbers_of es) → OnOk result (Opens b s self.new (es ++ entry name.now.at numbers.now ∷ [])) }
+    {
+        tell_again(alloc, &self.entered.crowded, name, numbers, &mut self.told)
+    }
+
+    /// The same of definitions of these names.
+    pub fn enter_all_again(&mut self, alloc: Global, at: Pos, names: &Names) -> Result<(), Memory>
+        ensures { (b : Book) (s : Scope) (es : List Entry) (ds : List ℕ) → Opens b s self.old es → AreNames b.all.items ds names.now → AreIn ds (numbers_of es) → OnOk result (Opens b s self.new (es ++ entry at ds ∷ [])) }
+    {
+        tell_crowded(alloc, at, &self.entered.crowded, names, &mut self.told)
     }
 
     /// The table alone.
     pub fn into_table(self) -> Table
-        ensures { result ≡ self.table }
+        ensures { result ≡ self.entered.table }
     {
-        self.table
+        self.entered.table
     }
 
     /// The table, and N1 behind what was told before.
     pub fn close(self, out: &mut Vec<Diagnostic>) -> Result<Table, Memory>
-        ensures table { IfOk result (λ t. t ≡ self.table) }
+        ensures table { IfOk result (λ t. t ≡ self.entered.table) }
         ensures told { OnOk result (out.new.items ≡ out.old.items ++ self.told.items) }
     {
-        let Opening {
-            table,
-            mut told,
-            ..
-        } = self;
+        let Opening { entered, mut told } = self;
         out.append(&mut told)?;
-        Ok(table)
+        Ok(entered.table)
     }
 }

@@ -1,49 +1,33 @@
 // What passes the border of a modulion.
-ghost use Rattle.std.specs.Prelude.{◌≡◌, ◌++◌, ◌∷◌, [], OnOk, flat_map, Some, None, if◌then◌else◌};
+ghost use Rattle.std.specs.Prelude.{◌≡◌, ◌++◌, ◌∷◌, [], true, IfOk, OnOk, flat_map, if◌then◌else◌};
 ghost use Rattle.names_model.specs.Definitions.{spelling_at};
 ghost use Rattle.names_model.specs.Entries.{along, given_all, is_among, passed};
-ghost use Rattle.reach_walk.specs.Scopes.{told_by};
+ghost use Rattle.reach_walk.specs.Held.{had};
 
+use crate::asking::among;
 use crate::book::Book;
 use crate::entries::push_all;
-use crate::source::Source;
+use crate::table::Table;
 use chill_base::{Memory, Numbers};
 use names_model::Spelling;
 
-// A number, where it is among others.
-fn among(number: usize, numbers: &[u32]) -> Option<u32>
-    ensures { result ≡ (if is_among number numbers.now then Some number else None) }
+// Puts an element behind others, where the table has it.
+fn push_element(book: &Book, has: &Table, element: usize, out: &mut Numbers) -> Result<(), Memory>
+    ensures { OnOk result (out.new ≡ out.old ++ (if is_among element (had has.now (spelling_at book.now.all.items element)) then element ∷ [] else [])) }
 {
-    for other in numbers {
-        if *other as usize == number {
-            return Some(*other);
-        }
-    }
-    None
-}
-
-// Puts an element behind others, where the source tells of it.
-fn push_element(
-    book: &Book,
-    source: &Source,
-    element: usize,
-    out: &mut Numbers,
-) -> Result<(), Memory>
-    ensures { OnOk result (out.new ≡ out.old ++ (if is_among element (told_by source.now (spelling_at book.now.all.items element)) then element ∷ [] else [])) }
-{
-    if let Some(number) = among(element, source.find(book.spelling(element))) {
+    if let Some(number) = among(element, has.find(book.spelling(element)).before) {
         out.push(number)?;
     }
     Ok(())
 }
 
 /// The elements that go with a definition.
-fn push_along(book: &Book, source: &Source, number: u32, out: &mut Numbers) -> Result<(), Memory>
-    ensures { OnOk result (out.new ≡ out.old ++ along book.now.all.items (told_by source.now) number) }
+fn push_along(book: &Book, has: &Table, number: u32, out: &mut Numbers) -> Result<(), Memory>
+    ensures { OnOk result (out.new ≡ out.old ++ along book.now.all.items (had has.now) number) }
 {
     let first = number as usize + 1;
     for step in 0..book.elements(number) {
-        push_element(book, source, first + step as usize, out)?;
+        push_element(book, has, first + step as usize, out)?;
     }
     Ok(())
 }
@@ -51,31 +35,33 @@ fn push_along(book: &Book, source: &Source, number: u32, out: &mut Numbers) -> R
 // The elements that go with definitions.
 fn push_along_all(
     book: &Book,
-    source: &Source,
+    has: &Table,
     numbers: &[u32],
     out: &mut Numbers,
 ) -> Result<(), Memory>
-    ensures { OnOk result (out.new ≡ out.old ++ flat_map (along book.now.all.items (told_by source.now)) numbers.now) }
+    ensures { OnOk result (out.new ≡ out.old ++ flat_map (along book.now.all.items (had has.now)) numbers.now) }
 {
     for number in numbers {
-        push_along(book, source, *number, out)?;
+        push_along(book, has, *number, out)?;
     }
     Ok(())
 }
 
-/// What passes under a name, with the elements that go along.
+/// What passes under a name, with the elements that go along. It answers whether none does.
 pub fn push_passed(
     book: &Book,
-    source: &Source,
+    has: &Table,
     name: &Spelling,
     out: &mut Numbers,
-) -> Result<(), Memory>
-    ensures { OnOk result (out.new ≡ out.old ++ passed book.now.all.items (told_by source.now) name.now) }
+) -> Result<bool, Memory>
+    ensures passed { OnOk result (out.new ≡ out.old ++ passed book.now.all.items (had has.now) name.now) }
+    ensures alone { IfOk result (λ alone. alone ≡ true → flat_map (along book.now.all.items (had has.now)) (had has.now name.now) ≡ []) }
 {
-    let numbers = source.find(name);
+    let numbers = has.find(name).before;
     push_all(numbers, out)?;
-    push_along_all(book, source, numbers, out)?;
-    Ok(())
+    let count = out.len();
+    push_along_all(book, has, numbers, out)?;
+    Ok(out.len() == count)
 }
 
 /// What GRANT ALL gives; a region keeps its locations.
@@ -99,6 +85,6 @@ pub fn push_given_all(
 #[derive(Drop)]
 pub struct Giver<'a> {
     pub region: bool,
-    pub has: Source<'a>,
+    pub has: &'a Table,
     pub own: &'a [u32],
 }

@@ -9,16 +9,17 @@ ghost use Rattle.reach_walk.specs.Givens.{given_of, given_trees, givens};
 ghost use Rattle.reach_walk.specs.Offsets.{Fits, nodes_of};
 ghost use Rattle.reach_walk.specs.Opens.{Opens};
 ghost use Rattle.reach_walk.specs.Places.{singles};
-ghost use Rattle.reach_walk.specs.Scopes.{told_by};
+ghost use Rattle.reach_walk.specs.Scopes.{shown};
 
 use crate::book::Book;
 use crate::entries::own_entries;
 use crate::given::{Given, split_given};
-use crate::granted::{enter_given, enter_passed};
+use crate::granted::enter_given;
 use crate::offsets::size_of;
 use crate::opening::Opening;
 use crate::place::Place;
-use crate::source::Source;
+use crate::scope::Scope;
+use crate::seizing::enter_seized;
 use chill_base::Memory;
 use names_model::Part;
 use std::alloc::Global;
@@ -27,13 +28,14 @@ use std::alloc::Global;
 pub fn enter_places(
     alloc: Global,
     book: &Book,
+    around: &Scope,
     places: &[Place],
     out: &mut Opening,
 ) -> Result<(), Memory>
-    ensures { (es : List Entry) → Opens out.old book.now.all.items es → OnOk result (Opens out.new book.now.all.items (es ++ singles places.now)) }
+    ensures { (es : List Entry) → Opens book.now around.now out.old es → OnOk result (Opens book.now around.now out.new (es ++ singles places.now)) }
 {
     for place in places {
-        out.enter(alloc, book, place.at, &[place.number])?;
+        out.enter(alloc, book, around, place.at, &[place.number])?;
     }
     Ok(())
 }
@@ -43,14 +45,14 @@ pub fn enter_places(
 fn enter_taken(
     alloc: Global,
     book: &Book,
-    around: &Source,
+    around: &Scope,
     part: &Part,
     out: &mut Opening,
 ) -> Result<(), Memory>
-    ensures { (es : List Entry) → Opens out.old book.now.all.items es → OnOk result (Opens out.new book.now.all.items (es ++ seized_entries book.now.all.items (told_by around.now) (part_tree part.now))) }
+    ensures { (es : List Entry) → Opens book.now around.now out.old es → OnOk result (Opens book.now around.now out.new (es ++ seized_entries book.now.all.items (shown book.now around.now) (part_tree part.now))) }
 {
     match part {
-        Part::Seize(name) => enter_passed(alloc, book, around, name, out),
+        Part::Seize(name) => enter_seized(alloc, book, around, name, out),
         Part::Define(_)
         | Part::Mention(_)
         | Part::SeizeAll(_)
@@ -67,35 +69,35 @@ fn enter_taken(
 fn enter_part(
     alloc: Global,
     book: &Book,
-    around: &Source,
+    around: &Scope,
     given: &[Given],
     from: u32,
     part: &Part,
     places: &mut Vec<Place>,
     out: &mut Opening,
 ) -> Result<(), Memory>
-    ensures { from + size_of (part_tree part.now) < 2 ^ 32 → given_trees given.now ≡ given_of book.now.all.items from (part_tree part.now) → (es : List Entry) → Opens out.old book.now.all.items es → OnOk result (Opens out.new book.now.all.items (es ++ (own_entries from (part_tree part.now) ++ seized_entries book.now.all.items (told_by around.now) (part_tree part.now) ++ given_entries book.now.all.items from (part_tree part.now)))) }
+    ensures { from + size_of (part_tree part.now) < 2 ^ 32 → given_trees given.now ≡ given_of book.now.all.items from (part_tree part.now) → (es : List Entry) → Opens book.now around.now out.old es → OnOk result (Opens book.now around.now out.new (es ++ (own_entries from (part_tree part.now) ++ seized_entries book.now.all.items (shown book.now around.now) (part_tree part.now) ++ given_entries book.now.all.items from (part_tree part.now)))) }
 {
     places.clear();
     own_entries(from, part, places)?;
-    enter_places(alloc, book, places.as_slice(), out)?;
+    enter_places(alloc, book, around, places.as_slice(), out)?;
     enter_taken(alloc, book, around, part, out)?;
-    enter_given(alloc, book, given, part, out)?;
+    enter_given(alloc, book, around, given, part, out)?;
     Ok(())
 }
 
-/// Enters into a reach in the order of the text: what it defines, what it seizes by name from the source around it, and what
+/// Enters into a reach in the order of the text: what it defines, what it seizes by name from around it, and what
 /// its modulions give.
 pub fn enter_parts(
     alloc: Global,
     book: &Book,
-    around: &Source,
+    around: &Scope,
     given: &[Given],
     from: u32,
     parts: &[Part],
     out: &mut Opening,
 ) -> Result<(), Memory>
-    ensures { Fits from (nodes_of parts.now) → given_trees given.now ≡ givens book.now.all.items from (nodes_of parts.now) → (es : List Entry) → Opens out.old book.now.all.items es → OnOk result (Opens out.new book.now.all.items (es ++ entries_in book.now.all.items (told_by around.now) from (nodes_of parts.now))) }
+    ensures { Fits from (nodes_of parts.now) → given_trees given.now ≡ givens book.now.all.items from (nodes_of parts.now) → (es : List Entry) → Opens book.now around.now out.old es → OnOk result (Opens book.now around.now out.new (es ++ entries_in book.now.all.items (shown book.now around.now) from (nodes_of parts.now))) }
 {
     let mut places = Vec::new(alloc);
     let mut next = from;

@@ -1,11 +1,12 @@
 // One program of two modulions: what is found of it was written by hand.
 use crate::{Book, Findings, find_in_program};
 use chill_base::{Item, List, Memory, Pos, Rule, Text};
+use group_dependence::Target;
 use names_model::{Clause, Identifier, Kind, Mention, Need, Part, Spelling};
 use std::alloc::Global;
 use std::test::Fail;
 
-fn identifier(alloc: Global, line: u32, name: &str) -> Result<Identifier, Memory> {
+pub fn identifier(alloc: Global, line: u32, name: &str) -> Result<Identifier, Memory> {
     Ok(Identifier {
         at: Pos { line, column: 1 },
         spelling: Spelling::from_bytes(alloc, name.as_bytes())?,
@@ -19,22 +20,28 @@ fn mentioned(alloc: Global, line: u32, name: &str, need: Need) -> Result<Part, M
     }))
 }
 
-fn location(alloc: Global, line: u32, name: &str) -> Result<Part, Memory> {
+pub fn defined(
+    alloc: Global,
+    line: u32,
+    kind: Kind,
+    name: &str,
+    used: &str,
+) -> Result<Part, Memory> {
     let mut names = List::new(alloc);
     names.push(identifier(alloc, line, name)?)?;
     let mut text = List::new(alloc);
     text.push(Mention::Use {
-        name: identifier(alloc, line, "INT")?,
+        name: identifier(alloc, line, used)?,
         need: Need::Mode,
     })?;
-    Ok(Part::Define(Clause {
-        kind: Kind::Location,
-        names,
-        text,
-    }))
+    Ok(Part::Define(Clause { kind, names, text }))
 }
 
-fn modulion(
+pub fn location(alloc: Global, line: u32, name: &str) -> Result<Part, Memory> {
+    defined(alloc, line, Kind::Location, name, "INT")
+}
+
+pub fn modulion(
     alloc: Global,
     line: u32,
     name: &str,
@@ -72,11 +79,7 @@ fn program(alloc: Global) -> Result<List<Part>, Memory> {
 fn found(alloc: Global) -> Result<Findings, Memory> {
     let parts = program(alloc)?;
     let book = Book::of(alloc, parts.as_slice())?;
-    let mut out = Findings {
-        told: Vec::new(alloc),
-        groups: Vec::new(alloc),
-        uses: Vec::new(alloc),
-    };
+    let mut out = Findings::new(alloc);
     find_in_program(alloc, &book, &parts, &mut out)?;
     Ok(out)
 }
@@ -123,7 +126,7 @@ fn locations_depend_on_their_modes(rt: HostRuntime) -> Result<(), Fail> {
     assert_eq!(rt; groups.len(), wanted.len());
     for (group, (from, to)) in groups.iter().zip(wanted.iter()) {
         assert!(rt; group.from.as_slice() == [*from].as_slice());
-        assert!(rt; group.to.as_slice() == [*to].as_slice());
+        assert!(rt; group.to.as_slice() == [Target::Node(*to)].as_slice());
     }
     Ok(())
 }

@@ -1,30 +1,64 @@
 // Second entries of a name in one reach, for another definition.
-ghost use Rattle.std.specs.Prelude.{◌≡◌, ◌++◌, List, IfOk, OnOk, flat_map};
+ghost use Rattle.std.specs.Prelude.{◌≡◌, ◌++◌, ◌∷◌, [], ◌||◌, ◌&&◌, ℕ, not, List, IfOk, OnOk, flat_map, if◌then◌else◌};
+ghost use Rattle.std.specs.Str.{bytes_eq};
+ghost use Rattle.chill_base.specs.declared.rule.Rule.TheVariants as rules;
 ghost use Rattle.rule_lists.specs.Listing.{SameMembers};
+ghost use Rattle.names_model.specs.declared.definition.Definition.{Definition};
 ghost use Rattle.names_model.specs.declared.entry.Entry.{Entry};
 ghost use Rattle.names_model.specs.Entries.{numbers_of};
-ghost use Rattle.names_model.specs.NameRules.{told_number};
+ghost use Rattle.names_model.specs.NameRules.{tell, told_number};
+ghost use Rattle.names_model.specs.Seeing.{is_empty};
 ghost use Rattle.reach_walk.specs.Held.{held};
-ghost use Rattle.reach_walk.specs.Scopes.{Holds};
-ghost use Rattle.reach_walk.specs.Tellings.{IsTold, Tells, is_another_among, is_last};
+ghost use Rattle.reach_walk.specs.Marks.{is_named};
+ghost use Rattle.reach_walk.specs.Scopes.{Kept, Opened, Sound, shown};
+ghost use Rattle.reach_walk.specs.Tellings.{IsTold, Tells, clashes_any, is_another_among, is_last};
 
+use crate::asked::Asked;
+use crate::asking::own_meets;
 use crate::book::Book;
+use crate::names::Names;
+use crate::scope::{Scope, first_shown, shows_any};
 use crate::table::Table;
 use crate::told::push_told;
 use chill_base::{Diagnostic, Memory, Pos, Rule};
-use names_model::Spelling;
+use names_model::{Identifier, Spelling};
 use std::alloc::Global;
 
-// Whether the table has another number than this one under a name. It has no number twice, so one of the first two tells.
-fn is_another_under(table: &Table, name: &Spelling, number: u32) -> bool
-    ensures { result ≡ is_another_among number (held table.now name.now) }
+/// Whether a reach that is being opened has another number than this one under a name.
+pub fn is_another_under(
+    book: &Book,
+    around: &Scope,
+    table: &Table,
+    name: &Spelling,
+    number: u32,
+) -> bool
+    ensures { Sound book.now around.now → Kept (shown book.now around.now) table.now book.now.all.items → result ≡ is_another_among number (held (shown book.now around.now) table.now name.now) }
 {
-    for other in table.find(name) {
-        if *other != number {
-            return true;
+    let asked = Asked::IsOther(number);
+    let held = table.find(name);
+    own_meets(book, asked, &held) || (held.seized && shows_any(book, around, name, asked))
+}
+
+// Whether a reach that is being opened has another number under a name than one of those that are seen around. The first of
+// these tells, where the reach has another than it; where the reach has it alone, another one that is seen around tells.
+fn is_seized_twice(book: &Book, around: &Scope, table: &Table, name: &Spelling) -> bool
+    ensures { Sound book.now around.now → Kept (shown book.now around.now) table.now book.now.all.items → result ≡ clashes_any (shown book.now around.now name.now) (held (shown book.now around.now) table.now name.now) }
+{
+    match first_shown(book, around, name) {
+        Some(first) => {
+            is_another_under(book, around, table, name, first)
+                || (has_any(table, name) && shows_any(book, around, name, Asked::IsOther(first)))
         }
+        None => false,
     }
-    false
+}
+
+// Whether a reach that is being opened has a definition of a name.
+fn has_any(table: &Table, name: &Spelling) -> bool
+    ensures { (around : List ℕ → List ℕ) (all : List Definition) → Kept around table.now all → result ≡ not (is_empty (held around table.now name.now)) }
+{
+    let held = table.find(name);
+    held.seized || !held.before.is_empty()
 }
 
 // Whether a number has the name of the one that was told of last.
@@ -42,19 +76,20 @@ fn is_last(book: &Book, last: Option<u32>, number: u32) -> bool
 fn tell_number(
     alloc: Global,
     book: &Book,
+    around: &Scope,
     table: &Table,
     at: Pos,
     last: Option<u32>,
     number: u32,
     out: &mut Vec<Diagnostic>,
 ) -> Result<Option<u32>, Memory>
-    ensures { (es : List Entry) → Holds table.now book.now.all.items es → IsTold book.now.all.items at out.old.items last → IfOk result (Tells book.now.all.items at (numbers_of es) number out.old.items out.new.items) }
+    ensures { (es : List Entry) → Sound book.now around.now → Opened book.now around.now table.now es → IsTold book.now.all.items at out.old.items last → IfOk result (Tells book.now.all.items at (numbers_of es) number out.old.items out.new.items) }
 {
     if is_last(book, last, number) {
         return Ok(last);
     }
     let name = book.spelling(number as usize);
-    if !is_another_under(table, name, number) {
+    if !is_another_under(book, around, table, name, number) {
         return Ok(last);
     }
     push_told(alloc, at, Rule::N1, name, out)?;
@@ -65,16 +100,86 @@ fn tell_number(
 pub fn tell_numbers(
     alloc: Global,
     book: &Book,
+    around: &Scope,
     table: &Table,
     at: Pos,
     numbers: &[u32],
     out: &mut Vec<Diagnostic>,
 ) -> Result<(), Memory>
-    ensures { (es : List Entry) → Holds table.now book.now.all.items es → OnOk result (SameMembers out.new.items (out.old.items ++ flat_map (told_number book.now.all.items (numbers_of es) at) numbers.now)) }
+    ensures { (es : List Entry) → Sound book.now around.now → Opened book.now around.now table.now es → OnOk result (SameMembers out.new.items (out.old.items ++ flat_map (told_number book.now.all.items (numbers_of es) at) numbers.now)) }
 {
     let mut last = None;
     for number in numbers {
-        last = tell_number(alloc, book, table, at, last, *number, out)?;
+        last = tell_number(alloc, book, around, table, at, last, *number, out)?;
+    }
+    Ok(())
+}
+
+/// Tells of the numbers that are seen around under a name, once for all of them.
+pub fn tell_seized(
+    alloc: Global,
+    book: &Book,
+    around: &Scope,
+    table: &Table,
+    name: &Identifier,
+    out: &mut Vec<Diagnostic>,
+) -> Result<(), Memory>
+    ensures { (es : List Entry) → Sound book.now around.now → Opened book.now around.now table.now es → OnOk result (SameMembers out.new.items (out.old.items ++ flat_map (told_number book.now.all.items (numbers_of es) name.now.at) (shown book.now around.now name.now.spelling))) }
+{
+    if is_seized_twice(book, around, table, &name.spelling) {
+        push_told(alloc, name.at, Rule::N1, &name.spelling, out)?;
+    }
+    Ok(())
+}
+
+/// Notes that a name has more than one definition, if it has another one than this.
+pub fn note_crowded(
+    alloc: Global,
+    book: &Book,
+    around: &Scope,
+    table: &Table,
+    name: &Spelling,
+    number: u32,
+    out: &mut Names,
+) -> Result<(), Memory>
+    ensures { Sound book.now around.now → Kept (shown book.now around.now) table.now book.now.all.items → OnOk result ((n : List ℕ) → is_named out.new n ≡ (is_named out.old n || (bytes_eq name.now n && is_another_among number (held (shown book.now around.now) table.now name.now)))) }
+{
+    if is_another_under(book, around, table, name, number) {
+        out.insert(alloc, name)?;
+    }
+    Ok(())
+}
+
+/// Tells of definitions of a name that are there already, if the name has more than one definition.
+pub fn tell_again(
+    alloc: Global,
+    crowded: &Names,
+    name: &Identifier,
+    numbers: &[u32],
+    out: &mut Vec<Diagnostic>,
+) -> Result<(), Memory>
+    ensures { OnOk result (out.new.items ≡ out.old.items ++ (if (not (is_empty numbers.now) && is_named crowded.now name.now.spelling) then tell name.now.at rules.N1 name.now.spelling ∷ [] else [])) }
+{
+    if !numbers.is_empty() && crowded.contains(&name.spelling) {
+        push_told(alloc, name.at, Rule::N1, &name.spelling, out)?;
+    }
+    Ok(())
+}
+
+/// Tells of the names that have more than one definition and are among some others.
+pub fn tell_crowded(
+    alloc: Global,
+    at: Pos,
+    crowded: &Names,
+    names: &Names,
+    out: &mut Vec<Diagnostic>,
+) -> Result<(), Memory>
+    ensures { OnOk result (out.new.items ≡ out.old.items ++ flat_map (λ n. if is_named names.now n then tell at rules.N1 n ∷ [] else []) crowded.now) }
+{
+    for name in crowded.as_slice() {
+        if names.contains(name) {
+            push_told(alloc, at, Rule::N1, name, out)?;
+        }
     }
     Ok(())
 }

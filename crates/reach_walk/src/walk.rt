@@ -12,40 +12,41 @@ ghost use Rattle.reach_walk.specs.Givens.{given_of, given_trees, givens};
 ghost use Rattle.reach_walk.specs.Findings.{AddsInside, AddsNodes, AddsReach};
 ghost use Rattle.reach_walk.specs.Offsets.{Fits, FitsInside, nodes_of};
 ghost use Rattle.reach_walk.specs.Places.{singles};
-ghost use Rattle.reach_walk.specs.Scopes.{Holds, Shows, shown, told_by};
+ghost use Rattle.reach_walk.specs.Scopes.{Opened, Shows, Sound, shown};
+ghost use Rattle.reach_walk.specs.declared.scope.Scope.{Outside};
 
 use crate::book::Book;
 use crate::entries::enter_params;
 use crate::findings::{Findings, note_here};
 use crate::given::{Given, lent_inner, split_given};
 use crate::giving::givens_of;
+use crate::lists::list_own;
 use crate::offsets::{head_size, size_of};
 use crate::opening::Opening;
 use crate::place::Place;
 use crate::reached::{enter_parts, enter_places, seizes_all};
 use crate::scope::Scope;
-use crate::source::Source;
 use crate::table::Table;
 use chill_base::{Diagnostic, List, Memory};
 use names_model::{Clause, Part};
 use std::alloc::Global;
 
-/// The table of a reach with a head, and N1 of it.
+/// The table of a reach with a head, which is opened in a scope, and N1 of it.
 fn open_reach(
     alloc: Global,
     book: &Book,
-    around: &Source,
+    around: &Scope,
     head: &[Place],
     given: &[Given],
     from: u32,
     parts: &[Part],
     out: &mut Vec<Diagnostic>,
 ) -> Result<Table, Memory>
-    ensures table { Fits from (nodes_of parts.now) → given_trees given.now ≡ givens book.now.all.items from (nodes_of parts.now) → IfOk result (λ t. Holds t book.now.all.items (singles head.now ++ entries_in book.now.all.items (told_by around.now) from (nodes_of parts.now))) }
-    ensures told { Fits from (nodes_of parts.now) → given_trees given.now ≡ givens book.now.all.items from (nodes_of parts.now) → OnOk result (SameMembers out.new.items (out.old.items ++ told_behind book.now.all.items [] (singles head.now ++ entries_in book.now.all.items (told_by around.now) from (nodes_of parts.now)))) }
+    ensures table { Sound book.now around.now → Fits from (nodes_of parts.now) → given_trees given.now ≡ givens book.now.all.items from (nodes_of parts.now) → IfOk result (λ t. Opened book.now around.now t (singles head.now ++ entries_in book.now.all.items (shown book.now around.now) from (nodes_of parts.now))) }
+    ensures told { Sound book.now around.now → Fits from (nodes_of parts.now) → given_trees given.now ≡ givens book.now.all.items from (nodes_of parts.now) → OnOk result (SameMembers out.new.items (out.old.items ++ told_behind book.now.all.items [] (singles head.now ++ entries_in book.now.all.items (shown book.now around.now) from (nodes_of parts.now)))) }
 {
     let mut opening = Opening::new(alloc);
-    enter_places(alloc, book, head, &mut opening)?;
+    enter_places(alloc, book, around, head, &mut opening)?;
     enter_parts(alloc, book, around, given, from, parts, &mut opening)?;
     opening.close(out)
 }
@@ -59,24 +60,6 @@ fn params_of(alloc: Global, from: u32, params: &List<Clause>) -> Result<Vec<Plac
     Ok(head)
 }
 
-// The same of a reach inside another.
-fn open_inner<'a>(
-    alloc: Global,
-    book: &'a Book,
-    scope: &'a Scope<'a>,
-    head: &[Place],
-    given: &[Given],
-    from: u32,
-    parts: &[Part],
-    out: &mut Vec<Diagnostic>,
-) -> Result<Table, Memory>
-    ensures table { Fits from (nodes_of parts.now) → given_trees given.now ≡ givens book.now.all.items from (nodes_of parts.now) → IfOk result (λ t. Holds t book.now.all.items (singles head.now ++ entries_in book.now.all.items (shown book.now scope.now) from (nodes_of parts.now))) }
-    ensures told { Fits from (nodes_of parts.now) → given_trees given.now ≡ givens book.now.all.items from (nodes_of parts.now) → OnOk result (SameMembers out.new.items (out.old.items ++ told_behind book.now.all.items [] (singles head.now ++ entries_in book.now.all.items (shown book.now scope.now) from (nodes_of parts.now)))) }
-{
-    let around = Source::Around { book, scope };
-    open_reach(alloc, book, &around, head, given, from, parts, out)
-}
-
 /// Finds what there is in the parts of a reach and in those inside it.
 #[cycle(walk)]
 fn walk<'a>(
@@ -88,7 +71,7 @@ fn walk<'a>(
     given: &[Given],
     out: &mut Findings,
 ) -> Result<(), Memory>
-    ensures { (text : List Definition) (r : Reach) → Shows book.now scope.now text r → Fits from (nodes_of parts.now) → given_trees given.now ≡ givens book.now.all.items from (nodes_of parts.now) → OnOk result (AddsNodes out.old out.new text (nodes r from (nodes_of parts.now))) }
+    ensures { (text : List Definition) (r : Reach) → Shows book.now scope.now text r → Fits from (nodes_of parts.now) → given_trees given.now ≡ givens book.now.all.items from (nodes_of parts.now) → OnOk result (AddsNodes scope.now out.old out.new text (nodes r from (nodes_of parts.now))) }
 {
     let mut next = from;
     let mut left = given;
@@ -114,7 +97,7 @@ fn walk_inside<'a>(
     given: &[Given],
     out: &mut Findings,
 ) -> Result<(), Memory>
-    ensures { (text : List Definition) (r : Reach) → Shows book.now scope.now text r → from + size_of (part_tree part.now) < 2 ^ 32 → FitsInside from (part_tree part.now) → given_trees given.now ≡ given_of book.now.all.items from (part_tree part.now) → OnOk result (AddsInside out.old out.new text r from (part_tree part.now)) }
+    ensures { (text : List Definition) (r : Reach) → Shows book.now scope.now text r → from + size_of (part_tree part.now) < 2 ^ 32 → FitsInside from (part_tree part.now) → given_trees given.now ≡ given_of book.now.all.items from (part_tree part.now) → OnOk result (AddsInside scope.now out.old out.new text r from (part_tree part.now)) }
 {
     match part {
         Part::Modulion { parts, .. } => {
@@ -161,14 +144,16 @@ fn walk_modulion<'a>(
     given: &[Given],
     out: &mut Findings,
 ) -> Result<(), Memory>
-    ensures { (text : List Definition) (r : Reach) → Shows book.now scope.now text r → Fits from (nodes_of parts.now) → given_trees given.now ≡ givens book.now.all.items from (nodes_of parts.now) → OnOk result (AddsReach out.old out.new text (in_modulion r from (nodes_of parts.now)) from (nodes_of parts.now)) }
+    ensures { (text : List Definition) (r : Reach) → Shows book.now scope.now text r → Fits from (nodes_of parts.now) → given_trees given.now ≡ givens book.now.all.items from (nodes_of parts.now) → OnOk result (AddsReach scope.now out.old out.new text (in_modulion r from (nodes_of parts.now)) from (nodes_of parts.now)) }
 {
     let parts = parts.as_slice();
-    let table = open_inner(alloc, book, scope, &[], given, from, parts, &mut out.told)?;
-    let inner = Scope::Modulion {
+    let table = open_reach(alloc, book, scope, &[], given, from, parts, &mut out.told)?;
+    let places = list_own(alloc, book, &table, &mut out.lists)?;
+    let inner = Scope::Reach {
         table,
         takes_all: seizes_all(parts),
         outer: scope,
+        places,
     };
     walk(alloc, &*book, &inner, from, parts, given, out)?;
     Ok(())
@@ -185,15 +170,18 @@ fn walk_block<'a>(
     parts: &List<Part>,
     out: &mut Findings,
 ) -> Result<(), Memory>
-    ensures { (text : List Definition) (r : Reach) → Shows book.now scope.now text r → Fits from (nodes_of parts.now) → OnOk result (AddsReach out.old out.new text (in_block r (singles head.now) from (nodes_of parts.now)) from (nodes_of parts.now)) }
+    ensures { (text : List Definition) (r : Reach) → Shows book.now scope.now text r → Fits from (nodes_of parts.now) → OnOk result (AddsReach scope.now out.old out.new text (in_block r (singles head.now) from (nodes_of parts.now)) from (nodes_of parts.now)) }
 {
     let parts = parts.as_slice();
     let made = givens_of(alloc, book, from, parts)?;
     let given = made.as_slice();
-    let table = open_inner(alloc, book, scope, head, given, from, parts, &mut out.told)?;
-    let inner = Scope::Block {
+    let table = open_reach(alloc, book, scope, head, given, from, parts, &mut out.told)?;
+    let places = list_own(alloc, book, &table, &mut out.lists)?;
+    let inner = Scope::Reach {
         table,
+        takes_all: true,
         outer: scope,
+        places,
     };
     walk(alloc, &*book, &inner, from, parts, given, out)?;
     Ok(())
@@ -207,22 +195,20 @@ pub fn find_in_program(
     parts: &List<Part>,
     out: &mut Findings,
 ) -> Result<(), Memory>
-    ensures { (text : List Definition) → Keeps book.now text → Fits 0 (nodes_of parts.now) → OnOk result (AddsReach out.old out.new text (outermost (nodes_of parts.now)) 0 (nodes_of parts.now)) }
+    ensures { (text : List Definition) → Keeps book.now text → Fits 0 (nodes_of parts.now) → OnOk result (AddsReach Outside out.old out.new text (outermost (nodes_of parts.now)) 0 (nodes_of parts.now)) }
 {
     let parts = parts.as_slice();
     let made = givens_of(alloc, book, 0, parts)?;
     let given = made.as_slice();
-    let table = open_reach(
-        alloc,
-        book,
-        &Source::Nothing,
-        &[],
-        given,
-        0,
-        parts,
-        &mut out.told,
-    )?;
-    let scope = Scope::Outermost { table };
+    let outside = Scope::Outside;
+    let table = open_reach(alloc, book, &outside, &[], given, 0, parts, &mut out.told)?;
+    let places = list_own(alloc, book, &table, &mut out.lists)?;
+    let scope = Scope::Reach {
+        table,
+        takes_all: false,
+        outer: &outside,
+        places,
+    };
     walk(alloc, book, &scope, 0, parts, given, out)?;
     Ok(())
 }

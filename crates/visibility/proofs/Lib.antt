@@ -1,3 +1,4 @@
 pub mod FoundParts
+pub mod LocationSteps
 pub mod Phase
 pub mod SelfSteps

@@ -16,9 +16,9 @@ pub returns-in-Some : goal.returns-in-Some
 returns-in-Some c =
     let text = c.args.text.now in let base = c.in-Some.base in
     let some : begins_numeral base (drop 2 text) ≡ true = ap (begins_numeral base) (sym (take_rest text 2)) ∙ sym c.begins_numeral.ensures ∙ c.if-begins_numeral.true in
-    subst (λ (o : Option (Piece × ℕ)). IfOk c.put_found.result (λ length. IsPut c.args.at o c.args.tokens.now.items c.put_found.new.tokens.items length))
-    (c.based.ensures ∙ ap (λ (xs : List ℕ). limited (digits_at base xs)) (take_rest text 2) ∙ ap limited (based_digited base text c.if-mark-ne39.false some)
-    ∙ ap (λ (o : Option ℕ). limited (based_at o text)) (sym c.in-Some.is ∙ c.base_of.ensures)) c.put_found.ensures
+    subst (λ (o : Option (Piece × ℕ)). IsPut c.args.at o c.args.tokens.now.items c.put_based.new.tokens.items c.put_based.result)
+    (ap (λ (xs : List ℕ). limited (digits_at base xs)) (take_rest text 2) ∙ ap limited (based_digited base text c.if-mark-ne39.false some)
+    ∙ ap (λ (o : Option ℕ). limited (based_at o text)) (sym c.in-Some.is ∙ c.base_of.ensures)) c.put_based.ensures
 
 no_base : (c : goal.After-name-in_default-base_of) → name_at c.args.text.now ≡ based_at (base_of (get_or c.args.text.now 0 0)) c.args.text.now
 no_base c =

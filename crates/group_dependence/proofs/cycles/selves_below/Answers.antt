@@ -1,4 +1,4 @@
-use Rattle.std.proofs.Common.{◌≡◌, ℕ, ◌+◌, ◌<◌, ◌↔◌, Bool, List, ◌∙◌, sym, subst, length}
+use Rattle.std.proofs.Common.{ℕ, ◌+◌, ◌<◌, ◌↔◌, Bool, List, ◌∙◌, sym, subst, length}
 use Rattle.self_dependence.specs.declared.edge.Edge.{Edge}
 use Rattle.self_dependence.specs.Depends.{EndsBelow, IsSet, Depends}
 use Rattle.group_dependence.specs.Groups.{edges_of}

@@ -1,6 +1,6 @@
-use Rattle.std.proofs.Common.{◌≡◌, ℕ, ◌<◌, ◌≤◌, arith, refl, sym, subst, get_or}
+use Rattle.std.proofs.Common.{◌≤◌, arith, subst}
 use Rattle.std.specs.List.{All}
-use Rattle.group_dependence.proofs.Bounds.{IsLow, one_more_low, lie_below}
+use Rattle.group_dependence.proofs.Bounds.{one_more_low, lie_below}
 use Rattle.group_dependence.proofs.stars.bound.Goals as goal
 
 pub loop-group-preserved : goal.loop-group-preserved

@@ -1,4 +1,4 @@
-use Rattle.std.proofs.Common.{◌≡◌, ℕ, ◌≤◌, take}
+use Rattle.std.proofs.Common.{take}
 use Rattle.std.specs.List.{All}
 use Rattle.group_dependence.proofs.Bounds.{IsLow}
 use Rattle.group_dependence.proofs.stars.bound.Given as goal

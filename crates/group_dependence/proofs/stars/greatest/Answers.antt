@@ -1,4 +1,4 @@
-use Rattle.std.proofs.Common.{◌≡◌, ℕ, ◌<◌, ◌≤◌, arith, refl, get_or}
+use Rattle.std.proofs.Common.{arith}
 use Rattle.group_dependence.proofs.Bounds.{more_low, all_low}
 use Rattle.group_dependence.proofs.stars.greatest.Goals as goal
 use Rattle.group_dependence.proofs.stars.greatest.Goals.{then-number-greatest, else-number-greatest}

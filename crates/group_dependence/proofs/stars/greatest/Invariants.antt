@@ -1,4 +1,4 @@
-use Rattle.std.proofs.Common.{◌≡◌, ℕ, ◌<◌, ◌≤◌, All, take}
+use Rattle.std.proofs.Common.{◌≤◌, All, take}
 use Rattle.group_dependence.proofs.stars.greatest.Given as goal
 
 -- the greatest so far

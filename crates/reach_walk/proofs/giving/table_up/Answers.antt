@@ -1,12 +1,10 @@
-use Rattle.std.proofs.Common.{[], subst, sym}
-use Rattle.names_model.specs.Entries.{up_entries}
-use Rattle.reach_walk.specs.Held.{Holdings}
-use Rattle.reach_walk.specs.Offsets.{nodes_of}
-use Rattle.reach_walk.specs.Scopes.{Holds}
+use Rattle.std.proofs.Common.{[], ◌∙◌, ap, sym}
+use Rattle.reach_walk.specs.Held.{Holdings, had}
+use Rattle.reach_walk.specs.declared.scope.Scope.{Outside}
+use Rattle.reach_walk.proofs.Beginning.{had-alone}
 use Rattle.reach_walk.proofs.giving.table_up.Goals as goal
 
 pub returns : goal.returns
-returns c = λ h g.
-    let all = c.args.book.now.all.items in
-    let opens = c.in_ok-enter_up.ensures h g [] (c.new-opening.ensures all) in
-    subst (λ (t : Holdings). Holds t all (up_entries all c.args.from (nodes_of c.args.parts.now))) (sym c.into_table.ensures) opens.table
+returns c = λ h g n.
+    let opens = c.in_ok-enter_up.ensures h g [] (c.new-opening.ensures c.args.book.now Outside tt) in
+    ap (λ (t : Holdings). had t n) c.into_table.ensures ∙ sym (had-alone c.args.book.now.all.items _ n opens.tended.kept) ∙ opens.holds.by n

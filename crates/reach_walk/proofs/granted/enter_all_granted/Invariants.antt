@@ -3,10 +3,12 @@ use Rattle.std.specs.Prelude.{flat_map}
 use Rattle.names_model.specs.declared.entry.Entry.{Entry}
 use Rattle.names_model.specs.Parts.{parts_in}
 use Rattle.names_model.specs.Entries.{granted_entries}
+use Rattle.reach_walk.specs.Grants.{Giving}
+use Rattle.reach_walk.specs.Held.{had}
 use Rattle.reach_walk.specs.Offsets.{nodes_of}
-use Rattle.reach_walk.specs.Opens.{Opens, Entering}
-use Rattle.reach_walk.specs.Scopes.{told_by}
+use Rattle.reach_walk.specs.Opens.{Opens}
+use Rattle.reach_walk.specs.Scopes.{Orderly}
 use Rattle.reach_walk.proofs.granted.enter_all_granted.Given as goal
 
 abbrev pub invariant-loop-part : goal.invariant-loop-part
-invariant-loop-part l = (es : List Entry) → Opens l.fn.out l.book.all.items es → Entering l.out l.book.all.items es (flat_map (granted_entries l.book.all.items l.giver.region (told_by l.giver.has) l.giver.own.now) (parts_in (nodes_of (drop l.part-index l.parts)))) (flat_map (granted_entries l.book.all.items l.giver.region (told_by l.giver.has) l.giver.own.now) (parts_in (nodes_of l.parts)))
+invariant-loop-part l = Orderly l.book.all.items (had l.giver.has.now) → (es : List Entry) → Opens l.book l.around l.fn.out es → Giving l.book l.around l.giver l.grants l.out es (flat_map (granted_entries l.book.all.items l.giver.region (had l.giver.has.now) l.giver.own.now) (parts_in (nodes_of (drop l.part-index l.parts)))) (flat_map (granted_entries l.book.all.items l.giver.region (had l.giver.has.now) l.giver.own.now) (parts_in (nodes_of l.parts)))

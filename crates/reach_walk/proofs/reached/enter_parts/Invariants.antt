@@ -4,12 +4,12 @@ use Rattle.names_model.specs.Seeing.{entries_in}
 use Rattle.reach_walk.specs.Givens.{given_trees, givens}
 use Rattle.reach_walk.specs.Offsets.{Fits, nodes_of}
 use Rattle.reach_walk.specs.Opens.{Opens, Entering}
-use Rattle.reach_walk.specs.Scopes.{told_by}
+use Rattle.reach_walk.specs.Scopes.{shown}
 use Rattle.reach_walk.proofs.reached.enter_parts.Given as goal
 
 abbrev pub invariant-loop-part : goal.invariant-loop-part
-invariant-loop-part l = Fits l.fn.from (nodes_of l.fn.parts) → given_trees l.fn.given ≡ givens l.book.all.items l.fn.from (nodes_of l.fn.parts) → (es : List Entry) → Opens l.fn.out l.book.all.items es → record {
+invariant-loop-part l = Fits l.fn.from (nodes_of l.fn.parts) → given_trees l.fn.given ≡ givens l.book.all.items l.fn.from (nodes_of l.fn.parts) → (es : List Entry) → Opens l.book l.around l.fn.out es → record {
   fits : Fits l.next (nodes_of (drop l.part-index l.parts));
   left : given_trees l.left ≡ givens l.book.all.items l.next (nodes_of (drop l.part-index l.parts));
-  entering : Entering l.out l.book.all.items es (entries_in l.book.all.items (told_by l.around) l.next (nodes_of (drop l.part-index l.parts))) (entries_in l.book.all.items (told_by l.around) l.fn.from (nodes_of l.fn.parts));
+  entering : Entering l.book l.around l.out es (entries_in l.book.all.items (shown l.book l.around) l.next (nodes_of (drop l.part-index l.parts))) (entries_in l.book.all.items (shown l.book l.around) l.fn.from (nodes_of l.fn.parts));
 }

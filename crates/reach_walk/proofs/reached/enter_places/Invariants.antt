@@ -5,4 +5,4 @@ use Rattle.reach_walk.specs.Places.{singles}
 use Rattle.reach_walk.proofs.reached.enter_places.Given as goal
 
 abbrev pub invariant-loop-place : goal.invariant-loop-place
-invariant-loop-place l = (es : List Entry) → Opens l.fn.out l.book.all.items es → Opens l.out l.book.all.items (es ++ singles (take l.place-index l.places))
+invariant-loop-place l = (es : List Entry) → Opens l.book l.around l.fn.out es → Opens l.book l.around l.out (es ++ singles (take l.place-index l.places))

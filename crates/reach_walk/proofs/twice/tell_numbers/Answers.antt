@@ -4,15 +4,15 @@ use Rattle.reach_walk.proofs.Telling.{told-on, told-end}
 use Rattle.reach_walk.proofs.twice.tell_numbers.Goals as goal
 
 pub loop-number-preserved : goal.loop-number-preserved
-loop-number-preserved c = λ es k.
-    let i = c.loop-number.invariant es k in
-    let t = c.in_ok-last.ensures es k i.last in
+loop-number-preserved c = λ es s o.
+    let i = c.loop-number.invariant es s o in
+    let t = c.in_ok-last.ensures es s o i.last in
     record {
       last = t.last;
       told = told-on (told_number c.args.book.now.all.items (numbers_of es) c.args.at) c.args.numbers.now c.loop-number.number-index _ _ _ c.loop-number-test.true i.told t.told;
     }
 
 pub returns : goal.returns
-returns c = λ es k.
-    let i = c.loop-number.invariant es k in
+returns c = λ es s o.
+    let i = c.loop-number.invariant es s o in
     told-end (told_number c.args.book.now.all.items (numbers_of es) c.args.at) c.args.numbers.now c.loop-number.number-index _ _ c.loop-number-test.false i.told

@@ -1,0 +1,83 @@
+// Lists of the definitions that a reach enters itself, to which many uses point.
+ghost use Rattle.std.specs.Prelude.{IfOk, OnOk};
+ghost use Rattle.reach_walk.specs.Placed.{Includes, Listed};
+
+use crate::book::Book;
+use crate::entries::push_all;
+use crate::holding::Held;
+use crate::places::Places;
+use crate::table::Table;
+use chill_base::{Memory, Numbers};
+use names_model::{Kind, Spelling};
+use std::alloc::Global;
+
+// Puts what a table has of its own under a name behind other lists, and notes where it stands. Past the `u32` numbers there
+// is no place for it, and uses name the definitions one by one.
+fn put_list(
+    alloc: Global,
+    table: &Table,
+    name: &Spelling,
+    lists: &mut Vec<Numbers>,
+    places: &mut Places,
+) -> Result<(), Memory>
+    ensures listed { Listed lists.old.items table.now places.old → OnOk result (Listed lists.new.items table.now places.new) }
+    ensures kept { OnOk result (Includes lists.old.items lists.new.items) }
+{
+    let Ok(place) = u32::try_from(lists.len()) else {
+        return Ok(());
+    };
+    let held = table.find(name);
+    let mut numbers = Numbers::new(alloc);
+    push_all(held.before, &mut numbers)?;
+    push_all(held.after, &mut numbers)?;
+    lists.push(numbers)?;
+    places.put(alloc, name, place)?;
+    Ok(())
+}
+
+// Whether what a table has of its own under a name begins with an element. Where many modes of one name are seized, so are
+// their elements, in each reach again, and hardly any definition uses them.
+fn begins_with_element(book: &Book, held: &Held) -> bool {
+    match held.before.first() {
+        Some(number) => matches!(book.kind(*number), Some(Kind::Element)),
+        None => false,
+    }
+}
+
+// Puts the list of a name, unless it begins with an element.
+fn put_unless_elements(
+    alloc: Global,
+    book: &Book,
+    table: &Table,
+    name: &Spelling,
+    lists: &mut Vec<Numbers>,
+    places: &mut Places,
+) -> Result<(), Memory>
+    ensures listed { Listed lists.old.items table.now places.old → OnOk result (Listed lists.new.items table.now places.new) }
+    ensures kept { OnOk result (Includes lists.old.items lists.new.items) }
+{
+    if begins_with_element(book, &table.find(name)) {
+        return Ok(());
+    }
+    put_list(alloc, table, name, lists, places)
+}
+
+/// Puts a list of each name of which a table has two definitions or more of its own behind others, and tells where it
+/// stands. A name of one definition needs none, so that a program without N1 keeps no list; elements have none either.
+pub fn list_own(
+    alloc: Global,
+    book: &Book,
+    table: &Table,
+    lists: &mut Vec<Numbers>,
+) -> Result<Places, Memory>
+    ensures listed { IfOk result (λ places. Listed lists.new.items table.now places) }
+    ensures kept { OnOk result (Includes lists.old.items lists.new.items) }
+{
+    let mut places = Places::new(alloc);
+    for index in 0..table.len() {
+        if let Some(name) = table.crowded(index) {
+            put_unless_elements(alloc, book, table, name, lists, &mut places)?;
+        }
+    }
+    Ok(places)
+}

@@ -1,0 +1,92 @@
+// What a reach takes by name from around it.
+ghost use Rattle.std.specs.Prelude.{◌≡◌, ◌++◌, ◌∷◌, [], List, OnOk, flat_map, if◌then◌else◌};
+ghost use Rattle.names_model.specs.declared.entry.Entry.{Entry};
+ghost use Rattle.names_model.specs.Definitions.{spelling_at};
+ghost use Rattle.names_model.specs.Entries.{along, entry, is_among, passed};
+ghost use Rattle.reach_walk.specs.Opens.{Opens};
+ghost use Rattle.reach_walk.specs.Scopes.{Sound, shown};
+
+use crate::asked::Asked;
+use crate::book::Book;
+use crate::gathering::push_shown;
+use crate::opening::Opening;
+use crate::scope::{Scope, find_shown, shows_any};
+use chill_base::{Memory, Numbers};
+use names_model::{Identifier, Spelling};
+use std::alloc::Global;
+
+// Puts an element behind others, where it is seen around.
+fn push_element(
+    book: &Book,
+    around: &Scope,
+    element: usize,
+    out: &mut Numbers,
+) -> Result<(), Memory>
+    ensures { Sound book.now around.now → OnOk result (out.new ≡ out.old ++ (if is_among element (shown book.now around.now (spelling_at book.now.all.items element)) then element ∷ [] else [])) }
+{
+    if let Some(number) = find_shown(book, around, book.spelling(element), element) {
+        out.push(number)?;
+    }
+    Ok(())
+}
+
+// The elements that go with a definition.
+fn push_along(book: &Book, around: &Scope, number: u32, out: &mut Numbers) -> Result<(), Memory>
+    ensures { Sound book.now around.now → OnOk result (out.new ≡ out.old ++ along book.now.all.items (shown book.now around.now) number) }
+{
+    let first = number as usize + 1;
+    for step in 0..book.elements(number) {
+        push_element(book, around, first + step as usize, out)?;
+    }
+    Ok(())
+}
+
+// The elements that go with definitions.
+fn push_along_all(
+    book: &Book,
+    around: &Scope,
+    numbers: &[u32],
+    out: &mut Numbers,
+) -> Result<(), Memory>
+    ensures { Sound book.now around.now → OnOk result (out.new ≡ out.old ++ flat_map (along book.now.all.items (shown book.now around.now)) numbers.now) }
+{
+    for number in numbers {
+        push_along(book, around, *number, out)?;
+    }
+    Ok(())
+}
+
+// The elements that go with what is seen around under a name. What is seen is gone through only where it has some.
+fn push_elements(
+    alloc: Global,
+    book: &Book,
+    around: &Scope,
+    name: &Spelling,
+    out: &mut Numbers,
+) -> Result<(), Memory>
+    ensures { Sound book.now around.now → OnOk result (out.new ≡ out.old ++ flat_map (along book.now.all.items (shown book.now around.now)) (shown book.now around.now name.now)) }
+{
+    if !shows_any(book, around, name, Asked::HasElements) {
+        return Ok(());
+    }
+    let mut numbers = Numbers::new(alloc);
+    push_shown(alloc, book, around, name, &mut numbers)?;
+    push_along_all(book, around, numbers.as_slice(), out)?;
+    Ok(())
+}
+
+/// Enters what is seen around under a name, with the elements that go along. No number under the name is copied.
+pub fn enter_seized(
+    alloc: Global,
+    book: &Book,
+    around: &Scope,
+    name: &Identifier,
+    out: &mut Opening,
+) -> Result<(), Memory>
+    ensures { (es : List Entry) → Opens book.now around.now out.old es → OnOk result (Opens book.now around.now out.new (es ++ entry name.now.at (passed book.now.all.items (shown book.now around.now) name.now.spelling) ∷ [])) }
+{
+    let mut elements = Numbers::new(alloc);
+    push_elements(alloc, book, around, &name.spelling, &mut elements)?;
+    out.seize(alloc, book, around, name, elements.as_slice())?;
+    Ok(())
+}
