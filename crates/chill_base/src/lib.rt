@@ -32,6 +32,3 @@ pub use request::{Alternative, Alternatives, Place, Request};
 pub use rule::Rule;
 pub use units::event_units;
 pub use value::{ScalarKind, Value, Values};
-
-#[cfg(test)]
-mod tests;

@@ -9,7 +9,5 @@ mod literal;
 mod name_bytes;
 mod put;
 mod run;
-#[cfg(test)]
-mod tests;
 
 pub use lexer::{LexRefusal, lex};

@@ -16,6 +16,3 @@ mod write;
 
 pub use laws::one_answer;
 pub use top::{Outcome, chill};
-
-#[cfg(test)]
-mod tests;

@@ -12,6 +12,3 @@ mod instructions;
 mod meeting;
 
 pub use guarded::{GuardRefusal, Guarded, guard};
-
-#[cfg(test)]
-mod tests;

@@ -13,6 +13,3 @@ mod stepping;
 
 pub use burst::Stop;
 pub use machine::Machine;
-
-#[cfg(test)]
-mod tests;

@@ -8,8 +8,6 @@ mod expr;
 mod parse;
 mod reader;
 mod refusal;
-#[cfg(test)]
-mod tests;
 
 pub use expr::{read_args, read_expr, read_exprs, read_named, read_range, read_ranges, read_value};
 pub use parse::parse_expr;

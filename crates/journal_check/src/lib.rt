@@ -9,8 +9,6 @@ mod journals;
 mod numbers;
 mod offers;
 mod receiving;
-#[cfg(test)]
-mod tests;
 
 pub use asking::is_allowed;
 pub use journals::allowed;

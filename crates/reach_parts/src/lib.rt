@@ -18,6 +18,3 @@ mod simple;
 mod statement;
 
 pub use item::program_parts;
-
-#[cfg(test)]
-mod tests;

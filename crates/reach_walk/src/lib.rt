@@ -51,8 +51,3 @@ pub use offsets::sizes_of;
 pub use predefined::COUNT as PREDEFINED_COUNT;
 pub use told::push_told;
 pub use walk::find_in_program;
-
-#[cfg(test)]
-mod list_tests;
-#[cfg(test)]
-mod tests;

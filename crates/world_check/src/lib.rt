@@ -12,8 +12,6 @@ mod opening;
 mod pending;
 mod ranges;
 mod requests;
-#[cfg(test)]
-mod tests;
 
 pub use choices::{continues, has_room, nobody_receives, sends_signal, sends_to_buffer};
 pub use going::{is_active, may_ask, may_go};

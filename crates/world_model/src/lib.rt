@@ -8,8 +8,6 @@ mod changes;
 mod events;
 mod input;
 mod laws;
-#[cfg(test)]
-mod tests;
 mod waiting;
 mod world;
 

@@ -1,6 +1,6 @@
 // Calls over ports in memory, with ample memory: what they answer, and what was written.
-use crate::chill;
 use chill_base::{Answer, Event, Events, How, Item, Memory, Numbers, Over, Request, Text};
+use chill_top::chill;
 use outside_ports::{File, Files, MemoryLibrary, MemorySink};
 use std::alloc::{AllocError, Global};
 use std::process::Abort;

@@ -1,6 +1,7 @@
-use super::*;
+// The opening world of small facts.
 use chill_base::{Facts, List};
 use std::test::Fail;
+use world_check::{have_few_members, opening_world};
 
 #[test]
 fn the_opening_of_two_regions(rt: HostRuntime) -> Result<(), Fail> {

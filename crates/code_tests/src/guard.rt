@@ -4,8 +4,8 @@ mod effects;
 mod heights;
 mod instructions;
 
-use super::*;
 use chill_base::List;
+use code_guard::{GuardRefusal, guard};
 use code_types::{BodyRow, Code, Handler, Instr};
 use std::alloc::{AllocError, Global};
 use std::process::Abort;

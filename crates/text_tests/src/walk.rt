@@ -1,8 +1,8 @@
 // One program of two modulions: what is found of it was written by hand.
-use crate::{Book, Findings, find_in_program};
 use chill_base::{Item, List, Memory, Pos, Rule, Text};
 use group_dependence::Target;
 use names_model::{Clause, Identifier, Kind, Mention, Need, Part, Spelling};
+use reach_walk::{Book, Findings, find_in_program};
 use std::alloc::Global;
 use std::test::Fail;
 

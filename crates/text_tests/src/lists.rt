@@ -1,9 +1,9 @@
 // Uses of a name of many definitions point at lists: what comes was written by hand.
-use crate::tests::{defined, identifier, location, modulion};
-use crate::{Book, Findings, find_in_program};
+use crate::walk::{defined, identifier, location, modulion};
 use chill_base::{List, Memory};
 use group_dependence::Target;
 use names_model::{Kind, Part};
+use reach_walk::{Book, Findings, find_in_program};
 use std::alloc::Global;
 use std::test::Fail;
 

@@ -8,9 +8,9 @@ mod operators;
 mod raising;
 mod requests;
 
-use super::*;
 use chill_base::{Alternative, Answer, Exc, How, List, Place, Request, Scalars};
 use code_guard::{Guarded, guard};
+use code_machine::{Machine, Stop};
 use code_types::{BodyRow, Code, Handler, Instr};
 use std::alloc::{AllocError, Global};
 use std::process::Abort;

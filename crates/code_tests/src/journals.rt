@@ -1,10 +1,10 @@
 ghost use Rattle.std.specs.Prelude.{All, IfOk};
 ghost use Rattle.world_check.specs.Opening.{HasFewMembersEach};
 
-use super::*;
 use chill_base::{
     Alternative, Alternatives, Answer, Event, Exc, Facts, How, List, Request, Scalars,
 };
+use journal_check::allowed;
 use std::alloc::{AllocError, Global};
 use std::process::Abort;
 use std::test::Fail;

@@ -1,4 +1,4 @@
-use Rattle.code_machine.proofs.tests.takes.Goals as goal
+use Rattle.code_tests.proofs.machine.takes.Goals as goal
 
 pub returns : goal.returns
 returns c = c.answer.ensures.runs c.args.guarded.now c.requires

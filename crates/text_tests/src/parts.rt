@@ -1,5 +1,4 @@
 // The parts of one small tree, which were written by hand.
-use crate::program_parts;
 use chill_base::{List, Pos};
 use chill_tree::NameText;
 use chill_tree::tree::{
@@ -7,6 +6,7 @@ use chill_tree::tree::{
     Statement, Tree,
 };
 use names_model::Part;
+use reach_parts::program_parts;
 use std::alloc::{AllocError, Global};
 use std::process::Abort;
 use std::test::Fail;

@@ -1,7 +1,8 @@
-use super::*;
+// What an event does to a world.
 use chill_base::{Answer, Event, Facts, How, List, Request};
 use std::alloc::{AllocError, Global};
 use std::test::Fail;
+use world_model::{Phase, World};
 
 // One instance that is active, and one region that is free.
 fn world(alloc: Global) -> Result<World, AllocError> {

@@ -1,6 +1,6 @@
 // Texts and their tokens, written down from the rules of the language by hand.
-use crate::{LexRefusal, lex};
 use chill_base::{Diagnostic, Rule};
+use chill_lexer::{LexRefusal, lex};
 use chill_tree::{Sign, Token, TokenKind, Word};
 use std::alloc::{AllocError, Global};
 use std::test::Fail;

@@ -1,8 +1,8 @@
 // Which expression stands at a place, by hand.
-use crate::{ParseRefusal, parse_expr};
 use chill_base::{List, Pos};
 use chill_tree::tree::{Expr, Operator};
 use chill_tree::{NameText, Sign, Token, TokenKind, Tokens, Word};
+use expr_parser::{ParseRefusal, parse_expr};
 use std::alloc::Global;
 use std::process::Abort;
 use std::test::Fail;
