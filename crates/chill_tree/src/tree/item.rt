@@ -6,7 +6,7 @@ use crate::tree::{BodyPart, Handler, Local, Mode, Name, Statement};
 use chill_base::{List, Pos};
 
 /// A program: its modules and regions.
-#[derive(Debug, Drop)]
+#[derive(Debug)]
 pub struct Tree {
     pub modulions: List<Modulion>,
 }
@@ -19,7 +19,7 @@ pub enum ModulionKind {
 }
 
 /// A module or a region.
-#[derive(Debug, Drop)]
+#[derive(Debug)]
 #[cycle(item)]
 pub struct Modulion {
     pub name: Name,
@@ -30,7 +30,7 @@ pub struct Modulion {
 }
 
 /// What stands in a modulion.
-#[derive(Debug, Drop)]
+#[derive(Debug)]
 #[cycle(item)]
 pub enum Item {
     Seize { at: Pos, passed: Passed },
@@ -44,14 +44,14 @@ pub enum Item {
 }
 
 /// The names that pass a modulion's border, or the place of the word ALL.
-#[derive(Debug, Drop)]
+#[derive(Debug)]
 pub enum Passed {
     Names(List<Name>),
     All(Pos),
 }
 
 /// A signal, the modes of its parts, and the process that it is for.
-#[derive(Debug, Drop)]
+#[derive(Debug)]
 pub struct Signal {
     pub name: Name,
     pub parts: Option<List<Mode>>,
@@ -59,7 +59,7 @@ pub struct Signal {
 }
 
 /// A procedure.
-#[derive(Debug, Drop)]
+#[derive(Debug)]
 pub struct Procedure {
     pub name: Name,
     pub params: List<Param>,
@@ -71,7 +71,7 @@ pub struct Procedure {
 }
 
 /// Parameters of a procedure that have one mode.
-#[derive(Debug, Drop)]
+#[derive(Debug)]
 pub struct Param {
     pub names: List<Name>,
     pub mode: Mode,
@@ -87,7 +87,7 @@ pub enum Passing {
 }
 
 /// A process.
-#[derive(Debug, Drop)]
+#[derive(Debug)]
 pub struct Process {
     pub name: Name,
     pub formals: List<Formal>,
@@ -97,7 +97,7 @@ pub struct Process {
 }
 
 /// Parameters of a process that have one mode.
-#[derive(Debug, Drop)]
+#[derive(Debug)]
 pub struct Formal {
     pub names: List<Name>,
     pub mode: Mode,
@@ -197,5 +197,126 @@ impl Modulion {
             handler,
             closing,
         }
+    }
+}
+
+// Dropped by hand, so that whoever drops one makes one call, and has none of its cases.
+impl Drop for Tree {
+    fn drop(self) {
+        let Tree { modulions } = self;
+        drop(modulions);
+    }
+}
+
+impl Drop for Modulion {
+    #[cycle(dropping_item)]
+    fn drop(self) {
+        let Modulion {
+            name,
+            kind: _,
+            items,
+            handler,
+            closing,
+        } = self;
+        drop(name);
+        drop(items);
+        drop(handler);
+        drop(closing);
+    }
+}
+
+impl Drop for Item {
+    #[cycle(dropping_item)]
+    fn drop(self) {
+        match self {
+            Item::Seize { at: _, passed } => drop(passed),
+            Item::Grant { at: _, passed } => drop(passed),
+            Item::Local(own) => drop(own),
+            Item::Signals { at: _, signals } => drop(signals),
+            Item::Procedure(own) => drop(own),
+            Item::Process(own) => drop(own),
+            Item::Modulion(own) => drop(own),
+            Item::Statement(own) => drop(own),
+        }
+    }
+}
+
+impl Drop for Passed {
+    fn drop(self) {
+        match self {
+            Passed::Names(own) => drop(own),
+            Passed::All(_) => {}
+        }
+    }
+}
+
+impl Drop for Signal {
+    fn drop(self) {
+        let Signal {
+            name,
+            parts,
+            process,
+        } = self;
+        drop(name);
+        drop(parts);
+        drop(process);
+    }
+}
+
+impl Drop for Procedure {
+    fn drop(self) {
+        let Procedure {
+            name,
+            params,
+            returns,
+            exceptions,
+            body,
+            handler,
+            closing,
+        } = self;
+        drop(name);
+        drop(params);
+        drop(returns);
+        drop(exceptions);
+        drop(body);
+        drop(handler);
+        drop(closing);
+    }
+}
+
+impl Drop for Param {
+    fn drop(self) {
+        let Param {
+            names,
+            mode,
+            passing: _,
+        } = self;
+        drop(names);
+        drop(mode);
+    }
+}
+
+impl Drop for Process {
+    fn drop(self) {
+        let Process {
+            name,
+            formals,
+            body,
+            handler,
+            closing,
+        } = self;
+        drop(name);
+        drop(formals);
+        drop(body);
+        drop(handler);
+        drop(closing);
+    }
+}
+
+impl Drop for Formal {
+    fn drop(self) {
+        let Formal { names, mode } = self;
+        drop(names);
+        drop(mode);
     }
 }

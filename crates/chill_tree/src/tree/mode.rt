@@ -6,7 +6,7 @@ use chill_base::{List, Memory, Pos};
 use std::alloc::Global;
 
 /// A mode, whose values locations hold, or through which processes meet.
-#[derive(Debug, Drop)]
+#[derive(Debug)]
 pub enum Mode {
     Base(Base),
     Read {
@@ -25,7 +25,7 @@ pub enum Mode {
 }
 
 /// A mode of values.
-#[derive(Debug, Drop)]
+#[derive(Debug)]
 #[cycle(base)]
 pub enum Base {
     Discrete(Discrete),
@@ -51,7 +51,7 @@ pub enum Base {
 }
 
 /// A mode that is named, as a whole or in part, or a set of elements.
-#[derive(Debug, Drop)]
+#[derive(Debug)]
 pub enum Discrete {
     Named(Name),
     Range { parent: Name, low: Expr, high: Expr },
@@ -59,14 +59,14 @@ pub enum Discrete {
 }
 
 /// The indices of an array.
-#[derive(Debug, Drop)]
+#[derive(Debug)]
 pub enum Index {
     Named(Name),
     Range { low: Expr, high: Expr },
 }
 
 /// Fields of one mode in a structure, and their place where one is written.
-#[derive(Debug, Drop)]
+#[derive(Debug)]
 #[cycle(base)]
 pub struct Field {
     pub names: List<Name>,
@@ -82,14 +82,14 @@ pub enum Packing {
 }
 
 /// How the elements of an array lie.
-#[derive(Debug, Drop)]
+#[derive(Debug)]
 pub enum Spread {
     Packing(Packing),
     Step(Step),
 }
 
 /// A place in words: `POS (word, start : end)` or `POS (word, start, length)`.
-#[derive(Debug, Drop)]
+#[derive(Debug)]
 pub struct Place {
     pub at: Pos,
     pub word: Expr,
@@ -106,7 +106,7 @@ pub enum PlaceForm {
 }
 
 /// The place of an array's first element, and the bits from each to the next.
-#[derive(Debug, Drop)]
+#[derive(Debug)]
 pub struct Step {
     pub at: Pos,
     pub place: Place,
@@ -185,5 +185,122 @@ impl Field {
         ensures { field_tree result ≡ record { names = names; base = base_tree base; place = option_map place_tree place } }
     {
         Field { names, base, place }
+    }
+}
+
+// Dropped by hand, so that whoever drops one makes one call, and has none of its cases.
+impl Drop for Mode {
+    fn drop(self) {
+        match self {
+            Mode::Base(own) => drop(own),
+            Mode::Read { at: _, base } => drop(base),
+            Mode::Event { at: _, length } => drop(length),
+            Mode::Buffer {
+                at: _,
+                length,
+                element,
+            } => {
+                drop(length);
+                drop(element);
+            }
+        }
+    }
+}
+
+impl Drop for Base {
+    #[cycle(dropping_base)]
+    fn drop(self) {
+        match self {
+            Base::Discrete(own) => drop(own),
+            Base::Powerset { at: _, member } => drop(member),
+            Base::Chars { at: _, length } => drop(length),
+            Base::Struct {
+                at: _,
+                fields,
+                packing: _,
+            } => drop(fields),
+            Base::Array {
+                at: _,
+                index,
+                element,
+                spread,
+            } => {
+                drop(index);
+                drop(Box::into_inner(element));
+                drop(spread);
+            }
+        }
+    }
+}
+
+impl Drop for Discrete {
+    fn drop(self) {
+        match self {
+            Discrete::Named(own) => drop(own),
+            Discrete::Range { parent, low, high } => {
+                drop(parent);
+                drop(low);
+                drop(high);
+            }
+            Discrete::Set { at: _, elements } => drop(elements),
+        }
+    }
+}
+
+impl Drop for Index {
+    fn drop(self) {
+        match self {
+            Index::Named(own) => drop(own),
+            Index::Range { low, high } => {
+                drop(low);
+                drop(high);
+            }
+        }
+    }
+}
+
+impl Drop for Field {
+    #[cycle(dropping_base)]
+    fn drop(self) {
+        let Field { names, base, place } = self;
+        drop(names);
+        drop(base);
+        drop(place);
+    }
+}
+
+impl Drop for Spread {
+    fn drop(self) {
+        match self {
+            Spread::Packing(_) => {}
+            Spread::Step(own) => drop(own),
+        }
+    }
+}
+
+impl Drop for Place {
+    fn drop(self) {
+        let Place {
+            at: _,
+            word,
+            start,
+            form: _,
+            bound,
+        } = self;
+        drop(word);
+        drop(start);
+        drop(bound);
+    }
+}
+
+impl Drop for Step {
+    fn drop(self) {
+        let Step {
+            at: _,
+            place,
+            distance,
+        } = self;
+        drop(place);
+        drop(distance);
     }
 }

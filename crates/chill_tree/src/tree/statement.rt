@@ -6,7 +6,7 @@ use crate::tree::{Expr, Local, Name, Operator, ValueRange};
 use chill_base::{List, Pos};
 
 /// An action with its label, its handler and the name at its end.
-#[derive(Debug, Drop)]
+#[derive(Debug)]
 #[cycle(statement)]
 pub enum Statement {
     /// A semicolon alone.
@@ -28,7 +28,7 @@ pub enum Statement {
 }
 
 /// An action that holds other actions.
-#[derive(Debug, Drop)]
+#[derive(Debug)]
 #[cycle(statement)]
 pub enum Bracketed {
     If {
@@ -68,7 +68,7 @@ pub enum Bracketed {
 }
 
 /// A further condition of an IF, and what is done where it holds.
-#[derive(Debug, Drop)]
+#[derive(Debug)]
 #[cycle(statement)]
 pub struct ElsIf {
     pub at: Pos,
@@ -77,7 +77,7 @@ pub struct ElsIf {
 }
 
 /// What a CASE does for the values of its labels.
-#[derive(Debug, Drop)]
+#[derive(Debug)]
 #[cycle(statement)]
 pub struct CaseAlternative {
     pub at: Pos,
@@ -86,7 +86,7 @@ pub struct CaseAlternative {
 }
 
 /// What a DELAY CASE does after one of its events, or a handler after one of its exceptions.
-#[derive(Debug, Drop)]
+#[derive(Debug)]
 #[cycle(statement)]
 pub struct NamedAlternative {
     pub at: Pos,
@@ -95,7 +95,7 @@ pub struct NamedAlternative {
 }
 
 /// What a RECEIVE CASE does with what comes from a buffer or by a signal, and the names that this gets.
-#[derive(Debug, Drop)]
+#[derive(Debug)]
 #[cycle(statement)]
 pub struct ReceiveAlternative {
     pub at: Pos,
@@ -105,7 +105,7 @@ pub struct ReceiveAlternative {
 }
 
 /// What is done after an exception.
-#[derive(Debug, Drop)]
+#[derive(Debug)]
 #[cycle(statement)]
 pub struct Handler {
     pub at: Pos,
@@ -114,7 +114,7 @@ pub struct Handler {
 }
 
 /// What a body is made of.
-#[derive(Debug, Drop)]
+#[derive(Debug)]
 #[cycle(statement)]
 pub enum BodyPart {
     Local(Local),
@@ -122,7 +122,7 @@ pub enum BodyPart {
 }
 
 /// How often a DO does its actions.
-#[derive(Debug, Drop)]
+#[derive(Debug)]
 pub enum Control {
     While {
         at: Pos,
@@ -151,7 +151,7 @@ pub enum Control {
 }
 
 /// An action that holds no other.
-#[derive(Debug, Drop)]
+#[derive(Debug)]
 pub enum Simple {
     Assign {
         at: Pos,
@@ -473,5 +473,274 @@ impl BodyPart {
         ensures { body_tree result ≡ action_part (statement_tree own) }
     {
         BodyPart::Statement(own)
+    }
+}
+
+// Dropped by hand, so that whoever drops one makes one call, and has none of its cases.
+impl Drop for Statement {
+    #[cycle(dropping_statement)]
+    fn drop(self) {
+        match self {
+            Statement::Empty { at: _ } => {}
+            Statement::Simple {
+                at: _,
+                action,
+                handler,
+            } => {
+                drop(action);
+                drop(handler);
+            }
+            Statement::Bracketed {
+                at: _,
+                label,
+                action,
+                handler,
+                closing,
+            } => {
+                drop(label);
+                drop(action);
+                drop(handler);
+                drop(closing);
+            }
+        }
+    }
+}
+
+impl Drop for Bracketed {
+    #[cycle(dropping_statement)]
+    fn drop(self) {
+        match self {
+            Bracketed::If {
+                at: _,
+                condition,
+                actions,
+                branches,
+                otherwise,
+            } => {
+                drop(condition);
+                drop(actions);
+                drop(branches);
+                drop(otherwise);
+            }
+            Bracketed::Case {
+                at: _,
+                selector,
+                alternatives,
+                otherwise,
+            } => {
+                drop(selector);
+                drop(alternatives);
+                drop(otherwise);
+            }
+            Bracketed::Do {
+                at: _,
+                control,
+                actions,
+            } => {
+                drop(control);
+                drop(actions);
+            }
+            Bracketed::Begin { at: _, body } => drop(body),
+            Bracketed::DelayCase {
+                at: _,
+                set,
+                priority,
+                alternatives,
+            } => {
+                drop(set);
+                drop(priority);
+                drop(alternatives);
+            }
+            Bracketed::ReceiveCase {
+                at: _,
+                set,
+                alternatives,
+                otherwise,
+            } => {
+                drop(set);
+                drop(alternatives);
+                drop(otherwise);
+            }
+        }
+    }
+}
+
+impl Drop for ElsIf {
+    #[cycle(dropping_statement)]
+    fn drop(self) {
+        let ElsIf {
+            at: _,
+            condition,
+            actions,
+        } = self;
+        drop(condition);
+        drop(actions);
+    }
+}
+
+impl Drop for CaseAlternative {
+    #[cycle(dropping_statement)]
+    fn drop(self) {
+        let CaseAlternative {
+            at: _,
+            labels,
+            actions,
+        } = self;
+        drop(labels);
+        drop(actions);
+    }
+}
+
+impl Drop for NamedAlternative {
+    #[cycle(dropping_statement)]
+    fn drop(self) {
+        let NamedAlternative {
+            at: _,
+            names,
+            actions,
+        } = self;
+        drop(names);
+        drop(actions);
+    }
+}
+
+impl Drop for ReceiveAlternative {
+    #[cycle(dropping_statement)]
+    fn drop(self) {
+        let ReceiveAlternative {
+            at: _,
+            source,
+            received,
+            actions,
+        } = self;
+        drop(source);
+        drop(received);
+        drop(actions);
+    }
+}
+
+impl Drop for Handler {
+    #[cycle(dropping_statement)]
+    fn drop(self) {
+        let Handler {
+            at: _,
+            alternatives,
+            otherwise,
+        } = self;
+        drop(alternatives);
+        drop(otherwise);
+    }
+}
+
+impl Drop for BodyPart {
+    #[cycle(dropping_statement)]
+    fn drop(self) {
+        match self {
+            BodyPart::Local(own) => drop(own),
+            BodyPart::Statement(own) => drop(own),
+        }
+    }
+}
+
+impl Drop for Control {
+    fn drop(self) {
+        match self {
+            Control::While { at: _, condition } => drop(condition),
+            Control::Forever { at: _ } => {}
+            Control::Members {
+                at: _,
+                counter,
+                set,
+                condition,
+            } => {
+                drop(counter);
+                drop(set);
+                drop(condition);
+            }
+            Control::Steps {
+                at: _,
+                counter,
+                start,
+                step,
+                down: _,
+                end,
+                condition,
+            } => {
+                drop(counter);
+                drop(start);
+                drop(step);
+                drop(end);
+                drop(condition);
+            }
+        }
+    }
+}
+
+impl Drop for Simple {
+    fn drop(self) {
+        match self {
+            Simple::Assign {
+                at: _,
+                target,
+                value,
+            } => {
+                drop(target);
+                drop(value);
+            }
+            Simple::Update {
+                at: _,
+                target,
+                operator: _,
+                sign: _,
+                value,
+            } => {
+                drop(target);
+                drop(value);
+            }
+            Simple::Call {
+                at: _,
+                call: _,
+                name,
+                args,
+            } => {
+                drop(name);
+                drop(args);
+            }
+            Simple::Exit { at: _, label } => drop(label),
+            Simple::Return { at: _, value } => drop(value),
+            Simple::Result { at: _, value } => drop(value),
+            Simple::Assert { at: _, condition } => drop(condition),
+            Simple::Cause { at: _, exception } => drop(exception),
+            Simple::Stop { at: _ } => {}
+            Simple::Start {
+                at: _,
+                process,
+                args,
+            } => {
+                drop(process);
+                drop(args);
+            }
+            Simple::Delay {
+                at: _,
+                event,
+                priority,
+            } => {
+                drop(event);
+                drop(priority);
+            }
+            Simple::Continue { at: _, event } => drop(event),
+            Simple::Send {
+                at: _,
+                target,
+                args,
+                receiver,
+                priority,
+            } => {
+                drop(target);
+                drop(args);
+                drop(receiver);
+                drop(priority);
+            }
+        }
     }
 }
