@@ -1,5 +1,5 @@
 -- Expressions as they are written, without where they lie in memory.
-use Rattle.std.specs.Prelude.{ℕ, List, [], ◌∷◌, map, Option, Some, None}
+use Rattle.std.specs.Prelude.{ℕ, List, [], ◌∷◌, map, Option, Some, None, option_map}
 use Rattle.chill_base.specs.declared.pos.Pos.{Pos}
 use Rattle.chill_tree.specs.declared.tree.name.Name.{Name}
 use Rattle.chill_tree.specs.declared.tree.expr.Operator.{Operator}
@@ -79,6 +79,20 @@ place_of (apply at e es) = at
 place_of (field at e n) = at
 place_of (prefixed at o e) = at
 place_of (binary at l o p r) = at
+
+-- the name that an expression is
+abbrev pub name_in : ExprTree → Option Name
+name_in (name n) = Some n
+name_in _ = None
+
+-- the name before brackets, and what is in them
+abbrev pub named_apply : ExprNodes → ExprTree → Option (Name × ExprNodes)
+named_apply es e = option_map (λ n. (n, es)) (name_in e)
+
+-- the name and what is in its brackets, where the expression is a name with brackets behind it
+abbrev pub applied_in : ExprTree → Option (Name × ExprNodes)
+applied_in (apply at e es) = named_apply es e
+applied_in _ = None
 
 -- ---- the trees of values
 

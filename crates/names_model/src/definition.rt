@@ -17,11 +17,24 @@ pub enum Inside {
 
 /// A name that is defined, what it stands for, and where. The elements of the SETs that a mode's definition writes have
 /// the numbers behind the mode's own.
-#[derive(Debug, Drop)]
+#[derive(Debug)]
 pub struct Definition {
     pub name: Identifier,
     pub kind: Kind,
     pub inside: Inside,
     /// How many elements go with the name of a mode.
     pub elements: u32,
+}
+
+// Dropped by hand, so that whoever drops one makes one call.
+impl Drop for Definition {
+    fn drop(self) {
+        let Definition {
+            name,
+            kind: _,
+            inside: _,
+            elements: _,
+        } = self;
+        drop(name);
+    }
 }

@@ -75,7 +75,7 @@ impl Hash for Spelling {
 }
 
 /// A name and the place of its first byte.
-#[derive(Debug, Drop)]
+#[derive(Debug)]
 pub struct Identifier {
     pub at: Pos,
     pub spelling: Spelling,
@@ -103,5 +103,13 @@ impl Identifier {
             at: self.at,
             spelling: self.spelling.copy(alloc)?,
         })
+    }
+}
+
+// Dropped by hand, so that whoever drops one makes one call.
+impl Drop for Identifier {
+    fn drop(self) {
+        let Identifier { at: _, spelling } = self;
+        drop(spelling);
     }
 }

@@ -9,7 +9,7 @@ use crate::kind::{Kind, Need};
 use chill_base::{List, Memory, Pos};
 
 /// A name in a mode or an expression.
-#[derive(Debug, Drop)]
+#[derive(Debug)]
 pub enum Mention {
     /// It is used, where something is needed of it.
     Use {
@@ -26,7 +26,7 @@ pub enum Mention {
 }
 
 /// Names that are defined together, and the mode or value that they are defined by.
-#[derive(Debug, Drop)]
+#[derive(Debug)]
 pub struct Clause {
     pub kind: Kind,
     pub names: List<Identifier>,
@@ -34,7 +34,7 @@ pub struct Clause {
 }
 
 /// A part of a reach.
-#[derive(Debug, Drop)]
+#[derive(Debug)]
 #[cycle(part)]
 pub enum Part {
     /// A definition of names.
@@ -261,4 +261,67 @@ fn routine_head_size(params: &[Clause], returned: &[Mention]) -> Option<u32>
 {
     let sum = clauses_total(params)?.checked_add(mentions_size(returned)?)?;
     sum.checked_add(1)
+}
+
+// Dropped by hand, so that whoever drops one makes one call, and has none of its cases.
+impl Drop for Mention {
+    fn drop(self) {
+        match self {
+            Mention::Use { name, need: _ } => drop(name),
+            Mention::Argument { name, routine } => {
+                drop(name);
+                drop(routine);
+            }
+            Mention::Element(own) => drop(own),
+        }
+    }
+}
+
+impl Drop for Clause {
+    fn drop(self) {
+        let Clause {
+            kind: _,
+            names,
+            text,
+        } = self;
+        drop(names);
+        drop(text);
+    }
+}
+
+impl Drop for Part {
+    fn drop(self) {
+        match self {
+            Part::Define(own) => drop(own),
+            Part::Mention(own) => drop(own),
+            Part::Seize(own) => drop(own),
+            Part::SeizeAll(_) => {}
+            Part::Grant(own) => drop(own),
+            Part::GrantAll(_) => {}
+            Part::Stray(own) => drop(own),
+            Part::Modulion {
+                name,
+                region: _,
+                size: _,
+                parts,
+            } => {
+                drop(name);
+                drop(parts);
+            }
+            Part::Routine {
+                name,
+                kind: _,
+                params,
+                result,
+                size: _,
+                parts,
+            } => {
+                drop(name);
+                drop(params);
+                drop(result);
+                drop(parts);
+            }
+            Part::Block { size: _, parts } => drop(parts),
+        }
+    }
 }

@@ -121,8 +121,8 @@ pub struct ValueRange {
 }
 
 impl Expr {
-    ghost use Rattle.std.specs.Prelude.{IfOk};
-    ghost use Rattle.chill_tree.specs.ExprTree.{whole, character, text, this_instance, paren, receive, start, tuple, uniform, name, apply, field, prefixed, binary, expr_nodes, range_nodes, place_of, expr_tree, expr_trees, range_trees};
+    ghost use Rattle.std.specs.Prelude.{IfOk, option_map};
+    ghost use Rattle.chill_tree.specs.ExprTree.{name_in, applied_in, whole, character, text, this_instance, paren, receive, start, tuple, uniform, name, apply, field, prefixed, binary, expr_nodes, range_nodes, place_of, expr_tree, expr_trees, range_trees};
 
     /// The place of the first token.
     #[tactic(auto, using(crate::proofs::ExprViews::expr_built))]
@@ -144,6 +144,52 @@ impl Expr {
             Expr::Field { at, .. } => *at,
             Expr::Prefixed { at, .. } => *at,
             Expr::Binary { at, .. } => *at,
+        }
+    }
+
+    /// The name, where the expression is one.
+    #[tactic(auto, using(crate::proofs::ExprViews::expr_built))]
+    pub fn into_name(self) -> Option<Name>
+        ensures { result ≡ name_in (expr_tree self) }
+    {
+        match self {
+            Expr::Name(name) => Some(name),
+            Expr::Whole { .. }
+            | Expr::Char { .. }
+            | Expr::Text { .. }
+            | Expr::This { .. }
+            | Expr::Paren { .. }
+            | Expr::Receive { .. }
+            | Expr::Start { .. }
+            | Expr::Tuple { .. }
+            | Expr::Uniform { .. }
+            | Expr::Apply { .. }
+            | Expr::Field { .. }
+            | Expr::Prefixed { .. }
+            | Expr::Binary { .. } => None,
+        }
+    }
+
+    /// The name and the expressions in its brackets, where the expression is a name with brackets behind it.
+    #[tactic(auto, using(crate::proofs::ExprViews::expr_built))]
+    pub fn into_applied(self) -> Option<(Name, List<Expr>)>
+        ensures { option_map (λ a. (a.0, expr_nodes (expr_trees a.1))) result ≡ applied_in (expr_tree self) }
+    {
+        match self {
+            Expr::Apply { at: _, of, args } => { Some((Box::into_inner(of).into_name()?, args)) }
+            Expr::Whole { .. }
+            | Expr::Char { .. }
+            | Expr::Text { .. }
+            | Expr::This { .. }
+            | Expr::Paren { .. }
+            | Expr::Receive { .. }
+            | Expr::Start { .. }
+            | Expr::Tuple { .. }
+            | Expr::Uniform { .. }
+            | Expr::Name(..)
+            | Expr::Field { .. }
+            | Expr::Prefixed { .. }
+            | Expr::Binary { .. } => None,
         }
     }
 
