@@ -83,24 +83,12 @@ pub fn read_index(
 }
 
 // The indices that are one expression, which has to be a name.
-#[tactic(auto, using(chill_tree::proofs::ExprViews::expr_built))]
+#[tactic(auto, using(crate::proofs::Indexes::index_by_name))]
 fn index_of_name(single: Expr, rest: &[Token]) -> Result<(Index, &[Token]), ParseRefusal>
     ensures { Gives (λ x. (index_tree x.0, x.1.now)) result (index_of (expr_tree single) rest.now) }
 {
-    match single {
-        Expr::Name(name) => Ok((Index::Named(name), rest)),
-        Expr::Whole { .. }
-        | Expr::Char { .. }
-        | Expr::Text { .. }
-        | Expr::This { .. }
-        | Expr::Paren { .. }
-        | Expr::Receive { .. }
-        | Expr::Start { .. }
-        | Expr::Tuple { .. }
-        | Expr::Uniform { .. }
-        | Expr::Apply { .. }
-        | Expr::Field { .. }
-        | Expr::Prefixed { .. }
-        | Expr::Binary { .. } => Err(ParseRefusal::NoProgram { at: place(rest) }),
+    match single.into_name() {
+        Some(name) => Ok((Index::Named(name), rest)),
+        None => Err(ParseRefusal::NoProgram { at: place(rest) }),
     }
 }

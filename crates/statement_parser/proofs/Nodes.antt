@@ -1,5 +1,6 @@
 -- Names with one part in brackets, as nodes hold it.
-use Rattle.std.proofs.Common.{◌≡◌, ℕ, suc, Bool, false, List, [], ◌∷◌, length, Option, refl, ap, nat_eq, arith}
+use Rattle.std.proofs.Common.{◌≡◌, ℕ, suc, Bool, false, List, [], ◌∷◌, length, Option, Some, None, refl, ap, sym, ◌∙◌, nat_eq, arith}
+use Rattle.std.specs.Prelude.{option_map}
 use Rattle.std.proofs.lemmas.Bool.Decides.{nat_tests}
 use Rattle.std.specs.declared.alloc.Global.{Global}
 use Rattle.std.specs.declared.boxed.Box.{Box}
@@ -7,7 +8,7 @@ use Rattle.chill_base.specs.declared.pos.Pos.{Pos}
 use Rattle.chill_tree.specs.declared.tree.name.Name.{Name}
 use Rattle.chill_tree.specs.declared.tree.expr.Expr.{Expr}
 use Rattle.chill_tree.specs.declared.tree.expr.Expr.TheVariants as made
-use Rattle.chill_tree.specs.ExprTree.{ExprTree, expr_nodes, exprs_in, expr_tree, expr_trees}
+use Rattle.chill_tree.specs.ExprTree.{ExprTree, ExprNodes, whole, character, text, this_instance, paren, receive, start, tuple, uniform, name, apply, field, prefixed, binary, expr_nodes, exprs_in, expr_tree, expr_trees, named_apply, applied_in}
 use Rattle.chill_tree.proofs.ExprViews.{tree-apply}
 use Rattle.rules_model.specs.ExprGrammar.{is_location}
 use Rattle.rules_model.specs.SimpleReading.{called_name, call_in}
@@ -16,8 +17,45 @@ pub exprs_kept : (es : List ExprTree) → exprs_in (expr_nodes es) ≡ es
 exprs_kept [] = refl
 exprs_kept (e ∷ es) = ap (λ xs. e ∷ xs) (exprs_kept es)
 
-pub call_in_apply : (e : Expr) (at : Pos) (of : Box Expr Global) (args : List Expr) (inner : Expr) (r : Option (Name × List ExprTree)) → e ≡ made.Apply at of args → inner ≡ of.value → ((p : Pos) → r ≡ called_name p (expr_tree inner) (exprs_in (expr_nodes (expr_trees args)))) → r ≡ call_in (expr_tree e)
-call_in_apply e at of args inner r is i h = rw (is, tree-apply at of args, ← i) (h at)
+-- by the name before the brackets
+called_by_name : (at : Pos) (t : ExprTree) (ns : ExprNodes) → called_name at t (exprs_in ns) ≡ option_map (λ a. (a.0, exprs_in a.1)) (named_apply ns t)
+called_by_name p (whole at v) ns = refl
+called_by_name p (character at v) ns = refl
+called_by_name p (text at v) ns = refl
+called_by_name p (this_instance at) ns = refl
+called_by_name p (paren at e) ns = refl
+called_by_name p (receive at x) ns = refl
+called_by_name p (start at x es) ns = refl
+called_by_name p (tuple at m b rs) ns = refl
+called_by_name p (uniform at m b e) ns = refl
+called_by_name p (name x) ns = refl
+called_by_name p (apply at e es) ns = refl
+called_by_name p (field at e x) ns = refl
+called_by_name p (prefixed at o e) ns = refl
+called_by_name p (binary at l o p r) ns = refl
+
+call_by_name : (t : ExprTree) → call_in t ≡ option_map (λ a. (a.0, exprs_in a.1)) (applied_in t)
+call_by_name (whole at v) = refl
+call_by_name (character at v) = refl
+call_by_name (text at v) = refl
+call_by_name (this_instance at) = refl
+call_by_name (paren at e) = refl
+call_by_name (receive at x) = refl
+call_by_name (start at x es) = refl
+call_by_name (tuple at m b rs) = refl
+call_by_name (uniform at m b e) = refl
+call_by_name (name x) = refl
+call_by_name (apply at e es) = called_by_name at e es
+call_by_name (field at e x) = refl
+call_by_name (prefixed at o e) = refl
+call_by_name (binary at l o p r) = refl
+
+kept_in : (r : Option (Name × List Expr)) → option_map (λ c. (c.0, expr_trees c.1)) r ≡ option_map (λ a. (a.0, exprs_in a.1)) (option_map (λ a. (a.0, expr_nodes (expr_trees a.1))) r)
+kept_in None = refl
+kept_in (Some (n, es)) = ap (λ xs. Some (n, xs)) (sym (exprs_kept (expr_trees es)))
+
+pub applied_call : (t : ExprTree) (r : Option (Name × List Expr)) → option_map (λ a. (a.0, expr_nodes (expr_trees a.1))) r ≡ applied_in t → option_map (λ c. (c.0, expr_trees c.1)) r ≡ call_in t
+applied_call t r h = kept_in r ∙ ap (option_map (λ a. (a.0, exprs_in a.1))) h ∙ sym (call_by_name t)
 
 -- with one expression in the brackets
 pub one_argument : (e : Expr) (at : Pos) (of : Box Expr Global) (args : List Expr) (b : Bool) → e ≡ made.Apply at of args → length args ≡ 1 → b ≡ is_location (expr_tree of.value) → b ≡ is_location (expr_tree e)

@@ -1,7 +1,6 @@
 // Names with their parts, as targets of assignments and as calls.
 ghost use Rattle.std.specs.Prelude.{◌≡◌, option_map};
-ghost use Rattle.chill_base.specs.declared.pos.Pos.{Pos};
-ghost use Rattle.chill_tree.specs.ExprTree.{expr_tree, expr_trees, expr_nodes, exprs_in};
+ghost use Rattle.chill_tree.specs.ExprTree.{expr_tree, expr_trees};
 ghost use Rattle.expr_parser.specs.Giving.{Gives};
 ghost use Rattle.rules_model.specs.ExprGrammar as grammar;
 ghost use Rattle.rules_model.specs.SimpleReading as reading;
@@ -53,47 +52,9 @@ pub fn is_location(expr: &Expr) -> bool
 }
 
 /// The name and the arguments of a name with one part in brackets.
-#[tactic(auto, using(chill_tree::proofs::ExprViews::expr_built))]
+#[tactic(auto, using(crate::proofs::Nodes::applied_call))]
 pub fn call_in(expr: Expr) -> Option<(Name, List<Expr>)>
     ensures { option_map (λ c. (c.0, expr_trees c.1)) result ≡ reading.call_in (expr_tree expr) }
 {
-    match expr {
-        Expr::Apply { of, args, .. } => named_call(Box::into_inner(of), args),
-        Expr::Whole { .. } => None,
-        Expr::Char { .. } => None,
-        Expr::Text { .. } => None,
-        Expr::This { .. } => None,
-        Expr::Paren { .. } => None,
-        Expr::Receive { .. } => None,
-        Expr::Start { .. } => None,
-        Expr::Tuple { .. } => None,
-        Expr::Uniform { .. } => None,
-        Expr::Name(_) => None,
-        Expr::Field { .. } => None,
-        Expr::Prefixed { .. } => None,
-        Expr::Binary { .. } => None,
-    }
-}
-
-// A name with its arguments.
-#[tactic(auto, using(chill_tree::proofs::ExprViews::expr_built, crate::proofs::Nodes::exprs_kept))]
-fn named_call(expr: Expr, args: List<Expr>) -> Option<(Name, List<Expr>)>
-    ensures { (at : Pos) → option_map (λ c. (c.0, expr_trees c.1)) result ≡ reading.called_name at (expr_tree expr) (exprs_in (expr_nodes (expr_trees args))) }
-{
-    match expr {
-        Expr::Name(name) => Some((name, args)),
-        Expr::Whole { .. } => None,
-        Expr::Char { .. } => None,
-        Expr::Text { .. } => None,
-        Expr::This { .. } => None,
-        Expr::Paren { .. } => None,
-        Expr::Receive { .. } => None,
-        Expr::Start { .. } => None,
-        Expr::Tuple { .. } => None,
-        Expr::Uniform { .. } => None,
-        Expr::Apply { .. } => None,
-        Expr::Field { .. } => None,
-        Expr::Prefixed { .. } => None,
-        Expr::Binary { .. } => None,
-    }
+    expr.into_applied()
 }
