@@ -52,7 +52,6 @@ pub fn is_location(expr: &Expr) -> bool
 }
 
 /// The name and the arguments of a name with one part in brackets.
-#[tactic(auto, using(crate::proofs::Nodes::applied_call))]
 pub fn call_in(expr: Expr) -> Option<(Name, List<Expr>)>
     ensures { option_map (λ c. (c.0, expr_trees c.1)) result ≡ reading.call_in (expr_tree expr) }
 {
