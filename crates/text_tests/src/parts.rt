@@ -67,7 +67,7 @@ fn is_as_written(rt: &impl Abort, part: &Part) {
     };
     assert!(rt; *region);
     assert_eq!(rt; *size, 3);
-    let [Part::Define(mode), Part::Stray(_)] = parts.as_slice() else {
+    let [Part::Define(mode), Part::Stray(..)] = parts.as_slice() else {
         panic!(rt; "other parts");
     };
     assert_eq!(rt; mode.names.len(), 1);
