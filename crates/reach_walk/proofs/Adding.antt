@@ -7,7 +7,8 @@ use Rattle.names_model.specs.declared.definition.Definition.{Definition}
 use Rattle.names_model.specs.Definitions.{spelling_at, under}
 use Rattle.names_model.specs.Entries.{is_among, once_behind}
 use Rattle.reach_walk.specs.Held.{held}
-use Rattle.reach_walk.specs.Marks.{Added, Adds, IsTended, Marks, Seized, is_marked, is_named}
+use Rattle.reach_walk.specs.Marks.{Added, Adds, IsTended, Marks, Seized, is_marked}
+use Rattle.reach_walk.specs.Names.{is_named}
 use Rattle.reach_walk.specs.Scopes.{Orderly}
 use Rattle.reach_walk.specs.Tellings.{is_another_among}
 use Rattle.reach_walk.specs.declared.entered.Entered.{Entered}

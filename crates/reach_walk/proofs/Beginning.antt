@@ -1,14 +1,15 @@
 -- Tables that have nothing yet, and tables that seize nothing.
-use Rattle.std.proofs.Common.{◌≡◌, ℕ, Bool, true, false, List, [], refl, ap, sym, ◌∙◌}
+use Rattle.std.proofs.Common.{◌≡◌, ℕ, Bool, true, false, List, [], None, refl, ap, sym, ◌∙◌}
 use Rattle.names_model.specs.declared.definition.Definition.{Definition}
 use Rattle.names_model.specs.declared.kind.Need.{Need}
 use Rattle.names_model.specs.declared.kind.Need.TheVariants as needs
 use Rattle.names_model.specs.Definitions.{spelling_at}
-use Rattle.names_model.specs.Entries.{is_among}
+use Rattle.names_model.specs.Entries.{is_among, passed}
 use Rattle.names_model.specs.Seeing.{nothing}
 use Rattle.reach_walk.specs.Asking.{Rated, fits_any, no_qualities}
 use Rattle.reach_walk.specs.Held.{Holdings, had, held, holding, is_seized, listed, no_holding, own}
-use Rattle.reach_walk.specs.Marks.{IsFresh, IsTended, Marks, has_two, is_marked, is_named}
+use Rattle.reach_walk.specs.Marks.{IsFresh, IsTended, Marks, has_two, is_marked}
+use Rattle.reach_walk.specs.Names.{is_named, list_under}
 use Rattle.reach_walk.specs.Opens.{Opens}
 use Rattle.reach_walk.specs.Scopes.{Kept, Sound, shown}
 use Rattle.reach_walk.specs.declared.book.Book.{Book}
@@ -18,6 +19,7 @@ use Rattle.reach_walk.specs.declared.opening.Opening.{Opening}
 use Rattle.reach_walk.specs.declared.scope.Scope.{Scope}
 use Rattle.reach_walk.proofs.Holdings.{listed-alone}
 use Rattle.reach_walk.proofs.Members.{same-as}
+use Rattle.reach_walk.proofs.Recalling.{recalls-none}
 
 fits-none : (need : Need) → fits_any no_qualities need ≡ false
 fits-none needs.Mode = refl
@@ -57,12 +59,13 @@ tended-none around all e h = record {
 }
 
 -- a reach with no entry yet
-pub opens-none : (b : Book) (s : Scope) (o : Opening) → Sound b s → IsFresh o.entered → o.told.items ≡ [] → Opens b s o []
-opens-none b s o sound h told = record {
+pub opens-none : (b : Book) (s : Scope) (o : Opening) → Sound b s → IsFresh o.entered → o.told.items ≡ [] → o.taken.met ≡ [] → ((n : List ℕ) → list_under o.taken.listed n ≡ None) → Opens b s o []
+opens-none b s o sound h told met noted = record {
   sound = sound;
   holds = record { by = λ n. ap (λ (x : Holding). listed (shown b s n) x) (h.table n) };
   tended = tended-none (shown b s) b.all.items o.entered h;
   told = same-as o.told.items [] told;
+  taken = recalls-none b.all.items (passed b.all.items (shown b s)) o.taken [] met noted;
 }
 
 -- where nothing is seen around, nothing is seized

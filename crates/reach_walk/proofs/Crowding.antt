@@ -7,7 +7,8 @@ use Rattle.std.proofs.lemmas.Bool.Decides.{Decides-eqb}
 use Rattle.std.proofs.lemmas.Slice.Eq.{bytes_eq-Decides}
 use Rattle.names_model.specs.Entries.{is_among, once_behind}
 use Rattle.reach_walk.specs.Held.{Holdings, held}
-use Rattle.reach_walk.specs.Marks.{Crowds, has_two, is_named}
+use Rattle.reach_walk.specs.Marks.{Crowds, has_two}
+use Rattle.reach_walk.specs.Names.{is_named}
 use Rattle.reach_walk.specs.Tellings.{is_another_among}
 use Rattle.reach_walk.proofs.Within.{any-at, any-once, either, first-among, or-none, same-self}
 

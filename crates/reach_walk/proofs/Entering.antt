@@ -8,15 +8,17 @@ use Rattle.names_model.specs.declared.definition.Definition.{Definition}
 use Rattle.names_model.specs.declared.entry.Entry.{Entry}
 use Rattle.names_model.specs.declared.identifier.Identifier.{Identifier}
 use Rattle.names_model.specs.Definitions.{spelling_at, under}
-use Rattle.names_model.specs.Entries.{entry, found, numbers_of, once_behind}
+use Rattle.names_model.specs.Entries.{entry, found, numbers_of, once_behind, passed}
 use Rattle.names_model.specs.NameRules.{told_behind, told_number}
 use Rattle.std.specs.Str.{bytes_eq}
 use Rattle.reach_walk.specs.declared.book.Book.{Book}
 use Rattle.reach_walk.specs.declared.entered.Entered.{Entered}
 use Rattle.reach_walk.specs.declared.opening.Opening.{Opening}
+use Rattle.reach_walk.specs.declared.passages.Passages.{Passages}
 use Rattle.reach_walk.specs.declared.scope.Scope.{Scope}
 use Rattle.reach_walk.specs.Marks.{Adds}
 use Rattle.reach_walk.specs.Opens.{Opens, Entering}
+use Rattle.reach_walk.specs.Passages.{Recalls}
 use Rattle.reach_walk.specs.Scopes.{shown}
 use Rattle.reach_walk.specs.declared.place.Place.{Place}
 use Rattle.reach_walk.specs.Places.{single, singles}
@@ -25,6 +27,7 @@ use Rattle.reach_walk.proofs.Appends.{flat_map-append}
 use Rattle.reach_walk.proofs.Members.{same-behind, same-trans}
 use Rattle.reach_walk.proofs.Filters.{filter-append}
 use Rattle.reach_walk.proofs.Once.{once-append}
+use Rattle.reach_walk.proofs.Recalling.{recalls-more}
 
 -- one more entry
 numbers-more : (es : List Entry) (e : Entry) → numbers_of (es ++ e ∷ []) ≡ numbers_of es ++ e.numbers
@@ -42,27 +45,32 @@ told-more all known (x ∷ xs) e = ap (λ r. flat_map (told_number all known x.a
 
 -- the entry is told of, and its numbers are added
 pub opens-more : (b : Book) (s : Scope) (o o' : Opening) (es : List Entry) (e : Entry) → Opens b s o es → Adds (shown b s) b.all.items e.numbers o.entered o'.entered
-    → SameMembers o'.told.items (o.told.items ++ flat_map (told_number b.all.items (numbers_of es) e.at) e.numbers) → Opens b s o' (es ++ e ∷ [])
-opens-more b s o o' es e h adds told = record {
+    → SameMembers o'.told.items (o.told.items ++ flat_map (told_number b.all.items (numbers_of es) e.at) e.numbers) → o'.taken ≡ o.taken → Opens b s o' (es ++ e ∷ [])
+opens-more b s o o' es e h adds told taken = record {
   sound = h.sound;
   holds = record { by = λ n. adds.by n ∙ ap (λ xs. once_behind xs (under b.all.items n e.numbers)) (h.holds.by n) ∙ found-more b.all.items es e n };
   tended = adds.tended;
   told = same-trans o'.told.items (o.told.items ++ here) (told_behind b.all.items [] (es ++ e ∷ [])) told
       (subst (λ ds. SameMembers (o.told.items ++ here) ds) (sym (told-more b.all.items [] es e)) (same-behind o.told.items (told_behind b.all.items [] es) here h.told));
+  taken = subst (λ p. Recalls b.all.items (passed b.all.items (shown b s)) p (es ++ e ∷ [])) (sym taken) (recalls-more b.all.items (passed b.all.items (shown b s)) o.taken es (e ∷ []) h.taken);
 }
   where
     here : List Diagnostic
     here = flat_map (told_number b.all.items (numbers_of es) e.at) e.numbers
+
+-- it is known what was taken
+pub opens-taken : (b : Book) (s : Scope) (o : Opening) (p : Passages) (es : List Entry) → Opens b s o es → Recalls b.all.items (passed b.all.items (shown b s)) p es → Opens b s (record { entered = o.entered; told = o.told; taken = p }) es
+opens-taken b s o p es h taken = record { sound = h.sound; holds = h.holds; tended = h.tended; told = h.told; taken = taken }
 
 -- a name is seized, and its elements are entered
 pub opens-seized : (b : Book) (s : Scope) (o o' : Opening) (es : List Entry) (name : Identifier) (ds : List ℕ) (u : Entered) (told : List Diagnostic) → Opens b s o es
     → Adds (shown b s) b.all.items (shown b s name.spelling) o.entered u → Adds (shown b s) b.all.items ds u o'.entered
     → SameMembers told (o.told.items ++ flat_map (told_number b.all.items (numbers_of es) name.at) (shown b s name.spelling))
     → SameMembers o'.told.items (told ++ flat_map (told_number b.all.items (numbers_of es) name.at) ds)
-    → Opens b s o' (es ++ entry name.at (shown b s name.spelling ++ ds) ∷ [])
-opens-seized b s o o' es name ds u told h z a first second = opens-more b s o o' es (entry name.at (shown b s name.spelling ++ ds)) h (adds-both (shown b s) b.all.items seen ds o.entered u o'.entered z a)
+    → o'.taken ≡ o.taken → Opens b s o' (es ++ entry name.at (shown b s name.spelling ++ ds) ∷ [])
+opens-seized b s o o' es name ds u told h z a first second taken = opens-more b s o o' es (entry name.at (shown b s name.spelling ++ ds)) h (adds-both (shown b s) b.all.items seen ds o.entered u o'.entered z a)
     (same-trans o'.told.items (told ++ those) (o.told.items ++ flat_map f (seen ++ ds)) second
-    (subst (λ zs. SameMembers (told ++ those) zs) (append_assoc o.told.items (flat_map f seen) those ∙ ap (λ r. o.told.items ++ r) (sym (flat_map-append f seen ds))) (same-behind told (o.told.items ++ flat_map f seen) those first)))
+    (subst (λ zs. SameMembers (told ++ those) zs) (append_assoc o.told.items (flat_map f seen) those ∙ ap (λ r. o.told.items ++ r) (sym (flat_map-append f seen ds))) (same-behind told (o.told.items ++ flat_map f seen) those first))) taken
   where
     f : ℕ → List Diagnostic
     f = told_number b.all.items (numbers_of es) name.at

@@ -13,6 +13,7 @@ pub mod Measuring
 pub mod ProgramMeasures
 pub mod Marking
 pub mod Lending
+pub mod Recalling
 pub mod Entering
 pub mod Members
 pub mod Telling

@@ -13,22 +13,21 @@ use Rattle.names_model.specs.declared.entry.Entry.{Entry}
 use Rattle.names_model.specs.Definitions.{spelling_at, under}
 use Rattle.names_model.specs.Entries.{entry, is_among, numbers_of}
 use Rattle.names_model.specs.NameRules.{clashes, tell, told_number}
-use Rattle.names_model.specs.Seeing.{is_empty}
-use Rattle.reach_walk.specs.Grants.{AreIn, AreNamed, AreNames}
 use Rattle.reach_walk.specs.Held.{Holdings, held}
-use Rattle.reach_walk.specs.Marks.{Adds, is_named}
+use Rattle.reach_walk.specs.Marks.{Adds}
+use Rattle.reach_walk.specs.Names.{is_named}
 use Rattle.reach_walk.specs.Opens.{Opens}
+use Rattle.reach_walk.specs.Passages.{AreIn, AreKnown}
 use Rattle.reach_walk.specs.Scopes.{Holds, shown}
-use Rattle.reach_walk.specs.Tellings.{is_another_among}
+use Rattle.reach_walk.specs.Tellings.{told_of}
 use Rattle.reach_walk.specs.declared.book.Book.{Book}
 use Rattle.reach_walk.specs.declared.opening.Opening.{Opening}
 use Rattle.reach_walk.specs.declared.scope.Scope.{Scope}
 use Rattle.reach_walk.proofs.Adding.{adds-none}
 use Rattle.reach_walk.proofs.Crowding.{two-among}
 use Rattle.reach_walk.proofs.Entering.{opens-more}
-use Rattle.reach_walk.proofs.Members.{in-either, in-left, in-right, same-append, same-refl}
+use Rattle.reach_walk.proofs.Members.{in-either, in-left, in-right, same-append, same-refl, same-trans}
 use Rattle.reach_walk.proofs.Telling.{clash-by}
-use Rattle.reach_walk.proofs.Together.{told-together}
 use Rattle.reach_walk.proofs.Within.{Within, any-at, any-filter, any-once, filter-from, first-among, later-among, or-left, or-right, same-self}
 
 -- what is entered is held under its name
@@ -42,43 +41,15 @@ into-held around t all es n d h is k = ap (is_among d) (h.by n) ∙ any-once (λ
 
 -- an entry of what is there
 opens-again : (b : Book) (s : Scope) (o o' : Opening) (es : List Entry) (at : Pos) (ds : List ℕ) → Opens b s o es → AreIn ds (numbers_of es) → o'.entered ≡ o.entered
-    → SameMembers o'.told.items (o.told.items ++ flat_map (told_number b.all.items (numbers_of es) at) ds) → Opens b s o' (es ++ entry at ds ∷ [])
-opens-again b s o o' es at ds h inside same told = opens-more b s o o' es (entry at ds) h (subst (λ e. Adds (shown b s) b.all.items ds o.entered e) (sym same) (adds-none (shown b s) b.all.items ds o.entered h.tended there)) told
+    → SameMembers o'.told.items (o.told.items ++ flat_map (told_number b.all.items (numbers_of es) at) ds) → o'.taken ≡ o.taken → Opens b s o' (es ++ entry at ds ∷ [])
+opens-again b s o o' es at ds h inside same told taken = opens-more b s o o' es (entry at ds) h (subst (λ e. Adds (shown b s) b.all.items ds o.entered e) (sym same) (adds-none (shown b s) b.all.items ds o.entered h.tended there)) told taken
   where
     there : (n : List ℕ) → Within (under b.all.items n ds) (held (shown b s) o.entered.table n)
     there n d k =
         let from = filter-from (λ e. bytes_eq (spelling_at b.all.items e) n) d ds k in
         into-held (shown b s) o.entered.table b.all.items es n d h.holds from.0 (inside.by d from.1)
 
--- ---- of one name
-
--- what is the same for each
-any-same : (c : ℕ → Bool) (v : Bool) (ds : List ℕ) → ((d : ℕ) → is_among d ds ≡ true → c d ≡ v) → (not (is_empty ds) && v) ≡ list_any c ds
-any-same c v [] h = refl
-any-same c v (d ∷ ds) h = step v (is_empty ds) (list_any c ds) (any-same c v ds (λ e k. h e (later-among e d ds k))) ∙ ap (λ w. w || list_any c ds) (sym (h d (first-among d ds)))
-  where
-    step : (v e r : Bool) → (not e && v) ≡ r → v ≡ (v || r)
-    step true e r k = refl
-    step false true r k = k
-    step false false r k = k
-
-pub opens-named : (b : Book) (s : Scope) (o o' : Opening) (es : List Entry) (at : Pos) (n ds : List ℕ) → Opens b s o es → AreNamed b.all.items n ds → AreIn ds (numbers_of es) → o'.entered ≡ o.entered
-    → o'.told.items ≡ o.told.items ++ (if (not (is_empty ds) && is_named o.entered.crowded n) then tell at rules.N1 n ∷ [] else []) → Opens b s o' (es ++ entry at ds ∷ [])
-opens-named b s o o' es at n ds h named inside same more = opens-again b s o o' es at ds h inside same
-    (told-together all (numbers_of es) at n ds hs o.told.items o'.told.items (not (is_empty ds) && is_named o.entered.crowded n) named.by
-    (λ d is. clash-by (shown b s) o.entered.table all es n d h.holds is)
-    (any-same (λ d. is_another_among d hs) (is_named o.entered.crowded n) ds each) more)
-  where
-    all : List Definition
-    all = b.all.items
-
-    hs : List ℕ
-    hs = held (shown b s) o.entered.table n
-
-    each : (d : ℕ) → is_among d ds ≡ true → is_another_among d (held (shown b s) o.entered.table n) ≡ is_named o.entered.crowded n
-    each d k = sym (h.tended.crowds.by n ∙ two-among d (held (shown b s) o.entered.table n) (into-held (shown b s) o.entered.table b.all.items es n d h.holds (named.by d k) (inside.by d k)))
-
--- ---- of many names
+-- ---- what is told by names
 
 in-flat : {X Y : Type 0} (f : X → List Y) (y : Y) (x : X) (xs : List X) → IsIn x xs → IsIn y (f x) → IsIn y (flat_map f xs)
 in-flat f y x [] h k = absurd h
@@ -134,10 +105,10 @@ if-held : {X : Type 0} (v : Bool) (x y : X) → v ≡ true → y ≡ x → IsIn 
 if-held true x y h e = inl e
 if-held false x y h e = cc
 
-pub opens-names : (b : Book) (s : Scope) (o o' : Opening) (es : List Entry) (at : Pos) (ds : List ℕ) (names : List (List ℕ)) → Opens b s o es → AreNames b.all.items ds names → AreIn ds (numbers_of es) → o'.entered ≡ o.entered
-    → o'.told.items ≡ o.told.items ++ flat_map (λ n. if is_named names n then tell at rules.N1 n ∷ [] else []) o.entered.crowded → Opens b s o' (es ++ entry at ds ∷ [])
-opens-names b s o o' es at ds names h are inside same more = opens-again b s o o' es at ds h inside same
-    (subst (λ xs. SameMembers xs (o.told.items ++ flat_map f ds)) (sym more) (same-append o.told.items (flat_map g crowded) o.told.items (flat_map f ds) (same-refl o.told.items) (record { there = there; back = back })))
+pub opens-names : (b : Book) (s : Scope) (o o' : Opening) (es : List Entry) (at : Pos) (ds : List ℕ) (names : List (List ℕ)) → Opens b s o es → AreKnown b.all.items ds names es → o'.entered ≡ o.entered
+    → SameMembers o'.told.items (o.told.items ++ flat_map (told_of at names) o.entered.crowded) → o'.taken ≡ o.taken → Opens b s o' (es ++ entry at ds ∷ [])
+opens-names b s o o' es at ds names h known same more taken = opens-again b s o o' es at ds h known.entered same
+    (same-trans o'.told.items (o.told.items ++ flat_map (told_of at names) crowded) (o.told.items ++ flat_map f ds) more (same-append o.told.items (flat_map (told_of at names) crowded) o.told.items (flat_map f ds) (same-refl o.told.items) (record { there = there; back = back }))) taken
   where
     all : List Definition
     all = b.all.items
@@ -148,34 +119,45 @@ opens-names b s o o' es at ds names h are inside same more = opens-again b s o o
     f : ℕ → List Diagnostic
     f = told_number b.all.items (numbers_of es) at
 
-    g : List ℕ → List Diagnostic
-    g = λ n. if is_named names n then tell at rules.N1 n ∷ [] else []
-
     -- a definition that is there clashes where its name is crowded
     clash : (d : ℕ) → IsIn d ds → clashes b.all.items (numbers_of es) d ≡ is_named o.entered.crowded (spelling_at b.all.items d)
     clash d k =
         let n = spelling_at b.all.items d in
         clash-by (shown b s) o.entered.table b.all.items es n d h.holds refl
-        ∙ sym (h.tended.crowds.by n ∙ two-among d (held (shown b s) o.entered.table n) (into-held (shown b s) o.entered.table b.all.items es n d h.holds ((bytes_eq-Decides n n).1 refl) (inside.by d (among-in d ds k))))
+        ∙ sym (h.tended.crowds.by n ∙ two-among d (held (shown b s) o.entered.table n) (into-held (shown b s) o.entered.table b.all.items es n d h.holds ((bytes_eq-Decides n n).1 refl) (known.entered.by d (among-in d ds k))))
 
-    there : (x : Diagnostic) → IsIn x (flat_map (λ n. if is_named names n then tell at rules.N1 n ∷ [] else []) o.entered.crowded) → IsIn x (flat_map (told_number b.all.items (numbers_of es) at) ds)
+    there : (x : Diagnostic) → IsIn x (flat_map (told_of at names) o.entered.crowded) → IsIn x (flat_map (told_number b.all.items (numbers_of es) at) ds)
     there x k =
-        let r = from-flat (λ n. if is_named names n then tell at rules.N1 n ∷ [] else []) x o.entered.crowded k in
+        let r = from-flat (told_of at names) x o.entered.crowded k in
         let n = r.item in
         let told = held-if (is_named names n) (tell at rules.N1 n) x r.gives in
-        let w = passing (λ d. bytes_eq (spelling_at b.all.items d) n) ds (sym (are.by n) ∙ told.0) in
+        let w = passing (λ d. bytes_eq (spelling_at b.all.items d) n) ds (sym (known.named.by n) ∙ told.0) in
         let is : spelling_at b.all.items w.item ≡ n = (bytes_eq-Decides (spelling_at b.all.items w.item) n).0 w.passes in
         let crowd : is_named o.entered.crowded (spelling_at b.all.items w.item) ≡ true = passes-in (bytes_eq (spelling_at b.all.items w.item)) n o.entered.crowded r.there w.passes in
         in-flat (told_number b.all.items (numbers_of es) at) x w.item ds w.there
         (if-held (clashes b.all.items (numbers_of es) w.item) (tell at rules.N1 (spelling_at b.all.items w.item)) x (clash w.item w.there ∙ crowd) (told.1 ∙ ap (tell at rules.N1) (sym is)))
 
-    back : (x : Diagnostic) → IsIn x (flat_map (told_number b.all.items (numbers_of es) at) ds) → IsIn x (flat_map (λ n. if is_named names n then tell at rules.N1 n ∷ [] else []) o.entered.crowded)
+    back : (x : Diagnostic) → IsIn x (flat_map (told_number b.all.items (numbers_of es) at) ds) → IsIn x (flat_map (told_of at names) o.entered.crowded)
     back x k =
         let r = from-flat (told_number b.all.items (numbers_of es) at) x ds k in
         let d = r.item in
         let told = held-if (clashes b.all.items (numbers_of es) d) (tell at rules.N1 (spelling_at b.all.items d)) x r.gives in
         let w = passing (bytes_eq (spelling_at b.all.items d)) o.entered.crowded (sym (clash d r.there) ∙ told.0) in
         let is : spelling_at b.all.items d ≡ w.item = (bytes_eq-Decides (spelling_at b.all.items d) w.item).0 w.passes in
-        let named : is_named names w.item ≡ true = are.by w.item ∙ passes-in (λ e. bytes_eq (spelling_at b.all.items e) w.item) d ds r.there w.passes in
-        in-flat (λ n. if is_named names n then tell at rules.N1 n ∷ [] else []) x w.item o.entered.crowded w.there
+        let named : is_named names w.item ≡ true = known.named.by w.item ∙ passes-in (λ e. bytes_eq (spelling_at b.all.items e) w.item) d ds r.there w.passes in
+        in-flat (told_of at names) x w.item o.entered.crowded w.there
         (if-held (is_named names w.item) (tell at rules.N1 w.item) x named (told.1 ∙ ap (tell at rules.N1) is))
+
+-- what is among both is told by either
+shared-one : (at : Pos) (xs ys : List (List ℕ)) (x : Diagnostic) → IsIn x (flat_map (told_of at ys) xs) → IsIn x (flat_map (told_of at xs) ys)
+shared-one at xs ys x k =
+    let r = from-flat (told_of at ys) x xs k in
+    let n = r.item in
+    let told = held-if (is_named ys n) (tell at rules.N1 n) x r.gives in
+    let w = passing (bytes_eq n) ys told.0 in
+    let is : n ≡ w.item = (bytes_eq-Decides n w.item).0 w.passes in
+    let named : is_named xs w.item ≡ true = passes-in (bytes_eq w.item) n xs r.there ((bytes_eq-Decides w.item n).1 (sym is)) in
+    in-flat (told_of at xs) x w.item ys w.there (if-held (is_named xs w.item) (tell at rules.N1 w.item) x named (told.1 ∙ ap (tell at rules.N1) is))
+
+pub shared-same : (at : Pos) (xs ys : List (List ℕ)) → SameMembers (flat_map (told_of at ys) xs) (flat_map (told_of at xs) ys)
+shared-same at xs ys = record { there = shared-one at xs ys; back = shared-one at ys xs }

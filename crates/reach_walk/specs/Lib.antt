@@ -6,12 +6,14 @@ pub mod Offsets
 pub mod Named
 pub mod Findings
 pub mod Measures
+pub mod Names
+pub mod Tellings
 pub mod Marks
 pub mod Givens
 pub mod Places
+pub mod Passages
 pub mod Opens
 pub mod Gathered
 pub mod Grants
-pub mod Tellings
 pub mod Placed
 pub mod Listed

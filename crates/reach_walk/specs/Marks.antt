@@ -6,6 +6,7 @@ use Rattle.names_model.specs.declared.definition.Definition.{Definition}
 use Rattle.names_model.specs.Definitions.{spelling_at, under}
 use Rattle.names_model.specs.Entries.{is_among, once_behind}
 use Rattle.reach_walk.specs.Held.{Holdings, held, holding, no_holding, own}
+use Rattle.reach_walk.specs.Names.{is_named}
 use Rattle.reach_walk.specs.Scopes.{Kept}
 use Rattle.reach_walk.specs.Tellings.{is_another_among}
 use Rattle.reach_walk.specs.declared.entered.Entered.{Entered}
@@ -13,10 +14,6 @@ use Rattle.reach_walk.specs.declared.entered.Entered.{Entered}
 -- the number is marked
 abbrev pub is_marked : List ℕ → ℕ → Bool
 is_marked marks d = list_any (nat_eq d) marks
-
--- the name is there
-abbrev pub is_named : List (List ℕ) → List ℕ → Bool
-is_named names n = list_any (bytes_eq n) names
 
 -- those are marked that the table has as its own under their own names, and it has none under another name
 pub record Marks (marks : List ℕ) (t : Holdings) (all : List Definition) : Type 0 where

@@ -2,19 +2,22 @@
 use Rattle.std.specs.Prelude.{◌≡◌, List, [], ◌++◌}
 use Rattle.rule_lists.specs.Listing.{SameMembers}
 use Rattle.names_model.specs.declared.entry.Entry.{Entry}
+use Rattle.names_model.specs.Entries.{passed}
 use Rattle.names_model.specs.NameRules.{told_behind}
 use Rattle.reach_walk.specs.declared.book.Book.{Book}
 use Rattle.reach_walk.specs.declared.opening.Opening.{Opening}
 use Rattle.reach_walk.specs.declared.scope.Scope.{Scope}
 use Rattle.reach_walk.specs.Marks.{IsTended}
+use Rattle.reach_walk.specs.Passages.{Recalls}
 use Rattle.reach_walk.specs.Scopes.{Holds, Sound, shown}
 
--- its table and its N1 are those of these entries; N1 may be told once for many
+-- Its table and its N1 are those of these entries, and it knows what it has taken by name. N1 may be told once for many.
 pub record Opens (b : Book) (s : Scope) (o : Opening) (es : List Entry) : Type 0 where
   pub sound : Sound b s
   pub holds : Holds (shown b s) o.entered.table b.all.items es
   pub tended : IsTended (shown b s) b.all.items o.entered
   pub told : SameMembers o.told.items (told_behind b.all.items [] es)
+  pub taken : Recalls b.all.items (passed b.all.items (shown b s)) o.taken es
 
 -- of the whole that is to be entered behind its entries, the rest is left
 pub record Entering (b : Book) (s : Scope) (o : Opening) (es rest whole : List Entry) : Type 0 where

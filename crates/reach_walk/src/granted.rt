@@ -1,15 +1,12 @@
 // What modulions give is entered into the reach around them.
-ghost use Rattle.std.specs.Prelude.{◌≡◌, ◌++◌, ◌∷◌, [], ◌||◌, ℕ, true, List, OnOk, flat_map};
-ghost use Rattle.std.specs.List.{list_any};
-ghost use Rattle.std.specs.Str.{bytes_eq};
+ghost use Rattle.std.specs.Prelude.{◌≡◌, ◌++◌, ◌∷◌, [], ℕ, true, List, OnOk, flat_map};
 ghost use Rattle.names_model.specs.declared.entry.Entry.{Entry};
 ghost use Rattle.names_model.specs.Parts.{part_tree, parts_in};
-ghost use Rattle.names_model.specs.Definitions.{spelling_at};
 ghost use Rattle.names_model.specs.Entries.{entry, given_all, given_entries, granted_entries, passed};
 ghost use Rattle.reach_walk.specs.Givens.{given_of, given_trees};
 ghost use Rattle.reach_walk.specs.Grants.{Gives, Listed};
 ghost use Rattle.reach_walk.specs.Held.{had};
-ghost use Rattle.reach_walk.specs.Marks.{is_named};
+ghost use Rattle.reach_walk.specs.Names.{is_named};
 ghost use Rattle.reach_walk.specs.Offsets.{nodes_of};
 ghost use Rattle.reach_walk.specs.Opens.{Opens};
 ghost use Rattle.reach_walk.specs.Scopes.{Orderly};
@@ -17,7 +14,7 @@ ghost use Rattle.reach_walk.specs.Scopes.{Orderly};
 use crate::book::Book;
 use crate::given::{Given, lent_giver};
 use crate::grants::Grants;
-use crate::names::Names;
+use crate::naming::names_of;
 use crate::opening::Opening;
 use crate::passing::{Giver, push_given_all, push_passed};
 use crate::scope::Scope;
@@ -25,8 +22,8 @@ use chill_base::{Memory, Numbers, Pos};
 use names_model::{Identifier, Part};
 use std::alloc::Global;
 
-// Enters what passes under a name, and notes the name where no elements go along. The numbers are kept only meanwhile.
-fn enter_passed(
+// Enters for the first time what is granted by name. The numbers are kept only meanwhile.
+fn grant_first(
     alloc: Global,
     book: &Book,
     around: &Scope,
@@ -38,12 +35,27 @@ fn enter_passed(
     ensures { (es : List Entry) → Gives book.now around.now giver.now grants.old out.old es → OnOk result (Gives book.now around.now giver.now grants.new out.new (es ++ entry name.now.at (passed book.now.all.items (had giver.now.has.now) name.now.spelling) ∷ [])) }
 {
     let mut numbers = Numbers::new(alloc);
-    let alone = push_passed(book, giver.has, &name.spelling, &mut numbers)?;
+    push_passed(book, giver.has, &name.spelling, &mut numbers)?;
     out.enter(alloc, book, around, name.at, numbers.as_slice())?;
-    if alone {
-        grants.names.insert(alloc, &name.spelling)?;
-    }
-    Ok(())
+    grants.passages.met.insert(alloc, &name.spelling)
+}
+
+// Enters it for the second time, and lists the names of it.
+fn grant_second(
+    alloc: Global,
+    book: &Book,
+    giver: &Giver,
+    name: &Identifier,
+    grants: &mut Grants,
+    out: &mut Opening,
+) -> Result<(), Memory>
+    ensures { (around : Scope) (es : List Entry) → Gives book.now around giver.now grants.old out.old es → is_named grants.old.passages.met name.now.spelling ≡ true → OnOk result (Gives book.now around giver.now grants.new out.new (es ++ entry name.now.at (passed book.now.all.items (had giver.now.has.now) name.now.spelling) ∷ [])) }
+{
+    let mut numbers = Numbers::new(alloc);
+    push_passed(book, giver.has, &name.spelling, &mut numbers)?;
+    let names = names_of(alloc, book, numbers.as_slice())?;
+    out.enter_again(alloc, name.at, &names)?;
+    grants.passages.listed.put(alloc, &name.spelling, names)
 }
 
 // Enters what is granted by name. What comes again adds nothing.
@@ -58,10 +70,13 @@ fn enter_named(
 ) -> Result<(), Memory>
     ensures { (es : List Entry) → Gives book.now around.now giver.now grants.old out.old es → OnOk result (Gives book.now around.now giver.now grants.new out.new (es ++ entry name.now.at (passed book.now.all.items (had giver.now.has.now) name.now.spelling) ∷ [])) }
 {
-    if grants.names.contains(&name.spelling) {
-        return out.enter_again(alloc, name, giver.has.find(&name.spelling).before);
+    if let Some(names) = grants.passages.listed.find(&name.spelling) {
+        return out.enter_again(alloc, name.at, names);
     }
-    enter_passed(alloc, book, around, giver, name, grants, out)
+    if grants.passages.met.contains(&name.spelling) {
+        return grant_second(alloc, book, giver, name, grants, out);
+    }
+    grant_first(alloc, book, around, giver, name, grants, out)
 }
 
 // Enters what GRANT ALL gives.
@@ -83,16 +98,6 @@ fn enter_whole(
     Ok(())
 }
 
-// Puts the names of definitions to others.
-fn list_names(alloc: Global, book: &Book, numbers: &[u32], out: &mut Names) -> Result<(), Memory>
-    ensures { OnOk result ((n : List ℕ) → is_named out.new n ≡ (list_any (λ d. bytes_eq (spelling_at book.now.all.items d) n) numbers.now || is_named out.old n)) }
-{
-    for number in numbers {
-        out.insert(alloc, book.spelling(*number as usize))?;
-    }
-    Ok(())
-}
-
 // Lists the names of what GRANT ALL gives, unless they are listed.
 fn list_whole(alloc: Global, book: &Book, giver: &Giver, grants: &mut Grants) -> Result<(), Memory>
     ensures { OnOk result (Listed book.now.all.items giver.now grants.old grants.new) }
@@ -102,9 +107,7 @@ fn list_whole(alloc: Global, book: &Book, giver: &Giver, grants: &mut Grants) ->
     }
     let mut numbers = Numbers::new(alloc);
     push_given_all(book, giver.region, giver.own, &mut numbers)?;
-    let mut all = Names::new(alloc);
-    list_names(alloc, book, numbers.as_slice(), &mut all)?;
-    grants.all = all;
+    grants.all = names_of(alloc, book, numbers.as_slice())?;
     grants.listed = true;
     Ok(())
 }
@@ -125,7 +128,7 @@ fn enter_given_all(
         return enter_whole(alloc, book, around, giver, at, grants, out);
     }
     list_whole(alloc, book, giver, grants)?;
-    out.enter_all_again(alloc, at, &grants.all)
+    out.enter_again(alloc, at, &grants.all)
 }
 
 // Enters what a part of a modulion gives.

@@ -1,12 +1,13 @@
 // What a modulion has granted already.
 use crate::names::Names;
+use crate::passages::Passages;
 use std::alloc::Global;
 
 /// What the grants of a modulion have brought so far.
 #[derive(Drop)]
 pub struct Grants {
-    /// The names that were granted, and with which no elements go.
-    pub names: Names,
+    /// The names that were granted.
+    pub passages: Passages,
     /// Whether GRANT ALL stood.
     pub whole: bool,
     /// Whether the names of what GRANT ALL gives are listed.
@@ -16,16 +17,18 @@ pub struct Grants {
 }
 
 impl Grants {
-    ghost use Rattle.std.specs.Prelude.{◌≡◌, [], false};
+    ghost use Rattle.std.specs.Prelude.{◌≡◌, [], ℕ, List, None, false};
+    ghost use Rattle.reach_walk.specs.Names.{list_under};
 
     /// Nothing is granted yet. It takes no memory.
     pub fn new(alloc: Global) -> Grants
-        ensures names { result.names ≡ [] }
+        ensures met { result.passages.met ≡ [] }
+        ensures noted { (n : List ℕ) → list_under result.passages.listed n ≡ None }
         ensures whole { result.whole ≡ false }
         ensures listed { result.listed ≡ false }
     {
         Grants {
-            names: Names::new(alloc),
+            passages: Passages::new(alloc),
             whole: false,
             listed: false,
             all: Names::new(alloc),

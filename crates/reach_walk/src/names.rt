@@ -20,9 +20,9 @@ impl Model for Names {
 }
 
 impl Names {
-    ghost use Rattle.std.specs.Prelude.{◌≡◌, ◌||◌, ℕ, List, [], OnOk};
+    ghost use Rattle.std.specs.Prelude.{◌≡◌, ◌||◌, ℕ, List, [], length, OnOk};
     ghost use Rattle.std.specs.Str.{bytes_eq};
-    ghost use Rattle.reach_walk.specs.Marks.{is_named};
+    ghost use Rattle.reach_walk.specs.Names.{is_named};
 
     /// No name is there. It takes no memory.
     pub fn new(alloc: Global) -> Names
@@ -31,6 +31,13 @@ impl Names {
         Names {
             set: IndexSet::new(alloc),
         }
+    }
+
+    /// How many names there are.
+    pub fn len(&self) -> usize
+        ensures { result ≡ length self.now }
+    {
+        self.set.len()
     }
 
     /// Whether a name is there.

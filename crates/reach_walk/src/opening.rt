@@ -2,9 +2,10 @@
 use crate::book::Book;
 use crate::entered::Entered;
 use crate::names::Names;
+use crate::passages::Passages;
 use crate::scope::Scope;
 use crate::table::Table;
-use crate::twice::{tell_again, tell_crowded, tell_numbers, tell_seized};
+use crate::twice::{tell_crowded, tell_numbers, tell_seized};
 use chill_base::{Diagnostic, Memory, Pos};
 use names_model::Identifier;
 use std::alloc::Global;
@@ -14,15 +15,17 @@ use std::alloc::Global;
 pub struct Opening {
     pub entered: Entered,
     pub told: Vec<Diagnostic>,
+    /// The names that it has seized.
+    pub taken: Passages,
 }
 
 impl Opening {
-    ghost use Rattle.std.specs.Prelude.{◌≡◌, ◌++◌, ◌∷◌, [], ℕ, List, IfOk, OnOk};
+    ghost use Rattle.std.specs.Prelude.{◌≡◌, ◌++◌, ◌∷◌, [], ℕ, true, false, List, IfOk, OnOk};
     ghost use Rattle.names_model.specs.declared.entry.Entry.{Entry};
-    ghost use Rattle.names_model.specs.Entries.{entry, numbers_of};
+    ghost use Rattle.names_model.specs.Entries.{entry, passed};
     ghost use Rattle.reach_walk.specs.declared.book.Book.{Book};
     ghost use Rattle.reach_walk.specs.declared.scope.Scope.{Scope};
-    ghost use Rattle.reach_walk.specs.Grants.{AreIn, AreNamed, AreNames};
+    ghost use Rattle.reach_walk.specs.Passages.{AreKnown};
     ghost use Rattle.reach_walk.specs.Opens.{Opens};
     ghost use Rattle.reach_walk.specs.Scopes.{Sound, shown};
 
@@ -33,6 +36,7 @@ impl Opening {
         Opening {
             entered: Entered::new(alloc),
             told: Vec::new(alloc),
+            taken: Passages::new(alloc),
         }
     }
 
@@ -94,24 +98,26 @@ impl Opening {
         Ok(())
     }
 
-    /// Enters definitions of a name again that are all there. They add nothing, and are told of once, if the name has more
-    /// than one definition.
-    pub fn enter_again(
-        &mut self,
-        alloc: Global,
-        name: &Identifier,
-        numbers: &[u32],
-    ) -> Result<(), Memory>
-        ensures { (b : Book) (s : Scope) (es : List Entry) → Opens b s self.old es → AreNamed b.all.items name.now.spelling numbers.now → AreIn numbers.now (numbers_of es) → OnOk result (Opens b s self.new (es ++ entry name.now.at numbers.now ∷ [])) }
-    {
-        tell_again(alloc, &self.entered.crowded, name, numbers, &mut self.told)
-    }
-
-    /// The same of definitions of these names.
-    pub fn enter_all_again(&mut self, alloc: Global, at: Pos, names: &Names) -> Result<(), Memory>
-        ensures { (b : Book) (s : Scope) (es : List Entry) (ds : List ℕ) → Opens b s self.old es → AreNames b.all.items ds names.now → AreIn ds (numbers_of es) → OnOk result (Opens b s self.new (es ++ entry at ds ∷ [])) }
+    /// Enters definitions again that are all there, of these names. They add nothing, and are told of by the names that have
+    /// more than one definition.
+    pub fn enter_again(&mut self, alloc: Global, at: Pos, names: &Names) -> Result<(), Memory>
+        ensures { (b : Book) (s : Scope) (es : List Entry) (ds : List ℕ) → Opens b s self.old es → AreKnown b.all.items ds names.now es → OnOk result (Opens b s self.new (es ++ entry at ds ∷ [])) }
     {
         tell_crowded(alloc, at, &self.entered.crowded, names, &mut self.told)
+    }
+
+    /// Enters again what is seized by a name under which the names of it are listed. It answers whether they are.
+    pub fn seize_listed(&mut self, alloc: Global, name: &Identifier) -> Result<bool, Memory>
+        ensures listed { (b : Book) (s : Scope) (es : List Entry) → Opens b s self.old es → IfOk result (λ done. done ≡ true → Opens b s self.new (es ++ entry name.now.at (passed b.all.items (shown b s) name.now.spelling) ∷ [])) }
+        ensures otherwise { IfOk result (λ done. done ≡ false → self.new ≡ self.old) }
+    {
+        match self.taken.listed.find(&name.spelling) {
+            Some(names) => {
+                tell_crowded(alloc, name.at, &self.entered.crowded, names, &mut self.told)?;
+                Ok(true)
+            }
+            None => Ok(false),
+        }
     }
 
     /// The table alone.
@@ -126,7 +132,11 @@ impl Opening {
         ensures table { IfOk result (λ t. t ≡ self.entered.table) }
         ensures told { OnOk result (out.new.items ≡ out.old.items ++ self.told.items) }
     {
-        let Opening { entered, mut told } = self;
+        let Opening {
+            entered,
+            mut told,
+            taken: _,
+        } = self;
         out.append(&mut told)?;
         Ok(entered.table)
     }

@@ -1,5 +1,5 @@
 // What passes the border of a modulion.
-ghost use Rattle.std.specs.Prelude.{◌≡◌, ◌++◌, ◌∷◌, [], true, IfOk, OnOk, flat_map, if◌then◌else◌};
+ghost use Rattle.std.specs.Prelude.{◌≡◌, ◌++◌, ◌∷◌, [], OnOk, flat_map, if◌then◌else◌};
 ghost use Rattle.names_model.specs.Definitions.{spelling_at};
 ghost use Rattle.names_model.specs.Entries.{along, given_all, is_among, passed};
 ghost use Rattle.reach_walk.specs.Held.{had};
@@ -47,21 +47,19 @@ fn push_along_all(
     Ok(())
 }
 
-/// What passes under a name, with the elements that go along. It answers whether none does.
+/// What passes under a name, with the elements that go along.
 pub fn push_passed(
     book: &Book,
     has: &Table,
     name: &Spelling,
     out: &mut Numbers,
-) -> Result<bool, Memory>
-    ensures passed { OnOk result (out.new ≡ out.old ++ passed book.now.all.items (had has.now) name.now) }
-    ensures alone { IfOk result (λ alone. alone ≡ true → flat_map (along book.now.all.items (had has.now)) (had has.now name.now) ≡ []) }
+) -> Result<(), Memory>
+    ensures { OnOk result (out.new ≡ out.old ++ passed book.now.all.items (had has.now) name.now) }
 {
     let numbers = has.find(name).before;
     push_all(numbers, out)?;
-    let count = out.len();
     push_along_all(book, has, numbers, out)?;
-    Ok(out.len() == count)
+    Ok(())
 }
 
 /// What GRANT ALL gives; a region keeps its locations.

@@ -1,14 +1,16 @@
 // What a reach takes by name from around it.
-ghost use Rattle.std.specs.Prelude.{◌≡◌, ◌++◌, ◌∷◌, [], List, OnOk, flat_map, if◌then◌else◌};
+ghost use Rattle.std.specs.Prelude.{◌≡◌, ◌++◌, ◌∷◌, [], true, List, OnOk, flat_map, if◌then◌else◌};
 ghost use Rattle.names_model.specs.declared.entry.Entry.{Entry};
 ghost use Rattle.names_model.specs.Definitions.{spelling_at};
 ghost use Rattle.names_model.specs.Entries.{along, entry, is_among, passed};
+ghost use Rattle.reach_walk.specs.Names.{is_named};
 ghost use Rattle.reach_walk.specs.Opens.{Opens};
 ghost use Rattle.reach_walk.specs.Scopes.{Sound, shown};
 
 use crate::asked::Asked;
 use crate::book::Book;
 use crate::gathering::push_shown;
+use crate::naming::names_of;
 use crate::opening::Opening;
 use crate::scope::{Scope, find_shown, shows_any};
 use chill_base::{Memory, Numbers};
@@ -75,8 +77,9 @@ fn push_elements(
     Ok(())
 }
 
-/// Enters what is seen around under a name, with the elements that go along. No number under the name is copied.
-pub fn enter_seized(
+// Enters for the first time what is seen around under a name, with the elements that go along. No number under the name is
+// copied.
+fn seize_first(
     alloc: Global,
     book: &Book,
     around: &Scope,
@@ -88,5 +91,42 @@ pub fn enter_seized(
     let mut elements = Numbers::new(alloc);
     push_elements(alloc, book, around, &name.spelling, &mut elements)?;
     out.seize(alloc, book, around, name, elements.as_slice())?;
-    Ok(())
+    out.taken.met.insert(alloc, &name.spelling)
+}
+
+// Enters it for the second time, and lists the names of it.
+fn seize_second(
+    alloc: Global,
+    book: &Book,
+    around: &Scope,
+    name: &Identifier,
+    out: &mut Opening,
+) -> Result<(), Memory>
+    ensures { (es : List Entry) → Opens book.now around.now out.old es → is_named out.old.taken.met name.now.spelling ≡ true → OnOk result (Opens book.now around.now out.new (es ++ entry name.now.at (passed book.now.all.items (shown book.now around.now) name.now.spelling) ∷ [])) }
+{
+    let mut numbers = Numbers::new(alloc);
+    push_shown(alloc, book, around, &name.spelling, &mut numbers)?;
+    push_elements(alloc, book, around, &name.spelling, &mut numbers)?;
+    let names = names_of(alloc, book, numbers.as_slice())?;
+    out.enter_again(alloc, name.at, &names)?;
+    out.taken.listed.put(alloc, &name.spelling, names)
+}
+
+/// Enters what is seen around under a name, with the elements that go along. What comes again adds nothing.
+pub fn enter_seized(
+    alloc: Global,
+    book: &Book,
+    around: &Scope,
+    name: &Identifier,
+    out: &mut Opening,
+) -> Result<(), Memory>
+    ensures { (es : List Entry) → Opens book.now around.now out.old es → OnOk result (Opens book.now around.now out.new (es ++ entry name.now.at (passed book.now.all.items (shown book.now around.now) name.now.spelling) ∷ [])) }
+{
+    if out.seize_listed(alloc, name)? {
+        return Ok(());
+    }
+    if out.taken.met.contains(&name.spelling) {
+        return seize_second(alloc, book, around, name, out);
+    }
+    seize_first(alloc, book, around, name, out)
 }

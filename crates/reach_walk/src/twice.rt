@@ -1,17 +1,16 @@
 // Second entries of a name in one reach, for another definition.
-ghost use Rattle.std.specs.Prelude.{◌≡◌, ◌++◌, ◌∷◌, [], ◌||◌, ◌&&◌, ℕ, not, List, IfOk, OnOk, flat_map, if◌then◌else◌};
+ghost use Rattle.std.specs.Prelude.{◌≡◌, ◌++◌, ◌||◌, ◌&&◌, ℕ, not, List, IfOk, OnOk, flat_map};
 ghost use Rattle.std.specs.Str.{bytes_eq};
-ghost use Rattle.chill_base.specs.declared.rule.Rule.TheVariants as rules;
 ghost use Rattle.rule_lists.specs.Listing.{SameMembers};
 ghost use Rattle.names_model.specs.declared.definition.Definition.{Definition};
 ghost use Rattle.names_model.specs.declared.entry.Entry.{Entry};
 ghost use Rattle.names_model.specs.Entries.{numbers_of};
-ghost use Rattle.names_model.specs.NameRules.{tell, told_number};
+ghost use Rattle.names_model.specs.NameRules.{told_number};
 ghost use Rattle.names_model.specs.Seeing.{is_empty};
 ghost use Rattle.reach_walk.specs.Held.{held};
-ghost use Rattle.reach_walk.specs.Marks.{is_named};
+ghost use Rattle.reach_walk.specs.Names.{is_named};
 ghost use Rattle.reach_walk.specs.Scopes.{Kept, Opened, Sound, shown};
-ghost use Rattle.reach_walk.specs.Tellings.{IsTold, Tells, clashes_any, is_another_among, is_last};
+ghost use Rattle.reach_walk.specs.Tellings.{IsTold, Tells, clashes_any, is_another_among, is_last, told_of};
 
 use crate::asked::Asked;
 use crate::asking::own_meets;
@@ -150,23 +149,25 @@ pub fn note_crowded(
     Ok(())
 }
 
-/// Tells of definitions of a name that are there already, if the name has more than one definition.
-pub fn tell_again(
+// Tells of the names that are among some and among others.
+fn tell_shared(
     alloc: Global,
-    crowded: &Names,
-    name: &Identifier,
-    numbers: &[u32],
+    at: Pos,
+    some: &Names,
+    others: &Names,
     out: &mut Vec<Diagnostic>,
 ) -> Result<(), Memory>
-    ensures { OnOk result (out.new.items ≡ out.old.items ++ (if (not (is_empty numbers.now) && is_named crowded.now name.now.spelling) then tell name.now.at rules.N1 name.now.spelling ∷ [] else [])) }
+    ensures { OnOk result (out.new.items ≡ out.old.items ++ flat_map (told_of at others.now) some.now) }
 {
-    if !numbers.is_empty() && crowded.contains(&name.spelling) {
-        push_told(alloc, name.at, Rule::N1, &name.spelling, out)?;
+    for name in some.as_slice() {
+        if others.contains(name) {
+            push_told(alloc, at, Rule::N1, name, out)?;
+        }
     }
     Ok(())
 }
 
-/// Tells of the names that have more than one definition and are among some others.
+/// Tells of the names that have more than one definition and are among some others. It goes over those that are fewer.
 pub fn tell_crowded(
     alloc: Global,
     at: Pos,
@@ -174,12 +175,10 @@ pub fn tell_crowded(
     names: &Names,
     out: &mut Vec<Diagnostic>,
 ) -> Result<(), Memory>
-    ensures { OnOk result (out.new.items ≡ out.old.items ++ flat_map (λ n. if is_named names.now n then tell at rules.N1 n ∷ [] else []) crowded.now) }
+    ensures { OnOk result (SameMembers out.new.items (out.old.items ++ flat_map (told_of at names.now) crowded.now)) }
 {
-    for name in crowded.as_slice() {
-        if names.contains(name) {
-            push_told(alloc, at, Rule::N1, name, out)?;
-        }
+    if names.len() < crowded.len() {
+        return tell_shared(alloc, at, names, crowded, out);
     }
-    Ok(())
+    tell_shared(alloc, at, crowded, names, out)
 }

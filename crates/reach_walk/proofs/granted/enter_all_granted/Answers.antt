@@ -8,7 +8,7 @@ use Rattle.reach_walk.proofs.Bringing.{giving-end, giving-none, giving-on}
 use Rattle.reach_walk.proofs.granted.enter_all_granted.Goals as goal
 
 pub loop-part-init : goal.loop-part-init
-loop-part-init c = λ orderly es o. giving-none _ _ c.args.giver.now _ _ es _ orderly o c.new-grants.ensures.names c.new-grants.ensures.whole c.new-grants.ensures.listed
+loop-part-init c = λ orderly es o. giving-none _ _ c.args.giver.now _ _ es _ orderly o c.new-grants.ensures.met c.new-grants.ensures.noted c.new-grants.ensures.whole c.new-grants.ensures.listed
 
 pub loop-part-preserved : goal.loop-part-preserved
 loop-part-preserved c = λ orderly es o.

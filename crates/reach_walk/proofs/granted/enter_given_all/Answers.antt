@@ -12,5 +12,5 @@ returns c = λ es h.
     let giver = c.args.giver.now in
     let whole = whole_of b.all.items giver in
     let l = c.in_ok-list_whole.ensures in
-    on-ok c.enter_all_again.result (λ opens. gives-listed b s giver c.args.grants.now c.list_whole.new.grants c.args.out.now _ es (entry c.args.at whole ∷ []) h l opens)
-    (c.enter_all_again.ensures b s es whole h.opens (l.listed h.granted.listed) (h.granted.whole c.if-not-grants.false))
+    on-ok c.enter_again.result (λ opens. gives-listed b s giver c.args.grants.now c.list_whole.new.grants c.args.out.now _ es (entry c.args.at whole ∷ []) h l opens)
+    (c.enter_again.ensures b s es whole h.opens (record { entered = h.granted.whole c.if-not-grants.false; named = l.listed h.granted.listed }))

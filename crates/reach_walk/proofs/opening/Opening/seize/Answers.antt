@@ -1,3 +1,4 @@
+use Rattle.std.proofs.Common.{refl}
 use Rattle.reach_walk.specs.Scopes.{Opened}
 use Rattle.reach_walk.proofs.Entering.{opens-seized}
 use Rattle.reach_walk.proofs.opening.Opening.seize.Goals as goal
@@ -8,4 +9,4 @@ returns c = λ es o.
     let s = c.args.around.now in
     let opened : Opened b s c.args.self.now.entered.table es = record { holds = o.holds; kept = o.tended.kept } in
     let seized = c.in_ok-add_seized.ensures o.sound o.tended in
-    opens-seized b s c.args.self.now _ es c.args.name.now c.args.elements.now _ _ o seized (c.in_ok-add_numbers.ensures o.sound seized.tended) (c.in_ok-tell_seized.ensures es o.sound opened) (c.in_ok-tell_numbers.ensures es o.sound opened)
+    opens-seized b s c.args.self.now _ es c.args.name.now c.args.elements.now _ _ o seized (c.in_ok-add_numbers.ensures o.sound seized.tended) (c.in_ok-tell_seized.ensures es o.sound opened) (c.in_ok-tell_numbers.ensures es o.sound opened) refl

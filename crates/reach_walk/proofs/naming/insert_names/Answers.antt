@@ -4,8 +4,8 @@ use Rattle.std.specs.List.{list_any}
 use Rattle.std.specs.Str.{bytes_eq}
 use Rattle.std.proofs.lemmas.List.Folds.{list_any_more}
 use Rattle.names_model.specs.Definitions.{spelling_at}
-use Rattle.reach_walk.specs.Marks.{is_named}
-use Rattle.reach_walk.proofs.granted.list_names.Goals as goal
+use Rattle.reach_walk.specs.Names.{is_named}
+use Rattle.reach_walk.proofs.naming.insert_names.Goals as goal
 
 swap : (a b c : Bool) → (a || (b || c)) ≡ ((b || a) || c)
 swap true true c = refl
