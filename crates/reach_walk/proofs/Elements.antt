@@ -10,7 +10,7 @@ use Rattle.reach_walk.proofs.Filters.{filter-append}
 abbrev pub along_first : List Definition → (List ℕ → List ℕ) → ℕ → ℕ → List ℕ
 along_first all has d count = filter (λ e. is_among e (has (spelling_at all e))) (numbers_on (suc d) count)
 
-numbers_on-more : (from count : ℕ) → numbers_on from (suc count) ≡ numbers_on from count ++ (from + count) ∷ []
+pub numbers_on-more : (from count : ℕ) → numbers_on from (suc count) ≡ numbers_on from count ++ (from + count) ∷ []
 numbers_on-more from zero = rw (sum from) refl
   where
     sum : (n : ℕ) → n + 0 ≡ n

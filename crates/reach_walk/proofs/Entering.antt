@@ -30,14 +30,14 @@ use Rattle.reach_walk.proofs.Once.{once-append}
 use Rattle.reach_walk.proofs.Recalling.{recalls-more}
 
 -- one more entry
-numbers-more : (es : List Entry) (e : Entry) → numbers_of (es ++ e ∷ []) ≡ numbers_of es ++ e.numbers
+pub numbers-more : (es : List Entry) (e : Entry) → numbers_of (es ++ e ∷ []) ≡ numbers_of es ++ e.numbers
 numbers-more es e = flat_map-append (λ (x : Entry). x.numbers) es (e ∷ []) ∙ ap (λ r. numbers_of es ++ r) (append-nil e.numbers)
 
-found-more : (all : List Definition) (es : List Entry) (e : Entry) (n : List ℕ) → once_behind (found all es n) (under all n e.numbers) ≡ found all (es ++ e ∷ []) n
+pub found-more : (all : List Definition) (es : List Entry) (e : Entry) (n : List ℕ) → once_behind (found all es n) (under all n e.numbers) ≡ found all (es ++ e ∷ []) n
 found-more all es e n = sym (once-append [] (under all n (numbers_of es)) (under all n e.numbers))
     ∙ ap (once_behind []) (sym (filter-append (λ d. bytes_eq (spelling_at all d) n) (numbers_of es) e.numbers)) ∙ ap (λ ds. once_behind [] (under all n ds)) (sym (numbers-more es e))
 
-told-more : (all : List Definition) (known : List ℕ) (es : List Entry) (e : Entry) → told_behind all known (es ++ e ∷ []) ≡ told_behind all known es ++ flat_map (told_number all (known ++ numbers_of es) e.at) e.numbers
+pub told-more : (all : List Definition) (known : List ℕ) (es : List Entry) (e : Entry) → told_behind all known (es ++ e ∷ []) ≡ told_behind all known es ++ flat_map (told_number all (known ++ numbers_of es) e.at) e.numbers
 told-more all known [] e = append-nil (flat_map (told_number all known e.at) e.numbers) ∙ ap (λ ks. flat_map (told_number all ks e.at) e.numbers) (sym (append-nil known))
 told-more all known (x ∷ xs) e = ap (λ r. flat_map (told_number all known x.at) x.numbers ++ r) (told-more all (known ++ x.numbers) xs e)
     ∙ ap (λ ks. flat_map (told_number all known x.at) x.numbers ++ (told_behind all (known ++ x.numbers) xs ++ flat_map (told_number all ks e.at) e.numbers)) (append_assoc known x.numbers (numbers_of xs))
@@ -58,28 +58,31 @@ opens-more b s o o' es e h adds told taken = record {
     here : List Diagnostic
     here = flat_map (told_number b.all.items (numbers_of es) e.at) e.numbers
 
+-- some are told of, and then others
+pub told-both : {X Y : Type 0} (f : X → List Y) (xs ys : List X) (old mid new : List Y) → SameMembers mid (old ++ flat_map f xs) → SameMembers new (mid ++ flat_map f ys) → SameMembers new (old ++ flat_map f (xs ++ ys))
+told-both f xs ys old mid new h k = same-trans new (mid ++ flat_map f ys) (old ++ flat_map f (xs ++ ys)) k
+    (subst (λ zs. SameMembers (mid ++ flat_map f ys) zs) (append_assoc old (flat_map f xs) (flat_map f ys) ∙ ap (λ r. old ++ r) (sym (flat_map-append f xs ys))) (same-behind mid (old ++ flat_map f xs) (flat_map f ys) h))
+
 -- it is known what was taken
 pub opens-taken : (b : Book) (s : Scope) (o : Opening) (p : Passages) (es : List Entry) → Opens b s o es → Recalls b.all.items (passed b.all.items (shown b s)) p es → Opens b s (record { entered = o.entered; told = o.told; taken = p }) es
 opens-taken b s o p es h taken = record { sound = h.sound; holds = h.holds; tended = h.tended; told = h.told; taken = taken }
 
--- a name is seized, and its elements are entered
-pub opens-seized : (b : Book) (s : Scope) (o o' : Opening) (es : List Entry) (name : Identifier) (ds : List ℕ) (u : Entered) (told : List Diagnostic) → Opens b s o es
-    → Adds (shown b s) b.all.items (shown b s name.spelling) o.entered u → Adds (shown b s) b.all.items ds u o'.entered
-    → SameMembers told (o.told.items ++ flat_map (told_number b.all.items (numbers_of es) name.at) (shown b s name.spelling))
-    → SameMembers o'.told.items (told ++ flat_map (told_number b.all.items (numbers_of es) name.at) ds)
-    → o'.taken ≡ o.taken → Opens b s o' (es ++ entry name.at (shown b s name.spelling ++ ds) ∷ [])
-opens-seized b s o o' es name ds u told h z a first second taken = opens-more b s o o' es (entry name.at (shown b s name.spelling ++ ds)) h (adds-both (shown b s) b.all.items seen ds o.entered u o'.entered z a)
-    (same-trans o'.told.items (told ++ those) (o.told.items ++ flat_map f (seen ++ ds)) second
-    (subst (λ zs. SameMembers (told ++ those) zs) (append_assoc o.told.items (flat_map f seen) those ∙ ap (λ r. o.told.items ++ r) (sym (flat_map-append f seen ds))) (same-behind told (o.told.items ++ flat_map f seen) those first))) taken
+-- a name is seized, and elements and whole names with it
+pub opens-seized : (b : Book) (s : Scope) (o o' : Opening) (es : List Entry) (name : Identifier) (ds fs : List ℕ) (u v : Entered) (first second : List Diagnostic) → Opens b s o es
+    → Adds (shown b s) b.all.items (shown b s name.spelling) o.entered u → Adds (shown b s) b.all.items ds u v → Adds (shown b s) b.all.items fs v o'.entered
+    → SameMembers first (o.told.items ++ flat_map (told_number b.all.items (numbers_of es) name.at) (shown b s name.spelling))
+    → SameMembers second (first ++ flat_map (told_number b.all.items (numbers_of es) name.at) ds)
+    → SameMembers o'.told.items (second ++ flat_map (told_number b.all.items (numbers_of es) name.at) fs)
+    → o'.taken ≡ o.taken → Opens b s o' (es ++ entry name.at (shown b s name.spelling ++ (ds ++ fs)) ∷ [])
+opens-seized b s o o' es name ds fs u v first second h z a w t1 t2 t3 taken = opens-more b s o o' es (entry name.at (seen ++ (ds ++ fs))) h
+    (adds-both (shown b s) b.all.items seen (ds ++ fs) o.entered u o'.entered z (adds-both (shown b s) b.all.items ds fs u v o'.entered a w))
+    (told-both f seen (ds ++ fs) o.told.items first o'.told.items t1 (told-both f ds fs first second o'.told.items t2 t3)) taken
   where
     f : ℕ → List Diagnostic
     f = told_number b.all.items (numbers_of es) name.at
 
     seen : List ℕ
     seen = shown b s name.spelling
-
-    those : List Diagnostic
-    those = flat_map (told_number b.all.items (numbers_of es) name.at) ds
 
 -- more is entered behind what was
 pub opens-behind : (b : Book) (s : Scope) (o : Opening) (es fs gs hs : List Entry) → Opens b s o ((es ++ fs) ++ gs) → fs ++ gs ≡ hs → Opens b s o (es ++ hs)

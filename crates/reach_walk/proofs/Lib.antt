@@ -33,3 +33,5 @@ pub mod Repeating
 pub mod Bringing
 pub mod Listing
 pub mod Leading
+pub mod Exchanging
+pub mod Going

@@ -1,5 +1,5 @@
 -- What has passed under names stays so, where more is entered.
-use Rattle.std.proofs.Common.{◌≡◌, ℕ, Bool, true, false, List, [], ◌∷◌, ◌++◌, ◌⊎◌, inl, inr, Option, Some, None, append-nil, refl, ap, sym, ◌∙◌, subst, if◌then◌else◌}
+use Rattle.std.proofs.Common.{◌≡◌, ℕ, Bool, true, false, List, [], ◌∷◌, ◌++◌, ◌⊎◌, inl, inr, Some, None, append-nil, refl, ap, sym, ◌∙◌, subst, if◌then◌else◌}
 use Rattle.std.specs.Prelude.{◌||◌, ◌==◌}
 use Rattle.std.specs.Str.{bytes_eq}
 use Rattle.std.proofs.lemmas.List.Folds.{list_any-append}
@@ -9,7 +9,7 @@ use Rattle.names_model.specs.declared.definition.Definition.{Definition}
 use Rattle.names_model.specs.declared.entry.Entry.{Entry}
 use Rattle.names_model.specs.Entries.{entry, is_among, numbers_of}
 use Rattle.reach_walk.specs.Names.{Listings, is_named, list_under}
-use Rattle.reach_walk.specs.Passages.{AreIn, AreKnown, AreNames, Recalls}
+use Rattle.reach_walk.specs.Passages.{AreIn, AreKnown, Recalls}
 use Rattle.reach_walk.specs.declared.passages.Passages.{Passages}
 use Rattle.reach_walk.proofs.Appends.{flat_map-append}
 use Rattle.reach_walk.proofs.Within.{either, or-left, or-right}

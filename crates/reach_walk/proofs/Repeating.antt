@@ -1,6 +1,6 @@
 -- Definitions that are entered again add nothing, and are told of by the names that have more than one.
 use Rattle.std.proofs.Common.{◌≡◌, ℕ, Bool, true, false, List, [], ◌∷◌, ◌++◌, ◌⊎◌, inl, inr, refl, ap, sym, ◌∙◌, subst, if◌then◌else◌}
-use Rattle.std.specs.Prelude.{flat_map, not, ◌==◌, ◌||◌, ◌&&◌}
+use Rattle.std.specs.Prelude.{flat_map, ◌==◌, ◌||◌, ◌&&◌}
 use Rattle.std.specs.List.{list_any}
 use Rattle.std.specs.Str.{bytes_eq}
 use Rattle.std.proofs.lemmas.Slice.Eq.{bytes_eq-Decides}
@@ -28,7 +28,7 @@ use Rattle.reach_walk.proofs.Crowding.{two-among}
 use Rattle.reach_walk.proofs.Entering.{opens-more}
 use Rattle.reach_walk.proofs.Members.{in-either, in-left, in-right, same-append, same-refl, same-trans}
 use Rattle.reach_walk.proofs.Telling.{clash-by}
-use Rattle.reach_walk.proofs.Within.{Within, any-at, any-filter, any-once, filter-from, first-among, later-among, or-left, or-right, same-self}
+use Rattle.reach_walk.proofs.Within.{Within, any-at, any-filter, any-once, filter-from, or-left, or-right, same-self}
 
 -- what is entered is held under its name
 into-held : (around : List ℕ → List ℕ) (t : Holdings) (all : List Definition) (es : List Entry) (n : List ℕ) (d : ℕ) → Holds around t all es → bytes_eq (spelling_at all d) n ≡ true → is_among d (numbers_of es) ≡ true → is_among d (held around t n) ≡ true
@@ -51,7 +51,7 @@ opens-again b s o o' es at ds h inside same told taken = opens-more b s o o' es 
 
 -- ---- what is told by names
 
-in-flat : {X Y : Type 0} (f : X → List Y) (y : Y) (x : X) (xs : List X) → IsIn x xs → IsIn y (f x) → IsIn y (flat_map f xs)
+pub in-flat : {X Y : Type 0} (f : X → List Y) (y : Y) (x : X) (xs : List X) → IsIn x xs → IsIn y (f x) → IsIn y (flat_map f xs)
 in-flat f y x [] h k = absurd h
 in-flat f y x (z ∷ zs) (inl e) k = in-left y (f z) (flat_map f zs) (subst (λ w. IsIn y (f w)) e k)
 in-flat f y x (z ∷ zs) (inr h) k = in-right y (f z) (flat_map f zs) (in-flat f y x zs h k)
@@ -62,7 +62,7 @@ pub record From {X Y : Type 0} (f : X → List Y) (y : Y) (xs : List X) : Type 0
   pub there : IsIn item xs
   pub gives : IsIn y (f item)
 
-from-flat : {X Y : Type 0} (f : X → List Y) (y : Y) (xs : List X) → IsIn y (flat_map f xs) → From f y xs
+pub from-flat : {X Y : Type 0} (f : X → List Y) (y : Y) (xs : List X) → IsIn y (flat_map f xs) → From f y xs
 from-flat f y [] h = absurd h
 from-flat {X} {Y} f y (x ∷ xs) h = side (in-either y (f x) (flat_map f xs) h) (λ k. from-flat f y xs k)
   where
@@ -92,7 +92,7 @@ passes-in p x [] h k = absurd h
 passes-in p x (z ∷ zs) (inl e) k = or-left (p z) (list_any p zs) (ap p (sym e) ∙ k)
 passes-in p x (z ∷ zs) (inr h) k = or-right (p z) (list_any p zs) (passes-in p x zs h k)
 
-among-in : (d : ℕ) (ds : List ℕ) → IsIn d ds → is_among d ds ≡ true
+pub among-in : (d : ℕ) (ds : List ℕ) → IsIn d ds → is_among d ds ≡ true
 among-in d ds h = passes-in (λ e. e == d) d ds h (same-self d)
 
 -- what is told where a test holds

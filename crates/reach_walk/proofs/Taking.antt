@@ -23,13 +23,13 @@ use Rattle.reach_walk.proofs.Within.{first-among, later-among}
 -- a sound scope shows definitions under their own names, each once
 pub orderly : (b : Book) (s : Scope) → Sound b s → Orderly b.all.items (shown b s)
 orderly b Outside h = record { named = λ n d k. cc; once = λ n. refl }
-orderly b (Reach' t takes p o l) h = h.1
+orderly b (Reach' t takes p o l z) h = h.1
 
-filter-all : (p : ℕ → Bool) (xs : List ℕ) → ((d : ℕ) → is_among d xs ≡ true → p d ≡ true) → filter p xs ≡ xs
+pub filter-all : (p : ℕ → Bool) (xs : List ℕ) → ((d : ℕ) → is_among d xs ≡ true → p d ≡ true) → filter p xs ≡ xs
 filter-all p [] h = refl
 filter-all p (x ∷ xs) h = ap (λ v. if v then x ∷ filter p xs else filter p xs) (h x (first-among x xs)) ∙ ap (λ ys. x ∷ ys) (filter-all p xs (λ d k. h d (later-among d x xs k)))
 
-filter-none : (p : ℕ → Bool) (xs : List ℕ) → ((d : ℕ) → is_among d xs ≡ true → p d ≡ false) → filter p xs ≡ []
+pub filter-none : (p : ℕ → Bool) (xs : List ℕ) → ((d : ℕ) → is_among d xs ≡ true → p d ≡ false) → filter p xs ≡ []
 filter-none p [] h = refl
 filter-none p (x ∷ xs) h = ap (λ v. if v then x ∷ filter p xs else filter p xs) (h x (first-among x xs)) ∙ filter-none p xs (λ d k. h d (later-among d x xs k))
 

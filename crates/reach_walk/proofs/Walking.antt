@@ -20,6 +20,7 @@ use Rattle.names_model.specs.Resolving.{resolved_in}
 use Rattle.reach_walk.specs.Findings.{Adds, AddsInside, AddsNodes, AddsReach, groups_at, uses_at}
 use Rattle.reach_walk.specs.Givens.{GivenTree, given_of}
 use Rattle.reach_walk.specs.Held.{Holdings}
+use Rattle.reach_walk.specs.Lendings.{Lendings}
 use Rattle.reach_walk.specs.Listed.{AllListed}
 use Rattle.reach_walk.specs.Offsets.{FitsInside, nodes_of}
 use Rattle.reach_walk.specs.Placed.{Includes, Listed, Placed}
@@ -100,11 +101,11 @@ adds-nothing scope old = record {
 }
 
 -- N1 of a reach is told, its own definitions are listed, and then its parts are walked over
-pub found-reach : (text : List Definition) (r : Reach) (from : ℕ) (ps : PartNodes) (t : Holdings) (takes : Bool) (p : Bor (Unit {0})) (outer : Scope) (places : Placed) (old opened new : Findings) (twice : List Diagnostic)
+pub found-reach : (text : List Definition) (r : Reach) (from : ℕ) (ps : PartNodes) (t : Holdings) (takes : Bool) (p : Bor (Unit {0})) (outer : Scope) (places : Placed) (z : Lendings) (s : Scope) (old opened new : Findings) (twice : List Diagnostic)
     → SameMembers opened.told.items (old.told.items ++ twice) → twice ≡ told_twice text r
     → Includes old.lists.items opened.lists.items → Listed opened.lists.items t places → opened.groups.items ≡ old.groups.items → opened.uses.items ≡ old.uses.items
-    → AddsNodes (Reach' t takes p outer places) opened new text (nodes r from ps) → AddsReach outer old new text r from ps
-found-reach text r from ps t takes p outer places old opened new twice a e l own g u b = record {
+    → s ≡ Reach' t takes p outer places z → AddsNodes s opened new text (nodes r from ps) → AddsReach outer old new text r from ps
+found-reach text r from ps t takes p outer places z s old opened new twice a e l own g u is found = record {
   told = same-trans new.told.items (opened.told.items ++ rest) (old.told.items ++ (told_twice text r ++ rest)) b.told
       (subst (λ ds. SameMembers (opened.told.items ++ rest) ds) (ap (λ z. (old.told.items ++ z) ++ rest) e ∙ append_assoc old.told.items (told_twice text r) rest) (same-behind opened.told.items (old.told.items ++ twice) rest a));
   lists = includes-trans old.lists.items opened.lists.items new.lists.items l b.lists;
@@ -113,6 +114,9 @@ found-reach text r from ps t takes p outer places old opened new twice a e l own
   uses = b.uses ∙ ap (λ z. z ++ resolved_in text r from ps) u;
 }
   where
+    b : AddsNodes (Reach' t takes p outer places z) opened new text (nodes r from ps)
+    b = subst (λ x. AddsNodes x opened new text (nodes r from ps)) is found
+
     rest : List Diagnostic
     rest = flat_map (told text) (nodes r from ps)
 

@@ -1,12 +1,14 @@
 pub mod Asking
 pub mod Held
 pub mod Books
+pub mod Names
+pub mod Lendings
+pub mod Lends
 pub mod Scopes
 pub mod Offsets
 pub mod Named
 pub mod Findings
 pub mod Measures
-pub mod Names
 pub mod Tellings
 pub mod Marks
 pub mod Givens

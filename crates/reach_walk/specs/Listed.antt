@@ -9,7 +9,7 @@ use Rattle.reach_walk.specs.declared.scope.Scope.{Scope, Outside, Reach'}
 -- each table has its lists at their places
 abbrev pub AllListed : List (List ℕ) → Scope → Type 0
 AllListed final Outside = ⊤
-AllListed final (Reach' t all p o l) = Listed final t l × AllListed final o
+AllListed final (Reach' t all p o l z) = Listed final t l × AllListed final o
 
 -- the same numbers are among both
 abbrev pub SameNumbers : (xs ys : List ℕ) → Type 0

@@ -9,6 +9,8 @@ use Rattle.names_model.specs.Seeing.{Reach, sees, seen_around, or_else, is_empty
 use Rattle.reach_walk.specs.Asking.{Rated}
 use Rattle.reach_walk.specs.Held.{Holdings, had, held, holding, is_seized, own}
 use Rattle.reach_walk.specs.Books.{Keeps}
+use Rattle.reach_walk.specs.Lendings.{Lendings}
+use Rattle.reach_walk.specs.Lends.{AreLent}
 use Rattle.reach_walk.specs.declared.book.Book.{Book}
 use Rattle.reach_walk.specs.declared.scope.Scope.{Scope, Outside, Reach'}
 
@@ -29,17 +31,28 @@ pub record Orderly (all : List Definition) (has : List ℕ → List ℕ) : Type 
 -- the definitions that tables show under a name
 abbrev pub shown : Book → Scope → List ℕ → List ℕ
 shown b Outside n = []
-shown b (Reach' t all p o l) n = or_else (held (shown b o) t n) (if all then shown b o n else had b.predefined n)
+shown b (Reach' t all p o l z) n = or_else (held (shown b o) t n) (if all then shown b o n else had b.predefined n)
 
 -- those that the tables around show
 abbrev pub shown_around : Book → Scope → List ℕ → List ℕ
 shown_around b Outside n = []
-shown_around b (Reach' t all p o l) n = shown b o n
+shown_around b (Reach' t all p o l z) n = shown b o n
 
--- each table is kept well, and shows definitions under their own names, each once
+-- each table is kept well, shows definitions under their own names, each once, and what is lent is what goes along
 abbrev pub Sound : Book → Scope → Type 0
 Sound b Outside = ⊤
-Sound b (Reach' t all p o l) = Kept (shown b o) t b.all.items × Orderly b.all.items (shown b (Reach' t all p o l)) × Sound b o
+Sound b (Reach' t all p o l z) = Kept (shown b o) t b.all.items × Orderly b.all.items (shown b (Reach' t all p o l z)) × Sound b o × AreLent b.all.items (shown b (Reach' t all p o l z)) z
+
+-- a scope that lends these
+abbrev pub with_lent : Scope → Lendings → Scope
+with_lent Outside z = Outside
+with_lent (Reach' t all p o l y) z = Reach' t all p o l z
+
+-- the scope is another one that lends what goes along
+pub record Lends (b : Book) (s s' : Scope) : Type 0 where
+  pub lent : Lendings
+  pub is : s' ≡ with_lent s lent
+  pub are : AreLent b.all.items (shown b s) lent
 
 -- the book has the definitions of the text, and the tables show what the reach sees
 pub record Shows (b : Book) (s : Scope) (text : List Definition) (r : Reach) : Type 0 where

@@ -27,8 +27,8 @@ fn push_on(first: u32, count: u32, out: &mut Numbers) -> Result<(), Memory>
     Ok(())
 }
 
-// The table of definitions, each once under its own name.
-fn table_of_numbers(alloc: Global, book: &Book, numbers: &[u32]) -> Result<Table, Memory>
+/// The table of definitions, each once under its own name.
+pub fn table_of_numbers(alloc: Global, book: &Book, numbers: &[u32]) -> Result<Table, Memory>
     ensures { IfOk result (λ t. (n : List ℕ) → had t n ≡ once_behind [] (under book.now.all.items n numbers.now)) }
 {
     let mut entered = Entered::new(alloc);

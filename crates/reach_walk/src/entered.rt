@@ -20,7 +20,7 @@ pub struct Entered {
 }
 
 impl Entered {
-    ghost use Rattle.std.specs.Prelude.{◌≡◌, ◌∷◌, [], OnOk};
+    ghost use Rattle.std.specs.Prelude.{◌≡◌, ◌∷◌, [], flat_map, OnOk};
     ghost use Rattle.reach_walk.specs.Marks.{Adds, IsFresh, IsTended};
     ghost use Rattle.reach_walk.specs.Scopes.{Sound, shown};
 
@@ -97,5 +97,21 @@ impl Entered {
             }
             None => Ok(()),
         }
+    }
+
+    /// Adds what is seen around under some names.
+    pub fn add_all_seized(
+        &mut self,
+        alloc: Global,
+        book: &Book,
+        around: &Scope,
+        names: &Names,
+    ) -> Result<(), Memory>
+        ensures { Sound book.now around.now → IsTended (shown book.now around.now) book.now.all.items self.old → OnOk result (Adds (shown book.now around.now) book.now.all.items (flat_map (shown book.now around.now) names.now) self.old self.new) }
+    {
+        for name in names.as_slice() {
+            self.add_seized(alloc, book, around, name)?;
+        }
+        Ok(())
     }
 }

@@ -23,6 +23,8 @@ mod grants;
 mod groups;
 mod holding;
 mod laws;
+mod lends;
+mod lent;
 mod lists;
 mod marked;
 mod names;

@@ -5,7 +5,7 @@ use crate::names::Names;
 use crate::passages::Passages;
 use crate::scope::Scope;
 use crate::table::Table;
-use crate::twice::{tell_crowded, tell_numbers, tell_seized};
+use crate::twice::{tell_all_seized, tell_crowded, tell_numbers, tell_seized};
 use chill_base::{Diagnostic, Memory, Pos};
 use names_model::Identifier;
 use std::alloc::Global;
@@ -20,7 +20,7 @@ pub struct Opening {
 }
 
 impl Opening {
-    ghost use Rattle.std.specs.Prelude.{◌≡◌, ◌++◌, ◌∷◌, [], ℕ, true, false, List, IfOk, OnOk};
+    ghost use Rattle.std.specs.Prelude.{◌≡◌, ◌++◌, ◌∷◌, [], ℕ, true, false, List, flat_map, IfOk, OnOk};
     ghost use Rattle.names_model.specs.declared.entry.Entry.{Entry};
     ghost use Rattle.names_model.specs.Entries.{entry, passed};
     ghost use Rattle.reach_walk.specs.declared.book.Book.{Book};
@@ -64,7 +64,7 @@ impl Opening {
         Ok(())
     }
 
-    /// Enters what is seen around under a name, and elements that go along.
+    /// Enters what is seen around under a name, elements that go along, and all that is seen around under whole names.
     pub fn seize(
         &mut self,
         alloc: Global,
@@ -72,30 +72,20 @@ impl Opening {
         around: &Scope,
         name: &Identifier,
         elements: &[u32],
+        whole: &Names,
     ) -> Result<(), Memory>
-        ensures { (es : List Entry) → Opens book.now around.now self.old es → OnOk result (Opens book.now around.now self.new (es ++ entry name.now.at (shown book.now around.now name.now.spelling ++ elements.now) ∷ [])) }
+        ensures { (es : List Entry) → Opens book.now around.now self.old es → OnOk result (Opens book.now around.now self.new (es ++ entry name.now.at (shown book.now around.now name.now.spelling ++ (elements.now ++ flat_map (shown book.now around.now) whole.now)) ∷ [])) }
     {
-        tell_seized(
-            alloc,
-            book,
-            around,
-            &self.entered.table,
-            name,
-            &mut self.told,
-        )?;
-        tell_numbers(
-            alloc,
-            book,
-            around,
-            &self.entered.table,
-            name.at,
-            elements,
-            &mut self.told,
-        )?;
-        self.entered
-            .add_seized(alloc, book, around, &name.spelling)?;
-        self.entered.add_numbers(alloc, book, around, elements)?;
-        Ok(())
+        let at = name.at;
+        let table = &self.entered.table;
+        let told = &mut self.told;
+        tell_seized(alloc, book, around, table, at, &name.spelling, told)?;
+        tell_numbers(alloc, book, around, table, at, elements, told)?;
+        tell_all_seized(alloc, book, around, table, at, whole, told)?;
+        let entered = &mut self.entered;
+        entered.add_seized(alloc, book, around, &name.spelling)?;
+        entered.add_numbers(alloc, book, around, elements)?;
+        entered.add_all_seized(alloc, book, around, whole)
     }
 
     /// Enters definitions again that are all there, of these names. They add nothing, and are told of by the names that have

@@ -1,13 +1,16 @@
 // The reaches around a place, by their tables, and what they show under a name.
-ghost use Rattle.std.specs.Prelude.{◌≡◌, ◌++◌, Some, None, OnOk, slice_get, if◌then◌else◌};
+ghost use Rattle.std.specs.Prelude.{◌≡◌, ◌++◌, Some, None, IfSome, OnOk, slice_get, if◌then◌else◌};
 ghost use Rattle.std.specs.List.{list_any};
 ghost use Rattle.names_model.specs.Entries.{is_among};
 ghost use Rattle.reach_walk.specs.Asking.{meets};
+ghost use Rattle.reach_walk.specs.Lends.{IsLending};
 ghost use Rattle.reach_walk.specs.Scopes.{Sound, shown};
+ghost use Rattle.reach_walk.specs.declared.book.Book.{Book};
 
 use crate::asked::Asked;
 use crate::asking::{among, any_meets, own_meets};
 use crate::book::Book;
+use crate::lent::{Lending, Lent};
 use crate::places::Places;
 use crate::table::Table;
 use names_model::Spelling;
@@ -24,7 +27,34 @@ pub enum Scope<'a> {
         outer: &'a Scope<'a>,
         /// Where the lists of what the reach enters itself stand.
         places: Places,
+        /// What it lends to the modulions in it.
+        lent: Lent,
     },
+}
+
+impl<'a> Scope<'a> {
+    ghost use Rattle.std.specs.Prelude.{◌≡◌};
+    ghost use Rattle.reach_walk.specs.Scopes.{with_lent};
+
+    /// Lends these from now on, and nothing else.
+    pub fn lend(&mut self, made: Lent)
+        ensures { self.new ≡ with_lent self.old made }
+    {
+        match self {
+            Scope::Outside => {}
+            Scope::Reach { lent, .. } => *lent = made,
+        }
+    }
+}
+
+/// What a reach lends for a name.
+pub fn lent_by<'s>(scope: &'s Scope, name: &Spelling) -> Option<&'s Lending>
+    ensures { (b : Book) → Sound b scope.now → IfSome result (λ z. IsLending b.all.items (shown b scope.now) name.now z.now) }
+{
+    match scope {
+        Scope::Outside => None,
+        Scope::Reach { lent, .. } => lent.find(name),
+    }
 }
 
 /// Whether one of the definitions that the tables show under a name is what is asked for.

@@ -10,9 +10,10 @@ ghost use Rattle.reach_walk.specs.Scopes.{Sound, shown};
 use crate::asked::Asked;
 use crate::book::Book;
 use crate::gathering::push_shown;
+use crate::names::Names;
 use crate::naming::names_of;
 use crate::opening::Opening;
-use crate::scope::{Scope, find_shown, shows_any};
+use crate::scope::{Scope, find_shown, lent_by, shows_any};
 use chill_base::{Memory, Numbers};
 use names_model::{Identifier, Spelling};
 use std::alloc::Global;
@@ -58,8 +59,8 @@ fn push_along_all(
     Ok(())
 }
 
-// The elements that go with what is seen around under a name. What is seen is gone through only where it has some.
-fn push_elements(
+/// The elements that go with what is seen around under a name. What is seen is gone through only where it has some.
+pub fn push_elements(
     alloc: Global,
     book: &Book,
     around: &Scope,
@@ -77,9 +78,8 @@ fn push_elements(
     Ok(())
 }
 
-// Enters for the first time what is seen around under a name, with the elements that go along. No number under the name is
-// copied.
-fn seize_first(
+// Enters what is seen around under a name, with the elements that go along, one by one. No number under the name is copied.
+fn seize_along(
     alloc: Global,
     book: &Book,
     around: &Scope,
@@ -90,7 +90,44 @@ fn seize_first(
 {
     let mut elements = Numbers::new(alloc);
     push_elements(alloc, book, around, &name.spelling, &mut elements)?;
-    out.seize(alloc, book, around, name, elements.as_slice())?;
+    let whole = Names::new(alloc);
+    out.seize(alloc, book, around, name, elements.as_slice(), &whole)
+}
+
+// Enters it with what is lent for the name, or, where nothing is lent, with the elements one by one.
+fn seize_with(
+    alloc: Global,
+    book: &Book,
+    around: &Scope,
+    name: &Identifier,
+    out: &mut Opening,
+) -> Result<(), Memory>
+    ensures { (es : List Entry) → Opens book.now around.now out.old es → OnOk result (Opens book.now around.now out.new (es ++ entry name.now.at (passed book.now.all.items (shown book.now around.now) name.now.spelling) ∷ [])) }
+{
+    match lent_by(around, &name.spelling) {
+        Some(lending) => out.seize(
+            alloc,
+            book,
+            around,
+            name,
+            lending.rest.as_slice(),
+            &lending.whole,
+        ),
+        None => seize_along(alloc, book, around, name, out),
+    }
+}
+
+// Enters it for the first time.
+fn seize_first(
+    alloc: Global,
+    book: &Book,
+    around: &Scope,
+    name: &Identifier,
+    out: &mut Opening,
+) -> Result<(), Memory>
+    ensures { (es : List Entry) → Opens book.now around.now out.old es → OnOk result (Opens book.now around.now out.new (es ++ entry name.now.at (passed book.now.all.items (shown book.now around.now) name.now.spelling) ∷ [])) }
+{
+    seize_with(alloc, book, around, name, out)?;
     out.taken.met.insert(alloc, &name.spelling)
 }
 

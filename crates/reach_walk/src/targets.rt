@@ -61,6 +61,7 @@ pub fn push_targets(
             takes_all,
             outer,
             places,
+            ..
         } => {
             let held = table.find(name);
             if held.seized {

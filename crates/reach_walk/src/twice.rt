@@ -20,7 +20,7 @@ use crate::scope::{Scope, first_shown, shows_any};
 use crate::table::Table;
 use crate::told::push_told;
 use chill_base::{Diagnostic, Memory, Pos, Rule};
-use names_model::{Identifier, Spelling};
+use names_model::Spelling;
 use std::alloc::Global;
 
 /// Whether a reach that is being opened has another number than this one under a name.
@@ -120,13 +120,32 @@ pub fn tell_seized(
     book: &Book,
     around: &Scope,
     table: &Table,
-    name: &Identifier,
+    at: Pos,
+    name: &Spelling,
     out: &mut Vec<Diagnostic>,
 ) -> Result<(), Memory>
-    ensures { (es : List Entry) → Sound book.now around.now → Opened book.now around.now table.now es → OnOk result (SameMembers out.new.items (out.old.items ++ flat_map (told_number book.now.all.items (numbers_of es) name.now.at) (shown book.now around.now name.now.spelling))) }
+    ensures { (es : List Entry) → Sound book.now around.now → Opened book.now around.now table.now es → OnOk result (SameMembers out.new.items (out.old.items ++ flat_map (told_number book.now.all.items (numbers_of es) at) (shown book.now around.now name.now))) }
 {
-    if is_seized_twice(book, around, table, &name.spelling) {
-        push_told(alloc, name.at, Rule::N1, &name.spelling, out)?;
+    if is_seized_twice(book, around, table, name) {
+        push_told(alloc, at, Rule::N1, name, out)?;
+    }
+    Ok(())
+}
+
+/// Tells of the numbers that are seen around under some names, once for all of one name.
+pub fn tell_all_seized(
+    alloc: Global,
+    book: &Book,
+    around: &Scope,
+    table: &Table,
+    at: Pos,
+    names: &Names,
+    out: &mut Vec<Diagnostic>,
+) -> Result<(), Memory>
+    ensures { (es : List Entry) → Sound book.now around.now → Opened book.now around.now table.now es → OnOk result (SameMembers out.new.items (out.old.items ++ flat_map (told_number book.now.all.items (numbers_of es) at) (flat_map (shown book.now around.now) names.now))) }
+{
+    for name in names.as_slice() {
+        tell_seized(alloc, book, around, table, at, name, out)?;
     }
     Ok(())
 }

@@ -20,6 +20,8 @@ use crate::entries::enter_params;
 use crate::findings::{Findings, note_here};
 use crate::given::{Given, lent_inner, split_given};
 use crate::giving::givens_of;
+use crate::lends::lend_in;
+use crate::lent::Lent;
 use crate::lists::list_own;
 use crate::offsets::{head_size, size_of};
 use crate::opening::Opening;
@@ -149,12 +151,14 @@ fn walk_modulion<'a>(
     let parts = parts.as_slice();
     let table = open_reach(alloc, book, scope, &[], given, from, parts, &mut out.told)?;
     let places = list_own(alloc, book, &table, &mut out.lists)?;
-    let inner = Scope::Reach {
+    let mut inner = Scope::Reach {
         table,
         takes_all: seizes_all(parts),
         outer: scope,
         places,
+        lent: Lent::new(alloc),
     };
+    lend_in(alloc, book, &mut inner, parts)?;
     walk(alloc, &*book, &inner, from, parts, given, out)?;
     Ok(())
 }
@@ -182,6 +186,7 @@ fn walk_block<'a>(
         takes_all: true,
         outer: scope,
         places,
+        lent: Lent::new(alloc),
     };
     walk(alloc, &*book, &inner, from, parts, given, out)?;
     Ok(())
@@ -203,12 +208,14 @@ pub fn find_in_program(
     let outside = Scope::Outside;
     let table = open_reach(alloc, book, &outside, &[], given, 0, parts, &mut out.told)?;
     let places = list_own(alloc, book, &table, &mut out.lists)?;
-    let scope = Scope::Reach {
+    let mut inner = Scope::Reach {
         table,
         takes_all: false,
         outer: &outside,
         places,
+        lent: Lent::new(alloc),
     };
-    walk(alloc, book, &scope, 0, parts, given, out)?;
+    lend_in(alloc, book, &mut inner, parts)?;
+    walk(alloc, book, &inner, 0, parts, given, out)?;
     Ok(())
 }

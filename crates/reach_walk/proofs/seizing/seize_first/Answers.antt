@@ -1,7 +1,5 @@
-use Rattle.std.proofs.Common.{◌≡◌, ◌++◌, ◌∷◌, [], ◌∙◌, ap, subst}
-use Rattle.std.specs.Prelude.{flat_map}
-use Rattle.names_model.specs.Entries.{along, entry, passed}
-use Rattle.reach_walk.specs.Opens.{Opens}
+use Rattle.std.proofs.Common.{◌++◌, ◌∷◌, []}
+use Rattle.names_model.specs.Entries.{entry, passed}
 use Rattle.reach_walk.specs.Scopes.{shown}
 use Rattle.reach_walk.proofs.Entering.{opens-taken}
 use Rattle.reach_walk.proofs.Recalling.{are-new, recalls-met}
@@ -14,9 +12,7 @@ returns c = λ es o.
     let s = c.args.around.now in
     let at = c.args.name.now.at in
     let name = c.args.name.now.spelling in
-    let seen = shown b s name in
-    let those = flat_map (along b.all.items (shown b s)) seen in
-    let elements : c.as_slice.result.now ≡ those = c.as_slice.ensures ∙ c.in_ok-push_elements.ensures o.sound ∙ ap (λ r. r ++ those) c.new-elements.ensures in
-    let opens = subst (λ ds. Opens b s c.seize.new.self (es ++ entry at (seen ++ ds) ∷ [])) elements (c.in_ok-seize.ensures es o) in
-    on-ok c.insert.result (λ more. opens-taken b s c.seize.new.self _ (es ++ entry at (seen ++ those) ∷ []) opens
-    (recalls-met b.all.items (passed b.all.items (shown b s)) c.seize.new.self.taken _ name (es ++ entry at (seen ++ those) ∷ []) opens.taken (are-new (seen ++ those) at es) more)) c.insert.ensures
+    let brings = passed b.all.items (shown b s) in
+    let opens = c.in_ok-seize_with.ensures es o in
+    on-ok c.insert.result (λ more. opens-taken b s c.seize_with.new.out _ (es ++ entry at (brings name) ∷ []) opens
+    (recalls-met b.all.items brings c.seize_with.new.out.taken _ name (es ++ entry at (brings name) ∷ []) opens.taken (are-new (brings name) at es) more)) c.insert.ensures

@@ -1,4 +1,4 @@
-use Rattle.std.proofs.Common.{◌≡◌, ◌++◌, ◌∷◌, [], ◌∙◌, ap, sym, subst}
+use Rattle.std.proofs.Common.{◌≡◌, ◌++◌, ◌∷◌, [], ◌∙◌, ap, subst}
 use Rattle.std.specs.Prelude.{flat_map}
 use Rattle.names_model.specs.Entries.{along, entry, passed}
 use Rattle.reach_walk.specs.Passages.{AreKnown, AreNames}

@@ -15,10 +15,10 @@ returns-in_ok-push_told c = λ es s o.
     let all = b.all.items in
     let has = shown b c.args.around.now in
     let t = c.args.table.now in
-    let n = c.args.name.now.spelling in
-    told-together all (numbers_of es) c.args.name.now.at n (has n) (held has t n) c.args.out.now.items _ c.is_seized_twice.result ((orderly b c.args.around.now s).named n)
+    let n = c.args.name.now in
+    told-together all (numbers_of es) c.args.at n (has n) (held has t n) c.args.out.now.items _ c.is_seized_twice.result ((orderly b c.args.around.now s).named n)
     (λ d is. clash-by has t all es n d o.holds is) (c.is_seized_twice.ensures s o.kept)
-    (c.in_ok-push_told.ensures ∙ ap (λ v. c.args.out.now.items ++ (if v then tell c.args.name.now.at rules.N1 n ∷ [] else [])) (sym c.if-is_seized_twice.true))
+    (c.in_ok-push_told.ensures ∙ ap (λ v. c.args.out.now.items ++ (if v then tell c.args.at rules.N1 n ∷ [] else [])) (sym c.if-is_seized_twice.true))
 
 pub returns-else-is_seized_twice : goal.returns-else-is_seized_twice
 returns-else-is_seized_twice c = λ es s o.
@@ -26,7 +26,7 @@ returns-else-is_seized_twice c = λ es s o.
     let all = b.all.items in
     let has = shown b c.args.around.now in
     let t = c.args.table.now in
-    let n = c.args.name.now.spelling in
-    told-together all (numbers_of es) c.args.name.now.at n (has n) (held has t n) c.args.out.now.items _ c.is_seized_twice.result ((orderly b c.args.around.now s).named n)
+    let n = c.args.name.now in
+    told-together all (numbers_of es) c.args.at n (has n) (held has t n) c.args.out.now.items _ c.is_seized_twice.result ((orderly b c.args.around.now s).named n)
     (λ d is. clash-by has t all es n d o.holds is) (c.is_seized_twice.ensures s o.kept)
-    (sym (append-nil c.args.out.now.items) ∙ ap (λ v. c.args.out.now.items ++ (if v then tell c.args.name.now.at rules.N1 n ∷ [] else [])) (sym c.if-is_seized_twice.false))
+    (sym (append-nil c.args.out.now.items) ∙ ap (λ v. c.args.out.now.items ++ (if v then tell c.args.at rules.N1 n ∷ [] else [])) (sym c.if-is_seized_twice.false))

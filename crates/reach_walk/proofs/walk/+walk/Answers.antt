@@ -15,7 +15,7 @@ use Rattle.reach_walk.specs.Places.{singles}
 use Rattle.reach_walk.proofs.Listing.{includes-trans}
 use Rattle.reach_walk.proofs.Lending.{given-at, givens-back}
 use Rattle.reach_walk.proofs.PartLists.{nodes-at}
-use Rattle.reach_walk.proofs.Showing.{shows-modulion, shows-block, twice-modulion, twice-block}
+use Rattle.reach_walk.proofs.Showing.{shows-block, shows-lends, shows-modulion, twice-modulion, twice-block}
 use Rattle.reach_walk.proofs.Walking.{InsideFound, adds-nothing, found-end, found-on, found-reach, grouped-on, told-walk}
 use Rattle.reach_walk.proofs.walk.+walk.Goals as goal
 
@@ -46,15 +46,17 @@ walk-loop-part-preserved t c = λ text r s h g.
 pub walk_modulion-returns : goal.walk_modulion-returns
 walk_modulion-returns t c = λ text r s. subst (λ z. Fits c.args.from (nodes_of z) → given_trees c.args.given.now ≡ givens c.args.book.now.all.items c.args.from (nodes_of z) → AddsReach c.args.scope.now c.args.out.now c.walk.new.out text (in_modulion r c.args.from (nodes_of z)) c.args.from (nodes_of z)) c.as_slice-parts.ensures
     (λ h g. let ps = nodes_of c.as_slice-parts.result.now in
-    found-reach text (in_modulion r c.args.from ps) c.args.from ps _ _ _ c.args.scope.now _ c.args.out.now _ _ _ (c.in_ok-table.ensures.told s.sound h g) (twice-modulion c.args.book.now c.args.scope.now text r _ c.args.from ps s refl) c.in_ok-places.ensures.kept c.in_ok-places.ensures.listed refl refl
-    (c.in_ok-walk.ensures text (in_modulion r c.args.from ps) (shows-modulion c.args.book.now c.args.scope.now _ _ _ _ text r _ c.args.from ps s refl (c.in_ok-table.ensures.table s.sound h g) c.seizes_all.ensures) h g))
+    let shows = shows-modulion c.args.book.now c.args.scope.now _ _ _ _ _ text r _ c.args.from ps c.new.ensures s refl (c.in_ok-table.ensures.table s.sound h g) c.seizes_all.ensures in
+    let lends = c.in_ok-lend_in.ensures shows.sound in
+    found-reach text (in_modulion r c.args.from ps) c.args.from ps _ _ _ c.args.scope.now _ lends.lent _ c.args.out.now _ _ _ (c.in_ok-table.ensures.told s.sound h g) (twice-modulion c.args.book.now c.args.scope.now text r _ c.args.from ps s refl) c.in_ok-places.ensures.kept c.in_ok-places.ensures.listed refl refl lends.is
+    (c.in_ok-walk.ensures text (in_modulion r c.args.from ps) (shows-lends c.args.book.now _ _ text (in_modulion r c.args.from ps) shows lends) h g))
 
 pub walk_block-returns : goal.walk_block-returns
 walk_block-returns t c = λ text r s. subst (λ z. Fits c.args.from (nodes_of z) → AddsReach c.args.scope.now c.args.out.now c.walk.new.out text (in_block r (singles c.args.head.now) c.args.from (nodes_of z)) c.args.from (nodes_of z)) c.as_slice-parts.ensures
     (λ h. let ps = nodes_of c.as_slice-parts.result.now in
     let g : given_trees c.as_slice-given.result.now ≡ givens c.args.book.now.all.items c.args.from ps = ap given_trees c.as_slice-given.ensures ∙ c.in_ok-made.ensures h in
-    found-reach text (in_block r (singles c.args.head.now) c.args.from ps) c.args.from ps _ _ _ c.args.scope.now _ c.args.out.now _ _ _ (c.in_ok-table.ensures.told s.sound h g) (twice-block c.args.book.now c.args.scope.now text r (singles c.args.head.now) c.args.from ps s) c.in_ok-places.ensures.kept c.in_ok-places.ensures.listed refl refl
-    (c.in_ok-walk.ensures text (in_block r (singles c.args.head.now) c.args.from ps) (shows-block c.args.book.now c.args.scope.now _ _ _ text r (singles c.args.head.now) c.args.from ps s (c.in_ok-table.ensures.table s.sound h g)) h g))
+    found-reach text (in_block r (singles c.args.head.now) c.args.from ps) c.args.from ps _ _ _ c.args.scope.now _ _ _ c.args.out.now _ _ _ (c.in_ok-table.ensures.told s.sound h g) (twice-block c.args.book.now c.args.scope.now text r (singles c.args.head.now) c.args.from ps s) c.in_ok-places.ensures.kept c.in_ok-places.ensures.listed refl refl refl
+    (c.in_ok-walk.ensures text (in_block r (singles c.args.head.now) c.args.from ps) (shows-block c.args.book.now c.args.scope.now _ _ _ _ text r (singles c.args.head.now) c.args.from ps c.new.ensures s (c.in_ok-table.ensures.table s.sound h g)) h g))
 
 pub walk_inside-returns-in-Modulion : goal.walk_inside-returns-in-Modulion
 walk_inside-returns-in-Modulion t c = λ text r s.

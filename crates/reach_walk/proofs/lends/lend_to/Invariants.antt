@@ -1,0 +1,6 @@
+use Rattle.reach_walk.specs.Lends.{AreLent}
+use Rattle.reach_walk.specs.Scopes.{Sound, shown}
+use Rattle.reach_walk.proofs.lends.lend_to.Given as goal
+
+abbrev pub invariant-loop-part : goal.invariant-loop-part
+invariant-loop-part l = Sound l.book l.scope → AreLent l.book.all.items (shown l.book l.scope) l.fn.lent → AreLent l.book.all.items (shown l.book l.scope) l.lent

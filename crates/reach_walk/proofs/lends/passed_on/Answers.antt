@@ -1,0 +1,7 @@
+use Rattle.std.proofs.Common.{subst, sym}
+use Rattle.reach_walk.specs.Lends.{IsLending}
+use Rattle.reach_walk.specs.Scopes.{Sound, shown_around}
+use Rattle.reach_walk.proofs.lends.passed_on.Goals as goal
+
+pub returns-in-Some : goal.returns-in-Some
+returns-in-Some c = λ b h. c.pass_on.ensures b h (subst (λ s. IsLending b.all.items (shown_around b s) c.args.name.now c.in-Some.lending.now) (sym c.in-Reach.is) (c.in-Some.ensures b (subst (λ s. Sound b s) c.in-Reach.is h).2))
