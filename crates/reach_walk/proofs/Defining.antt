@@ -6,7 +6,7 @@ use Rattle.names_model.specs.declared.definition.Definition.{Definition}
 use Rattle.names_model.specs.Parts.{PartTree}
 use Rattle.names_model.specs.Sizes.{size_of}
 use Rattle.names_model.specs.Definitions.{definitions_of}
-use Rattle.reach_walk.specs.Offsets.{FitsInside}
+use Rattle.reach_tables.specs.Offsets.{FitsInside}
 
 -- the definitions in a part are put behind others
 abbrev pub InsideDefined : Inside → ℕ → (new old : List Definition) → PartTree → Type 0

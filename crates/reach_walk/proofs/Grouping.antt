@@ -17,7 +17,7 @@ use Rattle.names_model.specs.Sizes.{clause_size, clauses_size}
 use Rattle.names_model.specs.Entries.{is_among}
 use Rattle.names_model.specs.Dependence.{clause_group, group, named_in, param_groups}
 use Rattle.reach_walk.specs.Listed.{SameNumbers}
-use Rattle.reach_walk.proofs.Appends.{flat_map-append}
+use Rattle.reach_tables.proofs.Appends.{flat_map-append}
 use Rattle.reach_walk.proofs.Leading.{members-there, numbers-back, same-front}
 
 named-cons : (text : List Definition) (r : Reach) (m : Mention) (ms : List Mention) → named_in text r (m ∷ ms) ≡ named_in text r (m ∷ []) ++ named_in text r ms

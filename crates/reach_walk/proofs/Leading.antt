@@ -10,14 +10,14 @@ use Rattle.group_dependence.specs.declared.target.Target.TheVariants.{Listed as 
 use Rattle.group_dependence.specs.Targets.{target_nodes}
 use Rattle.group_dependence.proofs.Members.{first_in, in_cases, later_in, none_in}
 use Rattle.names_model.specs.Entries.{is_among}
-use Rattle.reach_walk.specs.Held.{Holdings, holding, is_seized, own}
+use Rattle.reach_tables.specs.Held.{Holdings, holding, is_seized, own}
 use Rattle.reach_walk.specs.Listed.{Leads, SameNumbers}
-use Rattle.reach_walk.specs.Scopes.{Kept, shown}
-use Rattle.reach_walk.specs.declared.book.Book.{Book}
-use Rattle.reach_walk.specs.declared.scope.Scope.{Scope}
-use Rattle.reach_walk.proofs.Appends.{flat_map-append}
-use Rattle.reach_walk.proofs.Reaching.{any-seized, shown_by}
-use Rattle.reach_walk.proofs.Within.{either, or-left, or-right}
+use Rattle.reach_tables.specs.Scopes.{Kept, shown}
+use Rattle.reach_tables.specs.declared.book.Book.{Book}
+use Rattle.reach_tables.specs.declared.scope.Scope.{Scope}
+use Rattle.reach_tables.proofs.Appends.{flat_map-append}
+use Rattle.reach_tables.proofs.Reaching.{any-seized, shown_by}
+use Rattle.reach_tables.proofs.Within.{either, or-left, or-right}
 
 -- ---- the same numbers
 

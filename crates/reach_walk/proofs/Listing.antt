@@ -5,8 +5,8 @@ use Rattle.std.specs.Str.{bytes_eq}
 use Rattle.std.proofs.lemmas.List.{get_or_append_left}
 use Rattle.std.proofs.lemmas.Option.{get_or_from_slice_get, slice_get-get_or, slice_get_within}
 use Rattle.std.proofs.lemmas.Slice.Eq.{bytes_eq-Decides}
-use Rattle.reach_walk.specs.Held.{Holdings, holding, own}
-use Rattle.reach_walk.specs.Placed.{Includes, Listed, Placed, place_of}
+use Rattle.reach_tables.specs.Held.{Holdings, holding, own}
+use Rattle.reach_tables.specs.Placed.{Includes, Listed, Placed, place_of}
 
 pub includes-refl : (lists : List (List ℕ)) → Includes lists lists
 includes-refl lists i xs is = is

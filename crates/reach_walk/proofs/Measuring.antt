@@ -11,7 +11,7 @@ use Rattle.names_model.specs.declared.part.Clause.{Clause}
 use Rattle.names_model.specs.Parts.{PartTree, PartNodes, define, mention, seize, seize_all, grant, grant_all, stray, modulion, routine, block, no_parts, more_parts}
 use Rattle.names_model.specs.Sizes.{elements_in, clause_size, clauses_size, head_size, size_of, sizes_of}
 use Rattle.names_model.specs.Definitions.{within, defined, elements_defined, names_defined, params_defined, definitions_of, definitions_in}
-use Rattle.reach_walk.specs.Offsets.{Fits, FitsInside}
+use Rattle.reach_tables.specs.Offsets.{Fits, FitsInside}
 use Rattle.reach_walk.specs.Measures.{Measured, AllMeasured}
 
 mutual

@@ -7,16 +7,16 @@ use Rattle.names_model.specs.Definitions.{with_predefined}
 use Rattle.names_model.specs.Entries.{found}
 use Rattle.names_model.specs.Seeing.{Reach, outermost, in_modulion, in_block, entries_in, nothing, sees, seen_around, seizes_all, or_else}
 use Rattle.names_model.specs.NameRules.{told_behind, told_twice}
-use Rattle.reach_walk.specs.Held.{Holdings, held}
-use Rattle.reach_walk.specs.Books.{Keeps}
-use Rattle.reach_walk.specs.Placed.{Placed}
-use Rattle.reach_walk.specs.Lendings.{Lendings, lending_of}
-use Rattle.reach_walk.specs.Lends.{AreLent}
-use Rattle.reach_walk.specs.Scopes.{Lends, Opened, Shows, Sound, shown, with_lent}
-use Rattle.reach_walk.specs.declared.book.Book.{Book}
-use Rattle.reach_walk.specs.declared.scope.Scope.{Scope, Outside, Reach'}
-use Rattle.reach_walk.proofs.Going.{lent-none}
-use Rattle.reach_walk.proofs.Seeing.{orderly-as}
+use Rattle.reach_tables.specs.Held.{Holdings, held}
+use Rattle.reach_tables.specs.Books.{Keeps}
+use Rattle.reach_tables.specs.Placed.{Placed}
+use Rattle.reach_tables.specs.Lendings.{Lendings, lending_of}
+use Rattle.reach_tables.specs.Lends.{AreLent}
+use Rattle.reach_tables.specs.Scopes.{Lends, Opened, Shows, Sound, shown, with_lent}
+use Rattle.reach_tables.specs.declared.book.Book.{Book}
+use Rattle.reach_tables.specs.declared.scope.Scope.{Scope, Outside, Reach'}
+use Rattle.reach_entries.proofs.Going.{lent-none}
+use Rattle.reach_entries.proofs.Seeing.{orderly-as}
 
 -- the entries by the tables are those of the reach
 entries-as : (b : Book) (s : Scope) (text : List Definition) (r : Reach) (head head' : List Entry) (from : ℕ) (ps : PartNodes) → Shows b s text r → head ≡ head'

@@ -18,18 +18,18 @@ use Rattle.names_model.specs.NameRules.{Node, node, nodes, nodes_inside, told, t
 use Rattle.names_model.specs.Dependence.{groups_in, groups_of}
 use Rattle.names_model.specs.Resolving.{resolved_in}
 use Rattle.reach_walk.specs.Findings.{Adds, AddsInside, AddsNodes, AddsReach, groups_at, uses_at}
-use Rattle.reach_walk.specs.Givens.{GivenTree, given_of}
-use Rattle.reach_walk.specs.Held.{Holdings}
-use Rattle.reach_walk.specs.Lendings.{Lendings}
+use Rattle.reach_entries.specs.Givens.{GivenTree, given_of}
+use Rattle.reach_tables.specs.Held.{Holdings}
+use Rattle.reach_tables.specs.Lendings.{Lendings}
 use Rattle.reach_walk.specs.Listed.{AllListed}
-use Rattle.reach_walk.specs.Offsets.{FitsInside, nodes_of}
-use Rattle.reach_walk.specs.Placed.{Includes, Listed, Placed}
+use Rattle.reach_tables.specs.Offsets.{FitsInside, nodes_of}
+use Rattle.reach_tables.specs.Placed.{Includes, Listed, Placed}
 use Rattle.reach_walk.specs.declared.findings.Findings.{Findings}
-use Rattle.reach_walk.specs.declared.scope.Scope.{Scope, Reach'}
-use Rattle.reach_walk.proofs.PartLists.{nodes-at}
-use Rattle.reach_walk.proofs.Appends.{flat_map-append}
+use Rattle.reach_tables.specs.declared.scope.Scope.{Scope, Reach'}
+use Rattle.reach_entries.proofs.PartLists.{nodes-at}
+use Rattle.reach_tables.proofs.Appends.{flat_map-append}
 use Rattle.reach_walk.proofs.Listing.{includes-refl, includes-trans, listed-within}
-use Rattle.reach_walk.proofs.Members.{same-as, same-behind, same-trans}
+use Rattle.reach_entries.proofs.Members.{same-as, same-behind, same-trans}
 
 regroup : {X : Type 0} (f u v w r : List X) → ((f ++ u) ++ (v ++ w)) ++ r ≡ f ++ ((u ++ v) ++ (w ++ r))
 regroup f u v w r = simp append_assoc

@@ -12,9 +12,9 @@ use Rattle.names_model.specs.NameRules.{Node, nodes_inside, told, told_here, tol
 use Rattle.names_model.specs.Dependence.{groups_in, groups_of}
 use Rattle.names_model.specs.Resolving.{resolved_here, resolved_in}
 use Rattle.reach_walk.specs.Listed.{AllListed}
-use Rattle.reach_walk.specs.Placed.{Includes}
+use Rattle.reach_tables.specs.Placed.{Includes}
 use Rattle.reach_walk.specs.declared.findings.Findings.{Findings}
-use Rattle.reach_walk.specs.declared.scope.Scope.{Scope}
+use Rattle.reach_tables.specs.declared.scope.Scope.{Scope}
 
 -- Each vector has these behind what it had. What is told may be told once for many; the groups say the same as these, whatever
 -- lists come behind those that are there, where those of the scope stand at their places.

@@ -3,8 +3,8 @@ use Rattle.std.specs.Prelude.{◌≡◌, ℕ, List, ◌++◌, ⊤, flat_map}
 use Rattle.group_dependence.specs.declared.target.Target.{Target}
 use Rattle.group_dependence.specs.Targets.{target_nodes}
 use Rattle.names_model.specs.Entries.{is_among}
-use Rattle.reach_walk.specs.Placed.{Listed}
-use Rattle.reach_walk.specs.declared.scope.Scope.{Scope, Outside, Reach'}
+use Rattle.reach_tables.specs.Placed.{Listed}
+use Rattle.reach_tables.specs.declared.scope.Scope.{Scope, Outside, Reach'}
 
 -- each table has its lists at their places
 abbrev pub AllListed : List (List ℕ) → Scope → Type 0

@@ -2,19 +2,15 @@
 ghost use Rattle.std.specs.Prelude.{◌≡◌, ◌++◌, [], ◌+◌, ◌<◌, ◌^◌, ℕ, List, length, IfOk, OnOk};
 ghost use Rattle.names_model.specs.Definitions.{numbers_on, text_definitions, under, with_predefined};
 ghost use Rattle.names_model.specs.Entries.{once_behind};
-ghost use Rattle.reach_walk.specs.Books.{Keeps};
-ghost use Rattle.reach_walk.specs.Held.{had};
-ghost use Rattle.reach_walk.specs.Offsets.{Fits, nodes_of};
+ghost use Rattle.reach_tables.specs.Books.{Keeps};
+ghost use Rattle.reach_tables.specs.Held.{had};
+ghost use Rattle.reach_tables.specs.Offsets.{Fits, nodes_of};
 
-use crate::book::Book;
 use crate::definitions::definitions_in;
-use crate::entered::Entered;
-use crate::offsets::up_to_greatest;
 use crate::predefined::{COUNT, push_predefined};
-use crate::scope::Scope;
-use crate::table::Table;
 use chill_base::{Memory, Numbers};
 use names_model::{Inside, Part, Spelling};
+use reach_tables::{Book, Entered, Scope, Table, up_to_greatest};
 use std::alloc::Global;
 
 // So many numbers from one on.
@@ -46,21 +42,19 @@ fn table_on(alloc: Global, book: &Book, first: u32, count: u32) -> Result<Table,
     Ok(table)
 }
 
-impl Book {
-    /// The definitions of a program, by the parts of its outermost level.
-    pub fn of(alloc: Global, parts: &[Part]) -> Result<Book, Memory>
-        ensures { Fits 0 (nodes_of parts.now) → length (with_predefined (text_definitions (nodes_of parts.now))) < 2 ^ 32 → IfOk result (λ b. Keeps b (text_definitions (nodes_of parts.now))) }
-    {
-        let mut all = Vec::new(alloc);
-        definitions_in(alloc, Inside::Outermost, 0, parts, &mut all)?;
-        let first = up_to_greatest(all.len());
-        push_predefined(alloc, &mut all)?;
-        let mut book = Book {
-            all,
-            predefined: Table::new(alloc),
-            nameless: Spelling::from_bytes(alloc, &[])?,
-        };
-        book.predefined = table_on(alloc, &book, first, COUNT)?;
-        Ok(book)
-    }
+/// The definitions of a program, by the parts of its outermost level.
+pub fn book_of(alloc: Global, parts: &[Part]) -> Result<Book, Memory>
+    ensures { Fits 0 (nodes_of parts.now) → length (with_predefined (text_definitions (nodes_of parts.now))) < 2 ^ 32 → IfOk result (λ b. Keeps b (text_definitions (nodes_of parts.now))) }
+{
+    let mut all = Vec::new(alloc);
+    definitions_in(alloc, Inside::Outermost, 0, parts, &mut all)?;
+    let first = up_to_greatest(all.len());
+    push_predefined(alloc, &mut all)?;
+    let mut book = Book {
+        all,
+        predefined: Table::new(alloc),
+        nameless: Spelling::from_bytes(alloc, &[])?,
+    };
+    book.predefined = table_on(alloc, &book, first, COUNT)?;
+    Ok(book)
 }

@@ -6,11 +6,11 @@ ghost use Rattle.names_model.specs.Parts.{part_tree};
 ghost use Rattle.names_model.specs.Sizes.{clause_size, clauses_size, elements_in, head_size, size_of};
 ghost use Rattle.names_model.specs.Definitions.{defined, definitions_in, definitions_of, elements_defined, elements_with, names_defined, params_defined, within};
 ghost use Rattle.reach_walk.specs.Named.{named};
-ghost use Rattle.reach_walk.specs.Offsets.{Fits, FitsInside, nodes_of};
+ghost use Rattle.reach_tables.specs.Offsets.{Fits, FitsInside, nodes_of};
 
-use crate::offsets::{elements_size, head_size, size_of};
 use chill_base::{List, Memory};
 use names_model::{Clause, Definition, Identifier, Inside, Kind, Mention, Part};
+use reach_tables::{elements_size, head_size, size_of};
 use std::alloc::Global;
 
 // Where the definitions in a block stand.
@@ -181,7 +181,7 @@ pub fn definitions_in(
 }
 
 /// The definitions in a part.
-#[tactic(auto, using(names_model::proofs::PartViews::part_built, crate::proofs::Appends::nothing_more))]
+#[tactic(auto, using(names_model::proofs::PartViews::part_built, reach_tables::proofs::Appends::nothing_more))]
 #[cycle(definitions)]
 fn definitions_of(
     alloc: Global,

@@ -5,16 +5,15 @@ ghost use Rattle.names_model.specs.Parts.{part_tree};
 ghost use Rattle.names_model.specs.Seeing.{Reach};
 ghost use Rattle.names_model.specs.Sizes.{size_of};
 ghost use Rattle.reach_walk.specs.Findings.{AddsHere};
-ghost use Rattle.reach_walk.specs.Scopes.{Shows};
+ghost use Rattle.reach_tables.specs.Scopes.{Shows};
 
-use crate::book::Book;
 use crate::groups::note_groups;
-use crate::scope::Scope;
 use crate::told::tell_here;
 use crate::uses::note_uses;
 use chill_base::{Diagnostic, Memory, Numbers};
 use group_dependence::TargetGroup;
 use names_model::{Part, Resolved};
+use reach_tables::{Book, Scope};
 use std::alloc::Global;
 
 /// The rules on names that are broken, what depends on what, and what each use stands for.

@@ -8,15 +8,13 @@ ghost use Rattle.names_model.specs.Parts.{part_tree};
 ghost use Rattle.names_model.specs.Seeing.{Reach};
 ghost use Rattle.names_model.specs.Sizes.{clause_size, clauses_size, head_size, size_of};
 ghost use Rattle.reach_walk.specs.Listed.{AllListed, Leads, SameNumbers};
-ghost use Rattle.reach_walk.specs.Scopes.{Shows};
+ghost use Rattle.reach_tables.specs.Scopes.{Shows};
 
-use crate::book::Book;
-use crate::offsets::clause_size;
-use crate::scope::Scope;
 use crate::targets::push_targets;
 use chill_base::{List, Memory, Numbers};
 use group_dependence::{Target, TargetGroup};
 use names_model::{Clause, Identifier, Mention, Part};
+use reach_tables::{Book, Scope, clause_size};
 use std::alloc::Global;
 
 // The numbers of names, the first of which has the number `from`.

@@ -4,7 +4,7 @@ ghost use Rattle.chill_tree.specs.ItemTree.{ProgramTree};
 ghost use Rattle.names_model.specs.Sizes.{sizes_of};
 ghost use Rattle.names_model.specs.Definitions.{text_definitions};
 ghost use Rattle.names_model.specs.Resolving.{level_of};
-ghost use Rattle.reach_walk.specs.Offsets.{Fits};
+ghost use Rattle.reach_tables.specs.Offsets.{Fits};
 
 /// Where fewer than 2^32 definitions stand in a program, each has its number.
 pub fn fits_law()

@@ -1,23 +1,18 @@
 // What a reach lends is made, or is passed on as it is lent to it.
 ghost use Rattle.std.specs.Prelude.{◌≡◌, true, flat_map, IfOk, IfSome, OnOk};
 ghost use Rattle.names_model.specs.Definitions.{elements_at};
-ghost use Rattle.reach_walk.specs.Held.{had};
-ghost use Rattle.reach_walk.specs.Lends.{AreAlike, AreExact, AreLent, AreWhole, IsLending, rest_of};
-ghost use Rattle.reach_walk.specs.Scopes.{Lends, Sound, shown, shown_around};
-ghost use Rattle.reach_walk.specs.declared.book.Book.{Book};
+ghost use Rattle.reach_tables.specs.Held.{had};
+ghost use Rattle.reach_tables.specs.Lends.{AreAlike, AreExact, AreLent, AreWhole, IsLending, rest_of};
+ghost use Rattle.reach_tables.specs.Scopes.{Lends, Sound, shown, shown_around};
+ghost use Rattle.reach_tables.specs.declared.book.Book.{Book};
 
-use crate::asked::Asked;
-use crate::book::Book;
 use crate::collect::table_of_numbers;
-use crate::gathering::push_shown;
-use crate::lent::{Lending, Lent};
-use crate::names::Names;
-use crate::naming::names_of;
-use crate::scope::{Scope, find_shown, lent_by, shows_any};
-use crate::seizing::push_elements;
-use crate::table::Table;
 use chill_base::{Memory, Numbers};
 use names_model::{Part, Spelling};
+use reach_entries::{names_of, push_elements, push_shown};
+use reach_tables::{
+    Asked, Book, Lending, Lent, Names, Scope, Table, find_shown, lent_by, shows_any,
+};
 use std::alloc::Global;
 
 // Whether a reach has nothing of its own under a name, and sees there what is seen around.

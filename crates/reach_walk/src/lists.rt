@@ -1,14 +1,11 @@
 // Lists of the definitions that a reach enters itself, to which many uses point.
 ghost use Rattle.std.specs.Prelude.{IfOk, OnOk};
-ghost use Rattle.reach_walk.specs.Placed.{Includes, Listed};
+ghost use Rattle.reach_tables.specs.Placed.{Includes, Listed};
 
-use crate::book::Book;
-use crate::entries::push_all;
-use crate::holding::Held;
-use crate::places::Places;
-use crate::table::Table;
 use chill_base::{Memory, Numbers};
 use names_model::{Kind, Spelling};
+use reach_entries::push_all;
+use reach_tables::{Book, Held, Places, Table};
 use std::alloc::Global;
 
 // Puts what a table has of its own under a name behind other lists, and notes where it stands. Past the `u32` numbers there

@@ -3,13 +3,11 @@ ghost use Rattle.std.specs.Prelude.{◌≡◌, List, slice_index_or};
 ghost use Rattle.std.specs.List.{list_any};
 ghost use Rattle.names_model.specs.declared.definition.Definition.{Definition};
 ghost use Rattle.names_model.specs.Seeing.{Reach, is_empty, seen_around, sees};
-ghost use Rattle.reach_walk.specs.Asking.{meets};
-ghost use Rattle.reach_walk.specs.Scopes.{Shows};
+ghost use Rattle.reach_tables.specs.Asking.{meets};
+ghost use Rattle.reach_tables.specs.Scopes.{Shows};
 
-use crate::asked::Asked;
-use crate::book::Book;
-use crate::scope::{Scope, first_shown, shows_any};
 use names_model::Spelling;
+use reach_tables::{Asked, Book, Scope, first_shown, shows_any};
 
 /// Whether a reach sees no definition under a name.
 pub fn sees_none(book: &Book, scope: &Scope, name: &Spelling) -> bool

@@ -1,18 +1,15 @@
 // What leads to the definitions that are seen under a name.
 ghost use Rattle.std.specs.Prelude.{◌≡◌, ◌++◌, ℕ, List, OnOk, flat_map};
 ghost use Rattle.group_dependence.specs.Targets.{target_nodes};
-ghost use Rattle.reach_walk.specs.Held.{Holdings, IsHeld, holding, own};
+ghost use Rattle.reach_tables.specs.Held.{Holdings, IsHeld, holding, own};
 ghost use Rattle.reach_walk.specs.Listed.{AllListed, Leads};
-ghost use Rattle.reach_walk.specs.Placed.{Listed};
-ghost use Rattle.reach_walk.specs.Scopes.{Sound, shown};
+ghost use Rattle.reach_tables.specs.Placed.{Listed};
+ghost use Rattle.reach_tables.specs.Scopes.{Sound, shown};
 
-use crate::book::Book;
-use crate::holding::Held;
-use crate::places::Places;
-use crate::scope::Scope;
 use chill_base::{List, Memory};
 use group_dependence::Target;
 use names_model::Spelling;
+use reach_tables::{Book, Held, Places, Scope};
 
 // Puts definitions behind other targets.
 fn push_nodes(numbers: &[u32], out: &mut List<Target>) -> Result<(), Memory>

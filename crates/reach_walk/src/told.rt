@@ -1,39 +1,18 @@
 // What is told of parts in their reach: N2 to N5.
-ghost use Rattle.std.specs.Prelude.{◌≡◌, ◌++◌, ◌∷◌, [], ℕ, List, OnOk, flat_map};
+ghost use Rattle.std.specs.Prelude.{◌≡◌, ◌++◌, ℕ, List, OnOk, flat_map};
 ghost use Rattle.names_model.specs.declared.definition.Definition.{Definition};
 ghost use Rattle.names_model.specs.Kinds.{fits};
 ghost use Rattle.names_model.specs.Parts.{part_tree};
 ghost use Rattle.names_model.specs.Seeing.{Reach, is_empty, sees};
-ghost use Rattle.names_model.specs.NameRules.{any_kind, fits_argument, tell, told_here, told_mention, told_mentions, told_use, unless_seen};
-ghost use Rattle.reach_walk.specs.Scopes.{Shows};
+ghost use Rattle.names_model.specs.NameRules.{any_kind, fits_argument, told_here, told_mention, told_mentions, told_use, unless_seen};
+ghost use Rattle.reach_tables.specs.Scopes.{Shows};
 
-use crate::asked::Asked;
-use crate::book::Book;
-use crate::scope::Scope;
 use crate::seen::{none_around, sees_any, sees_none};
-use chill_base::{Diagnostic, Memory, Pos, Rule, Text};
+use chill_base::{Diagnostic, Memory, Rule};
 use names_model::{Clause, Identifier, Mention, Need, Part, Spelling};
+use reach_entries::push_told;
+use reach_tables::{Asked, Book, Scope};
 use std::alloc::Global;
-
-/// Tells a rule that is broken, and one name.
-pub fn push_told(
-    alloc: Global,
-    at: Pos,
-    rule: Rule,
-    name: &Spelling,
-    out: &mut Vec<Diagnostic>,
-) -> Result<(), Memory>
-    ensures { OnOk result (out.new.items ≡ out.old.items ++ tell at rule name.now ∷ []) }
-{
-    let first = Text::from_vec(Vec::from_slice(alloc, name.as_bytes())?);
-    out.push(Diagnostic {
-        at,
-        rule,
-        first,
-        second: Text::new(alloc),
-    })?;
-    Ok(())
-}
 
 // Tells a rule of a name if nothing is seen.
 fn tell_unseen(
@@ -115,7 +94,7 @@ fn tell_argument(
 }
 
 /// Tells N2 and N5 of a mention.
-#[tactic(auto, using(crate::proofs::Appends::nothing_more))]
+#[tactic(auto, using(reach_tables::proofs::Appends::nothing_more))]
 pub fn tell_mention(
     alloc: Global,
     book: &Book,
@@ -183,7 +162,7 @@ fn tell_head(
 }
 
 /// Tells N2 to N5 of a part.
-#[tactic(auto, using(names_model::proofs::PartViews::part_built, crate::proofs::Appends::nothing_more))]
+#[tactic(auto, using(names_model::proofs::PartViews::part_built, reach_tables::proofs::Appends::nothing_more))]
 pub fn tell_here(
     alloc: Global,
     book: &Book,

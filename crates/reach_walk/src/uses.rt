@@ -4,13 +4,12 @@ ghost use Rattle.names_model.specs.declared.definition.Definition.{Definition};
 ghost use Rattle.names_model.specs.Parts.{part_tree};
 ghost use Rattle.names_model.specs.Resolving.{resolved_here, resolved_mention, resolved_mentions};
 ghost use Rattle.names_model.specs.Seeing.{Reach, sees};
-ghost use Rattle.reach_walk.specs.Scopes.{Shows};
+ghost use Rattle.reach_tables.specs.Scopes.{Shows};
 
-use crate::book::Book;
-use crate::scope::Scope;
 use crate::seen::first_seen;
 use chill_base::Memory;
 use names_model::{Clause, Identifier, Mention, Part, Resolved};
+use reach_tables::{Book, Scope};
 
 // Notes what a used name stands for.
 fn note_name(
@@ -27,7 +26,7 @@ fn note_name(
 }
 
 // Notes what a mention stands for.
-#[tactic(auto, using(crate::proofs::Appends::nothing_more))]
+#[tactic(auto, using(reach_tables::proofs::Appends::nothing_more))]
 fn note_mention(
     book: &Book,
     scope: &Scope,
@@ -89,7 +88,7 @@ fn note_head(
 }
 
 /// Notes what the uses in a part stand for.
-#[tactic(auto, using(names_model::proofs::PartViews::part_built, crate::proofs::Appends::nothing_more))]
+#[tactic(auto, using(names_model::proofs::PartViews::part_built, reach_tables::proofs::Appends::nothing_more))]
 pub fn note_uses(
     book: &Book,
     scope: &Scope,

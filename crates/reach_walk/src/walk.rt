@@ -7,30 +7,24 @@ ghost use Rattle.names_model.specs.Sizes.{clauses_size, size_of};
 ghost use Rattle.names_model.specs.Entries.{param_names};
 ghost use Rattle.names_model.specs.Seeing.{Reach, in_block, in_modulion, outermost, entries_in};
 ghost use Rattle.names_model.specs.NameRules.{nodes, told_behind};
-ghost use Rattle.reach_walk.specs.Books.{Keeps};
-ghost use Rattle.reach_walk.specs.Givens.{given_of, given_trees, givens};
+ghost use Rattle.reach_tables.specs.Books.{Keeps};
+ghost use Rattle.reach_entries.specs.Givens.{given_of, given_trees, givens};
 ghost use Rattle.reach_walk.specs.Findings.{AddsInside, AddsNodes, AddsReach};
-ghost use Rattle.reach_walk.specs.Offsets.{Fits, FitsInside, nodes_of};
-ghost use Rattle.reach_walk.specs.Places.{singles};
-ghost use Rattle.reach_walk.specs.Scopes.{Opened, Shows, Sound, shown};
-ghost use Rattle.reach_walk.specs.declared.scope.Scope.{Outside};
+ghost use Rattle.reach_tables.specs.Offsets.{Fits, FitsInside, nodes_of};
+ghost use Rattle.reach_entries.specs.Places.{singles};
+ghost use Rattle.reach_tables.specs.Scopes.{Opened, Shows, Sound, shown};
+ghost use Rattle.reach_tables.specs.declared.scope.Scope.{Outside};
 
-use crate::book::Book;
-use crate::entries::enter_params;
 use crate::findings::{Findings, note_here};
-use crate::given::{Given, lent_inner, split_given};
-use crate::giving::givens_of;
 use crate::lends::lend_in;
-use crate::lent::Lent;
 use crate::lists::list_own;
-use crate::offsets::{head_size, size_of};
-use crate::opening::Opening;
-use crate::place::Place;
-use crate::reached::{enter_parts, enter_places, seizes_all};
-use crate::scope::Scope;
-use crate::table::Table;
 use chill_base::{Diagnostic, List, Memory};
 use names_model::{Clause, Part};
+use reach_entries::{
+    Given, Opening, Place, enter_params, enter_parts, enter_places, givens_of, lent_inner,
+    seizes_all, split_given,
+};
+use reach_tables::{Book, Lent, Scope, Table, head_size, size_of};
 use std::alloc::Global;
 
 /// The table of a reach with a head, which is opened in a scope, and N1 of it.
@@ -88,7 +82,7 @@ fn walk<'a>(
 }
 
 /// Finds what there is in the reach that a part opens.
-#[tactic(auto, using(names_model::proofs::PartViews::part_built, crate::proofs::Appends::nothing_more))]
+#[tactic(auto, using(names_model::proofs::PartViews::part_built, reach_tables::proofs::Appends::nothing_more))]
 #[cycle(walk)]
 fn walk_inside<'a>(
     alloc: Global,

@@ -3,7 +3,7 @@ use crate::walk::{defined, identifier, location, modulion};
 use chill_base::{List, Memory};
 use group_dependence::Target;
 use names_model::{Kind, Part};
-use reach_walk::{Book, Findings, find_in_program};
+use reach_walk::{Findings, book_of, find_in_program};
 use std::alloc::Global;
 use std::test::Fail;
 
@@ -26,7 +26,7 @@ fn adder(alloc: Global, line: u32) -> Result<Part, Memory> {
 }
 
 fn found(alloc: Global, parts: &List<Part>) -> Result<Findings, Memory> {
-    let book = Book::of(alloc, parts.as_slice())?;
+    let book = book_of(alloc, parts.as_slice())?;
     let mut out = Findings::new(alloc);
     find_in_program(alloc, &book, parts, &mut out)?;
     Ok(out)

@@ -2,7 +2,7 @@
 use chill_base::{Item, List, Memory, Pos, Rule, Text};
 use group_dependence::Target;
 use names_model::{Clause, Identifier, Kind, Mention, Need, Part, Spelling};
-use reach_walk::{Book, Findings, find_in_program};
+use reach_walk::{Findings, book_of, find_in_program};
 use std::alloc::Global;
 use std::test::Fail;
 
@@ -78,7 +78,7 @@ fn program(alloc: Global) -> Result<List<Part>, Memory> {
 
 fn found(alloc: Global) -> Result<Findings, Memory> {
     let parts = program(alloc)?;
-    let book = Book::of(alloc, parts.as_slice())?;
+    let book = book_of(alloc, parts.as_slice())?;
     let mut out = Findings::new(alloc);
     find_in_program(alloc, &book, &parts, &mut out)?;
     Ok(out)

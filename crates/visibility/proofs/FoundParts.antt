@@ -13,11 +13,11 @@ use Rattle.names_model.specs.Dependence.{groups_in}
 use Rattle.names_model.specs.NameRules.{told_in}
 use Rattle.names_model.specs.Resolving.{level_of}
 use Rattle.names_model.specs.Seeing.{outermost}
-use Rattle.reach_walk.specs.declared.book.Book.{Book}
+use Rattle.reach_tables.specs.declared.book.Book.{Book}
 use Rattle.reach_walk.specs.declared.findings.Findings.{Findings}
-use Rattle.reach_walk.specs.declared.scope.Scope.{Outside}
-use Rattle.reach_walk.specs.Books.{Keeps}
-use Rattle.reach_walk.specs.Offsets.{Fits}
+use Rattle.reach_tables.specs.declared.scope.Scope.{Outside}
+use Rattle.reach_tables.specs.Books.{Keeps}
+use Rattle.reach_tables.specs.Offsets.{Fits}
 use Rattle.reach_walk.specs.Findings.{AddsReach}
 use Rattle.reach_walk.proofs.Listing.{includes-refl}
 use Rattle.visibility.specs.Found.{IsFound}

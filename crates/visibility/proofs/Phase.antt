@@ -13,7 +13,7 @@ use Rattle.names_model.specs.Dependence.{groups_in, told_selves}
 use Rattle.names_model.specs.NameRules.{told_in, told_surplus}
 use Rattle.names_model.specs.Seeing.{outermost}
 use Rattle.names_model.specs.Resolving.{broken_names, level_of, names_of}
-use Rattle.reach_walk.proofs.Members.{same-behind}
+use Rattle.reach_entries.proofs.Members.{same-behind}
 use Rattle.visibility.proofs.SelfSteps.{same_selves}
 use Rattle.visibility.specs.declared.finding.Found.{Found}
 use Rattle.visibility.specs.Found.{IsFound}

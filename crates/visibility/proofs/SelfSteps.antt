@@ -12,8 +12,8 @@ use Rattle.group_dependence.proofs.SameGroups.{same_dependence, same_kept}
 use Rattle.names_model.specs.Kinds.{is_constant, is_location}
 use Rattle.names_model.specs.Definitions.{is_kind_at, numbers_on, with_predefined}
 use Rattle.names_model.specs.Dependence.{among_locations, is_self, told_self, told_selves}
-use Rattle.reach_walk.proofs.Appends.{flat_map-append}
-use Rattle.reach_walk.proofs.Elements.{numbers_on-on}
+use Rattle.reach_tables.proofs.Appends.{flat_map-append}
+use Rattle.reach_entries.proofs.Elements.{numbers_on-on}
 
 -- nothing is told of a definition that isn't there
 pub none_told : (holds : Bool) (d : Option Definition) (out : List Diagnostic) → d ≡ None → out ≡ out ++ told_self holds d

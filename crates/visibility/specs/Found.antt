@@ -8,7 +8,7 @@ use Rattle.names_model.specs.Dependence.{groups_in}
 use Rattle.names_model.specs.NameRules.{told_in}
 use Rattle.names_model.specs.Resolving.{level_of, resolved_in}
 use Rattle.names_model.specs.Seeing.{outermost}
-use Rattle.reach_walk.specs.Books.{Keeps}
+use Rattle.reach_tables.specs.Books.{Keeps}
 use Rattle.visibility.specs.declared.finding.Found.{Found}
 
 -- The definitions of a tree, and all that its parts tell, depend on and use. What is told may be told once for many, and the

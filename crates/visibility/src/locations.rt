@@ -5,7 +5,7 @@ ghost use Rattle.names_model.specs.Dependence.{among_locations, group, locations
 
 use chill_base::{List, Memory, Numbers};
 use group_dependence::{Target, TargetGroup};
-use reach_walk::Book;
+use reach_tables::Book;
 use std::alloc::Global;
 
 // The locations among some definitions.

@@ -6,14 +6,15 @@ ghost use Rattle.group_dependence.specs.Targets.{groups_with};
 ghost use Rattle.names_model.specs.Kinds.{is_constant};
 ghost use Rattle.names_model.specs.Definitions.{is_kind_at};
 ghost use Rattle.names_model.specs.Dependence.{is_self, told_self, told_selves};
-ghost use Rattle.reach_walk.specs.Books.{Keeps};
+ghost use Rattle.reach_tables.specs.Books.{Keeps};
 ghost use Rattle.visibility.specs.Tested.{Tests};
 
 use crate::locations::{among_locations, location_lists};
 use chill_base::{Diagnostic, Memory, Numbers, Rule};
 use group_dependence::{TargetGroup, selves};
 use names_model::{Definition, Kind};
-use reach_walk::{Book, push_told};
+use reach_entries::push_told;
+use reach_tables::Book;
 use std::alloc::Global;
 
 /// Which definitions depend on themselves, and which do so through locations alone.

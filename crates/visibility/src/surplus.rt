@@ -2,10 +2,10 @@
 ghost use Rattle.std.specs.Prelude.{◌≡◌, ◌++◌, List, OnOk, length};
 ghost use Rattle.names_model.specs.declared.definition.Definition.{Definition};
 ghost use Rattle.names_model.specs.NameRules.{told_surplus};
-ghost use Rattle.reach_walk.specs.Books.{Keeps};
+ghost use Rattle.reach_tables.specs.Books.{Keeps};
 
 use chill_base::{Diagnostic, Memory, Rule, Text};
-use reach_walk::Book;
+use reach_tables::Book;
 use std::alloc::Global;
 
 /// The most definitions of a program.

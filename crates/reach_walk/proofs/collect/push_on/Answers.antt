@@ -1,5 +1,5 @@
 use Rattle.std.proofs.Common.{◌≡◌, ◌+◌, arith}
-use Rattle.reach_walk.proofs.Elements.{numbers_on-on}
+use Rattle.reach_entries.proofs.Elements.{numbers_on-on}
 use Rattle.reach_walk.proofs.collect.push_on.Goals as goal
 
 pub loop-step-preserved : goal.loop-step-preserved

@@ -2,8 +2,8 @@ use Rattle.std.proofs.Common.{[], ◌∙◌, ap, sym}
 use Rattle.names_model.specs.Definitions.{under}
 use Rattle.names_model.specs.Entries.{once_behind}
 use Rattle.names_model.specs.Seeing.{nothing}
-use Rattle.reach_walk.specs.Held.{listed}
-use Rattle.reach_walk.proofs.Beginning.{had-alone, tended-none}
+use Rattle.reach_tables.specs.Held.{listed}
+use Rattle.reach_entries.proofs.Beginning.{had-alone, tended-none}
 use Rattle.reach_walk.proofs.collect.table_of_numbers.Goals as goal
 
 pub returns : goal.returns

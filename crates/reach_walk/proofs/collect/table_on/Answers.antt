@@ -2,7 +2,7 @@ use Rattle.std.proofs.Common.{◌≡◌, ◌++◌, [], ◌∙◌, ap}
 use Rattle.std.specs.Str.{bytes_eq}
 use Rattle.names_model.specs.Definitions.{numbers_on, spelling_at, under}
 use Rattle.names_model.specs.Entries.{once_behind}
-use Rattle.reach_walk.proofs.Fresh.{fresh-none, once-fresh}
+use Rattle.reach_entries.proofs.Fresh.{fresh-none, once-fresh}
 use Rattle.reach_walk.proofs.collect.table_on.Goals as goal
 
 pub returns : goal.returns

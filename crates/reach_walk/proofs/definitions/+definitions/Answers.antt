@@ -4,7 +4,7 @@ use Rattle.names_model.specs.Parts.{part_tree, modulion, routine}
 use Rattle.names_model.specs.Sizes.{head_size, elements_in}
 use Rattle.names_model.specs.Definitions.{definitions_in, elements_defined, params_defined}
 use Rattle.names_model.proofs.PartViews.{tree-modulion, tree-routine}
-use Rattle.reach_walk.specs.Offsets.{Fits, nodes_of}
+use Rattle.reach_tables.specs.Offsets.{Fits, nodes_of}
 use Rattle.reach_walk.proofs.Defining.{InsideDefined}
 use Rattle.reach_walk.proofs.definitions.+definitions.Goals as goal
 

@@ -1,6 +1,6 @@
 use Rattle.std.proofs.Common.{◌≡◌, ◌++◌, drop}
 use Rattle.names_model.specs.Definitions.{definitions_in}
-use Rattle.reach_walk.specs.Offsets.{Fits, nodes_of}
+use Rattle.reach_tables.specs.Offsets.{Fits, nodes_of}
 use Rattle.reach_walk.proofs.definitions.+definitions.Given as goal
 
 abbrev pub invariant-definitions_in-loop-part : goal.invariant-definitions_in-loop-part

@@ -5,7 +5,7 @@ use Rattle.names_model.specs.declared.definition.Definition.{Definition}
 use Rattle.names_model.specs.Dependence.{named_in}
 use Rattle.names_model.specs.Seeing.{Reach}
 use Rattle.reach_walk.specs.Listed.{AllListed, SameNumbers}
-use Rattle.reach_walk.specs.Scopes.{Shows}
+use Rattle.reach_tables.specs.Scopes.{Shows}
 use Rattle.reach_walk.proofs.groups.named_in.Given as goal
 
 abbrev pub invariant-loop-mention : goal.invariant-loop-mention

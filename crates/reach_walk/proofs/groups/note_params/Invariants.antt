@@ -5,7 +5,7 @@ use Rattle.names_model.specs.Dependence.{param_groups}
 use Rattle.names_model.specs.Seeing.{Reach}
 use Rattle.names_model.specs.Sizes.{clauses_size}
 use Rattle.reach_walk.specs.Listed.{AllListed}
-use Rattle.reach_walk.specs.Scopes.{Shows}
+use Rattle.reach_tables.specs.Scopes.{Shows}
 use Rattle.reach_walk.proofs.groups.note_params.Given as goal
 
 abbrev pub invariant-loop-clause : goal.invariant-loop-clause

@@ -1,8 +1,8 @@
 use Rattle.std.proofs.Common.{take}
 use Rattle.std.specs.Prelude.{flat_map}
 use Rattle.names_model.specs.Definitions.{elements_at}
-use Rattle.reach_walk.specs.Lends.{AreWhole}
-use Rattle.reach_walk.specs.Scopes.{Sound, shown}
+use Rattle.reach_tables.specs.Lends.{AreWhole}
+use Rattle.reach_tables.specs.Scopes.{Sound, shown}
 use Rattle.reach_walk.proofs.lends.are_all_whole.Given as goal
 
 abbrev pub invariant-loop-number : goal.invariant-loop-number

@@ -1,8 +1,8 @@
 use Rattle.std.proofs.Common.{◌∙◌, ◌+◌, ap, sym, refl}
 use Rattle.names_model.specs.Entries.{is_among}
-use Rattle.reach_walk.specs.Names.{is_named}
-use Rattle.reach_walk.specs.Scopes.{shown}
-use Rattle.reach_walk.proofs.Going.{found-some, whole-step}
+use Rattle.reach_tables.specs.Names.{is_named}
+use Rattle.reach_tables.specs.Scopes.{shown}
+use Rattle.reach_entries.proofs.Going.{found-some, whole-step}
 use Rattle.reach_walk.proofs.lends.are_whole.Goals as goal
 
 pub loop-step-preserved : goal.loop-step-preserved

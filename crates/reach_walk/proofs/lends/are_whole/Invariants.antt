@@ -1,7 +1,7 @@
 use Rattle.std.proofs.Common.{suc}
 use Rattle.names_model.specs.Definitions.{numbers_on}
-use Rattle.reach_walk.specs.Lends.{AreWhole}
-use Rattle.reach_walk.specs.Scopes.{Sound, shown}
+use Rattle.reach_tables.specs.Lends.{AreWhole}
+use Rattle.reach_tables.specs.Scopes.{Sound, shown}
 use Rattle.reach_walk.proofs.lends.are_whole.Given as goal
 
 abbrev pub invariant-loop-step : goal.invariant-loop-step

@@ -1,8 +1,8 @@
 use Rattle.std.proofs.Common.{subst}
-use Rattle.reach_walk.specs.Lends.{AreAlike}
-use Rattle.reach_walk.specs.Scopes.{shown, shown_around}
-use Rattle.reach_walk.proofs.Appends.{take-end}
-use Rattle.reach_walk.proofs.Going.{alike-more-as}
+use Rattle.reach_tables.specs.Lends.{AreAlike}
+use Rattle.reach_tables.specs.Scopes.{shown, shown_around}
+use Rattle.reach_tables.proofs.Appends.{take-end}
+use Rattle.reach_entries.proofs.Going.{alike-more-as}
 use Rattle.reach_walk.proofs.lends.copy_alike.Goals as goal
 
 pub loop-name-preserved : goal.loop-name-preserved

@@ -1,7 +1,7 @@
 use Rattle.std.proofs.Common.{take}
-use Rattle.reach_walk.specs.Lends.{AreAlike}
-use Rattle.reach_walk.specs.Scopes.{Sound, shown, shown_around}
-use Rattle.reach_walk.specs.declared.book.Book.{Book}
+use Rattle.reach_tables.specs.Lends.{AreAlike}
+use Rattle.reach_tables.specs.Scopes.{Sound, shown, shown_around}
+use Rattle.reach_tables.specs.declared.book.Book.{Book}
 use Rattle.reach_walk.proofs.lends.copy_alike.Given as goal
 
 abbrev pub invariant-loop-name : goal.invariant-loop-name

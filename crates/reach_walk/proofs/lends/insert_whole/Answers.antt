@@ -1,6 +1,6 @@
 use Rattle.std.proofs.Common.{◌∙◌}
-use Rattle.reach_walk.specs.Scopes.{shown}
-use Rattle.reach_walk.proofs.Going.{exact-more}
+use Rattle.reach_tables.specs.Scopes.{shown}
+use Rattle.reach_entries.proofs.Going.{exact-more}
 use Rattle.reach_walk.proofs.lends.insert_whole.Goals as goal
 
 pub returns-in_ok-insert : goal.returns-in_ok-insert

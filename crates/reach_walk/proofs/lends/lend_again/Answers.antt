@@ -1,6 +1,6 @@
-use Rattle.reach_walk.specs.Scopes.{shown}
-use Rattle.reach_walk.proofs.Going.{lent-put}
-use Rattle.reach_walk.proofs.Succeeding.{on-ok}
+use Rattle.reach_tables.specs.Scopes.{shown}
+use Rattle.reach_entries.proofs.Going.{lent-put}
+use Rattle.reach_tables.proofs.Succeeding.{on-ok}
 use Rattle.reach_walk.proofs.lends.lend_again.Goals as goal
 
 pub returns : goal.returns

@@ -1,9 +1,9 @@
 use Rattle.std.proofs.Common.{subst}
 use Rattle.std.specs.Prelude.{IfSome}
-use Rattle.reach_walk.specs.Lends.{IsLending}
-use Rattle.reach_walk.specs.Scopes.{shown}
-use Rattle.reach_walk.proofs.Going.{lent-put}
-use Rattle.reach_walk.proofs.Succeeding.{on-ok}
+use Rattle.reach_tables.specs.Lends.{IsLending}
+use Rattle.reach_tables.specs.Scopes.{shown}
+use Rattle.reach_entries.proofs.Going.{lent-put}
+use Rattle.reach_tables.proofs.Succeeding.{on-ok}
 use Rattle.reach_walk.proofs.lends.lend_seized.Goals as goal
 
 pub returns-in-Some : goal.returns-in-Some

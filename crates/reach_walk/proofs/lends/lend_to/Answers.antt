@@ -1,6 +1,6 @@
 use Rattle.std.proofs.Common.{subst, sym}
-use Rattle.reach_walk.specs.Lends.{AreLent}
-use Rattle.reach_walk.specs.Scopes.{shown}
+use Rattle.reach_tables.specs.Lends.{AreLent}
+use Rattle.reach_tables.specs.Scopes.{shown}
 use Rattle.reach_walk.proofs.lends.lend_to.Goals as goal
 use Rattle.reach_walk.proofs.lends.lend_to.Goals.{in-Seize+in_ok-lend_seized, in_default}
 

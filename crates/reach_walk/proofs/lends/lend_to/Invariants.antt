@@ -1,5 +1,5 @@
-use Rattle.reach_walk.specs.Lends.{AreLent}
-use Rattle.reach_walk.specs.Scopes.{Sound, shown}
+use Rattle.reach_tables.specs.Lends.{AreLent}
+use Rattle.reach_tables.specs.Scopes.{Sound, shown}
 use Rattle.reach_walk.proofs.lends.lend_to.Given as goal
 
 abbrev pub invariant-loop-part : goal.invariant-loop-part

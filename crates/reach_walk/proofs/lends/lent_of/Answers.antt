@@ -1,6 +1,6 @@
 use Rattle.std.proofs.Common.{subst, sym}
-use Rattle.reach_walk.specs.Lends.{AreLent}
-use Rattle.reach_walk.specs.Scopes.{shown}
+use Rattle.reach_tables.specs.Lends.{AreLent}
+use Rattle.reach_tables.specs.Scopes.{shown}
 use Rattle.reach_walk.proofs.lends.lent_of.Goals as goal
 use Rattle.reach_walk.proofs.lends.lent_of.Goals.{in-Modulion+in_ok-lend_to, in_default}
 

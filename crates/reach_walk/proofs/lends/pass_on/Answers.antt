@@ -1,8 +1,8 @@
 use Rattle.std.proofs.Common.{subst}
 use Rattle.std.specs.Prelude.{IfSome}
-use Rattle.reach_walk.specs.Lends.{AreAlike}
-use Rattle.reach_walk.specs.Scopes.{shown, shown_around}
-use Rattle.reach_walk.proofs.Going.{passed-on}
+use Rattle.reach_tables.specs.Lends.{AreAlike}
+use Rattle.reach_tables.specs.Scopes.{shown, shown_around}
+use Rattle.reach_entries.proofs.Going.{passed-on}
 use Rattle.reach_walk.proofs.lends.pass_on.Goals as goal
 
 pub returns-in-Some : goal.returns-in-Some

@@ -1,6 +1,6 @@
 use Rattle.std.proofs.Common.{subst, sym}
-use Rattle.reach_walk.specs.Lends.{IsLending}
-use Rattle.reach_walk.specs.Scopes.{Sound, shown_around}
+use Rattle.reach_tables.specs.Lends.{IsLending}
+use Rattle.reach_tables.specs.Scopes.{Sound, shown_around}
 use Rattle.reach_walk.proofs.lends.passed_on.Goals as goal
 
 pub returns-in-Some : goal.returns-in-Some

@@ -1,5 +1,5 @@
 use Rattle.std.proofs.Common.{◌≡◌, ◌++◌, drop}
-use Rattle.reach_walk.specs.Lends.{rest_of}
+use Rattle.reach_tables.specs.Lends.{rest_of}
 use Rattle.reach_walk.proofs.lends.rest_of.Given as goal
 
 abbrev pub invariant-loop-number : goal.invariant-loop-number

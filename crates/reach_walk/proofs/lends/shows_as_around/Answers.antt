@@ -1,11 +1,11 @@
 use Rattle.std.proofs.Common.{◌≡◌, ◌∙◌, [], true, sym, subst}
 use Rattle.std.specs.Prelude.{unwrap_or}
-use Rattle.reach_walk.specs.Held.{had, holding, is_seized}
-use Rattle.reach_walk.specs.Scopes.{Sound, shown, shown_around}
-use Rattle.reach_walk.proofs.Going.{as-around, none-is}
-use Rattle.reach_walk.proofs.Reaching.{empty-by}
-use Rattle.reach_walk.proofs.Taking.{orderly}
-use Rattle.reach_walk.proofs.Within.{or-left, or-right}
+use Rattle.reach_tables.specs.Held.{had, holding, is_seized}
+use Rattle.reach_tables.specs.Scopes.{Sound, shown, shown_around}
+use Rattle.reach_entries.proofs.Going.{as-around, none-is}
+use Rattle.reach_tables.proofs.Reaching.{empty-by}
+use Rattle.reach_tables.proofs.Taking.{orderly}
+use Rattle.reach_tables.proofs.Within.{or-left, or-right}
 use Rattle.reach_walk.proofs.lends.shows_as_around.Goals as goal
 
 pub returns-then-held : goal.returns-then-held

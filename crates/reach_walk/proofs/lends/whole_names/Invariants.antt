@@ -1,5 +1,5 @@
-use Rattle.reach_walk.specs.Lends.{AreExact}
-use Rattle.reach_walk.specs.Scopes.{Sound, shown}
+use Rattle.reach_tables.specs.Lends.{AreExact}
+use Rattle.reach_tables.specs.Scopes.{Sound, shown}
 use Rattle.reach_walk.proofs.lends.whole_names.Given as goal
 
 abbrev pub invariant-loop-name : goal.invariant-loop-name

@@ -1,4 +1,4 @@
-use Rattle.reach_walk.specs.Placed.{Includes, Listed}
+use Rattle.reach_tables.specs.Placed.{Includes, Listed}
 use Rattle.reach_walk.proofs.lists.list_own.Given as goal
 
 abbrev pub invariant-loop-index : goal.invariant-loop-index

@@ -1,7 +1,7 @@
 use Rattle.std.proofs.Common.{◌≡◌, ℕ, true, List, ◌++◌, ◌∙◌, ap, sym, subst, length, arith}
-use Rattle.reach_walk.specs.Held.{holding, own}
-use Rattle.reach_walk.specs.Placed.{Includes, Listed}
-use Rattle.reach_walk.proofs.Holdings.{own-seize}
+use Rattle.reach_tables.specs.Held.{holding, own}
+use Rattle.reach_tables.specs.Placed.{Includes, Listed}
+use Rattle.reach_tables.proofs.Holdings.{own-seize}
 use Rattle.reach_walk.proofs.Listing.{includes-more, listed-more}
 use Rattle.reach_walk.proofs.lists.put_list.Goals as goal
 

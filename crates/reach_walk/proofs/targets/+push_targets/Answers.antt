@@ -1,12 +1,12 @@
 use Rattle.std.proofs.Common.{◌≡◌, ◌∙◌, true, false, Result, Ok, Err, ap, if◌then◌else◌, sym, subst}
 use Rattle.std.specs.Prelude.{OnOk}
 use Rattle.names_model.specs.Seeing.{is_empty}
-use Rattle.reach_walk.specs.Held.{had, holding, is_seized, own}
+use Rattle.reach_tables.specs.Held.{had, holding, is_seized, own}
 use Rattle.reach_walk.specs.Listed.{AllListed, Leads}
-use Rattle.reach_walk.specs.Scopes.{Sound, shown}
-use Rattle.reach_walk.proofs.Holdings.{own-alone}
+use Rattle.reach_tables.specs.Scopes.{Sound, shown}
+use Rattle.reach_tables.proofs.Holdings.{own-alone}
 use Rattle.reach_walk.proofs.Leading.{leads-as, leads-same, leads-seized}
-use Rattle.reach_walk.proofs.Reaching.{empty-by, shown-none, shown-own}
+use Rattle.reach_tables.proofs.Reaching.{empty-by, shown-none, shown-own}
 use Rattle.reach_walk.proofs.targets.+push_targets.Goals as goal
 
 on-ok : {X E P Q : Type 0} (r : Result X E) → (P → Q) → OnOk r P → OnOk r Q

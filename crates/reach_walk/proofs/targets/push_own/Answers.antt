@@ -1,8 +1,8 @@
 use Rattle.std.proofs.Common.{true, List, ℕ, ◌++◌, append_assoc, ◌∙◌, ap, sym}
 use Rattle.std.specs.Prelude.{flat_map}
 use Rattle.group_dependence.specs.Targets.{target_nodes}
-use Rattle.reach_walk.specs.Held.{holding, own}
-use Rattle.reach_walk.proofs.Holdings.{own-seize}
+use Rattle.reach_tables.specs.Held.{holding, own}
+use Rattle.reach_tables.proofs.Holdings.{own-seize}
 use Rattle.reach_walk.proofs.Leading.{lists-more}
 use Rattle.reach_walk.proofs.targets.push_own.Goals as goal
 

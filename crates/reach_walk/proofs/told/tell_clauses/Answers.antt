@@ -1,6 +1,6 @@
 use Rattle.std.proofs.Common.{ap, ◌∙◌, ◌++◌}
 use Rattle.names_model.specs.NameRules.{told_mentions}
-use Rattle.reach_walk.proofs.Appends.{flat_map-on}
+use Rattle.reach_tables.proofs.Appends.{flat_map-on}
 use Rattle.reach_walk.proofs.told.tell_clauses.Goals as goal
 
 pub loop-clause-preserved : goal.loop-clause-preserved

@@ -3,7 +3,7 @@ use Rattle.std.specs.Prelude.{flat_map}
 use Rattle.names_model.specs.declared.definition.Definition.{Definition}
 use Rattle.names_model.specs.Seeing.{Reach}
 use Rattle.names_model.specs.Resolving.{resolved_mentions}
-use Rattle.reach_walk.specs.Scopes.{Shows}
+use Rattle.reach_tables.specs.Scopes.{Shows}
 use Rattle.reach_walk.proofs.uses.note_clauses.Given as goal
 
 abbrev pub invariant-loop-clause : goal.invariant-loop-clause

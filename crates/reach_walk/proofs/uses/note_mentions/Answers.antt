@@ -1,5 +1,5 @@
 use Rattle.names_model.specs.Resolving.{resolved_mention}
-use Rattle.reach_walk.proofs.Appends.{flat_map-on, flat_map-end}
+use Rattle.reach_tables.proofs.Appends.{flat_map-on, flat_map-end}
 use Rattle.reach_walk.proofs.uses.note_mentions.Goals as goal
 
 pub loop-mention-preserved : goal.loop-mention-preserved

@@ -9,12 +9,12 @@ use Rattle.names_model.specs.Resolving.{resolved_here}
 use Rattle.names_model.proofs.PartViews.{tree-block, tree-define, tree-grant, tree-grant_all, tree-mention, tree-modulion, tree-routine, tree-seize, tree-seize_all, tree-stray}
 use Rattle.group_dependence.specs.Targets.{groups_with}
 use Rattle.reach_walk.specs.Findings.{AddsInside, AddsReach, uses_at}
-use Rattle.reach_walk.specs.Givens.{given_trees, givens, inner_lent}
-use Rattle.reach_walk.specs.Offsets.{Fits, nodes_of}
-use Rattle.reach_walk.specs.Places.{singles}
+use Rattle.reach_entries.specs.Givens.{given_trees, givens, inner_lent}
+use Rattle.reach_tables.specs.Offsets.{Fits, nodes_of}
+use Rattle.reach_entries.specs.Places.{singles}
 use Rattle.reach_walk.proofs.Listing.{includes-trans}
-use Rattle.reach_walk.proofs.Lending.{given-at, givens-back}
-use Rattle.reach_walk.proofs.PartLists.{nodes-at}
+use Rattle.reach_entries.proofs.Lending.{given-at, givens-back}
+use Rattle.reach_entries.proofs.PartLists.{nodes-at}
 use Rattle.reach_walk.proofs.Showing.{shows-block, shows-lends, shows-modulion, twice-modulion, twice-block}
 use Rattle.reach_walk.proofs.Walking.{InsideFound, adds-nothing, found-end, found-on, found-reach, grouped-on, told-walk}
 use Rattle.reach_walk.proofs.walk.+walk.Goals as goal

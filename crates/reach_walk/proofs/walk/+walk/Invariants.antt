@@ -6,11 +6,11 @@ use Rattle.names_model.specs.declared.definition.Definition.{Definition}
 use Rattle.names_model.specs.Seeing.{Reach}
 use Rattle.names_model.specs.NameRules.{told, nodes}
 use Rattle.reach_walk.specs.Findings.{groups_at, uses_at}
-use Rattle.reach_walk.specs.Givens.{given_trees, givens}
+use Rattle.reach_entries.specs.Givens.{given_trees, givens}
 use Rattle.reach_walk.specs.Listed.{AllListed}
-use Rattle.reach_walk.specs.Offsets.{Fits, nodes_of}
-use Rattle.reach_walk.specs.Placed.{Includes}
-use Rattle.reach_walk.specs.Scopes.{Shows}
+use Rattle.reach_tables.specs.Offsets.{Fits, nodes_of}
+use Rattle.reach_tables.specs.Placed.{Includes}
+use Rattle.reach_tables.specs.Scopes.{Shows}
 use Rattle.reach_walk.proofs.walk.+walk.Given as goal
 
 abbrev pub invariant-walk-loop-part : goal.invariant-walk-loop-part

@@ -1,9 +1,9 @@
 use Rattle.std.proofs.Common.{◌≡◌, ◌∙◌, ap, refl, subst}
 use Rattle.names_model.specs.Seeing.{outermost}
 use Rattle.reach_walk.specs.Findings.{AddsReach}
-use Rattle.reach_walk.specs.Givens.{given_trees, givens}
-use Rattle.reach_walk.specs.Offsets.{Fits, nodes_of}
-use Rattle.reach_walk.specs.declared.scope.Scope.{Outside}
+use Rattle.reach_entries.specs.Givens.{given_trees, givens}
+use Rattle.reach_tables.specs.Offsets.{Fits, nodes_of}
+use Rattle.reach_tables.specs.declared.scope.Scope.{Outside}
 use Rattle.reach_walk.proofs.Showing.{shows-lends, shows-outermost, twice-outermost}
 use Rattle.reach_walk.proofs.Walking.{found-reach}
 use Rattle.reach_walk.proofs.walk.find_in_program.Goals as goal

@@ -2,12 +2,12 @@ use Rattle.std.proofs.Common.{◌≡◌, List, [], ◌++◌, subst, sym}
 use Rattle.chill_base.specs.declared.diagnostic.Diagnostic.{Diagnostic}
 use Rattle.rule_lists.specs.Listing.{SameMembers}
 use Rattle.names_model.specs.Seeing.{entries_in}
-use Rattle.reach_walk.specs.Held.{Holdings}
-use Rattle.reach_walk.specs.Offsets.{nodes_of}
-use Rattle.reach_walk.specs.Places.{singles}
-use Rattle.reach_walk.specs.Scopes.{Opened, shown}
-use Rattle.reach_walk.proofs.Members.{same-append, same-refl}
-use Rattle.reach_walk.proofs.Succeeding.{if-ok, on-ok}
+use Rattle.reach_tables.specs.Held.{Holdings}
+use Rattle.reach_tables.specs.Offsets.{nodes_of}
+use Rattle.reach_entries.specs.Places.{singles}
+use Rattle.reach_tables.specs.Scopes.{Opened, shown}
+use Rattle.reach_entries.proofs.Members.{same-append, same-refl}
+use Rattle.reach_tables.proofs.Succeeding.{if-ok, on-ok}
 use Rattle.reach_walk.proofs.walk.open_reach.Goals as goal
 
 -- what is told of the reach is put behind others

@@ -1,0 +1,17 @@
+pub mod PartLists
+pub mod Elements
+pub mod Granting
+pub mod Fresh
+pub mod Lending
+pub mod Recalling
+pub mod Entering
+pub mod Members
+pub mod Telling
+pub mod Beginning
+pub mod Meeting
+pub mod Together
+pub mod Seeing
+pub mod Repeating
+pub mod Bringing
+pub mod Exchanging
+pub mod Going

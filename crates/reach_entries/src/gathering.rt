@@ -1,0 +1,100 @@
+// All definitions that are seen under a name, each once.
+ghost use Rattle.std.specs.Prelude.{◌≡◌, ◌++◌, ◌∷◌, [], ℕ, List, OnOk};
+ghost use Rattle.names_model.specs.Entries.{once_behind};
+ghost use Rattle.reach_entries.specs.Gathered.{Gathered};
+ghost use Rattle.reach_tables.specs.Scopes.{Sound, shown};
+
+use crate::entries::push_all;
+use chill_base::{Memory, Numbers};
+use names_model::Spelling;
+use reach_tables::{Book, Marked, Scope};
+use std::alloc::Global;
+
+// Puts a number behind others, unless it is there.
+fn gather(number: u32, met: &mut Marked, out: &mut Numbers) -> Result<(), Memory>
+    ensures { (old xs : List ℕ) → Gathered old xs met.old out.old → OnOk result (Gathered old (once_behind xs (number ∷ [])) met.new out.new) }
+{
+    if met.mark(number)? {
+        out.push(number)?;
+    }
+    Ok(())
+}
+
+// Puts numbers behind others, each once.
+fn gather_all(numbers: &[u32], met: &mut Marked, out: &mut Numbers) -> Result<(), Memory>
+    ensures { (old xs : List ℕ) → Gathered old xs met.old out.old → OnOk result (Gathered old (once_behind xs numbers.now) met.new out.new) }
+{
+    for number in numbers {
+        gather(*number, met, out)?;
+    }
+    Ok(())
+}
+
+// Puts what the tables show under a name behind others, each once.
+fn gather_shown(
+    book: &Book,
+    scope: &Scope,
+    name: &Spelling,
+    met: &mut Marked,
+    out: &mut Numbers,
+) -> Result<(), Memory>
+    ensures { Sound book.now scope.now → (old xs : List ℕ) → Gathered old xs met.old out.old → OnOk result (Gathered old (once_behind xs (shown book.now scope.now name.now)) met.new out.new) }
+{
+    match scope {
+        Scope::Outside => Ok(()),
+        Scope::Reach {
+            table,
+            takes_all,
+            outer,
+            ..
+        } => {
+            let held = table.find(name);
+            if held.seized {
+                gather_all(held.before, met, out)?;
+                gather_shown(book, outer, name, met, out)?;
+                return gather_all(held.after, met, out);
+            }
+            if !held.before.is_empty() {
+                return gather_all(held.before, met, out);
+            }
+            if *takes_all {
+                return gather_shown(book, outer, name, met, out);
+            }
+            gather_all(book.predefined.find(name).before, met, out)
+        }
+    }
+}
+
+/// Puts what the tables show under a name behind others.
+pub fn push_shown(
+    alloc: Global,
+    book: &Book,
+    scope: &Scope,
+    name: &Spelling,
+    out: &mut Numbers,
+) -> Result<(), Memory>
+    ensures { Sound book.now scope.now → OnOk result (out.new ≡ out.old ++ shown book.now scope.now name.now) }
+{
+    match scope {
+        Scope::Outside => Ok(()),
+        Scope::Reach {
+            table,
+            takes_all,
+            outer,
+            ..
+        } => {
+            let held = table.find(name);
+            if held.seized {
+                let mut met = Marked::new(alloc);
+                return gather_shown(book, scope, name, &mut met, out);
+            }
+            if !held.before.is_empty() {
+                return push_all(held.before, out);
+            }
+            if *takes_all {
+                return push_shown(alloc, book, outer, name, out);
+            }
+            push_all(book.predefined.find(name).before, out)
+        }
+    }
+}

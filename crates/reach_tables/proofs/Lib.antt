@@ -1,0 +1,12 @@
+pub mod Filters
+pub mod Appends
+pub mod Noting
+pub mod Marking
+pub mod Within
+pub mod Once
+pub mod Holdings
+pub mod Reaching
+pub mod Taking
+pub mod Succeeding
+pub mod Crowding
+pub mod Adding

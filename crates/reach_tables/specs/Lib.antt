@@ -1,0 +1,11 @@
+pub mod Asking
+pub mod Held
+pub mod Books
+pub mod Names
+pub mod Lendings
+pub mod Lends
+pub mod Scopes
+pub mod Offsets
+pub mod Tellings
+pub mod Marks
+pub mod Placed

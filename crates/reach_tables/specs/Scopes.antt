@@ -1,0 +1,67 @@
+-- What tables hold of reaches, and what is seen by them.
+use Rattle.std.specs.Prelude.{◌≡◌, ℕ, true, false, List, [], if◌then◌else◌, ⊤}
+use Rattle.std.specs.Str.{bytes_eq}
+use Rattle.names_model.specs.declared.definition.Definition.{Definition}
+use Rattle.names_model.specs.declared.entry.Entry.{Entry}
+use Rattle.names_model.specs.Definitions.{spelling_at}
+use Rattle.names_model.specs.Entries.{found, is_among, once_behind}
+use Rattle.names_model.specs.Seeing.{Reach, sees, seen_around, or_else, is_empty}
+use Rattle.reach_tables.specs.Asking.{Rated}
+use Rattle.reach_tables.specs.Held.{Holdings, had, held, holding, is_seized, own}
+use Rattle.reach_tables.specs.Books.{Keeps}
+use Rattle.reach_tables.specs.Lendings.{Lendings}
+use Rattle.reach_tables.specs.Lends.{AreLent}
+use Rattle.reach_tables.specs.declared.book.Book.{Book}
+use Rattle.reach_tables.specs.declared.scope.Scope.{Scope, Outside, Reach'}
+
+-- the table holds what entries have under each name, where these are seen around
+pub record Holds (around : List ℕ → List ℕ) (t : Holdings) (all : List Definition) (es : List Entry) : Type 0 where
+  pub by : (n : List ℕ) → held around t n ≡ found all es n
+
+-- the qualities in a table are those of its own numbers, and what it seizes is seen around
+pub record Kept (around : List ℕ → List ℕ) (t : Holdings) (all : List Definition) : Type 0 where
+  pub rated : (n : List ℕ) → Rated all (holding t n).qualities (own (holding t n))
+  pub seized : (n : List ℕ) → is_seized (holding t n) ≡ true → is_empty (around n) ≡ false
+
+-- what is had under a name has that name, and each is there once
+pub record Orderly (all : List Definition) (has : List ℕ → List ℕ) : Type 0 where
+  pub named : (n : List ℕ) (d : ℕ) → is_among d (has n) ≡ true → bytes_eq (spelling_at all d) n ≡ true
+  pub once : (n : List ℕ) → once_behind [] (has n) ≡ has n
+
+-- the definitions that tables show under a name
+abbrev pub shown : Book → Scope → List ℕ → List ℕ
+shown b Outside n = []
+shown b (Reach' t all p o l z) n = or_else (held (shown b o) t n) (if all then shown b o n else had b.predefined n)
+
+-- those that the tables around show
+abbrev pub shown_around : Book → Scope → List ℕ → List ℕ
+shown_around b Outside n = []
+shown_around b (Reach' t all p o l z) n = shown b o n
+
+-- each table is kept well, shows definitions under their own names, each once, and what is lent is what goes along
+abbrev pub Sound : Book → Scope → Type 0
+Sound b Outside = ⊤
+Sound b (Reach' t all p o l z) = Kept (shown b o) t b.all.items × Orderly b.all.items (shown b (Reach' t all p o l z)) × Sound b o × AreLent b.all.items (shown b (Reach' t all p o l z)) z
+
+-- a scope that lends these
+abbrev pub with_lent : Scope → Lendings → Scope
+with_lent Outside z = Outside
+with_lent (Reach' t all p o l y) z = Reach' t all p o l z
+
+-- the scope is another one that lends what goes along
+pub record Lends (b : Book) (s s' : Scope) : Type 0 where
+  pub lent : Lendings
+  pub is : s' ≡ with_lent s lent
+  pub are : AreLent b.all.items (shown b s) lent
+
+-- the book has the definitions of the text, and the tables show what the reach sees
+pub record Shows (b : Book) (s : Scope) (text : List Definition) (r : Reach) : Type 0 where
+  pub keeps : Keeps b text
+  pub sound : Sound b s
+  pub by : (n : List ℕ) → shown b s n ≡ sees text r n
+  pub around : (n : List ℕ) → shown_around b s n ≡ seen_around text r n
+
+-- the table of a reach that is opened in a scope
+pub record Opened (b : Book) (s : Scope) (t : Holdings) (es : List Entry) : Type 0 where
+  pub holds : Holds (shown b s) t b.all.items es
+  pub kept : Kept (shown b s) t b.all.items

@@ -1,0 +1,86 @@
+// Whether definitions are what is asked for.
+ghost use Rattle.std.specs.Prelude.{◌≡◌, List, Some, None, true, IfSome, if◌then◌else◌};
+ghost use Rattle.std.specs.List.{list_any};
+ghost use Rattle.names_model.specs.Entries.{is_among};
+ghost use Rattle.reach_tables.specs.Asking.{Rated, meets};
+ghost use Rattle.reach_tables.specs.Held.{IsHeld, own};
+ghost use Rattle.reach_tables.specs.declared.holding.Holding.{Holding};
+
+use crate::asked::Asked;
+use crate::book::Book;
+use crate::holding::Held;
+
+// Whether a definition is what is asked for.
+fn meets(book: &Book, asked: Asked, number: u32) -> bool
+    ensures { result ≡ meets book.now.all.items asked number }
+{
+    match asked {
+        Asked::IsOther(other) => number != other,
+        Asked::Fits(need) => book.is_fit(need, number),
+        Asked::IsMeasuring => book.is_measuring(number),
+        Asked::HasElements => book.has_elements(number),
+    }
+}
+
+/// Whether one of some definitions is what is asked for.
+pub fn any_meets(book: &Book, asked: Asked, numbers: &[u32]) -> bool
+    ensures { result ≡ list_any (meets book.now.all.items asked) numbers.now }
+{
+    for number in numbers {
+        if meets(book, asked, *number) {
+            return true;
+        }
+    }
+    false
+}
+
+/// Whether one of a reach's own definitions is what is asked for. None is there twice, so one of the first two is another
+/// one than a given one, if any is.
+pub fn own_meets(book: &Book, asked: Asked, held: &Held) -> bool
+    ensures { (h : Holding) → IsHeld held.now h → Rated book.now.all.items h.qualities (own h) → result ≡ list_any (meets book.now.all.items asked) (own h) }
+{
+    match asked {
+        Asked::IsOther(_) => {
+            any_meets(book, asked, held.before) || any_meets(book, asked, held.after)
+        }
+        Asked::Fits(need) => held.qualities.fits(need),
+        Asked::IsMeasuring => held.qualities.measuring,
+        Asked::HasElements => held.qualities.elements,
+    }
+}
+
+// A number, where it is found among others by halving them, as it is if they go up.
+fn halved(number: usize, numbers: &[u32]) -> Option<u32>
+    ensures { IfSome result (λ found. (found ≡ number) × (is_among number numbers.now ≡ true)) }
+{
+    let mut low = 0;
+    let mut high = numbers.len();
+    while low < high {
+        let middle = low + (high - low) / 2;
+        let other = numbers[middle];
+        if other as usize == number {
+            return Some(other);
+        }
+        if (other as usize) < number {
+            low = middle + 1;
+        } else {
+            high = middle;
+        }
+    }
+    None
+}
+
+/// A number, where it is among others. They mostly go up, as they stand in the text.
+pub fn among(number: usize, numbers: &[u32]) -> Option<u32>
+    ensures { result ≡ (if is_among number numbers.now then Some number else None) }
+{
+    if let Some(found) = halved(number, numbers) {
+        return Some(found);
+    }
+    for other in numbers {
+        if *other as usize == number {
+            return Some(*other);
+        }
+    }
+    None
+}

@@ -1,0 +1,152 @@
+// The reaches around a place, by their tables, and what they show under a name.
+ghost use Rattle.std.specs.Prelude.{◌≡◌, ◌++◌, Some, None, IfSome, OnOk, slice_get, if◌then◌else◌};
+ghost use Rattle.std.specs.List.{list_any};
+ghost use Rattle.names_model.specs.Entries.{is_among};
+ghost use Rattle.reach_tables.specs.Asking.{meets};
+ghost use Rattle.reach_tables.specs.Lends.{IsLending};
+ghost use Rattle.reach_tables.specs.Scopes.{Sound, shown};
+ghost use Rattle.reach_tables.specs.declared.book.Book.{Book};
+
+use crate::asked::Asked;
+use crate::asking::{among, any_meets, own_meets};
+use crate::book::Book;
+use crate::lent::{Lending, Lent};
+use crate::places::Places;
+use crate::table::Table;
+use names_model::Spelling;
+
+/// The table of a reach, and the reaches around it.
+#[derive(Drop)]
+pub enum Scope<'a> {
+    /// Nothing is around the outermost reach.
+    Outside,
+    Reach {
+        table: Table,
+        /// Whether what is seen around is seen where the reach has nothing itself: in a block, and by SEIZE ALL.
+        takes_all: bool,
+        outer: &'a Scope<'a>,
+        /// Where the lists of what the reach enters itself stand.
+        places: Places,
+        /// What it lends to the modulions in it.
+        lent: Lent,
+    },
+}
+
+impl<'a> Scope<'a> {
+    ghost use Rattle.std.specs.Prelude.{◌≡◌};
+    ghost use Rattle.reach_tables.specs.Scopes.{with_lent};
+
+    /// Lends these from now on, and nothing else.
+    pub fn lend(&mut self, made: Lent)
+        ensures { self.new ≡ with_lent self.old made }
+    {
+        match self {
+            Scope::Outside => {}
+            Scope::Reach { lent, .. } => *lent = made,
+        }
+    }
+}
+
+/// What a reach lends for a name.
+pub fn lent_by<'s>(scope: &'s Scope, name: &Spelling) -> Option<&'s Lending>
+    ensures { (b : Book) → Sound b scope.now → IfSome result (λ z. IsLending b.all.items (shown b scope.now) name.now z.now) }
+{
+    match scope {
+        Scope::Outside => None,
+        Scope::Reach { lent, .. } => lent.find(name),
+    }
+}
+
+/// Whether one of the definitions that the tables show under a name is what is asked for.
+pub fn shows_any(book: &Book, scope: &Scope, name: &Spelling, asked: Asked) -> bool
+    ensures { Sound book.now scope.now → result ≡ list_any (meets book.now.all.items asked) (shown book.now scope.now name.now) }
+{
+    match scope {
+        Scope::Outside => false,
+        Scope::Reach {
+            table,
+            takes_all,
+            outer,
+            ..
+        } => {
+            let held = table.find(name);
+            if held.seized {
+                return own_meets(book, asked, &held) || shows_any(book, outer, name, asked);
+            }
+            if !held.before.is_empty() {
+                return own_meets(book, asked, &held);
+            }
+            if *takes_all {
+                return shows_any(book, outer, name, asked);
+            }
+            any_meets(book, asked, book.predefined.find(name).before)
+        }
+    }
+}
+
+/// The first definition that the tables show under a name.
+pub fn first_shown(book: &Book, scope: &Scope, name: &Spelling) -> Option<u32>
+    ensures { Sound book.now scope.now → result ≡ slice_get (shown book.now scope.now name.now) 0 }
+{
+    match scope {
+        Scope::Outside => None,
+        Scope::Reach {
+            table,
+            takes_all,
+            outer,
+            ..
+        } => {
+            let held = table.find(name);
+            if !held.before.is_empty() {
+                return first_of(held.before);
+            }
+            if held.seized || *takes_all {
+                return first_shown(book, outer, name);
+            }
+            first_of(book.predefined.find(name).before)
+        }
+    }
+}
+
+/// A number, where the tables show it under a name.
+pub fn find_shown(book: &Book, scope: &Scope, name: &Spelling, number: usize) -> Option<u32>
+    ensures { Sound book.now scope.now → result ≡ (if is_among number (shown book.now scope.now name.now) then Some number else None) }
+{
+    match scope {
+        Scope::Outside => None,
+        Scope::Reach {
+            table,
+            takes_all,
+            outer,
+            ..
+        } => {
+            let held = table.find(name);
+            if let Some(found) = among(number, held.before) {
+                return Some(found);
+            }
+            if let Some(found) = among(number, held.after) {
+                return Some(found);
+            }
+            if held.seized {
+                return find_shown(book, outer, name, number);
+            }
+            if !held.before.is_empty() {
+                return None;
+            }
+            if *takes_all {
+                return find_shown(book, outer, name, number);
+            }
+            among(number, book.predefined.find(name).before)
+        }
+    }
+}
+
+// The first number, if there is one.
+fn first_of(numbers: &[u32]) -> Option<u32>
+    ensures { result ≡ slice_get numbers.now 0 }
+{
+    match numbers.first() {
+        Some(number) => Some(*number),
+        None => None,
+    }
+}
