@@ -3,9 +3,9 @@ ghost use Rattle.std.specs.Prelude.{IfOk, OnOk};
 ghost use Rattle.reach_tables.specs.Placed.{Includes, Listed};
 
 use chill_base::{Memory, Numbers};
-use names_model::{Kind, Spelling};
+use names_model::Spelling;
 use reach_entries::push_all;
-use reach_tables::{Book, Held, Places, Table};
+use reach_tables::{Places, Table};
 use std::alloc::Global;
 
 // Puts what a table has of its own under a name behind other lists, and notes where it stands. Past the `u32` numbers there
@@ -32,48 +32,16 @@ fn put_list(
     Ok(())
 }
 
-// Whether what a table has of its own under a name begins with an element. Where many modes of one name are seized, so are
-// their elements, in each reach again, and hardly any definition uses them.
-fn begins_with_element(book: &Book, held: &Held) -> bool {
-    match held.before.first() {
-        Some(number) => matches!(book.kind(*number), Some(Kind::Element)),
-        None => false,
-    }
-}
-
-// Puts the list of a name, unless it begins with an element.
-fn put_unless_elements(
-    alloc: Global,
-    book: &Book,
-    table: &Table,
-    name: &Spelling,
-    lists: &mut Vec<Numbers>,
-    places: &mut Places,
-) -> Result<(), Memory>
-    ensures listed { Listed lists.old.items table.now places.old → OnOk result (Listed lists.new.items table.now places.new) }
-    ensures kept { OnOk result (Includes lists.old.items lists.new.items) }
-{
-    if begins_with_element(book, &table.find(name)) {
-        return Ok(());
-    }
-    put_list(alloc, table, name, lists, places)
-}
-
 /// Puts a list of each name of which a table has two definitions or more of its own behind others, and tells where it
-/// stands. A name of one definition needs none, so that a program without N1 keeps no list; elements have none either.
-pub fn list_own(
-    alloc: Global,
-    book: &Book,
-    table: &Table,
-    lists: &mut Vec<Numbers>,
-) -> Result<Places, Memory>
+/// stands. A name of one definition needs none, so that a program without N1 keeps no list.
+pub fn list_own(alloc: Global, table: &Table, lists: &mut Vec<Numbers>) -> Result<Places, Memory>
     ensures listed { IfOk result (λ places. Listed lists.new.items table.now places) }
     ensures kept { OnOk result (Includes lists.old.items lists.new.items) }
 {
     let mut places = Places::new(alloc);
     for index in 0..table.len() {
         if let Some(name) = table.crowded(index) {
-            put_unless_elements(alloc, book, table, name, lists, &mut places)?;
+            put_list(alloc, table, name, lists, &mut places)?;
         }
     }
     Ok(places)

@@ -144,7 +144,7 @@ fn walk_modulion<'a>(
 {
     let parts = parts.as_slice();
     let table = open_reach(alloc, book, scope, &[], given, from, parts, &mut out.told)?;
-    let places = list_own(alloc, book, &table, &mut out.lists)?;
+    let places = list_own(alloc, &table, &mut out.lists)?;
     let mut inner = Scope::Reach {
         table,
         takes_all: seizes_all(parts),
@@ -174,7 +174,7 @@ fn walk_block<'a>(
     let made = givens_of(alloc, book, from, parts)?;
     let given = made.as_slice();
     let table = open_reach(alloc, book, scope, head, given, from, parts, &mut out.told)?;
-    let places = list_own(alloc, book, &table, &mut out.lists)?;
+    let places = list_own(alloc, &table, &mut out.lists)?;
     let inner = Scope::Reach {
         table,
         takes_all: true,
@@ -201,7 +201,7 @@ pub fn find_in_program(
     let given = made.as_slice();
     let outside = Scope::Outside;
     let table = open_reach(alloc, book, &outside, &[], given, 0, parts, &mut out.told)?;
-    let places = list_own(alloc, book, &table, &mut out.lists)?;
+    let places = list_own(alloc, &table, &mut out.lists)?;
     let mut inner = Scope::Reach {
         table,
         takes_all: false,

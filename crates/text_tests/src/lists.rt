@@ -2,7 +2,7 @@
 use crate::walk::{defined, identifier, location, modulion};
 use chill_base::{List, Memory};
 use group_dependence::Target;
-use names_model::{Kind, Part};
+use names_model::{Clause, Kind, Mention, Part};
 use reach_walk::{Findings, book_of, find_in_program};
 use std::alloc::Global;
 use std::test::Fail;
@@ -74,5 +74,48 @@ fn single_definitions_need_no_list(rt: HostRuntime) -> Result<(), Fail> {
     assert!(rt; found.lists.is_empty());
     assert_eq!(rt; found.groups.len(), 2);
     assert!(rt; found.groups[1].to.as_slice() == [Target::Node(0)].as_slice());
+    Ok(())
+}
+
+// A mode m with an element e.
+fn mode_with_element(alloc: Global, line: u32) -> Result<Part, Memory> {
+    let mut names = List::new(alloc);
+    names.push(identifier(alloc, line, "m")?)?;
+    let mut text = List::new(alloc);
+    text.push(Mention::Element(identifier(alloc, line, "e")?))?;
+    Ok(Part::Define(Clause {
+        kind: Kind::Mode,
+        names,
+        text,
+    }))
+}
+
+// It takes m from around it, and uses the elements that come along.
+fn mode_taker(alloc: Global, line: u32) -> Result<Part, Memory> {
+    let mut parts = List::new(alloc);
+    parts.push(Part::Seize(identifier(alloc, line, "m")?))?;
+    parts.push(defined(alloc, line, Kind::Synonym, "s", "e")?)?;
+    modulion(alloc, line, "taker", 1, parts)
+}
+
+// The definitions are m, 0, with e, 1; m, 2, with e, 3; and two takers, 4 and 6, with s, 5 and 7.
+#[test]
+fn elements_that_come_along_are_listed_once(rt: HostRuntime) -> Result<(), Fail> {
+    let alloc = rt.alloc();
+    let mut parts = List::new(alloc);
+    parts.push(mode_with_element(alloc, 1)?)?;
+    parts.push(mode_with_element(alloc, 2)?)?;
+    parts.push(mode_taker(alloc, 3)?)?;
+    parts.push(mode_taker(alloc, 4)?)?;
+    let found = found(alloc, &parts)?;
+    assert_eq!(rt; found.lists.len(), 3);
+    assert!(rt; found.lists[0].as_slice() == [0, 2].as_slice());
+    assert!(rt; found.lists[1].as_slice() == [1, 3].as_slice());
+    assert!(rt; found.lists[2].as_slice() == [4, 6].as_slice());
+    assert_eq!(rt; found.groups.len(), 4);
+    assert!(rt; found.groups[2].from.as_slice() == [5].as_slice());
+    assert!(rt; found.groups[2].to.as_slice() == [Target::Listed(1)].as_slice());
+    assert!(rt; found.groups[3].from.as_slice() == [7].as_slice());
+    assert!(rt; found.groups[3].to.as_slice() == [Target::Listed(1)].as_slice());
     Ok(())
 }
