@@ -5,7 +5,7 @@ ghost use Rattle.reach_tables.specs.Placed.{Includes, Listed};
 use chill_base::{Memory, Numbers};
 use names_model::Spelling;
 use reach_entries::push_all;
-use reach_tables::{Places, Table};
+use reach_tables::{Held, Places, Table};
 use std::alloc::Global;
 
 // Puts what a table has of its own under a name behind other lists, and notes where it stands. Past the `u32` numbers there
@@ -32,16 +32,51 @@ fn put_list(
     Ok(())
 }
 
+// Whether what a table has of its own under a name begins with a definition that stands in the reach. Elements that came along
+// with a mode stand elsewhere, and where they are entered one by one, each reach that seizes their modes would list them.
+fn begins_inside(held: &Held, first: u32, behind: u32) -> bool {
+    match held.before.first() {
+        Some(number) => first <= *number && *number < behind,
+        None => true,
+    }
+}
+
+// Puts the list of a name, unless it begins with a definition from elsewhere.
+fn put_inside(
+    alloc: Global,
+    table: &Table,
+    name: &Spelling,
+    first: u32,
+    behind: u32,
+    lists: &mut Vec<Numbers>,
+    places: &mut Places,
+) -> Result<(), Memory>
+    ensures listed { Listed lists.old.items table.now places.old → OnOk result (Listed lists.new.items table.now places.new) }
+    ensures kept { OnOk result (Includes lists.old.items lists.new.items) }
+{
+    if !begins_inside(&table.find(name), first, behind) {
+        return Ok(());
+    }
+    put_list(alloc, table, name, lists, places)
+}
+
 /// Puts a list of each name of which a table has two definitions or more of its own behind others, and tells where it
-/// stands. A name of one definition needs none, so that a program without N1 keeps no list.
-pub fn list_own(alloc: Global, table: &Table, lists: &mut Vec<Numbers>) -> Result<Places, Memory>
+/// stands. A name of one definition needs none, so that a program without N1 keeps no list. The definitions in the reach have
+/// the numbers from `first` on and below `behind`.
+pub fn list_own(
+    alloc: Global,
+    table: &Table,
+    first: u32,
+    behind: u32,
+    lists: &mut Vec<Numbers>,
+) -> Result<Places, Memory>
     ensures listed { IfOk result (λ places. Listed lists.new.items table.now places) }
     ensures kept { OnOk result (Includes lists.old.items lists.new.items) }
 {
     let mut places = Places::new(alloc);
     for index in 0..table.len() {
         if let Some(name) = table.crowded(index) {
-            put_list(alloc, table, name, lists, &mut places)?;
+            put_inside(alloc, table, name, first, behind, lists, &mut places)?;
         }
     }
     Ok(places)

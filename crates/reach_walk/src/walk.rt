@@ -24,7 +24,7 @@ use reach_entries::{
     Given, Opening, Place, enter_params, enter_parts, enter_places, givens_of, lent_inner,
     seizes_all, split_given,
 };
-use reach_tables::{Book, Lent, Scope, Table, head_size, size_of};
+use reach_tables::{Book, Lent, Scope, Table, head_size, size_of, sizes_of};
 use std::alloc::Global;
 
 /// The table of a reach with a head, which is opened in a scope, and N1 of it.
@@ -54,6 +54,19 @@ fn params_of(alloc: Global, from: u32, params: &List<Clause>) -> Result<Vec<Plac
     let mut head = Vec::new(alloc);
     enter_params(from, params.as_slice(), &mut head)?;
     Ok(head)
+}
+
+// The number of the first definition in a reach with a head.
+fn first_number(head: &[Place], from: u32) -> u32 {
+    match head.first() {
+        Some(place) => place.number,
+        None => from,
+    }
+}
+
+// The number behind those of the definitions in parts.
+fn number_behind(from: u32, parts: &[Part]) -> u32 {
+    from.saturating_add(sizes_of(parts))
 }
 
 /// Finds what there is in the parts of a reach and in those inside it.
@@ -144,7 +157,13 @@ fn walk_modulion<'a>(
 {
     let parts = parts.as_slice();
     let table = open_reach(alloc, book, scope, &[], given, from, parts, &mut out.told)?;
-    let places = list_own(alloc, &table, &mut out.lists)?;
+    let places = list_own(
+        alloc,
+        &table,
+        from,
+        number_behind(from, parts),
+        &mut out.lists,
+    )?;
     let mut inner = Scope::Reach {
         table,
         takes_all: seizes_all(parts),
@@ -174,7 +193,13 @@ fn walk_block<'a>(
     let made = givens_of(alloc, book, from, parts)?;
     let given = made.as_slice();
     let table = open_reach(alloc, book, scope, head, given, from, parts, &mut out.told)?;
-    let places = list_own(alloc, &table, &mut out.lists)?;
+    let places = list_own(
+        alloc,
+        &table,
+        first_number(head, from),
+        number_behind(from, parts),
+        &mut out.lists,
+    )?;
     let inner = Scope::Reach {
         table,
         takes_all: true,
@@ -201,7 +226,7 @@ pub fn find_in_program(
     let given = made.as_slice();
     let outside = Scope::Outside;
     let table = open_reach(alloc, book, &outside, &[], given, 0, parts, &mut out.told)?;
-    let places = list_own(alloc, &table, &mut out.lists)?;
+    let places = list_own(alloc, &table, 0, number_behind(0, parts), &mut out.lists)?;
     let mut inner = Scope::Reach {
         table,
         takes_all: false,
