@@ -35,7 +35,12 @@ fn put_list(
 // Whether what a table has of its own under a name begins with a definition that stands in the reach. Elements that came along
 // with a mode stand elsewhere, and where they are entered one by one, each reach that seizes their modes would list them.
 fn begins_inside(held: &Held, first: u32, behind: u32) -> bool {
-    match held.before.first() {
+    let own = if held.before.is_empty() {
+        held.after
+    } else {
+        held.before
+    };
+    match own.first() {
         Some(number) => first <= *number && *number < behind,
         None => true,
     }
