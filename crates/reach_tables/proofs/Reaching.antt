@@ -6,9 +6,12 @@ use Rattle.std.proofs.lemmas.Bool.{ne_eqb}
 use Rattle.names_model.specs.Entries.{is_among, once_behind}
 use Rattle.names_model.specs.Seeing.{is_empty, or_else}
 use Rattle.reach_tables.specs.Held.{Holdings, had, holding, is_seized, listed, own}
-use Rattle.reach_tables.specs.Scopes.{Kept, shown}
+use Rattle.reach_tables.specs.Lendings.{lending_of}
+use Rattle.reach_tables.specs.Lends.{IsLending}
+use Rattle.reach_tables.specs.Scopes.{Kept, Sound, lent_in, shown}
 use Rattle.reach_tables.specs.declared.book.Book.{Book}
-use Rattle.reach_tables.specs.declared.scope.Scope.{Scope}
+use Rattle.reach_tables.specs.declared.lent.Lending.{Lending}
+use Rattle.reach_tables.specs.declared.scope.Scope.{Scope, Outside, Reach'}
 use Rattle.reach_tables.proofs.Holdings.{any-listed, listed-all, listed-alone, listed-some, neither-own, own-listed}
 use Rattle.reach_tables.proofs.Once.{first-once}
 
@@ -93,3 +96,10 @@ first-own b t takes o n k some = side (is_seized (holding t n)) refl
 -- of one that has none before it seizes the name
 pub first-seized : (b : Book) (t : Holdings) (takes : Bool) (o : Scope) (n : List ℕ) → Kept (shown b o) t b.all.items → is_empty (had t n) ≡ true → is_seized (holding t n) ≡ true → slice_get (shown_by b t takes o n) 0 ≡ slice_get (shown b o n) 0
 first-seized b t takes o n k none is = ap (λ xs. slice_get xs 0) (shown-seized b t takes o n k is ∙ listed-all (shown b o n) (holding t n) is) ∙ first-behind (had t n) (shown b o n) none (k.seized n is) (unwrap_or (holding t n).after [])
+
+-- ---- what is lent
+
+-- what a scope lends for a name is what goes along with it
+pub lent-sound : (b : Book) (s : Scope) (n : List ℕ) (z : Lending) → Sound b s → Some z ≡ lending_of (lent_in s) n → IsLending b.all.items (shown b s) n z
+lent-sound b Outside n z h k = absurd cc
+lent-sound b (Reach' t all p o l y) n z h k = h.3.by n z (sym k)

@@ -38,6 +38,11 @@ abbrev pub shown_around : Book → Scope → List ℕ → List ℕ
 shown_around b Outside n = []
 shown_around b (Reach' t all p o l z) n = shown b o n
 
+-- what a scope lends
+abbrev pub lent_in : Scope → Lendings
+lent_in Outside = []
+lent_in (Reach' t all p o l z) = z
+
 -- each table is kept well, shows definitions under their own names, each once, and what is lent is what goes along
 abbrev pub Sound : Book → Scope → Type 0
 Sound b Outside = ⊤

@@ -1,11 +1,10 @@
 // The reaches around a place, by their tables, and what they show under a name.
-ghost use Rattle.std.specs.Prelude.{◌≡◌, ◌++◌, Some, None, IfSome, OnOk, slice_get, if◌then◌else◌};
+ghost use Rattle.std.specs.Prelude.{◌≡◌, Some, None, option_copied, slice_get, if◌then◌else◌};
 ghost use Rattle.std.specs.List.{list_any};
 ghost use Rattle.names_model.specs.Entries.{is_among};
 ghost use Rattle.reach_tables.specs.Asking.{meets};
-ghost use Rattle.reach_tables.specs.Lends.{IsLending};
-ghost use Rattle.reach_tables.specs.Scopes.{Sound, shown};
-ghost use Rattle.reach_tables.specs.declared.book.Book.{Book};
+ghost use Rattle.reach_tables.specs.Lendings.{lending_of};
+ghost use Rattle.reach_tables.specs.Scopes.{Sound, lent_in, shown};
 
 use crate::asked::Asked;
 use crate::asking::{among, any_meets, own_meets};
@@ -49,7 +48,7 @@ impl<'a> Scope<'a> {
 
 /// What a reach lends for a name.
 pub fn lent_by<'s>(scope: &'s Scope, name: &Spelling) -> Option<&'s Lending>
-    ensures { (b : Book) → Sound b scope.now → IfSome result (λ z. IsLending b.all.items (shown b scope.now) name.now z.now) }
+    ensures { option_copied result ≡ lending_of (lent_in scope.now) name.now }
 {
     match scope {
         Scope::Outside => None,

@@ -6,6 +6,7 @@ use Rattle.reach_entries.specs.Opens.{Opens}
 use Rattle.reach_tables.specs.Scopes.{shown}
 use Rattle.reach_entries.proofs.Exchanging.{opens-same}
 use Rattle.reach_entries.proofs.Going.{lent-same}
+use Rattle.reach_tables.proofs.Reaching.{lent-sound}
 use Rattle.reach_tables.proofs.Succeeding.{on-ok}
 use Rattle.reach_tables.proofs.Taking.{orderly}
 use Rattle.reach_entries.proofs.seizing.seize_with.Goals as goal
@@ -19,5 +20,5 @@ returns-in-Some c = λ es o.
     let seen = shown b s name in
     let z = c.in-Some.lending.now in
     on-ok c.seize.result (opens-same b s c.seize.new.self es c.args.name.now.at (seen ++ (z.rest ++ flat_map has z.whole)) (seen ++ going b.all.items has name)
-    (lent-same b.all.items has name z seen (orderly b s o.sound) (c.in-Some.ensures b o.sound)))
+    (lent-same b.all.items has name z seen (orderly b s o.sound) (lent-sound b s name z o.sound c.in-Some.ensures)))
     (subst (λ ds. OnOk c.seize.result (Opens b s c.seize.new.self (es ++ entry c.args.name.now.at (seen ++ (ds ++ flat_map has z.whole)) ∷ []))) c.as_slice.ensures (c.seize.ensures es o))
