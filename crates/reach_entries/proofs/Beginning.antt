@@ -1,13 +1,17 @@
--- Tables that have nothing yet, and tables that seize nothing.
-use Rattle.std.proofs.Common.{◌≡◌, ℕ, Bool, true, false, List, [], None, refl, ap, sym, ◌∙◌}
+-- Tables that have nothing yet, and tables that take nothing from around.
+use Rattle.std.proofs.Common.{◌≡◌, ℕ, Bool, true, false, List, [], ◌∷◌, None, refl, ap, sym, ◌∙◌}
+use Rattle.std.specs.Prelude.{not, ◌||◌, flat_map}
+use Rattle.std.specs.List.{list_any}
 use Rattle.names_model.specs.declared.definition.Definition.{Definition}
 use Rattle.names_model.specs.declared.kind.Need.{Need}
 use Rattle.names_model.specs.declared.kind.Need.TheVariants as needs
 use Rattle.names_model.specs.Definitions.{spelling_at}
-use Rattle.names_model.specs.Entries.{is_among, passed}
-use Rattle.names_model.specs.Seeing.{nothing}
+use Rattle.names_model.specs.Entries.{is_among, once_behind, passed}
+use Rattle.names_model.specs.Seeing.{is_empty, nothing}
 use Rattle.reach_tables.specs.Asking.{Rated, fits_any, no_qualities}
-use Rattle.reach_tables.specs.Held.{Holdings, had, held, holding, is_seized, listed, no_holding, own}
+use Rattle.reach_tables.specs.Held.{Holdings, brought, entered, had, held, holding, listed, no_holding, shares_unseen, starts_with_number}
+use Rattle.reach_tables.specs.declared.holding.Item.{Item}
+use Rattle.reach_tables.specs.declared.holding.Item.TheVariants.{Number, Around, Along}
 use Rattle.reach_tables.specs.Marks.{IsFresh, IsTended, Marks, has_two, is_marked}
 use Rattle.reach_tables.specs.Names.{is_named, list_under}
 use Rattle.reach_entries.specs.Opens.{Opens}
@@ -17,7 +21,6 @@ use Rattle.reach_tables.specs.declared.entered.Entered.{Entered}
 use Rattle.reach_tables.specs.declared.holding.Holding.{Holding}
 use Rattle.reach_entries.specs.declared.opening.Opening.{Opening}
 use Rattle.reach_tables.specs.declared.scope.Scope.{Scope}
-use Rattle.reach_tables.proofs.Holdings.{listed-alone}
 use Rattle.reach_entries.proofs.Members.{same-as}
 use Rattle.reach_entries.proofs.Recalling.{recalls-none}
 
@@ -35,16 +38,15 @@ rated-none all = record { fits = fits-none; measuring = refl; elements = refl }
 kept-none : (around : List ℕ → List ℕ) (all : List Definition) (t : Holdings) → ((n : List ℕ) → holding t n ≡ no_holding) → Kept around t all
 kept-none around all t h = record {
   rated = λ n. rw (h n) (rated-none all);
-  seized = λ n k. absurd (false-true (sym (ap is_seized (h n)) ∙ k));
+  brings = λ n. ap (λ (x : Holding). list_any (λ i. is_empty (brought (around n) i)) x.after) (h n);
+  seen = λ n. ap (λ (x : Holding). list_any (shares_unseen (around n)) x.after) (h n);
+  starts = λ n. ap (λ (x : Holding). starts_with_number x.after) (h n);
 }
-  where
-    false-true : false ≡ true → ⊥
-    false-true e = cc
 
 marks-none : (all : List Definition) (t : Holdings) (marks : List ℕ) → ((n : List ℕ) → holding t n ≡ no_holding) → marks ≡ [] → Marks marks t all
 marks-none all t marks h is = record {
-  by = λ d. ap (λ ms. is_marked ms d) is ∙ ap (λ (x : Holding). is_among d (own x)) (sym (h (spelling_at all d)));
-  own = λ n d k. absurd (false-true (ap (λ (x : Holding). is_among d (own x)) (sym (h n)) ∙ k));
+  by = λ d. ap (λ ms. is_marked ms d) is ∙ ap (λ (x : Holding). is_among d (entered x)) (sym (h (spelling_at all d)));
+  own = λ n d k. absurd (false-true (ap (λ (x : Holding). is_among d (entered x)) (sym (h n)) ∙ k));
 }
   where
     false-true : false ≡ true → ⊥
@@ -68,13 +70,19 @@ opens-none b s o sound h told met noted = record {
   taken = recalls-none b.all.items (passed b.all.items (shown b s)) o.taken [] met noted;
 }
 
--- where nothing is seen around, nothing is seized
+-- where nothing is seen around, nothing is taken from there
 pub had-alone : (all : List Definition) (t : Holdings) (n : List ℕ) → Kept nothing t all → held nothing t n ≡ had t n
-had-alone all t n k = side (is_seized (holding t n)) refl
+had-alone all t n k = ap (λ is. once_behind (had t n) (flat_map (brought []) is)) (none-taken (holding t n).after (k.brings n) (k.seen n) (k.starts n))
   where
     true-false : true ≡ false → ⊥
     true-false e = cc
 
-    side : (b : Bool) → is_seized (holding t n) ≡ b → held nothing t n ≡ had t n
-    side true is = absurd (true-false (k.seized n is))
-    side false is = listed-alone [] (holding t n) is
+    none-shared : (ns : List ℕ) (u v : Bool) → (is_empty ns || u) ≡ false → (list_any (λ d. not (is_among d [])) ns || v) ≡ false → ⊥
+    none-shared [] u v b s = true-false b
+    none-shared (x ∷ xs) u v b s = true-false s
+
+    none-taken : (is : List Item) → list_any (λ i. is_empty (brought [] i)) is ≡ false → list_any (shares_unseen []) is ≡ false → starts_with_number is ≡ false → is ≡ []
+    none-taken [] b s f = refl
+    none-taken (Number d ∷ is) b s f = absurd (true-false f)
+    none-taken (Around ∷ is) b s f = absurd (true-false b)
+    none-taken (Along g ∷ is) b s f = absurd (none-shared g.numbers (list_any (λ i. is_empty (brought [] i)) is) (list_any (shares_unseen []) is) b s)

@@ -14,6 +14,7 @@ use Rattle.names_model.specs.Entries.{entry, found, is_among, numbers_of, once_b
 use Rattle.names_model.specs.NameRules.{told_behind, told_number}
 use Rattle.reach_entries.specs.Opens.{Opens}
 use Rattle.reach_entries.specs.Passages.{AreIn, Recalls}
+use Rattle.reach_tables.specs.Lends.{SameUnder}
 use Rattle.reach_tables.specs.Scopes.{shown}
 use Rattle.reach_tables.specs.declared.book.Book.{Book}
 use Rattle.reach_entries.specs.declared.opening.Opening.{Opening}
@@ -25,15 +26,11 @@ use Rattle.reach_tables.proofs.Once.{once-once}
 use Rattle.reach_entries.proofs.Repeating.{among-in, from-flat, in-flat}
 use Rattle.reach_tables.proofs.Within.{any-at, any-filter, any-once, either, filter-from, or-left, or-right, same-self}
 
--- under each name both have the same definitions, in the order in which they come first
-pub record SameUnder (all : List Definition) (ds fs : List ℕ) : Type 0 where
-  pub by : (n : List ℕ) → once_behind [] (under all n ds) ≡ once_behind [] (under all n fs)
-
 pub under-back : (all : List Definition) (ds fs : List ℕ) → SameUnder all ds fs → SameUnder all fs ds
 under-back all ds fs h = record { by = λ n. sym (h.by n) }
 
 -- behind any others too
-behind-same : (all : List Definition) (ds fs xs : List ℕ) (n : List ℕ) → SameUnder all ds fs → once_behind xs (under all n ds) ≡ once_behind xs (under all n fs)
+pub behind-same : (all : List Definition) (ds fs xs : List ℕ) (n : List ℕ) → SameUnder all ds fs → once_behind xs (under all n ds) ≡ once_behind xs (under all n fs)
 behind-same all ds fs xs n h = sym (once-once xs [] (under all n ds)) ∙ ap (once_behind xs) (h.by n) ∙ once-once xs [] (under all n fs)
 
 -- what is there is there under its name

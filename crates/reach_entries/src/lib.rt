@@ -2,8 +2,8 @@
 //! modulion, by which its parts give.
 //!
 //! It stands on `names_model`, whose definitions it meets, and on `reach_tables`, whose tables it fills; and below
-//! `reach_walk`, which opens the reaches of a program by it. A reach is opened entry by entry: each is put at once into its
-//! table, and N1 of it is told.
+//! `reach_lends`, which lends what goes along with a name, and `reach_walk`, which opens the reaches of a program by it. A
+//! reach is opened entry by entry: each is put at once into its table, and N1 of it is told.
 #![tactic(auto)]
 
 mod broken;
@@ -20,6 +20,7 @@ mod passing;
 mod place;
 mod reached;
 mod seizing;
+mod tables;
 mod twice;
 
 pub use broken::push_told;
@@ -31,4 +32,5 @@ pub use naming::names_of;
 pub use opening::Opening;
 pub use place::Place;
 pub use reached::{enter_parts, enter_places, seizes_all};
-pub use seizing::push_elements;
+pub use seizing::{push_along_all, push_element};
+pub use tables::table_of_numbers;

@@ -1,9 +1,9 @@
 // A reach that is being opened: its table, and N1 of it, entry by entry.
 use crate::passages::Passages;
-use crate::twice::{tell_all_seized, tell_crowded, tell_numbers, tell_seized};
+use crate::twice::{tell_crowded, tell_groups, tell_numbers, tell_seized};
 use chill_base::{Diagnostic, Memory, Pos};
 use names_model::Identifier;
-use reach_tables::{Book, Entered, Names, Scope, Table};
+use reach_tables::{Book, Entered, Names, Scope, Shared, Table};
 use std::alloc::Global;
 
 /// What is known of a reach by the entries that it has so far: what they have under each name, and N1 of them.
@@ -16,13 +16,14 @@ pub struct Opening {
 }
 
 impl Opening {
-    ghost use Rattle.std.specs.Prelude.{◌≡◌, ◌++◌, ◌∷◌, [], ℕ, true, false, List, flat_map, IfOk, OnOk};
+    ghost use Rattle.std.specs.Prelude.{◌≡◌, ◌++◌, ◌∷◌, [], ℕ, true, false, List, IfOk, OnOk};
     ghost use Rattle.names_model.specs.declared.entry.Entry.{Entry};
     ghost use Rattle.names_model.specs.Entries.{entry, passed};
     ghost use Rattle.reach_tables.specs.declared.book.Book.{Book};
     ghost use Rattle.reach_tables.specs.declared.scope.Scope.{Scope};
     ghost use Rattle.reach_entries.specs.Passages.{AreKnown};
     ghost use Rattle.reach_entries.specs.Opens.{Opens};
+    ghost use Rattle.reach_tables.specs.Lends.{AreGroups, in_groups};
     ghost use Rattle.reach_tables.specs.Scopes.{Sound, shown};
 
     /// A reach with no entry yet. It takes no memory.
@@ -60,7 +61,7 @@ impl Opening {
         Ok(())
     }
 
-    /// Enters what is seen around under a name, elements that go along, and all that is seen around under whole names.
+    /// Enters what is seen around under a name, elements that go along, and groups of such elements.
     pub fn seize(
         &mut self,
         alloc: Global,
@@ -68,20 +69,20 @@ impl Opening {
         around: &Scope,
         name: &Identifier,
         elements: &[u32],
-        whole: &Names,
+        groups: &[Shared],
     ) -> Result<(), Memory>
-        ensures { (es : List Entry) → Opens book.now around.now self.old es → OnOk result (Opens book.now around.now self.new (es ++ entry name.now.at (shown book.now around.now name.now.spelling ++ (elements.now ++ flat_map (shown book.now around.now) whole.now)) ∷ [])) }
+        ensures { (es : List Entry) → AreGroups book.now.all.items (shown book.now around.now) groups.now → Opens book.now around.now self.old es → OnOk result (Opens book.now around.now self.new (es ++ entry name.now.at (shown book.now around.now name.now.spelling ++ (elements.now ++ in_groups groups.now)) ∷ [])) }
     {
         let at = name.at;
         let table = &self.entered.table;
         let told = &mut self.told;
         tell_seized(alloc, book, around, table, at, &name.spelling, told)?;
         tell_numbers(alloc, book, around, table, at, elements, told)?;
-        tell_all_seized(alloc, book, around, table, at, whole, told)?;
+        tell_groups(alloc, book, around, table, at, groups, told)?;
         let entered = &mut self.entered;
         entered.add_seized(alloc, book, around, &name.spelling)?;
         entered.add_numbers(alloc, book, around, elements)?;
-        entered.add_all_seized(alloc, book, around, whole)
+        entered.add_groups(alloc, book, around, groups)
     }
 
     /// Enters definitions again that are all there, of these names. They add nothing, and are told of by the names that have

@@ -12,11 +12,11 @@ use crate::naming::names_of;
 use crate::opening::Opening;
 use chill_base::{Memory, Numbers};
 use names_model::{Identifier, Spelling};
-use reach_tables::{Asked, Book, Names, Scope, find_shown, lent_by, shows_any};
+use reach_tables::{Asked, Book, Scope, find_shown, lent_by, shows_any};
 use std::alloc::Global;
 
-// Puts an element behind others, where it is seen around.
-fn push_element(
+/// Puts an element behind others, where it is seen around.
+pub fn push_element(
     book: &Book,
     around: &Scope,
     element: usize,
@@ -41,8 +41,8 @@ fn push_along(book: &Book, around: &Scope, number: u32, out: &mut Numbers) -> Re
     Ok(())
 }
 
-// The elements that go with definitions.
-fn push_along_all(
+/// The elements that go along with definitions.
+pub fn push_along_all(
     book: &Book,
     around: &Scope,
     numbers: &[u32],
@@ -87,8 +87,7 @@ fn seize_along(
 {
     let mut elements = Numbers::new(alloc);
     push_elements(alloc, book, around, &name.spelling, &mut elements)?;
-    let whole = Names::new(alloc);
-    out.seize(alloc, book, around, name, elements.as_slice(), &whole)
+    out.seize(alloc, book, around, name, elements.as_slice(), &[])
 }
 
 // Enters it with what is lent for the name, or, where nothing is lent, with the elements one by one.
@@ -102,14 +101,7 @@ fn seize_with(
     ensures { (es : List Entry) → Opens book.now around.now out.old es → OnOk result (Opens book.now around.now out.new (es ++ entry name.now.at (passed book.now.all.items (shown book.now around.now) name.now.spelling) ∷ [])) }
 {
     match lent_by(around, &name.spelling) {
-        Some(lending) => out.seize(
-            alloc,
-            book,
-            around,
-            name,
-            lending.rest.as_slice(),
-            &lending.whole,
-        ),
+        Some(lending) => out.seize(alloc, book, around, name, &[], lending.groups.as_slice()),
         None => seize_along(alloc, book, around, name, out),
     }
 }

@@ -1,5 +1,5 @@
 // Second entries of a name in one reach, for another definition.
-ghost use Rattle.std.specs.Prelude.{◌≡◌, ◌++◌, ◌||◌, ◌&&◌, ℕ, not, List, IfOk, OnOk, flat_map};
+ghost use Rattle.std.specs.Prelude.{◌≡◌, ◌++◌, ◌||◌, ◌&&◌, ℕ, not, List, Some, IfOk, OnOk, flat_map, slice_get};
 ghost use Rattle.rule_lists.specs.Listing.{SameMembers};
 ghost use Rattle.names_model.specs.declared.definition.Definition.{Definition};
 ghost use Rattle.names_model.specs.declared.entry.Entry.{Entry};
@@ -7,13 +7,17 @@ ghost use Rattle.names_model.specs.Entries.{numbers_of};
 ghost use Rattle.names_model.specs.NameRules.{told_number};
 ghost use Rattle.names_model.specs.Seeing.{is_empty};
 ghost use Rattle.reach_tables.specs.Held.{held};
+ghost use Rattle.reach_tables.specs.Lends.{AreGroups, IsGroup, in_groups};
 ghost use Rattle.reach_tables.specs.Scopes.{Kept, Opened, Sound, shown};
 ghost use Rattle.reach_tables.specs.Tellings.{IsTold, Tells, clashes_any, is_last, told_of};
 
 use crate::broken::push_told;
 use chill_base::{Diagnostic, Memory, Pos, Rule};
 use names_model::Spelling;
-use reach_tables::{Asked, Book, Names, Scope, Table, first_shown, is_another_under, shows_any};
+use reach_tables::{
+    Asked, Book, Group, Names, Scope, Shared, Table, any_meets, first_shown, is_another_under,
+    shows_any,
+};
 use std::alloc::Global;
 
 // Whether a reach that is being opened has another number under a name than one of those that are seen around. The first of
@@ -34,8 +38,7 @@ fn is_seized_twice(book: &Book, around: &Scope, table: &Table, name: &Spelling) 
 fn has_any(table: &Table, name: &Spelling) -> bool
     ensures { (around : List ℕ → List ℕ) (all : List Definition) → Kept around table.now all → result ≡ not (is_empty (held around table.now name.now)) }
 {
-    let held = table.find(name);
-    held.seized || !held.before.is_empty()
+    !table.find(name).is_empty()
 }
 
 // Whether a number has the name of the one that was told of last.
@@ -110,20 +113,61 @@ pub fn tell_seized(
     Ok(())
 }
 
-/// Tells of the numbers that are seen around under some names, once for all of one name.
-pub fn tell_all_seized(
+// Whether a reach that is being opened has another number under a name than one of some others. The first of these tells,
+// where the reach has another than it; where the reach has it alone, another one of them tells.
+fn is_joined_twice(
+    book: &Book,
+    around: &Scope,
+    table: &Table,
+    name: &Spelling,
+    first: u32,
+    numbers: &[u32],
+) -> bool
+    ensures { Sound book.now around.now → Kept (shown book.now around.now) table.now book.now.all.items → Some first ≡ slice_get numbers.now 0 → result ≡ clashes_any numbers.now (held (shown book.now around.now) table.now name.now) }
+{
+    is_another_under(book, around, table, name, first)
+        || (has_any(table, name) && any_meets(book, Asked::IsOther(first), numbers))
+}
+
+// Tells of a group of numbers, once for all of them.
+fn tell_group(
     alloc: Global,
     book: &Book,
     around: &Scope,
     table: &Table,
     at: Pos,
-    names: &Names,
+    group: &Group,
     out: &mut Vec<Diagnostic>,
 ) -> Result<(), Memory>
-    ensures { (es : List Entry) → Sound book.now around.now → Opened book.now around.now table.now es → OnOk result (SameMembers out.new.items (out.old.items ++ flat_map (told_number book.now.all.items (numbers_of es) at) (flat_map (shown book.now around.now) names.now))) }
+    ensures { (es : List Entry) → Sound book.now around.now → IsGroup book.now.all.items (shown book.now around.now) group.now → Opened book.now around.now table.now es → OnOk result (SameMembers out.new.items (out.old.items ++ flat_map (told_number book.now.all.items (numbers_of es) at) group.now.numbers)) }
 {
-    for name in names.as_slice() {
-        tell_seized(alloc, book, around, table, at, name, out)?;
+    let numbers = group.numbers.as_slice();
+    match numbers.first() {
+        Some(first) => {
+            let name = book.spelling(*first as usize);
+            if is_joined_twice(book, around, table, name, *first, numbers) {
+                push_told(alloc, at, Rule::N1, name, out)?;
+            }
+            Ok(())
+        }
+        None => Ok(()),
+    }
+}
+
+/// Tells of groups of numbers, once for each.
+pub fn tell_groups(
+    alloc: Global,
+    book: &Book,
+    around: &Scope,
+    table: &Table,
+    at: Pos,
+    groups: &[Shared],
+    out: &mut Vec<Diagnostic>,
+) -> Result<(), Memory>
+    ensures { (es : List Entry) → Sound book.now around.now → AreGroups book.now.all.items (shown book.now around.now) groups.now → Opened book.now around.now table.now es → OnOk result (SameMembers out.new.items (out.old.items ++ flat_map (told_number book.now.all.items (numbers_of es) at) (in_groups groups.now))) }
+{
+    for shared in groups {
+        tell_group(alloc, book, around, table, at, shared.group(), out)?;
     }
     Ok(())
 }

@@ -7,16 +7,17 @@ use Rattle.names_model.specs.declared.definition.Definition.{Definition}
 use Rattle.names_model.specs.Definitions.{spelling_at, under}
 use Rattle.names_model.specs.Entries.{is_among, once_behind}
 use Rattle.reach_tables.specs.Held.{held}
-use Rattle.reach_tables.specs.Marks.{Added, Adds, IsTended, Marks, Seized, is_marked}
+use Rattle.reach_tables.specs.Marks.{Added, Adds, IsTended, Marks, Takes, is_marked}
 use Rattle.reach_tables.specs.Names.{is_named}
 use Rattle.reach_tables.specs.Scopes.{Orderly}
 use Rattle.reach_tables.specs.Tellings.{is_another_among}
 use Rattle.reach_tables.specs.declared.entered.Entered.{Entered}
+use Rattle.reach_tables.specs.declared.group.Group.{Group}
 use Rattle.reach_tables.proofs.Crowding.{crowds-more}
 use Rattle.reach_tables.proofs.Filters.{filter-append}
 use Rattle.reach_tables.proofs.Marking.{added-old, marks-same}
 use Rattle.reach_tables.proofs.Once.{among-once, once-append}
-use Rattle.reach_tables.proofs.Taking.{under-seen}
+use Rattle.reach_tables.proofs.Taking.{under-named, under-seen}
 use Rattle.reach_tables.proofs.Within.{Within, first-among, once-within}
 
 -- a number that is there
@@ -48,20 +49,30 @@ first-seen d (x ∷ xs) h = ap (λ e. is_among e (x ∷ xs)) is ∙ first-among 
     is : d ≡ x
     is = cc
 
--- what is seen around under a name
-pub adds-seized : (around : List ℕ → List ℕ) (all : List Definition) (name : List ℕ) (d : ℕ) (e e' : Entered) → Orderly all around → Some d ≡ slice_get (around name) 0 → IsTended around all e → Seized around all name e.table e'.table → e'.marked ≡ e.marked
-    → ((n : List ℕ) → is_named e'.crowded n ≡ (is_named e.crowded n || (bytes_eq name n && is_another_among d (held around e'.table name)))) → Adds around all (around name) e e'
-adds-seized around all name d e e' o first h z same more = record {
+-- numbers that are taken from around, one of which is of a name under which all of them are
+pub adds-taken : (around : List ℕ → List ℕ) (all : List Definition) (name : List ℕ) (d : ℕ) (ds : List ℕ) (e e' : Entered) → ((n : List ℕ) → bytes_eq name n ≡ false → under all n ds ≡ []) → under all name ds ≡ ds → Some d ≡ slice_get ds 0
+    → IsTended around all e → Takes around all ds e.table e'.table → e'.marked ≡ e.marked
+    → ((n : List ℕ) → is_named e'.crowded n ≡ (is_named e.crowded n || (bytes_eq name n && is_another_among d (held around e'.table name)))) → Adds around all ds e e'
+adds-taken around all name d ds e e' other here first h z same more = record {
   by = z.by;
   tended = record {
     kept = z.kept;
     marks = subst (λ ms. Marks ms e'.table all) (sym same) (marks-same e.marked e.table e'.table all h.marks z.same);
-    crowds = crowds-more around e.table e'.table name d e.crowded e'.crowded (λ n. under all n (around name)) z.by
-        (λ n k. sym (under-seen all around name n false o k))
-        (ap (is_among d) (z.by name ∙ ap (once_behind (held around e.table name)) (sym (under-seen all around name name true o ((bytes_eq-Decides name name).1 refl))))
-        ∙ among-once (held around e.table name) (around name) d (first-seen d (around name) first)) h.crowds more;
+    crowds = crowds-more around e.table e'.table name d e.crowded e'.crowded (λ n. under all n ds) z.by other
+        (ap (is_among d) (z.by name ∙ ap (once_behind (held around e.table name)) here) ∙ among-once (held around e.table name) ds d (first-seen d ds first)) h.crowds more;
   };
 }
+
+-- what is seen around under a name
+pub adds-seized : (around : List ℕ → List ℕ) (all : List Definition) (name : List ℕ) (d : ℕ) (e e' : Entered) → Orderly all around → Some d ≡ slice_get (around name) 0 → IsTended around all e → Takes around all (around name) e.table e'.table → e'.marked ≡ e.marked
+    → ((n : List ℕ) → is_named e'.crowded n ≡ (is_named e.crowded n || (bytes_eq name n && is_another_among d (held around e'.table name)))) → Adds around all (around name) e e'
+adds-seized around all name d e e' o first h z same more = adds-taken around all name d (around name) e e' (λ n k. sym (under-seen all around name n false o k)) (sym (under-seen all around name name true o ((bytes_eq-Decides name name).1 refl))) first h z same more
+
+-- a group
+pub adds-group : (around : List ℕ → List ℕ) (all : List Definition) (name : List ℕ) (d : ℕ) (g : Group) (e e' : Entered) → ((x : ℕ) → is_among x g.numbers ≡ true → bytes_eq (spelling_at all x) name ≡ true) → Some d ≡ slice_get g.numbers 0
+    → IsTended around all e → Takes around all g.numbers e.table e'.table → e'.marked ≡ e.marked
+    → ((n : List ℕ) → is_named e'.crowded n ≡ (is_named e.crowded n || (bytes_eq name n && is_another_among d (held around e'.table name)))) → Adds around all g.numbers e e'
+adds-group around all name d g e e' named first h z same more = adds-taken around all name d g.numbers e e' (λ n k. sym (under-named all g.numbers name n false named k)) (sym (under-named all g.numbers name name true named ((bytes_eq-Decides name name).1 refl))) first h z same more
 
 -- nothing is added
 pub adds-none : (around : List ℕ → List ℕ) (all : List Definition) (ds : List ℕ) (e : Entered) → IsTended around all e → ((n : List ℕ) → Within (under all n ds) (held around e.table n)) → Adds around all ds e e

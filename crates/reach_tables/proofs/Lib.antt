@@ -10,3 +10,5 @@ pub mod Taking
 pub mod Succeeding
 pub mod Crowding
 pub mod Adding
+pub mod Grouping
+pub mod Including

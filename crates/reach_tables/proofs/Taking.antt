@@ -1,6 +1,6 @@
--- What is seen around under a name is seized.
+-- What is taken from around.
 use Rattle.std.proofs.Common.{◌≡◌, ℕ, zero, suc, Bool, true, false, List, [], ◌∷◌, ◌++◌, Some, refl, ap, sym, ◌∙◌, if◌then◌else◌, arith}
-use Rattle.std.specs.Prelude.{flat_map, ◌||◌, nat_lt, slice_get}
+use Rattle.std.specs.Prelude.{flat_map, not, ◌||◌, nat_lt, slice_get}
 use Rattle.std.specs.List.{filter, list_any}
 use Rattle.std.specs.Str.{bytes_eq}
 use Rattle.std.proofs.lemmas.Bool.{ltb-false}
@@ -10,14 +10,16 @@ use Rattle.names_model.specs.Definitions.{elements_of, numbers_on, spelling_at, 
 use Rattle.names_model.specs.Entries.{along, is_among, once_behind}
 use Rattle.names_model.specs.Seeing.{is_empty}
 use Rattle.reach_tables.specs.Asking.{Rated, has_elements}
-use Rattle.reach_tables.specs.Held.{Holdings, holding, held, is_seized, listed, own, with_seize}
-use Rattle.reach_tables.specs.Marks.{Seized}
+use Rattle.reach_tables.specs.Held.{Holdings, brought, entered, holding, held, listed, own, shares_unseen, starts_with_number, with_group, with_seize}
+use Rattle.reach_tables.specs.Lends.{AreSeen}
+use Rattle.reach_tables.specs.Marks.{Takes}
 use Rattle.reach_tables.specs.Scopes.{Kept, Orderly, Sound, shown}
 use Rattle.reach_tables.specs.declared.book.Book.{Book}
+use Rattle.reach_tables.specs.declared.group.Group.{Group}
 use Rattle.reach_tables.specs.declared.holding.Holding.{Holding}
 use Rattle.reach_tables.specs.declared.qualities.Qualities.{Qualities}
 use Rattle.reach_tables.specs.declared.scope.Scope.{Scope, Outside, Reach'}
-use Rattle.reach_tables.proofs.Holdings.{listed-seize, own-seize, qualities-seize}
+use Rattle.reach_tables.proofs.Holdings.{after-group, after-seize, entered-group, entered-seize, listed-group, listed-seize, own-seize, qualities-seize, rated-group, starts-group, starts-seize}
 use Rattle.reach_tables.proofs.Within.{first-among, later-among}
 
 -- a sound scope shows definitions under their own names, each once
@@ -41,16 +43,19 @@ under-seen all has n m true o is =
 under-seen all has n m false o is = sym (filter-none (λ d. bytes_eq (spelling_at all d) m) (has n)
     (λ d k. ap (λ w. bytes_eq w m) ((bytes_eq-Decides (spelling_at all d) n).0 (o.named n d k)) ∙ is))
 
--- that the name is seized is noted
+-- what is seen around under a name is taken
 pub seized-noted : (around : List ℕ → List ℕ) (all : List Definition) (name : List ℕ) (t t' : Holdings) → Orderly all around → Kept around t all → is_empty (around name) ≡ false
-    → ((n : List ℕ) → holding t' n ≡ (if bytes_eq name n then with_seize (holding t n) else holding t n)) → Seized around all name t t'
+    → ((n : List ℕ) → holding t' n ≡ (if bytes_eq name n then with_seize (holding t n) else holding t n)) → Takes around all (around name) t t'
 seized-noted around all name t t' o k some put = record {
   by = λ n. ap (listed (around n)) (put n) ∙ listed-seize (bytes_eq name n) (around n) (holding t n) ∙ ap (once_behind (held around t n)) (under-seen all around name n (bytes_eq name n) o refl);
   kept = record {
     rated = λ n. rated-seize (bytes_eq name n) (holding t n) (holding t' n) (k.rated n) (put n);
-    seized = λ n. side (bytes_eq name n) n refl;
+    brings = λ n. ap (λ (x : Holding). list_any (λ i. is_empty (brought (around n) i)) x.after) (put n)
+        ∙ after-seize (λ i. is_empty (brought (around n) i)) (bytes_eq name n) (holding t n) (λ e. ap (λ m. is_empty (around m)) (sym ((bytes_eq-Decides name n).0 e)) ∙ some) ∙ k.brings n;
+    seen = λ n. ap (λ (x : Holding). list_any (shares_unseen (around n)) x.after) (put n) ∙ after-seize (shares_unseen (around n)) (bytes_eq name n) (holding t n) (λ e. refl) ∙ k.seen n;
+    starts = λ n. ap (λ (x : Holding). starts_with_number x.after) (put n) ∙ starts-seize (bytes_eq name n) (holding t n) (k.starts n);
   };
-  same = λ n. ap own (put n) ∙ own-seize (bytes_eq name n) (holding t n);
+  same = λ n. ap entered (put n) ∙ entered-seize (bytes_eq name n) (holding t n);
 }
   where
     rated-seize : (v : Bool) (h h' : Holding) → Rated all h.qualities (own h) → h' ≡ (if v then with_seize h else h) → Rated all h'.qualities (own h')
@@ -59,9 +64,33 @@ seized-noted around all name t t' o k some put = record {
         let f : ◌≡◌ {A = Qualities} h'.qualities h.qualities = ap (λ (x : Holding). x.qualities) is ∙ qualities-seize v h in
         rw (e, f) r
 
-    side : (v : Bool) (n : List ℕ) → bytes_eq name n ≡ v → is_seized (holding t' n) ≡ true → is_empty (around n) ≡ false
-    side true n is h = ap (λ m. is_empty (around m)) (sym ((bytes_eq-Decides name n).0 is)) ∙ some
-    side false n is h = k.seized n (sym (ap is_seized (put n ∙ ap (λ w. if w then with_seize (holding t n) else holding t n) is)) ∙ h)
+-- of numbers that are all of one name, all are under it and none under another
+pub under-named : (all : List Definition) (ds name m : List ℕ) (v : Bool) → ((d : ℕ) → is_among d ds ≡ true → bytes_eq (spelling_at all d) name ≡ true) → bytes_eq name m ≡ v → (if v then ds else []) ≡ under all m ds
+under-named all ds name m true h is = sym (filter-all (λ d. bytes_eq (spelling_at all d) m) ds (λ d k. ap (bytes_eq (spelling_at all d)) (sym ((bytes_eq-Decides name m).0 is)) ∙ h d k))
+under-named all ds name m false h is = sym (filter-none (λ d. bytes_eq (spelling_at all d) m) ds (λ d k. ap (λ w. bytes_eq w m) ((bytes_eq-Decides (spelling_at all d) name).0 (h d k)) ∙ is))
+
+none-any : (p : ℕ → Bool) (xs : List ℕ) → ((d : ℕ) → is_among d xs ≡ true → p d ≡ false) → list_any p xs ≡ false
+none-any p [] h = refl
+none-any p (x ∷ xs) h = ap (λ v. v || list_any p xs) (h x (first-among x xs)) ∙ none-any p xs (λ d k. h d (later-among d x xs k))
+
+-- a group of definitions of a name is taken
+pub group-joined : (around : List ℕ → List ℕ) (all : List Definition) (name : List ℕ) (g : Group) (t t' : Holdings) → ((d : ℕ) → is_among d g.numbers ≡ true → bytes_eq (spelling_at all d) name ≡ true) → Rated all g.qualities g.numbers → AreSeen all around g.numbers
+    → Kept around t all → is_empty g.numbers ≡ false → ((n : List ℕ) → holding t' n ≡ (if bytes_eq name n then with_group (holding t n) g else holding t n)) → Takes around all g.numbers t t'
+group-joined around all name g t t' named rated seen k some put = record {
+  by = λ n. ap (listed (around n)) (put n) ∙ listed-group (bytes_eq name n) (around n) (holding t n) g ∙ ap (once_behind (held around t n)) (under-named all g.numbers name n (bytes_eq name n) named refl);
+  kept = record {
+    rated = λ n. rated-group (bytes_eq name n) all (holding t n) (holding t' n) g (k.rated n) rated (put n);
+    brings = λ n. ap (λ (x : Holding). list_any (λ i. is_empty (brought (around n) i)) x.after) (put n)
+        ∙ after-group (λ i. is_empty (brought (around n) i)) (bytes_eq name n) (holding t n) g (λ e. some) ∙ k.brings n;
+    seen = λ n. ap (λ (x : Holding). list_any (shares_unseen (around n)) x.after) (put n)
+        ∙ after-group (shares_unseen (around n)) (bytes_eq name n) (holding t n) g (λ e. all-seen n e) ∙ k.seen n;
+    starts = λ n. ap (λ (x : Holding). starts_with_number x.after) (put n) ∙ starts-group (bytes_eq name n) (holding t n) g (k.starts n);
+  };
+  same = λ n. ap entered (put n) ∙ entered-group (bytes_eq name n) (holding t n) g;
+}
+  where
+    all-seen : (n : List ℕ) → bytes_eq name n ≡ true → list_any (λ d. not (is_among d (around n))) g.numbers ≡ false
+    all-seen n e = none-any (λ d. not (is_among d (around n))) g.numbers (λ d j. ap not (ap (λ m. is_among d (around m)) (sym ((bytes_eq-Decides (spelling_at all d) name).0 (named d j) ∙ (bytes_eq-Decides name n).0 e)) ∙ seen.by d j))
 
 -- something is seen around
 pub some-first : (d : ℕ) (xs : List ℕ) → Some d ≡ slice_get xs 0 → is_empty xs ≡ false

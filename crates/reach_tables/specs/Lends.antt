@@ -1,42 +1,60 @@
 -- What a reach lends to the modulions in it: the elements that go along with what they seize.
-use Rattle.std.specs.Prelude.{◌≡◌, ℕ, true, not, List, [], Some, flat_map}
-use Rattle.std.specs.List.{filter}
+use Rattle.std.specs.Prelude.{◌≡◌, ℕ, true, ◌||◌, List, [], ◌∷◌, Some, ⊤, flat_map, slice_index_or}
+use Rattle.std.specs.Str.{bytes_eq}
 use Rattle.names_model.specs.declared.definition.Definition.{Definition}
 use Rattle.names_model.specs.Definitions.{elements_at, spelling_at, under}
 use Rattle.names_model.specs.Entries.{along, is_among, once_behind}
-use Rattle.reach_tables.specs.Held.{Holdings, had}
+use Rattle.reach_tables.specs.Asking.{Rated}
 use Rattle.reach_tables.specs.Lendings.{Lendings, lending_of}
 use Rattle.reach_tables.specs.Names.{is_named}
+use Rattle.reach_tables.specs.declared.group.Group.{Group}
 use Rattle.reach_tables.specs.declared.lent.Lending.{Lending}
 
 -- the elements that go along with what is seen under a name
 abbrev pub going : List Definition → (List ℕ → List ℕ) → List ℕ → List ℕ
 going all has n = flat_map (along all has) (has n)
 
--- those whose names aren't among some
-abbrev pub rest_of : List Definition → List (List ℕ) → List ℕ → List ℕ
-rest_of all whole ds = filter (λ d. not (is_named whole (spelling_at all d))) ds
+-- under each name both have the same definitions, in the order in which they come first
+pub record SameUnder (all : List Definition) (ds fs : List ℕ) : Type 0 where
+  pub by : (n : List ℕ) → once_behind [] (under all n ds) ≡ once_behind [] (under all n fs)
 
--- each is seen, and its name is among some
-pub record AreWhole (all : List Definition) (has : List ℕ → List ℕ) (whole : List (List ℕ)) (ds : List ℕ) : Type 0 where
-  pub by : (d : ℕ) → is_among d ds ≡ true → (is_named whole (spelling_at all d) ≡ true) × (is_among d (has (spelling_at all d)) ≡ true)
+-- the name of the first of some definitions
+abbrev pub first_name : List Definition → List ℕ → List ℕ
+first_name all ds = spelling_at all (slice_index_or ds 0 0)
 
--- The elements that go along with what is seen under a name: under a whole name they are all that is seen there, and the rest
--- stands one by one. Where it is complete, each element of what is seen goes along, under a whole name.
-pub record IsLending (all : List Definition) (has : List ℕ → List ℕ) (name : List ℕ) (z : Lending) : Type 0 where
-  pub whole : (n : List ℕ) → is_named z.whole n ≡ true → has n ≡ once_behind [] (under all n (going all has name))
-  pub rest : z.rest ≡ rest_of all z.whole (going all has name)
-  pub complete : z.complete ≡ true → AreWhole all has z.whole (flat_map (elements_at all) (has name))
+-- each of some definitions is seen under its own name
+pub record AreSeen (all : List Definition) (has : List ℕ → List ℕ) (ds : List ℕ) : Type 0 where
+  pub by : (d : ℕ) → is_among d ds ≡ true → is_among d (has (spelling_at all d)) ≡ true
+
+-- a group has definitions of one name, and their qualities; all are seen
+pub record IsGroup (all : List Definition) (has : List ℕ → List ℕ) (g : Group) : Type 0 where
+  pub named : (d : ℕ) → is_among d g.numbers ≡ true → bytes_eq (spelling_at all d) (first_name all g.numbers) ≡ true
+  pub rated : Rated all g.qualities g.numbers
+  pub seen : AreSeen all has g.numbers
+
+-- so does each of some groups
+abbrev pub AreGroups : List Definition → (List ℕ → List ℕ) → List Group → Type 0
+AreGroups all has [] = ⊤
+AreGroups all has (g ∷ gs) = IsGroup all has g × AreGroups all has gs
+
+-- all definitions in groups
+abbrev pub in_groups : List Group → List ℕ
+in_groups gs = flat_map (λ g. g.numbers) gs
+
+-- each of some definitions is seen under its own name, or that name is among these
+pub record AreSeenBut (all : List Definition) (has : List ℕ → List ℕ) (hidden : List (List ℕ)) (ds : List ℕ) : Type 0 where
+  pub by : (d : ℕ) → is_among d ds ≡ true → (is_among d (has (spelling_at all d)) || is_named hidden (spelling_at all d)) ≡ true
+
+-- The elements that go along with some definitions, in groups. Each of their elements goes along, or has a hidden name.
+pub record Carries (all : List Definition) (has : List ℕ → List ℕ) (ds : List ℕ) (z : Lending) : Type 0 where
+  pub groups : AreGroups all has z.groups
+  pub same : SameUnder all (in_groups z.groups) (flat_map (along all has) ds)
+  pub hidden : AreSeenBut all has z.hidden (flat_map (elements_at all) ds)
+
+-- those that go along with what is seen under a name
+abbrev pub IsLending : List Definition → (List ℕ → List ℕ) → List ℕ → Lending → Type 0
+IsLending all has n z = Carries all has (has n) z
 
 -- all that is lent
 pub record AreLent (all : List Definition) (has : List ℕ → List ℕ) (l : Lendings) : Type 0 where
   pub by : (n : List ℕ) (z : Lending) → lending_of l n ≡ Some z → IsLending all has n z
-
--- under each of these names a table has what is seen
-pub record AreExact (has : List ℕ → List ℕ) (t : Holdings) (names : List (List ℕ)) : Type 0 where
-  pub by : (n : List ℕ) → is_named names n ≡ true → has n ≡ had t n
-
--- the names are those of others, and under each is seen what is seen around
-pub record AreAlike (has around : List ℕ → List ℕ) (others names : List (List ℕ)) : Type 0 where
-  pub same : (n : List ℕ) → is_named names n ≡ is_named others n
-  pub by : (n : List ℕ) → is_named others n ≡ true → has n ≡ around n

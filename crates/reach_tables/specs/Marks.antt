@@ -5,7 +5,7 @@ use Rattle.std.specs.List.{list_any}
 use Rattle.names_model.specs.declared.definition.Definition.{Definition}
 use Rattle.names_model.specs.Definitions.{spelling_at, under}
 use Rattle.names_model.specs.Entries.{is_among, once_behind}
-use Rattle.reach_tables.specs.Held.{Holdings, held, holding, no_holding, own}
+use Rattle.reach_tables.specs.Held.{Holdings, entered, held, holding, no_holding}
 use Rattle.reach_tables.specs.Names.{is_named}
 use Rattle.reach_tables.specs.Scopes.{Kept}
 use Rattle.reach_tables.specs.Tellings.{is_another_among}
@@ -15,16 +15,16 @@ use Rattle.reach_tables.specs.declared.entered.Entered.{Entered}
 abbrev pub is_marked : List ℕ → ℕ → Bool
 is_marked marks d = list_any (nat_eq d) marks
 
--- those are marked that the table has as its own under their own names, and it has none under another name
+-- those are marked that the table has entered itself under their own names, and it has none under another name
 pub record Marks (marks : List ℕ) (t : Holdings) (all : List Definition) : Type 0 where
-  pub by : (d : ℕ) → is_marked marks d ≡ is_among d (own (holding t (spelling_at all d)))
-  pub own : (n : List ℕ) (d : ℕ) → is_among d (own (holding t n)) ≡ true → bytes_eq (spelling_at all d) n ≡ true
+  pub by : (d : ℕ) → is_marked marks d ≡ is_among d (entered (holding t (spelling_at all d)))
+  pub own : (n : List ℕ) (d : ℕ) → is_among d (entered (holding t n)) ≡ true → bytes_eq (spelling_at all d) n ≡ true
 
--- what is seen around under a name is put into a table, as seized
-pub record Seized (around : List ℕ → List ℕ) (all : List Definition) (name : List ℕ) (t t' : Holdings) : Type 0 where
-  pub by : (n : List ℕ) → held around t' n ≡ once_behind (held around t n) (under all n (around name))
+-- numbers are taken from around into a table, which enters none itself
+pub record Takes (around : List ℕ → List ℕ) (all : List Definition) (ds : List ℕ) (t t' : Holdings) : Type 0 where
+  pub by : (n : List ℕ) → held around t' n ≡ once_behind (held around t n) (under all n ds)
   pub kept : Kept around t' all
-  pub same : (n : List ℕ) → own (holding t' n) ≡ own (holding t n)
+  pub same : (n : List ℕ) → entered (holding t' n) ≡ entered (holding t n)
 
 -- numbers are put into a table, each once under its own name, and marked
 pub record Added (around : List ℕ → List ℕ) (all : List Definition) (ds : List ℕ) (t t' : Holdings) (new : List ℕ) : Type 0 where

@@ -1,6 +1,7 @@
 // What a reach has entered under each name.
 use crate::book::Book;
 use crate::crowded::note_crowded;
+use crate::group::Shared;
 use crate::marked::Marked;
 use crate::names::Names;
 use crate::scope::{Scope, first_shown};
@@ -8,6 +9,9 @@ use crate::table::Table;
 use chill_base::Memory;
 use names_model::Spelling;
 use std::alloc::Global;
+
+/// A group of fewer is entered one by one, so that a name has few groups.
+pub const FEW: usize = 8;
 
 /// The definitions that a reach has by now.
 #[derive(Drop)]
@@ -20,7 +24,8 @@ pub struct Entered {
 }
 
 impl Entered {
-    ghost use Rattle.std.specs.Prelude.{◌≡◌, ◌∷◌, [], flat_map, OnOk};
+    ghost use Rattle.std.specs.Prelude.{◌≡◌, ◌∷◌, [], OnOk};
+    ghost use Rattle.reach_tables.specs.Lends.{AreGroups, IsGroup, in_groups};
     ghost use Rattle.reach_tables.specs.Marks.{Adds, IsFresh, IsTended};
     ghost use Rattle.reach_tables.specs.Scopes.{Sound, shown};
 
@@ -72,7 +77,7 @@ impl Entered {
         Ok(())
     }
 
-    /// Adds what is seen around under a name: that the name is seized is noted, where something is seen.
+    /// Adds what is seen around under a name: that it is taken is noted, where something is seen.
     pub fn add_seized(
         &mut self,
         alloc: Global,
@@ -99,19 +104,51 @@ impl Entered {
         }
     }
 
-    /// Adds what is seen around under some names.
-    pub fn add_all_seized(
+    /// Adds groups of definitions that go along together.
+    pub fn add_groups(
         &mut self,
         alloc: Global,
         book: &Book,
         around: &Scope,
-        names: &Names,
+        groups: &[Shared],
     ) -> Result<(), Memory>
-        ensures { Sound book.now around.now → IsTended (shown book.now around.now) book.now.all.items self.old → OnOk result (Adds (shown book.now around.now) book.now.all.items (flat_map (shown book.now around.now) names.now) self.old self.new) }
+        ensures { Sound book.now around.now → AreGroups book.now.all.items (shown book.now around.now) groups.now → IsTended (shown book.now around.now) book.now.all.items self.old → OnOk result (Adds (shown book.now around.now) book.now.all.items (in_groups groups.now) self.old self.new) }
     {
-        for name in names.as_slice() {
-            self.add_seized(alloc, book, around, name)?;
+        for shared in groups {
+            self.add_group(alloc, book, around, shared)?;
         }
         Ok(())
+    }
+
+    // Adds a group: the few of a small one one by one.
+    fn add_group(
+        &mut self,
+        alloc: Global,
+        book: &Book,
+        around: &Scope,
+        shared: &Shared,
+    ) -> Result<(), Memory>
+        ensures { Sound book.now around.now → IsGroup book.now.all.items (shown book.now around.now) shared.now → IsTended (shown book.now around.now) book.now.all.items self.old → OnOk result (Adds (shown book.now around.now) book.now.all.items shared.now.numbers self.old self.new) }
+    {
+        let numbers = shared.group().numbers.as_slice();
+        if numbers.len() < FEW {
+            return self.add_numbers(alloc, book, around, numbers);
+        }
+        match numbers.first() {
+            Some(first) => {
+                let name = book.spelling(*first as usize);
+                self.table.join(alloc, name, shared.share()?)?;
+                note_crowded(
+                    alloc,
+                    book,
+                    around,
+                    &self.table,
+                    name,
+                    *first,
+                    &mut self.crowded,
+                )
+            }
+            None => Ok(()),
+        }
     }
 }

@@ -1,20 +1,18 @@
 // What a reach lends to the modulions in it.
+use crate::group::Shared;
 use crate::names::Names;
-use chill_base::{Memory, Numbers};
+use chill_base::{List, Memory};
 use indexmap::IndexMap;
 use names_model::Spelling;
 use std::alloc::Global;
 use std::marker::Model;
 
-/// The elements that go along with what a reach sees under a name. Under a whole name they are all that the reach sees there,
-/// so that name alone tells them.
+/// The elements that go along with what a reach sees under a name, in groups.
 #[derive(Drop)]
 pub struct Lending {
-    pub whole: Names,
-    /// Those of other names, one by one.
-    pub rest: Numbers,
-    /// Whether each element of what is seen goes along, under a whole name.
-    pub complete: bool,
+    pub groups: List<Shared>,
+    /// The names of elements that don't all go along.
+    pub hidden: Names,
 }
 
 /// Lendings, each for a name that is seized.

@@ -1,8 +1,8 @@
 //! What a reach keeps under each name, and what is seen by it: `shows_any`, `first_shown` and `find_shown` answer by what
 //! the tables of the reaches around a place show.
 //!
-//! It stands on `names_model`, whose entries the tables hold, and below `reach_entries`, which opens reaches by them, and
-//! `reach_walk`, which asks what a place sees. `specs/Held.antt` says what a table has under a name, and `specs/Scopes.antt`
+//! It stands on `names_model`, whose entries the tables hold, and below `reach_entries`, which opens reaches by them,
+//! `reach_lends`, which makes what they lend, and `reach_walk`, which asks what a place sees. `specs/Held.antt` says what a table has under a name, and `specs/Scopes.antt`
 //! what the tables around a place show, and when this is what a reach sees as `names_model` defines it.
 #![tactic(auto)]
 
@@ -11,6 +11,7 @@ mod asking;
 mod book;
 mod crowded;
 mod entered;
+mod group;
 mod holding;
 mod lent;
 mod marked;
@@ -22,11 +23,12 @@ mod scope;
 mod table;
 
 pub use asked::Asked;
-pub use asking::among;
+pub use asking::{among, among_own, any_meets};
 pub use book::Book;
 pub use crowded::is_another_under;
-pub use entered::Entered;
-pub use holding::Held;
+pub use entered::{Entered, FEW};
+pub use group::{Group, Shared};
+pub use holding::{Held, Item};
 pub use lent::{Lending, Lent};
 pub use marked::Marked;
 pub use names::Names;
@@ -35,5 +37,6 @@ pub use offsets::{
     up_to_greatest,
 };
 pub use places::Places;
+pub use qualities::Qualities;
 pub use scope::{Scope, find_shown, first_shown, lent_by, shows_any};
 pub use table::Table;

@@ -7,8 +7,9 @@ ghost use Rattle.reach_tables.specs.Lendings.{lending_of};
 ghost use Rattle.reach_tables.specs.Scopes.{Sound, lent_in, shown};
 
 use crate::asked::Asked;
-use crate::asking::{among, any_meets, own_meets};
+use crate::asking::{among, among_own, any_meets, own_meets};
 use crate::book::Book;
+use crate::holding::Item;
 use crate::lent::{Lending, Lent};
 use crate::places::Places;
 use crate::table::Table;
@@ -69,11 +70,9 @@ pub fn shows_any(book: &Book, scope: &Scope, name: &Spelling, asked: Asked) -> b
             ..
         } => {
             let held = table.find(name);
-            if held.seized {
-                return own_meets(book, asked, &held) || shows_any(book, outer, name, asked);
-            }
-            if !held.before.is_empty() {
-                return own_meets(book, asked, &held);
+            if !held.is_empty() {
+                return own_meets(book, asked, &held)
+                    || (held.seized && shows_any(book, outer, name, asked));
             }
             if *takes_all {
                 return shows_any(book, outer, name, asked);
@@ -96,13 +95,22 @@ pub fn first_shown(book: &Book, scope: &Scope, name: &Spelling) -> Option<u32>
             ..
         } => {
             let held = table.find(name);
-            if !held.before.is_empty() {
-                return first_of(held.before);
+            if let Some(number) = first_of(held.before) {
+                return Some(number);
             }
-            if held.seized || *takes_all {
-                return first_shown(book, outer, name);
+            match held.after.first() {
+                Some(item) => match item {
+                    Item::Number(number) => Some(*number),
+                    Item::Around => first_shown(book, outer, name),
+                    Item::Along(shared) => first_of(shared.group().numbers.as_slice()),
+                },
+                None => {
+                    if *takes_all {
+                        return first_shown(book, outer, name);
+                    }
+                    first_of(book.predefined.find(name).before)
+                }
             }
-            first_of(book.predefined.find(name).before)
         }
     }
 }
@@ -120,16 +128,13 @@ pub fn find_shown(book: &Book, scope: &Scope, name: &Spelling, number: usize) ->
             ..
         } => {
             let held = table.find(name);
-            if let Some(found) = among(number, held.before) {
-                return Some(found);
-            }
-            if let Some(found) = among(number, held.after) {
+            if let Some(found) = among_own(number, &held) {
                 return Some(found);
             }
             if held.seized {
                 return find_shown(book, outer, name, number);
             }
-            if !held.before.is_empty() {
+            if !held.is_empty() {
                 return None;
             }
             if *takes_all {

@@ -1,4 +1,5 @@
 // What is kept under each name.
+use crate::group::Shared;
 use crate::holding::{Held, Holding};
 use crate::qualities::Qualities;
 use chill_base::Memory;
@@ -24,7 +25,7 @@ impl Model for Table {
 impl Table {
     ghost use Rattle.std.specs.Prelude.{◌≡◌, ℕ, List, length, option_copied, OnOk, if◌then◌else◌};
     ghost use Rattle.std.specs.Str.{bytes_eq};
-    ghost use Rattle.reach_tables.specs.Held.{IsHeld, holding, no_holding, with_number, with_seize};
+    ghost use Rattle.reach_tables.specs.Held.{IsHeld, holding, no_holding, with_group, with_number, with_seize};
     ghost use Rattle.reach_tables.specs.Placed.{crowded_at};
 
     /// The table with no definition. It takes no memory.
@@ -44,8 +45,8 @@ impl Table {
             Some(holding) => holding.lend(),
             None => Held {
                 before: &[],
-                seized: false,
                 after: &[],
+                seized: false,
                 qualities: Qualities::none(),
             },
         }
@@ -58,7 +59,7 @@ impl Table {
         self.map.len()
     }
 
-    /// The name at an index, where it has two definitions or more of the reach's own.
+    /// The name at an index, where two parts or more are kept under it.
     pub fn crowded(&self, index: usize) -> Option<&Spelling>
         ensures { option_copied result ≡ crowded_at self.now index }
     {
@@ -92,17 +93,34 @@ impl Table {
         Ok(())
     }
 
-    /// Notes that a name is seized.
+    /// Takes what is seen around under a name.
     pub fn seize(&mut self, alloc: Global, name: &Spelling) -> Result<(), Memory>
         ensures { OnOk result ((n : List ℕ) → holding self.new n ≡ (if bytes_eq name.now n then with_seize (holding self.old n) else holding self.old n)) }
     {
         match self.map.get_mut(name) {
             Some(holding) => {
-                holding.seize(alloc);
+                holding.seize()?;
             }
             None => {
                 let mut holding = Holding::new(alloc);
-                holding.seize(alloc);
+                holding.seize()?;
+                self.map.insert(name.copy(alloc)?, holding)?;
+            }
+        }
+        Ok(())
+    }
+
+    /// Takes a group of definitions of a name.
+    pub fn join(&mut self, alloc: Global, name: &Spelling, shared: Shared) -> Result<(), Memory>
+        ensures { OnOk result ((n : List ℕ) → holding self.new n ≡ (if bytes_eq name.now n then with_group (holding self.old n) shared else holding self.old n)) }
+    {
+        match self.map.get_mut(name) {
+            Some(holding) => {
+                holding.join(shared)?;
+            }
+            None => {
+                let mut holding = Holding::new(alloc);
+                holding.join(shared)?;
                 self.map.insert(name.copy(alloc)?, holding)?;
             }
         }

@@ -28,7 +28,8 @@ use Rattle.reach_walk.specs.declared.findings.Findings.{Findings}
 use Rattle.reach_tables.specs.declared.scope.Scope.{Scope, Reach'}
 use Rattle.reach_entries.proofs.PartLists.{nodes-at}
 use Rattle.reach_tables.proofs.Appends.{flat_map-append}
-use Rattle.reach_walk.proofs.Listing.{includes-refl, includes-trans, listed-within}
+use Rattle.reach_tables.proofs.Including.{includes-refl, includes-trans}
+use Rattle.reach_walk.proofs.Listing.{listed-within}
 use Rattle.reach_entries.proofs.Members.{same-as, same-behind, same-trans}
 
 regroup : {X : Type 0} (f u v w r : List X) → ((f ++ u) ++ (v ++ w)) ++ r ≡ f ++ ((u ++ v) ++ (w ++ r))

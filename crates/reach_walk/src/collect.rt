@@ -1,7 +1,6 @@
 // The book of a program.
 ghost use Rattle.std.specs.Prelude.{◌≡◌, ◌++◌, [], ◌+◌, ◌<◌, ◌^◌, ℕ, List, length, IfOk, OnOk};
 ghost use Rattle.names_model.specs.Definitions.{numbers_on, text_definitions, under, with_predefined};
-ghost use Rattle.names_model.specs.Entries.{once_behind};
 ghost use Rattle.reach_tables.specs.Books.{Keeps};
 ghost use Rattle.reach_tables.specs.Held.{had};
 ghost use Rattle.reach_tables.specs.Offsets.{Fits, nodes_of};
@@ -10,7 +9,8 @@ use crate::definitions::definitions_in;
 use crate::predefined::{COUNT, push_predefined};
 use chill_base::{Memory, Numbers};
 use names_model::{Inside, Part, Spelling};
-use reach_tables::{Book, Entered, Scope, Table, up_to_greatest};
+use reach_entries::table_of_numbers;
+use reach_tables::{Book, Table, up_to_greatest};
 use std::alloc::Global;
 
 // So many numbers from one on.
@@ -21,15 +21,6 @@ fn push_on(first: u32, count: u32, out: &mut Numbers) -> Result<(), Memory>
         out.push(first.saturating_add(step))?;
     }
     Ok(())
-}
-
-/// The table of definitions, each once under its own name.
-pub fn table_of_numbers(alloc: Global, book: &Book, numbers: &[u32]) -> Result<Table, Memory>
-    ensures { IfOk result (λ t. (n : List ℕ) → had t n ≡ once_behind [] (under book.now.all.items n numbers.now)) }
-{
-    let mut entered = Entered::new(alloc);
-    entered.add_numbers(alloc, book, &Scope::Outside, numbers)?;
-    Ok(entered.table)
 }
 
 // The table of so many definitions from one on.

@@ -55,7 +55,15 @@ pub fn note_here(
     ensures { (text : List Definition) (r : Reach) → Shows book.now scope.now text r → from + size_of (part_tree part.now) < 2 ^ 32 → OnOk result (AddsHere scope.now out.old out.new text r from (part_tree part.now)) }
 {
     tell_here(alloc, book, scope, part, &mut out.told)?;
-    note_groups(alloc, book, scope, from, part, &mut out.groups)?;
+    note_groups(
+        alloc,
+        book,
+        scope,
+        out.lists.as_slice(),
+        from,
+        part,
+        &mut out.groups,
+    )?;
     note_uses(book, scope, part, &mut out.uses)?;
     Ok(())
 }

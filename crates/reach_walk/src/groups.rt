@@ -8,6 +8,7 @@ ghost use Rattle.names_model.specs.Parts.{part_tree};
 ghost use Rattle.names_model.specs.Seeing.{Reach};
 ghost use Rattle.names_model.specs.Sizes.{clause_size, clauses_size, head_size, size_of};
 ghost use Rattle.reach_walk.specs.Listed.{AllListed, Leads, SameNumbers};
+ghost use Rattle.reach_tables.specs.Placed.{Includes};
 ghost use Rattle.reach_tables.specs.Scopes.{Shows};
 
 use crate::targets::push_targets;
@@ -34,14 +35,15 @@ fn numbers_on(alloc: Global, from: u32, names: &[Identifier]) -> Result<Numbers,
 fn push_seen(
     book: &Book,
     scope: &Scope,
+    lists: &[Numbers],
     mention: &Mention,
     out: &mut List<Target>,
 ) -> Result<(), Memory>
-    ensures { (final : List (List ℕ)) (text : List Definition) (r : Reach) → Shows book.now scope.now text r → AllListed final scope.now → OnOk result (Leads final out.old out.new (named_in text r (mention.now ∷ []))) }
+    ensures { (final : List (List ℕ)) (text : List Definition) (r : Reach) → Shows book.now scope.now text r → Includes lists.now final → AllListed final scope.now → OnOk result (Leads final out.old out.new (named_in text r (mention.now ∷ []))) }
 {
     match mention {
-        Mention::Use { name, .. } => push_targets(book, scope, &name.spelling, out),
-        Mention::Argument { name, .. } => push_targets(book, scope, &name.spelling, out),
+        Mention::Use { name, .. } => push_targets(book, scope, lists, &name.spelling, out),
+        Mention::Argument { name, .. } => push_targets(book, scope, lists, &name.spelling, out),
         Mention::Element(_) => Ok(()),
     }
 }
@@ -51,13 +53,14 @@ fn named_in(
     alloc: Global,
     book: &Book,
     scope: &Scope,
+    lists: &[Numbers],
     text: &[Mention],
 ) -> Result<List<Target>, Memory>
-    ensures { (final : List (List ℕ)) (whole : List Definition) (r : Reach) → Shows book.now scope.now whole r → AllListed final scope.now → IfOk result (λ targets. SameNumbers (flat_map (target_nodes final) targets) (named_in whole r text.now)) }
+    ensures { (final : List (List ℕ)) (whole : List Definition) (r : Reach) → Shows book.now scope.now whole r → Includes lists.now final → AllListed final scope.now → IfOk result (λ targets. SameNumbers (flat_map (target_nodes final) targets) (named_in whole r text.now)) }
 {
     let mut targets = List::new(alloc);
     for mention in text {
-        push_seen(book, scope, mention, &mut targets)?;
+        push_seen(book, scope, lists, mention, &mut targets)?;
     }
     Ok(targets)
 }
@@ -67,14 +70,15 @@ fn note_clause(
     alloc: Global,
     book: &Book,
     scope: &Scope,
+    lists: &[Numbers],
     from: u32,
     clause: &Clause,
     out: &mut Vec<TargetGroup>,
 ) -> Result<(), Memory>
-    ensures { (final : List (List ℕ)) (text : List Definition) (r : Reach) → Shows book.now scope.now text r → AllListed final scope.now → from + clause_size clause.now < 2 ^ 32 → OnOk result (SameEdges (groups_with final out.new.items) (groups_with final out.old.items ++ clause_group text r from clause.now ∷ [])) }
+    ensures { (final : List (List ℕ)) (text : List Definition) (r : Reach) → Shows book.now scope.now text r → Includes lists.now final → AllListed final scope.now → from + clause_size clause.now < 2 ^ 32 → OnOk result (SameEdges (groups_with final out.new.items) (groups_with final out.old.items ++ clause_group text r from clause.now ∷ [])) }
 {
     let defined = numbers_on(alloc, from, clause.names.as_slice())?;
-    let named = named_in(alloc, book, scope, clause.text.as_slice())?;
+    let named = named_in(alloc, book, scope, lists, clause.text.as_slice())?;
     out.push(TargetGroup {
         from: defined,
         to: named,
@@ -87,15 +91,16 @@ fn note_params(
     alloc: Global,
     book: &Book,
     scope: &Scope,
+    lists: &[Numbers],
     from: u32,
     params: &[Clause],
     out: &mut Vec<TargetGroup>,
 ) -> Result<(), Memory>
-    ensures { (final : List (List ℕ)) (text : List Definition) (r : Reach) → Shows book.now scope.now text r → AllListed final scope.now → from + clauses_size params.now < 2 ^ 32 → OnOk result (SameEdges (groups_with final out.new.items) (groups_with final out.old.items ++ param_groups text r from params.now)) }
+    ensures { (final : List (List ℕ)) (text : List Definition) (r : Reach) → Shows book.now scope.now text r → Includes lists.now final → AllListed final scope.now → from + clauses_size params.now < 2 ^ 32 → OnOk result (SameEdges (groups_with final out.new.items) (groups_with final out.old.items ++ param_groups text r from params.now)) }
 {
     let mut next = from;
     for clause in params {
-        note_clause(alloc, book, scope, next, clause, out)?;
+        note_clause(alloc, book, scope, lists, next, clause, out)?;
         next = next.saturating_add(clause_size(clause));
     }
     Ok(())
@@ -106,21 +111,30 @@ fn note_routine(
     alloc: Global,
     book: &Book,
     scope: &Scope,
+    lists: &[Numbers],
     from: u32,
     params: &[Clause],
     returned: &[Mention],
     out: &mut Vec<TargetGroup>,
 ) -> Result<(), Memory>
-    ensures { (final : List (List ℕ)) (text : List Definition) (r : Reach) → Shows book.now scope.now text r → AllListed final scope.now → from + head_size params.now returned.now < 2 ^ 32 → OnOk result (SameEdges (groups_with final out.new.items) (groups_with final out.old.items ++ group (from ∷ []) (named_in text r returned.now) ∷ param_groups text r (suc from) params.now)) }
+    ensures { (final : List (List ℕ)) (text : List Definition) (r : Reach) → Shows book.now scope.now text r → Includes lists.now final → AllListed final scope.now → from + head_size params.now returned.now < 2 ^ 32 → OnOk result (SameEdges (groups_with final out.new.items) (groups_with final out.old.items ++ group (from ∷ []) (named_in text r returned.now) ∷ param_groups text r (suc from) params.now)) }
 {
     let mut defined = Numbers::new(alloc);
     defined.push(from)?;
-    let named = named_in(alloc, book, scope, returned)?;
+    let named = named_in(alloc, book, scope, lists, returned)?;
     out.push(TargetGroup {
         from: defined,
         to: named,
     })?;
-    note_params(alloc, book, scope, from.saturating_add(1), params, out)?;
+    note_params(
+        alloc,
+        book,
+        scope,
+        lists,
+        from.saturating_add(1),
+        params,
+        out,
+    )?;
     Ok(())
 }
 
@@ -130,14 +144,15 @@ pub fn note_groups(
     alloc: Global,
     book: &Book,
     scope: &Scope,
+    lists: &[Numbers],
     from: u32,
     part: &Part,
     out: &mut Vec<TargetGroup>,
 ) -> Result<(), Memory>
-    ensures { (final : List (List ℕ)) (text : List Definition) (r : Reach) → Shows book.now scope.now text r → AllListed final scope.now → from + size_of (part_tree part.now) < 2 ^ 32 → OnOk result (SameEdges (groups_with final out.new.items) (groups_with final out.old.items ++ groups_of text r from (part_tree part.now))) }
+    ensures { (final : List (List ℕ)) (text : List Definition) (r : Reach) → Shows book.now scope.now text r → Includes lists.now final → AllListed final scope.now → from + size_of (part_tree part.now) < 2 ^ 32 → OnOk result (SameEdges (groups_with final out.new.items) (groups_with final out.old.items ++ groups_of text r from (part_tree part.now))) }
 {
     match part {
-        Part::Define(clause) => note_clause(alloc, book, scope, from, clause, out),
+        Part::Define(clause) => note_clause(alloc, book, scope, lists, from, clause, out),
         Part::Routine {
             params,
             result: returned,
@@ -146,6 +161,7 @@ pub fn note_groups(
             alloc,
             book,
             scope,
+            lists,
             from,
             params.as_slice(),
             returned.as_slice(),

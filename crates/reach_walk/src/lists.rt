@@ -1,14 +1,27 @@
 // Lists of the definitions that a reach enters itself, to which many uses point.
-ghost use Rattle.std.specs.Prelude.{IfOk, OnOk};
+ghost use Rattle.std.specs.Prelude.{◌≡◌, ◌++◌, IfOk, OnOk, flat_map};
+ghost use Rattle.reach_tables.specs.Held.{number_in};
 ghost use Rattle.reach_tables.specs.Placed.{Includes, Listed};
 
 use chill_base::{Memory, Numbers};
 use names_model::Spelling;
 use reach_entries::push_all;
-use reach_tables::{Held, Places, Table};
+use reach_tables::{Held, Item, Places, Table};
 use std::alloc::Global;
 
-// Puts what a table has of its own under a name behind other lists, and notes where it stands. Past the `u32` numbers there
+// Puts the definitions among items behind others.
+fn push_entered(items: &[Item], out: &mut Numbers) -> Result<(), Memory>
+    ensures { OnOk result (out.new ≡ out.old ++ flat_map number_in items.now) }
+{
+    for item in items {
+        if let Item::Number(number) = item {
+            out.push(*number)?;
+        }
+    }
+    Ok(())
+}
+
+// Puts what a table has entered itself under a name behind other lists, and notes where it stands. Past the `u32` numbers there
 // is no place for it, and uses name the definitions one by one.
 fn put_list(
     alloc: Global,
@@ -26,24 +39,32 @@ fn put_list(
     let held = table.find(name);
     let mut numbers = Numbers::new(alloc);
     push_all(held.before, &mut numbers)?;
-    push_all(held.after, &mut numbers)?;
+    push_entered(held.after, &mut numbers)?;
     lists.push(numbers)?;
     places.put(alloc, name, place)?;
     Ok(())
 }
 
-// Whether what a table has of its own under a name begins with a definition that stands in the reach. Elements that came along
-// with a mode stand elsewhere, and where they are entered one by one, each reach that seizes their modes would list them.
+// Whether what a table has entered itself under a name begins with a definition that stands in the reach. Elements that came
+// along with a mode stand elsewhere, and where they are entered one by one, each reach that seizes their modes would list them.
 fn begins_inside(held: &Held, first: u32, behind: u32) -> bool {
-    let own = if held.before.is_empty() {
-        held.after
-    } else {
-        held.before
-    };
-    match own.first() {
-        Some(number) => first <= *number && *number < behind,
-        None => true,
+    match first_entered(held) {
+        Some(number) => first <= number && number < behind,
+        None => false,
     }
+}
+
+// The first definition that a table has entered itself under a name.
+fn first_entered(held: &Held) -> Option<u32> {
+    if let Some(number) = held.before.first() {
+        return Some(*number);
+    }
+    for item in held.after {
+        if let Item::Number(number) = item {
+            return Some(*number);
+        }
+    }
+    None
 }
 
 // Puts the list of a name, unless it begins with a definition from elsewhere.
@@ -65,8 +86,8 @@ fn put_inside(
     put_list(alloc, table, name, lists, places)
 }
 
-/// Puts a list of each name of which a table has two definitions or more of its own behind others, and tells where it
-/// stands. A name of one definition needs none, so that a program without N1 keeps no list. The definitions in the reach have
+/// Puts a list of each name under which a table keeps two parts or more behind others, and tells where it stands. A name of
+/// one definition needs none, so that a program without N1 keeps no list. The definitions in the reach have
 /// the numbers from `first` on and below `behind`.
 pub fn list_own(
     alloc: Global,

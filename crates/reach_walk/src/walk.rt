@@ -16,7 +16,6 @@ ghost use Rattle.reach_tables.specs.Scopes.{Opened, Shows, Sound, shown};
 ghost use Rattle.reach_tables.specs.declared.scope.Scope.{Outside};
 
 use crate::findings::{Findings, note_here};
-use crate::lends::lend_in;
 use crate::lists::list_own;
 use chill_base::{Diagnostic, List, Memory};
 use names_model::{Clause, Part};
@@ -24,6 +23,7 @@ use reach_entries::{
     Given, Opening, Place, enter_params, enter_parts, enter_places, givens_of, lent_inner,
     seizes_all, split_given,
 };
+use reach_lends::lend_in;
 use reach_tables::{Book, Lent, Scope, Table, head_size, size_of, sizes_of};
 use std::alloc::Global;
 
@@ -171,7 +171,7 @@ fn walk_modulion<'a>(
         places,
         lent: Lent::new(alloc),
     };
-    lend_in(alloc, book, &mut inner, parts)?;
+    lend_in(alloc, book, &mut inner, parts, &mut out.lists)?;
     walk(alloc, &*book, &inner, from, parts, given, out)?;
     Ok(())
 }
@@ -234,7 +234,7 @@ pub fn find_in_program(
         places,
         lent: Lent::new(alloc),
     };
-    lend_in(alloc, book, &mut inner, parts)?;
+    lend_in(alloc, book, &mut inner, parts, &mut out.lists)?;
     walk(alloc, book, &inner, 0, parts, given, out)?;
     Ok(())
 }

@@ -98,24 +98,47 @@ fn mode_taker(alloc: Global, line: u32) -> Result<Part, Memory> {
     modulion(alloc, line, "taker", 1, parts)
 }
 
+// So many modes m with an element e each, and two takers behind them.
+fn takers_of(alloc: Global, modes: u32) -> Result<Findings, Memory> {
+    let mut parts = List::new(alloc);
+    for line in 0..modes {
+        parts.push(mode_with_element(alloc, line)?)?;
+    }
+    parts.push(mode_taker(alloc, modes)?)?;
+    parts.push(mode_taker(alloc, modes.saturating_add(1))?)?;
+    found(alloc, &parts)
+}
+
 // The definitions are m, 0, with e, 1; m, 2, with e, 3; and two takers, 4 and 6, with s, 5 and 7.
 #[test]
-fn elements_that_come_along_are_listed_once(rt: HostRuntime) -> Result<(), Fail> {
-    let alloc = rt.alloc();
-    let mut parts = List::new(alloc);
-    parts.push(mode_with_element(alloc, 1)?)?;
-    parts.push(mode_with_element(alloc, 2)?)?;
-    parts.push(mode_taker(alloc, 3)?)?;
-    parts.push(mode_taker(alloc, 4)?)?;
-    let found = found(alloc, &parts)?;
+fn few_elements_that_come_along_are_named_one_by_one(rt: HostRuntime) -> Result<(), Fail> {
+    let found = takers_of(rt.alloc(), 2)?;
+    let both = [Target::Node(1), Target::Node(3)];
     assert_eq!(rt; found.lists.len(), 3);
     assert!(rt; found.lists[0].as_slice() == [0, 2].as_slice());
     assert!(rt; found.lists[1].as_slice() == [1, 3].as_slice());
     assert!(rt; found.lists[2].as_slice() == [4, 6].as_slice());
     assert_eq!(rt; found.groups.len(), 4);
     assert!(rt; found.groups[2].from.as_slice() == [5].as_slice());
-    assert!(rt; found.groups[2].to.as_slice() == [Target::Listed(1)].as_slice());
+    assert!(rt; found.groups[2].to.as_slice() == both.as_slice());
     assert!(rt; found.groups[3].from.as_slice() == [7].as_slice());
-    assert!(rt; found.groups[3].to.as_slice() == [Target::Listed(1)].as_slice());
+    assert!(rt; found.groups[3].to.as_slice() == both.as_slice());
+    Ok(())
+}
+
+// The definitions are eight m with an e each, from 0 to 15; and two takers, 16 and 18, with s, 17 and 19.
+#[test]
+fn elements_that_come_along_are_listed_once(rt: HostRuntime) -> Result<(), Fail> {
+    let found = takers_of(rt.alloc(), 8)?;
+    let elements = [1, 3, 5, 7, 9, 11, 13, 15];
+    assert_eq!(rt; found.lists.len(), 4);
+    assert!(rt; found.lists[1].as_slice() == elements.as_slice());
+    assert!(rt; found.lists[2].as_slice() == [16, 18].as_slice());
+    assert!(rt; found.lists[3].as_slice() == elements.as_slice());
+    assert_eq!(rt; found.groups.len(), 10);
+    assert!(rt; found.groups[8].from.as_slice() == [17].as_slice());
+    assert!(rt; found.groups[8].to.as_slice() == [Target::Listed(3)].as_slice());
+    assert!(rt; found.groups[9].from.as_slice() == [19].as_slice());
+    assert!(rt; found.groups[9].to.as_slice() == [Target::Listed(3)].as_slice());
     Ok(())
 }

@@ -19,7 +19,7 @@ use Rattle.reach_tables.specs.declared.scope.Scope.{Outside}
 use Rattle.reach_tables.specs.Books.{Keeps}
 use Rattle.reach_tables.specs.Offsets.{Fits}
 use Rattle.reach_walk.specs.Findings.{AddsReach}
-use Rattle.reach_walk.proofs.Listing.{includes-refl}
+use Rattle.reach_tables.proofs.Including.{includes-refl}
 use Rattle.visibility.specs.Found.{IsFound}
 
 -- what the calls promise of parts

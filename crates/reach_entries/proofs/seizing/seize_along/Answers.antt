@@ -10,9 +10,7 @@ returns c = λ es o.
     let b = c.args.book.now in
     let s = c.args.around.now in
     let at = c.args.name.now.at in
-    let has = shown b s in
     let seen = shown b s c.args.name.now.spelling in
     let those = flat_map (along b.all.items (shown b s)) seen in
     let elements : c.as_slice.result.now ≡ those = c.as_slice.ensures ∙ c.in_ok-push_elements.ensures o.sound ∙ ap (λ r. r ++ those) c.new-elements.ensures in
-    let none : c.as_slice.result.now ++ flat_map has c.new-whole.result ≡ those = ap (λ ns. c.as_slice.result.now ++ flat_map has ns) c.new-whole.ensures ∙ append-nil c.as_slice.result.now ∙ elements in
-    subst (λ ds. OnOk c.seize.result (Opens b s c.seize.new.self (es ++ entry at (seen ++ ds) ∷ []))) none (c.seize.ensures es o)
+    subst (λ ds. OnOk c.seize.result (Opens b s c.seize.new.self (es ++ entry at (seen ++ ds) ∷ []))) (append-nil c.as_slice.result.now ∙ elements) (c.seize.ensures es tt o)

@@ -1,14 +1,13 @@
-use Rattle.std.proofs.Common.{◌++◌, ◌∷◌, [], subst}
-use Rattle.std.specs.Prelude.{OnOk, flat_map}
+use Rattle.std.proofs.Common.{◌++◌, ◌∷◌, [], subst, sym}
+use Rattle.std.specs.Prelude.{OnOk}
 use Rattle.names_model.specs.Entries.{entry}
-use Rattle.reach_tables.specs.Lends.{going}
+use Rattle.reach_tables.specs.Lends.{AreGroups, going, in_groups}
 use Rattle.reach_entries.specs.Opens.{Opens}
 use Rattle.reach_tables.specs.Scopes.{shown}
 use Rattle.reach_entries.proofs.Exchanging.{opens-same}
 use Rattle.reach_entries.proofs.Going.{lent-same}
 use Rattle.reach_tables.proofs.Reaching.{lent-sound}
 use Rattle.reach_tables.proofs.Succeeding.{on-ok}
-use Rattle.reach_tables.proofs.Taking.{orderly}
 use Rattle.reach_entries.proofs.seizing.seize_with.Goals as goal
 
 pub returns-in-Some : goal.returns-in-Some
@@ -19,6 +18,7 @@ returns-in-Some c = λ es o.
     let has = shown b s in
     let seen = shown b s name in
     let z = c.in-Some.lending.now in
-    on-ok c.seize.result (opens-same b s c.seize.new.self es c.args.name.now.at (seen ++ (z.rest ++ flat_map has z.whole)) (seen ++ going b.all.items has name)
-    (lent-same b.all.items has name z seen (orderly b s o.sound) (lent-sound b s name z o.sound c.in-Some.ensures)))
-    (subst (λ ds. OnOk c.seize.result (Opens b s c.seize.new.self (es ++ entry c.args.name.now.at (seen ++ (ds ++ flat_map has z.whole)) ∷ []))) c.as_slice.ensures (c.seize.ensures es o))
+    let lent = lent-sound b s name z o.sound c.in-Some.ensures in
+    on-ok c.seize.result (opens-same b s c.seize.new.self es c.args.name.now.at (seen ++ in_groups z.groups) (seen ++ going b.all.items has name) (lent-same b.all.items has name z seen lent))
+    (subst (λ gs. OnOk c.seize.result (Opens b s c.seize.new.self (es ++ entry c.args.name.now.at (seen ++ in_groups gs) ∷ []))) c.as_slice.ensures
+    (c.seize.ensures es (subst (AreGroups b.all.items has) (sym c.as_slice.ensures) lent.groups) o))

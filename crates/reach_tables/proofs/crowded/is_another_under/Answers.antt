@@ -21,3 +21,11 @@ returns-then-held c = λ sound k.
     let q = λ (e : ℕ). not (e == c.args.number) in
     let own = c.own_meets.ensures h c.find-held.ensures (k.rated c.args.name.now) in
     c.shows_any.ensures sound ∙ ap (λ v. v && list_any q seen) (sym c.if-held.true ∙ c.find-held.ensures.seized) ∙ ap (λ v. v || (is_seized h && list_any q seen)) (sym c.if-own_meets.false ∙ own) ∙ sym (any-listed q seen h)
+
+pub returns-else-held : goal.returns-else-held
+returns-else-held c = λ sound k.
+    let h = holding c.args.table.now c.args.name.now in
+    let seen = shown c.args.book.now c.args.around.now c.args.name.now in
+    let q = λ (e : ℕ). not (e == c.args.number) in
+    let own = c.own_meets.ensures h c.find-held.ensures (k.rated c.args.name.now) in
+    c.if-held.false ∙ ap (λ v. v && list_any q seen) (sym c.if-held.false ∙ c.find-held.ensures.seized) ∙ ap (λ v. v || (is_seized h && list_any q seen)) (sym c.if-own_meets.false ∙ own) ∙ sym (any-listed q seen h)

@@ -1,28 +1,66 @@
-use Rattle.std.proofs.Common.{◌≡◌, ◌∙◌, true, false, ap, if◌then◌else◌, sym, subst}
+use Rattle.std.proofs.Common.{◌≡◌, ◌∙◌, ℕ, Bool, List, Option, Some, None, ap, refl, sym, subst}
 use Rattle.std.specs.Prelude.{slice_get}
-use Rattle.names_model.specs.Seeing.{is_empty}
-use Rattle.reach_tables.specs.Held.{had}
-use Rattle.reach_tables.specs.Scopes.{Sound, shown}
-use Rattle.reach_tables.proofs.Reaching.{empty-by, first-own, first-seized, shown-none}
+use Rattle.reach_tables.specs.Held.{brought, holding}
+use Rattle.reach_tables.specs.Scopes.{Kept, Sound, shown}
+use Rattle.reach_tables.specs.declared.book.Book.{Book}
+use Rattle.reach_tables.specs.declared.group.Group.{Group}
+use Rattle.reach_tables.specs.declared.holding.Item.{Item}
+use Rattle.reach_tables.specs.declared.scope.Scope.{Scope}
+use Rattle.reach_tables.specs.Held.{Holdings}
+use Rattle.reach_tables.proofs.Reaching.{before-some, first-before, first-item, item-some, shown-some, shown_by}
 use Rattle.reach_tables.proofs.scope.+first_shown.Goals as goal
-use Rattle.reach_tables.proofs.scope.+first_shown.Goals.{then-held-via-then-held, then-held-via-else-held+then-takes_all}
 
-pub returns-then-not-is_empty : goal.returns-then-not-is_empty
-returns-then-not-is_empty t c =
-    let b = c.args.book.now in
-    let n = c.args.name.now in
-    let some : is_empty (had c.in-Reach.table n) ≡ false = ap is_empty (sym c.find-held.ensures.before) ∙ empty-by c.find-held.result.before.now c.is_empty.result c.is_empty.ensures ∙ c.if-not-is_empty.true in
-    subst (λ s. Sound b s → c.first_of.result ≡ slice_get (shown b s n) 0) (sym c.in-Reach.is)
-    (λ sound. c.first_of.ensures ∙ ap (λ xs. slice_get xs 0) c.find-held.ensures.before ∙ sym (first-own b c.in-Reach.table c.in-Reach.takes_all c.in-Reach.outer.now n sound.0 some))
+-- nothing was found
+none-of : (r : Option ℕ) → ((x : ℕ) → r ≡ Some x → ⊥) → None ≡ r
+none-of None h = refl
+none-of (Some x) h = absurd (h x refl)
 
-pub returns-then-held : goal.returns-then-held
-returns-then-held t c =
+-- the first of what the first item brings
+by-item : (b : Book) (t : Holdings) (takes : Bool) (o : Scope) (n : List ℕ) (i : Item) → Kept (shown b o) t b.all.items → ◌≡◌ {A = Option ℕ} None (slice_get (holding t n).before 0) → Some i ≡ slice_get (holding t n).after 0
+    → slice_get (shown_by b t takes o n) 0 ≡ slice_get (brought (shown b o n) i) 0
+by-item b t takes o n i k none item = ap (λ xs. slice_get xs 0) (shown-some b t takes o n k (item-some (holding t n) i item)) ∙ first-item (shown b o n) (holding t n) i none item (k.brings n)
+
+pub returns-in-Some : goal.returns-in-Some
+returns-in-Some t c =
     let b = c.args.book.now in
     let n = c.args.name.now in
     let m = c.in-Reach in
-    let none : is_empty (had m.table n) ≡ true = ap is_empty (sym c.find-held.ensures.before) ∙ empty-by c.find-held.result.before.now c.is_empty.result c.is_empty.ensures ∙ c.if-not-is_empty.false in
+    let h = holding m.table n in
+    let d = c.in-Some.number in
+    let first : Some d ≡ slice_get h.before 0 = c.in-Some.ensures ∙ ap (λ xs. slice_get xs 0) c.find-held.ensures.before in
+    subst (λ s. Sound b s → Some d ≡ slice_get (shown b s n) 0) (sym m.is)
+    (λ sound. sym (ap (λ xs. slice_get xs 0) (shown-some b m.table m.takes_all m.outer.now n sound.0 (before-some h d first)) ∙ first-before (shown b m.outer.now n) h d first))
+
+pub returns-in-Number : goal.returns-in-Number
+returns-in-Number t c =
+    let b = c.args.book.now in
+    let n = c.args.name.now in
+    let m = c.in-Reach in
+    let i = c.in-Some-first.item.now in
+    let none = none-of c.first_of.result c.in_default.not-Some ∙ c.first_of.ensures ∙ ap (λ xs. slice_get xs 0) c.find-held.ensures.before in
+    let item : Some i ≡ slice_get (holding m.table n).after 0 = c.in-Some-first.ensures.value ∙ ap (λ xs. slice_get xs 0) c.find-held.ensures.after in
+    subst (λ s. Sound b s → Some c.in-Number.number ≡ slice_get (shown b s n) 0) (sym m.is)
+    (λ sound. sym (by-item b m.table m.takes_all m.outer.now n i sound.0 none item ∙ ap (λ y. slice_get (brought (shown b m.outer.now n) y) 0) c.in-Number.is))
+
+pub returns-in-Around : goal.returns-in-Around
+returns-in-Around t c =
+    let b = c.args.book.now in
+    let n = c.args.name.now in
+    let m = c.in-Reach in
+    let i = c.in-Some-first.item.now in
+    let none = none-of c.first_of.result c.in_default.not-Some ∙ c.first_of.ensures ∙ ap (λ xs. slice_get xs 0) c.find-held.ensures.before in
+    let item : Some i ≡ slice_get (holding m.table n).after 0 = c.in-Some-first.ensures.value ∙ ap (λ xs. slice_get xs 0) c.find-held.ensures.after in
     subst (λ s. Sound b s → c.first_shown.result ≡ slice_get (shown b s n) 0) (sym m.is)
-    (λ sound. elim c.then-held.branch [
-      | then-held-via-then-held w ↦ c.first_shown.ensures sound.2 ∙ sym (first-seized b m.table m.takes_all m.outer.now n sound.0 none (sym c.find-held.ensures.seized ∙ w.if-held.true))
-      | then-held-via-else-held+then-takes_all w ↦ c.first_shown.ensures sound.2 ∙ sym (ap (λ xs. slice_get xs 0) (shown-none b m.table m.takes_all m.outer.now n (sym c.find-held.ensures.seized ∙ w.if-held.false) none ∙ ap (λ v. if v then shown b m.outer.now n else had b.predefined n) w.if-takes_all.true))
-    ])
+    (λ sound. c.first_shown.ensures sound.2 ∙ sym (by-item b m.table m.takes_all m.outer.now n i sound.0 none item ∙ ap (λ y. slice_get (brought (shown b m.outer.now n) y) 0) c.in-Around.is))
+
+pub returns-in-Along : goal.returns-in-Along
+returns-in-Along t c =
+    let b = c.args.book.now in
+    let n = c.args.name.now in
+    let m = c.in-Reach in
+    let i = c.in-Some-first.item.now in
+    let none = none-of c.first_of.result c.in_default.not-Some ∙ c.first_of.ensures ∙ ap (λ xs. slice_get xs 0) c.find-held.ensures.before in
+    let item : Some i ≡ slice_get (holding m.table n).after 0 = c.in-Some-first.ensures.value ∙ ap (λ xs. slice_get xs 0) c.find-held.ensures.after in
+    let group = ap (λ xs. slice_get xs 0) (c.as_slice.ensures ∙ ap (λ (g : Group). g.numbers) c.group.ensures) in
+    subst (λ s. Sound b s → c.first_of-in-Along.result ≡ slice_get (shown b s n) 0) (sym m.is)
+    (λ sound. c.first_of-in-Along.ensures ∙ group ∙ sym (by-item b m.table m.takes_all m.outer.now n i sound.0 none item ∙ ap (λ y. slice_get (brought (shown b m.outer.now n) y) 0) c.in-Along.is))

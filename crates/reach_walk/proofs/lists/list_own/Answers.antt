@@ -1,7 +1,7 @@
 use Rattle.std.proofs.Common.{List, ℕ, sym, subst}
 use Rattle.std.specs.Global.{Vec}
 use Rattle.reach_tables.specs.Placed.{Includes, Listed, Placed}
-use Rattle.reach_walk.proofs.Listing.{includes-trans}
+use Rattle.reach_tables.proofs.Including.{includes-trans}
 use Rattle.reach_walk.proofs.lists.list_own.Goals as goal
 use Rattle.reach_walk.proofs.lists.list_own.Goals.{in-Some+in_ok-put_inside, in_default}
 

@@ -12,7 +12,8 @@ use Rattle.reach_walk.specs.Findings.{AddsInside, AddsReach, uses_at}
 use Rattle.reach_entries.specs.Givens.{given_trees, givens, inner_lent}
 use Rattle.reach_tables.specs.Offsets.{Fits, nodes_of}
 use Rattle.reach_entries.specs.Places.{singles}
-use Rattle.reach_walk.proofs.Listing.{includes-trans}
+use Rattle.reach_tables.proofs.Including.{includes-trans}
+use Rattle.reach_walk.proofs.Listing.{listed-within}
 use Rattle.reach_entries.proofs.Lending.{given-at, givens-back}
 use Rattle.reach_entries.proofs.PartLists.{nodes-at}
 use Rattle.reach_walk.proofs.Showing.{shows-block, shows-lends, shows-modulion, twice-modulion, twice-block}
@@ -47,8 +48,9 @@ pub walk_modulion-returns : goal.walk_modulion-returns
 walk_modulion-returns t c = λ text r s. subst (λ z. Fits c.args.from (nodes_of z) → given_trees c.args.given.now ≡ givens c.args.book.now.all.items c.args.from (nodes_of z) → AddsReach c.args.scope.now c.args.out.now c.walk.new.out text (in_modulion r c.args.from (nodes_of z)) c.args.from (nodes_of z)) c.as_slice-parts.ensures
     (λ h g. let ps = nodes_of c.as_slice-parts.result.now in
     let shows = shows-modulion c.args.book.now c.args.scope.now _ _ _ _ _ text r _ c.args.from ps c.new.ensures s refl (c.in_ok-table.ensures.table s.sound h g) c.seizes_all.ensures in
-    let lends = c.in_ok-lend_in.ensures shows.sound in
-    found-reach text (in_modulion r c.args.from ps) c.args.from ps _ _ _ c.args.scope.now _ lends.lent _ c.args.out.now _ _ _ (c.in_ok-table.ensures.told s.sound h g) (twice-modulion c.args.book.now c.args.scope.now text r _ c.args.from ps s refl) c.in_ok-places.ensures.kept c.in_ok-places.ensures.listed refl refl lends.is
+    let lends = c.in_ok-lend_in.ensures.lends shows.sound in
+    let lists = c.in_ok-lend_in.ensures.lists in
+    found-reach text (in_modulion r c.args.from ps) c.args.from ps _ _ _ c.args.scope.now _ lends.lent _ c.args.out.now _ _ _ (c.in_ok-table.ensures.told s.sound h g) (twice-modulion c.args.book.now c.args.scope.now text r _ c.args.from ps s refl) (includes-trans _ _ _ c.in_ok-places.ensures.kept lists) (listed-within _ _ _ _ lists c.in_ok-places.ensures.listed) refl refl lends.is
     (c.in_ok-walk.ensures text (in_modulion r c.args.from ps) (shows-lends c.args.book.now _ _ text (in_modulion r c.args.from ps) shows lends) h g))
 
 pub walk_block-returns : goal.walk_block-returns
