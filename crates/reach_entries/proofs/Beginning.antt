@@ -12,7 +12,8 @@ use Rattle.reach_tables.specs.Asking.{Rated, fits_any, no_qualities}
 use Rattle.reach_tables.specs.Held.{Holdings, brought, entered, had, held, holding, listed, no_holding, shares_unseen, starts_with_number}
 use Rattle.reach_tables.specs.declared.holding.Item.{Item}
 use Rattle.reach_tables.specs.declared.holding.Item.TheVariants.{Number, Around, Along}
-use Rattle.reach_tables.specs.Marks.{IsFresh, IsTended, Marks, has_two, is_marked}
+use Rattle.reach_tables.specs.Marked.{is_marked}
+use Rattle.reach_tables.specs.Marks.{IsFresh, IsTended, Marks, has_two}
 use Rattle.reach_tables.specs.Names.{is_named, list_under}
 use Rattle.reach_entries.specs.Opens.{Opens}
 use Rattle.reach_tables.specs.Scopes.{Kept, Sound, shown}

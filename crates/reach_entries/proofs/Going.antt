@@ -12,7 +12,7 @@ use Rattle.names_model.specs.Definitions.{elements_at, spelling_at, under}
 use Rattle.names_model.specs.Entries.{along, is_among, once_behind}
 use Rattle.reach_tables.specs.Lendings.{Lendings, lending_of}
 use Rattle.reach_tables.specs.Lends.{AreLent, AreSeen, IsLending, SameUnder, going, in_groups}
-use Rattle.reach_tables.specs.declared.lent.Lending.{Lending}
+use Rattle.reach_tables.specs.declared.group.Group.{Group}
 use Rattle.reach_entries.proofs.Exchanging.{behind-same}
 use Rattle.reach_tables.proofs.Filters.{filter-append}
 use Rattle.reach_tables.proofs.Once.{once-append}
@@ -31,24 +31,11 @@ bytes-sym n m false h = side (bytes_eq m n) refl
 
 -- ---- what is lent for each name
 
-pub lent-none : (all : List Definition) (has : List ℕ → List ℕ) (l : Lendings) → ((n : List ℕ) → lending_of l n ≡ None) → AreLent all has l
-lent-none all has l none = record { by = λ n z k. absurd (none-some z (sym (none n) ∙ k)) }
+pub lent-none : (all : List Definition) (has : List ℕ → List ℕ) (knows : ℕ → Bool) (l : Lendings) → ((n : List ℕ) → lending_of l n ≡ None) → AreLent all has knows l
+lent-none all has knows l none = record { by = λ n gs k. absurd (none-some gs (sym (none n) ∙ k)); known = λ n gs k. absurd (none-some gs (sym (none n) ∙ k)) }
   where
-    none-some : (z : Lending) → ◌≡◌ {A = Option Lending} None (Some z) → ⊥
-    none-some z e = cc
-
-pub lent-put : (all : List Definition) (has : List ℕ → List ℕ) (l l' : Lendings) (name : List ℕ) (z : Lending) → AreLent all has l → IsLending all has name z
-    → ((n : List ℕ) → lending_of l' n ≡ (if bytes_eq name n then Some z else lending_of l n)) → AreLent all has l'
-lent-put all has l l' name z h is put = record { by = λ n y k. side n y (bytes_eq name n) refl (sym (put n) ∙ k) }
-  where
-    some-is : (x y : Lending) → ◌≡◌ {A = Option Lending} (Some x) (Some y) → x ≡ y
-    some-is x y e = cc
-
-    side : (n : List ℕ) (y : Lending) (v : Bool) → bytes_eq name n ≡ v → ◌≡◌ {A = Option Lending} (if bytes_eq name n then Some z else lending_of l n) (Some y) → IsLending all has n y
-    side n y true e k =
-        let same : z ≡ y = some-is z y (ap (λ v. if v then Some z else lending_of l n) (sym e) ∙ k) in
-        subst (λ m. IsLending all has m y) ((bytes_eq-Decides name n).0 e) (subst (λ x. IsLending all has name x) same is)
-    side n y false e k = h.by n y (ap (λ v. if v then Some z else lending_of l n) (sym e) ∙ k)
+    none-some : (gs : List Group) → ◌≡◌ {A = Option (List Group)} None (Some gs) → ⊥
+    none-some gs e = cc
 
 -- ---- elements
 
@@ -93,9 +80,9 @@ along-seen all has (x ∷ xs) = seen-both all has (along all has x) (flat_map (a
 
 -- ---- what is entered by a lending
 
-pub lent-same : (all : List Definition) (has : List ℕ → List ℕ) (name : List ℕ) (z : Lending) (seen : List ℕ) → IsLending all has name z → SameUnder all (seen ++ in_groups z.groups) (seen ++ going all has name)
-lent-same all has name z seen h = record {
-  by = λ n. ap (once_behind []) (filter-append (λ d. bytes_eq (spelling_at all d) n) seen (in_groups z.groups)) ∙ once-append [] (under all n seen) (under all n (in_groups z.groups))
-      ∙ behind-same all (in_groups z.groups) (going all has name) (once_behind [] (under all n seen)) n h.same
+pub lent-same : (all : List Definition) (has : List ℕ → List ℕ) (name : List ℕ) (gs : List Group) (seen : List ℕ) → IsLending all has name gs → SameUnder all (seen ++ in_groups gs) (seen ++ going all has name)
+lent-same all has name gs seen h = record {
+  by = λ n. ap (once_behind []) (filter-append (λ d. bytes_eq (spelling_at all d) n) seen (in_groups gs)) ∙ once-append [] (under all n seen) (under all n (in_groups gs))
+      ∙ behind-same all (in_groups gs) (going all has name) (once_behind [] (under all n seen)) n h.same
       ∙ sym (once-append [] (under all n seen) (under all n (going all has name))) ∙ ap (once_behind []) (sym (filter-append (λ d. bytes_eq (spelling_at all d) n) seen (going all has name)));
 }

@@ -14,7 +14,7 @@ use std::alloc::Global;
 fn gather(number: u32, met: &mut Marked, out: &mut Numbers) -> Result<(), Memory>
     ensures { (old xs : List ℕ) → Gathered old xs met.old out.old → OnOk result (Gathered old (once_behind xs (number ∷ [])) met.new out.new) }
 {
-    if met.mark(number)? {
+    if met.mark(number as usize)? {
         out.push(number)?;
     }
     Ok(())

@@ -101,7 +101,7 @@ fn seize_with(
     ensures { (es : List Entry) → Opens book.now around.now out.old es → OnOk result (Opens book.now around.now out.new (es ++ entry name.now.at (passed book.now.all.items (shown book.now around.now) name.now.spelling) ∷ [])) }
 {
     match lent_by(around, &name.spelling) {
-        Some(lending) => out.seize(alloc, book, around, name, &[], lending.groups.as_slice()),
+        Some(groups) => out.seize(alloc, book, around, name, &[], groups.as_slice()),
         None => seize_along(alloc, book, around, name, out),
     }
 }

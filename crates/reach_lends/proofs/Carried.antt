@@ -8,27 +8,25 @@ use Rattle.std.proofs.lemmas.List.{take_more}
 use Rattle.std.proofs.lemmas.List.Folds.{list_any-append}
 use Rattle.std.proofs.lemmas.Slice.Eq.{bytes_eq-Decides}
 use Rattle.names_model.specs.declared.definition.Definition.{Definition}
-use Rattle.names_model.specs.Definitions.{elements_at, numbers_on, spelling_at, under}
+use Rattle.names_model.specs.Definitions.{elements_at, spelling_at, under}
 use Rattle.names_model.specs.Entries.{along, is_among, once_behind}
 use Rattle.reach_tables.specs.Asking.{Rated}
 use Rattle.reach_tables.specs.Held.{brought}
-use Rattle.reach_tables.specs.Lends.{AreGroups, AreSeen, AreSeenBut, Carries, IsGroup, SameUnder, first_name, in_groups}
+use Rattle.reach_tables.specs.Lends.{AreGroups, AreKnown, AreSeen, Carries, IsGroup, SameUnder, first_name, in_groups}
 use Rattle.reach_tables.specs.Names.{is_named}
 use Rattle.reach_tables.specs.Scopes.{Orderly}
 use Rattle.reach_tables.specs.declared.group.Group.{Group}
 use Rattle.reach_tables.specs.declared.holding.Item.{Item}
 use Rattle.reach_tables.specs.declared.holding.Item.TheVariants.{Along}
-use Rattle.reach_tables.specs.declared.lent.Lending.{Lending}
 use Rattle.reach_tables.specs.declared.qualities.Qualities.{Qualities}
-use Rattle.reach_lends.specs.Carried.{AddNothing, AreBrought, AreOfOneName, Hides, Keeps, seen_of}
+use Rattle.reach_lends.specs.Carried.{AreBrought, AreOfOneName, Keeps, seen_of}
 use Rattle.reach_tables.proofs.Appends.{flat_map-append}
 use Rattle.reach_tables.proofs.Filters.{filter-append}
 use Rattle.reach_tables.proofs.Once.{among-once, once-append, once-once}
 use Rattle.reach_tables.proofs.Taking.{filter-all, under-seen}
 use Rattle.reach_tables.proofs.Within.{any-at, any-filter, any-once, either, filter-from, first-among, later-among, once-within, or-left, or-right, same-self as equal-self}
-use Rattle.reach_entries.proofs.Elements.{numbers_on-more}
 use Rattle.reach_entries.proofs.Exchanging.{among-same, behind-same, under-back}
-use Rattle.reach_entries.proofs.Going.{bytes-sym, seen-none}
+use Rattle.reach_entries.proofs.Going.{bytes-sym}
 
 -- ---- the same under each name
 
@@ -145,79 +143,6 @@ along-filter all has (x ∷ xs) = ap (λ r. along all has x ++ r) (along-filter 
 pub flat-number : (f : ℕ → List ℕ) (ns : List ℕ) (i : ℕ) → i < length ns → flat_map f (take (i + 1) ns) ≡ flat_map f (take i ns) ++ f (get_or ns i 0)
 flat-number f ns i h = ap (flat_map f) (take_more ns i 0 h) ∙ flat_map-append f (take i ns) (get_or ns i 0 ∷ []) ∙ ap (λ r. flat_map f (take i ns) ++ r) (append-nil (f (get_or ns i 0)))
 
--- ---- what is seen, or has a hidden name
-
-pub but-none : (all : List Definition) (has : List ℕ → List ℕ) (hidden : List (List ℕ)) → AreSeenBut all has hidden []
-but-none all has hidden = record { by = λ d k. absurd (false-true k) }
-  where
-    false-true : false ≡ true → ⊥
-    false-true e = cc
-
-pub but-one : (all : List Definition) (has : List ℕ → List ℕ) (hidden : List (List ℕ)) (d : ℕ) → (is_among d (has (spelling_at all d)) || is_named hidden (spelling_at all d)) ≡ true → AreSeenBut all has hidden (d ∷ [])
-but-one all has hidden d h = record { by = λ e k. side e (either (d == e) false k) }
-  where
-    false-true : false ≡ true → ⊥
-    false-true e = cc
-
-    side : (e : ℕ) → ((d == e) ≡ true) ⊎ (false ≡ true) → (is_among e (has (spelling_at all e)) || is_named hidden (spelling_at all e)) ≡ true
-    side e (inl k) = subst (λ x. (is_among x (has (spelling_at all x)) || is_named hidden (spelling_at all x)) ≡ true) (eqb-true d e k) h
-    side e (inr k) = absurd (false-true k)
-
-but-both : (all : List Definition) (has : List ℕ → List ℕ) (hidden : List (List ℕ)) (ds es : List ℕ) → AreSeenBut all has hidden ds → AreSeenBut all has hidden es → AreSeenBut all has hidden (ds ++ es)
-but-both all has hidden ds es h k = record { by = λ d i. side d (either (is_among d ds) (is_among d es) (sym (list_any-append (λ e. e == d) ds es) ∙ i)) }
-  where
-    side : (d : ℕ) → (is_among d ds ≡ true) ⊎ (is_among d es ≡ true) → (is_among d (has (spelling_at all d)) || is_named hidden (spelling_at all d)) ≡ true
-    side d (inl i) = h.by d i
-    side d (inr i) = k.by d i
-
--- where more is hidden
-but-grown : (all : List Definition) (has : List ℕ → List ℕ) (old new : List (List ℕ)) (ds : List ℕ) → ((n : List ℕ) → is_named old n ≡ true → is_named new n ≡ true) → AreSeenBut all has old ds → AreSeenBut all has new ds
-but-grown all has old new ds grows h = record { by = λ d i. side d (either (is_among d (has (spelling_at all d))) (is_named old (spelling_at all d)) (h.by d i)) }
-  where
-    side : (d : ℕ) → (is_among d (has (spelling_at all d)) ≡ true) ⊎ (is_named old (spelling_at all d) ≡ true) → (is_among d (has (spelling_at all d)) || is_named new (spelling_at all d)) ≡ true
-    side d (inl i) = or-left (is_among d (has (spelling_at all d))) (is_named new (spelling_at all d)) i
-    side d (inr i) = or-right (is_among d (has (spelling_at all d))) (is_named new (spelling_at all d)) (grows (spelling_at all d) i)
-
--- of what is among others
-but-within : (all : List Definition) (has : List ℕ → List ℕ) (hidden : List (List ℕ)) (ds fs : List ℕ) → ((d : ℕ) → is_among d fs ≡ true → is_among d ds ≡ true) → AreSeenBut all has hidden ds → AreSeenBut all has hidden fs
-but-within all has hidden ds fs within h = record { by = λ d i. h.by d (within d i) }
-
--- one definition has its name
-pub is-one : (all : List Definition) (d : ℕ) (n : List ℕ) → n ≡ spelling_at all d → (x : ℕ) → is_among x (d ∷ []) ≡ true → bytes_eq (spelling_at all x) n ≡ true
-is-one all d n is x h = side (either (d == x) false h)
-  where
-    false-true : false ≡ true → ⊥
-    false-true e = cc
-
-    side : ((d == x) ≡ true) ⊎ (false ≡ true) → bytes_eq (spelling_at all x) n ≡ true
-    side (inl e) = (bytes_eq-Decides (spelling_at all x) n).1 (ap (spelling_at all) (sym (eqb-true d x e)) ∙ sym is)
-    side (inr e) = absurd (false-true e)
-
--- nothing more is hidden where all is seen
-pub hides-none : (all : List Definition) (has : List ℕ → List ℕ) (ds : List ℕ) (hidden : List (List ℕ)) → AreSeen all has ds → Hides all has ds hidden hidden
-hides-none all has ds hidden h = record { grows = λ n k. k; seen = record { by = λ d i. or-left (is_among d (has (spelling_at all d))) (is_named hidden (spelling_at all d)) (h.by d i) } }
-
-pub hides-both : (all : List Definition) (has : List ℕ → List ℕ) (ds es : List ℕ) (old mid new : List (List ℕ)) → Hides all has ds old mid → Hides all has es mid new → Hides all has (ds ++ es) old new
-hides-both all has ds es old mid new h k = record { grows = λ n i. k.grows n (h.grows n i); seen = but-both all has new ds es (but-grown all has mid new ds k.grows h.seen) k.seen }
-
--- one element more
-pub hides-step : (all : List Definition) (has : List ℕ → List ℕ) (d k e : ℕ) (old mid new : List (List ℕ)) → Hides all has (numbers_on (suc d) k) old mid → e ≡ (d + 1) + k → Hides all has (e ∷ []) mid new → Hides all has (numbers_on (suc d) (k + 1)) old new
-hides-step all has d k e old mid new h is more = subst (λ ds. Hides all has ds old new) (sym (ap (numbers_on (suc d)) (plus k) ∙ numbers_on-more (suc d) k ∙ ap (λ x. numbers_on (suc d) k ++ x ∷ []) (sym (is ∙ shift d k))))
-    (hides-both all has (numbers_on (suc d) k) (e ∷ []) old mid new h more)
-  where
-    plus : (n : ℕ) → n + 1 ≡ suc n
-    plus n = omega arith
-
-    shift : (d k : ℕ) → (d + 1) + k ≡ suc d + k
-    shift d k = omega arith
-
--- a name is hidden
-pub hides-name : (all : List Definition) (has : List ℕ → List ℕ) (n : List ℕ) (ds : List ℕ) (old new : List (List ℕ)) → ((m : List ℕ) → is_named new m ≡ (bytes_eq n m || is_named old m)) → ((d : ℕ) → is_among d ds ≡ true → bytes_eq (spelling_at all d) n ≡ true) → Hides all has ds old new
-hides-name all has n ds old new more named = record {
-  grows = λ m k. more m ∙ or-right (bytes_eq n m) (is_named old m) k;
-  seen = record { by = λ d i. or-right (is_among d (has (spelling_at all d))) (is_named new (spelling_at all d)) (more (spelling_at all d) ∙ or-left (bytes_eq n (spelling_at all d)) (is_named old (spelling_at all d)) (bytes-sym (spelling_at all d) n true (named d i))) };
-}
-
 -- ---- groups by names
 
 -- all that is had under some names is, of one of them, what is had under it
@@ -264,81 +189,68 @@ grouped-orderly all has ds by = record {
 -- ---- what is carried
 
 -- nothing is carried yet
-pub carries-none : (all : List Definition) (has : List ℕ → List ℕ) (z : Lending) → z.groups ≡ [] → Carries all has [] z
-carries-none all has z none = record { groups = subst (AreGroups all has) (sym none) tt; same = same-as all (in_groups z.groups) [] (ap in_groups none); hidden = but-none all has z.hidden }
+pub carries-none : (all : List Definition) (has : List ℕ → List ℕ) (gs : List Group) → gs ≡ [] → Carries all has [] gs
+carries-none all has gs none = record { groups = subst (AreGroups all has) (sym none) tt; same = same-as all (in_groups gs) [] (ap in_groups none) }
 
 -- the elements of more definitions are carried
-pub carries-more : (all : List Definition) (has : List ℕ → List ℕ) (ds es those : List ℕ) (old new : Lending) → Carries all has ds old → AreGroups all has new.groups → those ≡ flat_map (along all has) es
-    → SameUnder all (in_groups new.groups) (in_groups old.groups ++ those) → Hides all has (flat_map (elements_at all) es) old.hidden new.hidden → Carries all has (ds ++ es) new
-carries-more all has ds es those old new h groups is same hides = record {
+pub carries-more : (all : List Definition) (has : List ℕ → List ℕ) (ds es those : List ℕ) (old new : List Group) → Carries all has ds old → AreGroups all has new → those ≡ flat_map (along all has) es
+    → SameUnder all (in_groups new) (in_groups old ++ those) → Carries all has (ds ++ es) new
+carries-more all has ds es those old new h groups is same = record {
   groups = groups;
-  same = same-chain all (in_groups new.groups) (in_groups old.groups ++ those) (flat_map (along all has) (ds ++ es)) same
-      (subst (λ zs. SameUnder all (in_groups old.groups ++ those) zs) (ap (λ r. flat_map (along all has) ds ++ r) is ∙ sym (flat_map-append (along all has) ds es))
-      (same-both all (in_groups old.groups) those (flat_map (along all has) ds) those h.same (same-self all those)));
-  hidden = subst (AreSeenBut all has new.hidden) (sym (flat_map-append (elements_at all) ds es))
-      (but-both all has new.hidden (flat_map (elements_at all) ds) (flat_map (elements_at all) es) (but-grown all has old.hidden new.hidden (flat_map (elements_at all) ds) hides.grows h.hidden) hides.seen);
+  same = same-chain all (in_groups new) (in_groups old ++ those) (flat_map (along all has) (ds ++ es)) same
+      (subst (λ zs. SameUnder all (in_groups old ++ those) zs) (ap (λ r. flat_map (along all has) ds ++ r) is ∙ sym (flat_map-append (along all has) ds es))
+      (same-both all (in_groups old) those (flat_map (along all has) ds) those h.same (same-self all those)));
 }
 
--- what a reach sees of some definitions is what it sees of those that are seen around, where it adds nothing to the others
-seen-around : (all : List Definition) (has around : List ℕ → List ℕ) (hidden : List (List ℕ)) (es : List ℕ) → AddNothing has around hidden → AreSeenBut all around hidden es → seen_of all has (seen_of all around es) ≡ seen_of all has es
-seen-around all has around hidden [] a h = refl
-seen-around all has around hidden (e ∷ es) a h = side (is_among e (around (spelling_at all e))) refl (is_among e (has (spelling_at all e))) refl (seen-around all has around hidden es a (record { by = λ d i. h.by d (later-among d e es i) }))
+-- what a reach sees of some definitions is what it sees of those that are seen around, where of the others it sees none
+seen-around : (all : List Definition) (has around : List ℕ → List ℕ) (es : List ℕ) → ((d : ℕ) → is_among d es ≡ true → is_among d (has (spelling_at all d)) ≡ true → is_among d (around (spelling_at all d)) ≡ true) → seen_of all has (seen_of all around es) ≡ seen_of all has es
+seen-around all has around [] a = refl
+seen-around all has around (e ∷ es) a = side (is_among e (around (spelling_at all e))) refl (is_among e (has (spelling_at all e))) refl (seen-around all has around es (λ d i k. a d (later-among d e es i) k))
   where
-    here : is_among e (around (spelling_at all e)) ≡ false → is_among e (has (spelling_at all e)) ≡ true → ⊥
-    here hid shows = other (either (is_among e (around (spelling_at all e))) (is_named hidden (spelling_at all e)) (h.by e (first-among e es)))
-      where
-        false-true : false ≡ true → ⊥
-        false-true i = cc
-
-        other : (is_among e (around (spelling_at all e)) ≡ true) ⊎ (is_named hidden (spelling_at all e) ≡ true) → ⊥
-        other (inl i) = false-true (sym hid ∙ i)
-        other (inr i) = false-true (sym hid ∙ a.by (spelling_at all e) i e shows)
+    false-true : false ≡ true → ⊥
+    false-true i = cc
 
     side : (v : Bool) → is_among e (around (spelling_at all e)) ≡ v → (w : Bool) → is_among e (has (spelling_at all e)) ≡ w → seen_of all has (seen_of all around es) ≡ seen_of all has es
         → seen_of all has (if v then e ∷ seen_of all around es else seen_of all around es) ≡ (if w then e ∷ seen_of all has es else seen_of all has es)
     side true is true at rest = ap (λ w. if w then e ∷ seen_of all has (seen_of all around es) else seen_of all has (seen_of all around es)) at ∙ ap (λ r. e ∷ r) rest
     side true is false at rest = ap (λ w. if w then e ∷ seen_of all has (seen_of all around es) else seen_of all has (seen_of all around es)) at ∙ rest
-    side false is true at rest = absurd (here is at)
+    side false is true at rest = absurd (false-true (sym is ∙ a e (first-among e es) at))
     side false is false at rest = rest
 
 -- what is seen of what is carried around is carried
-pub carries-on : (all : List Definition) (has around : List ℕ → List ℕ) (ds seen : List ℕ) (z old new : Lending) → Carries all has ds old → Keeps all has (in_groups z.groups) old new → Carries all around seen z → AddNothing has around z.hidden
-    → ((n : List ℕ) → is_named z.hidden n ≡ true → is_named new.hidden n ≡ true) → Carries all has (ds ++ seen) new
-carries-on all has around ds seen z old new h k lent adds grown = record {
+pub carries-on : (all : List Definition) (has around : List ℕ → List ℕ) (ds seen : List ℕ) (gs old new : List Group) → Carries all has ds old → Keeps all has (in_groups gs) old new → Carries all around seen gs
+    → ((d : ℕ) → is_among d (flat_map (elements_at all) seen) ≡ true → is_among d (has (spelling_at all d)) ≡ true → is_among d (around (spelling_at all d)) ≡ true) → Carries all has (ds ++ seen) new
+carries-on all has around ds seen gs old new h k lent adds = record {
   groups = k.groups h.groups;
   same = subst (λ zs. SameUnder all zs (flat_map (along all has) (ds ++ seen))) (sym k.same)
-      (subst (λ zs. SameUnder all (in_groups old.groups ++ seen_of all has (in_groups z.groups)) zs) (ap (λ r. flat_map (along all has) ds ++ r) (sym (along-filter all has seen)) ∙ sym (flat_map-append (along all has) ds seen))
-      (same-both all (in_groups old.groups) (seen_of all has (in_groups z.groups)) (flat_map (along all has) ds) (seen_of all has elements) h.same there));
-  hidden = subst (AreSeenBut all has new.hidden) (sym (flat_map-append (elements_at all) ds seen))
-      (but-both all has new.hidden (flat_map (elements_at all) ds) elements (but-grown all has old.hidden new.hidden (flat_map (elements_at all) ds) k.hidden.grows h.hidden) all-known);
+      (subst (λ zs. SameUnder all (in_groups old ++ seen_of all has (in_groups gs)) zs) (ap (λ r. flat_map (along all has) ds ++ r) (sym (along-filter all has seen)) ∙ sym (flat_map-append (along all has) ds seen))
+      (same-both all (in_groups old) (seen_of all has (in_groups gs)) (flat_map (along all has) ds) (seen_of all has (flat_map (elements_at all) seen)) h.same there));
 }
   where
-    elements : List ℕ
-    elements = flat_map (elements_at all) seen
+    there : SameUnder all (seen_of all has (in_groups gs)) (seen_of all has (flat_map (elements_at all) seen))
+    there = subst (λ xs. SameUnder all (seen_of all has (in_groups gs)) xs) (ap (seen_of all has) (along-filter all around seen) ∙ seen-around all has around (flat_map (elements_at all) seen) adds)
+        (filter-same all (λ d. is_among d (has (spelling_at all d))) (in_groups gs) (flat_map (along all around) seen) lent.same)
 
-    there : SameUnder all (seen_of all has (in_groups z.groups)) (seen_of all has (flat_map (elements_at all) seen))
-    there = subst (λ xs. SameUnder all (seen_of all has (in_groups z.groups)) xs) (ap (seen_of all has) (along-filter all around seen) ∙ seen-around all has around z.hidden (flat_map (elements_at all) seen) adds lent.hidden)
-        (filter-same all (λ d. is_among d (has (spelling_at all d))) (in_groups z.groups) (flat_map (along all around) seen) lent.same)
-
-    known : (d : ℕ) → is_among d (flat_map (elements_at all) seen) ≡ true → (is_among d (around (spelling_at all d)) ≡ true) ⊎ (is_named z.hidden (spelling_at all d) ≡ true) → (is_among d (has (spelling_at all d)) || is_named new.hidden (spelling_at all d)) ≡ true
-    known d i (inl v) = k.hidden.seen.by d (among-same all (flat_map (along all around) seen) (in_groups z.groups) d (under-back all (in_groups z.groups) (flat_map (along all around) seen) lent.same)
-        (ap (is_among d) (along-filter all around seen) ∙ into-filter (λ e. is_among e (around (spelling_at all e))) d (flat_map (elements_at all) seen) i v))
-    known d i (inr v) = or-right (is_among d (has (spelling_at all d))) (is_named new.hidden (spelling_at all d)) (grown (spelling_at all d) v)
-
-    all-known : AreSeenBut all has new.hidden (flat_map (elements_at all) seen)
-    all-known = record { by = λ d i. known d i (either (is_among d (around (spelling_at all d))) (is_named z.hidden (spelling_at all d)) (lent.hidden.by d i)) }
+-- what is carried is of their elements
+pub carried-known : (all : List Definition) (has : List ℕ → List ℕ) (knows : ℕ → Bool) (ds : List ℕ) (gs : List Group) → Carries all has ds gs → AreKnown knows (flat_map (elements_at all) ds) → AreKnown knows (in_groups gs)
+carried-known all has knows ds gs h k = record {
+  by = λ d i. k.by d (filter-from (λ e. is_among e (has (spelling_at all e))) d (flat_map (elements_at all) ds)
+      (sym (ap (is_among d) (along-filter all has ds)) ∙ among-same all (in_groups gs) (flat_map (along all has) ds) d h.same i)).1;
+}
 
 -- what is carried with all of some definitions is carried with them once
-pub carries-once : (all : List Definition) (has : List ℕ → List ℕ) (xs ys ds whole : List ℕ) (z : Lending) → Carries all has ds z → ds ≡ xs ++ ys → whole ≡ once_behind xs ys → Carries all has whole z
-carries-once all has xs ys ds whole z h is once = record {
+pub carries-once : (all : List Definition) (has : List ℕ → List ℕ) (xs ys ds whole : List ℕ) (gs : List Group) → Carries all has ds gs → ds ≡ xs ++ ys → whole ≡ once_behind xs ys → Carries all has whole gs
+carries-once all has xs ys ds whole gs h is once = record {
   groups = h.groups;
-  same = subst (λ zs. SameUnder all (in_groups z.groups) (flat_map (along all has) zs)) (sym once)
-      (same-chain all (in_groups z.groups) (flat_map (along all has) (xs ++ ys)) (flat_map (along all has) (once_behind xs ys)) (subst (λ zs. SameUnder all (in_groups z.groups) (flat_map (along all has) zs)) is h.same)
+  same = subst (λ zs. SameUnder all (in_groups gs) (flat_map (along all has) zs)) (sym once)
+      (same-chain all (in_groups gs) (flat_map (along all has) (xs ++ ys)) (flat_map (along all has) (once_behind xs ys)) (subst (λ zs. SameUnder all (in_groups gs) (flat_map (along all has) zs)) is h.same)
       (under-back all (flat_map (along all has) (once_behind xs ys)) (flat_map (along all has) (xs ++ ys)) (flat-once all (along all has) xs ys)));
-  hidden = subst (λ zs. AreSeenBut all has z.hidden (flat_map (elements_at all) zs)) (sym once)
-      (but-within all has z.hidden (flat_map (elements_at all) (xs ++ ys)) (flat_map (elements_at all) (once_behind xs ys)) (λ d i. among-same all (flat_map (elements_at all) (once_behind xs ys)) (flat_map (elements_at all) (xs ++ ys)) d (flat-once all (elements_at all) xs ys) i)
-      (subst (λ zs. AreSeenBut all has z.hidden (flat_map (elements_at all) zs)) is h.hidden));
 }
+
+-- their elements are known if those of all are
+pub known-once : (all : List Definition) (knows : ℕ → Bool) (xs ys whole : List ℕ) → AreKnown knows (flat_map (elements_at all) (xs ++ ys)) → whole ≡ once_behind xs ys → AreKnown knows (flat_map (elements_at all) whole)
+known-once all knows xs ys whole h once = subst (λ zs. AreKnown knows (flat_map (elements_at all) zs)) (sym once)
+    (record { by = λ d i. h.by d (among-same all (flat_map (elements_at all) (once_behind xs ys)) (flat_map (elements_at all) (xs ++ ys)) d (flat-once all (elements_at all) xs ys) i) })
 
 -- ---- groups that are made
 
@@ -398,28 +310,26 @@ pub long-seen : (all : List Definition) (has : List ℕ → List ℕ) (ds seen :
 long-seen all has ds seen is h = subst (AreSeen all has) (filter-long (λ d. is_among d (has (spelling_at all d))) ds (sym (ap length is) ∙ h)) (seen-filtered all has ds)
 
 -- nothing is kept yet
-pub keeps-none : (all : List Definition) (has : List ℕ → List ℕ) (z : Lending) → Keeps all has [] z z
-keeps-none all has z = record { groups = λ h. h; same = sym (append-nil (in_groups z.groups)); hidden = hides-none all has [] z.hidden (seen-none all has) }
+pub keeps-none : (all : List Definition) (has : List ℕ → List ℕ) (gs : List Group) → Keeps all has [] gs gs
+keeps-none all has gs = record { groups = λ h. h; same = sym (append-nil (in_groups gs)) }
 
-pub keeps-both : (all : List Definition) (has : List ℕ → List ℕ) (xs ys : List ℕ) (old mid new : Lending) → Keeps all has xs old mid → Keeps all has ys mid new → Keeps all has (xs ++ ys) old new
+pub keeps-both : (all : List Definition) (has : List ℕ → List ℕ) (xs ys : List ℕ) (old mid new : List Group) → Keeps all has xs old mid → Keeps all has ys mid new → Keeps all has (xs ++ ys) old new
 keeps-both all has xs ys old mid new h k = record {
   groups = λ g. k.groups (h.groups g);
-  same = k.same ∙ ap (λ r. r ++ seen_of all has ys) h.same ∙ append_assoc (in_groups old.groups) (seen_of all has xs) (seen_of all has ys)
-      ∙ ap (λ r. in_groups old.groups ++ r) (sym (filter-append (λ d. is_among d (has (spelling_at all d))) xs ys));
-  hidden = hides-both all has xs ys old.hidden mid.hidden new.hidden h.hidden k.hidden;
+  same = k.same ∙ ap (λ r. r ++ seen_of all has ys) h.same ∙ append_assoc (in_groups old) (seen_of all has xs) (seen_of all has ys)
+      ∙ ap (λ r. in_groups old ++ r) (sym (filter-append (λ d. is_among d (has (spelling_at all d))) xs ys));
 }
 
 -- a group is kept as it is
-pub keeps-whole : (all : List Definition) (has around : List ℕ → List ℕ) (old : Lending) (gs : List Group) (g g' : Group) → IsGroup all around g → AreSeen all has g.numbers → g' ≡ g → gs ≡ old.groups ++ g' ∷ [] → Keeps all has g.numbers old (record { groups = gs; hidden = old.hidden })
+pub keeps-whole : (all : List Definition) (has around : List ℕ → List ℕ) (old gs : List Group) (g g' : Group) → IsGroup all around g → AreSeen all has g.numbers → g' ≡ g → gs ≡ old ++ g' ∷ [] → Keeps all has g.numbers old gs
 keeps-whole all has around old gs g g' is seen same more = record {
-  groups = λ h. subst (AreGroups all has) (sym (more ∙ ap (λ y. old.groups ++ y ∷ []) same)) (groups-more all has old.groups g h (record { named = is.named; rated = is.rated; seen = seen }));
-  same = ap in_groups (more ∙ ap (λ y. old.groups ++ y ∷ []) same) ∙ flat_map-append (λ (y : Group). y.numbers) old.groups (g ∷ []) ∙ ap (λ r. in_groups old.groups ++ r) (append-nil g.numbers ∙ sym (all-seen all has g.numbers seen));
-  hidden = hides-none all has g.numbers old.hidden seen;
+  groups = λ h. subst (AreGroups all has) (sym (more ∙ ap (λ y. old ++ y ∷ []) same)) (groups-more all has old g h (record { named = is.named; rated = is.rated; seen = seen }));
+  same = ap in_groups (more ∙ ap (λ y. old ++ y ∷ []) same) ∙ flat_map-append (λ (y : Group). y.numbers) old (g ∷ []) ∙ ap (λ r. in_groups old ++ r) (append-nil g.numbers ∙ sym (all-seen all has g.numbers seen));
 }
 
 -- what is seen of it is kept
-pub keeps-part : (all : List Definition) (has : List ℕ → List ℕ) (old new : Lending) (ds : List ℕ) → (AreGroups all has old.groups → AreGroups all has new.groups) → in_groups new.groups ≡ in_groups old.groups ++ seen_of all has ds → Hides all has ds old.hidden new.hidden → Keeps all has ds old new
-keeps-part all has old new ds groups same hidden = record { groups = groups; same = same; hidden = hidden }
+pub keeps-part : (all : List Definition) (has : List ℕ → List ℕ) (old new : List Group) (ds : List ℕ) → (AreGroups all has old → AreGroups all has new) → in_groups new ≡ in_groups old ++ seen_of all has ds → Keeps all has ds old new
+keeps-part all has old new ds groups same = record { groups = groups; same = same }
 
 -- ---- items
 

@@ -1,14 +1,12 @@
 -- What a reach shows under a name in parts: ahead of what is seen around, that, and behind it.
-use Rattle.std.proofs.Common.{◌≡◌, ℕ, ◌+◌, ◌<◌, add-one, drop, drop-cons, get_or, take, subst, Bool, true, false, List, [], ◌∷◌, ◌++◌, ◌⊎◌, inl, inr, Some, append-nil, append_assoc, refl, ap, sym, ◌∙◌, length, if◌then◌else◌}
-use Rattle.std.specs.Prelude.{flat_map, not, ◌||◌, ◌&&◌, ◌==◌, slice_get}
+use Rattle.std.proofs.Common.{◌≡◌, ℕ, ◌+◌, ◌<◌, add-one, drop, drop-cons, get_or, Bool, true, false, List, [], ◌∷◌, ◌++◌, ◌⊎◌, inl, inr, Some, append-nil, append_assoc, refl, ap, sym, ◌∙◌, length, if◌then◌else◌}
+use Rattle.std.specs.Prelude.{flat_map, ◌||◌, ◌&&◌, ◌==◌, slice_get}
 use Rattle.std.specs.List.{filter, list_any}
-use Rattle.std.specs.Str.{bytes_eq}
 use Rattle.std.proofs.lemmas.Slice.Eq.{bytes_eq-Decides}
 use Rattle.names_model.specs.Definitions.{spelling_at}
 use Rattle.names_model.specs.Entries.{is_among, once_behind}
-use Rattle.reach_tables.specs.Held.{Holdings, brought, had, holding, holds_none, is_around, is_seized, own, shares_unseen}
+use Rattle.reach_tables.specs.Held.{Holdings, brought, had, holding, holds_none, is_around, is_seized, own}
 use Rattle.reach_tables.specs.Lends.{AreSeen, IsGroup, first_name}
-use Rattle.reach_tables.specs.Names.{is_named}
 use Rattle.reach_tables.specs.Scopes.{Kept, Orderly, shown}
 use Rattle.reach_tables.specs.declared.book.Book.{Book}
 use Rattle.reach_tables.specs.declared.group.Group.{Group}
@@ -16,15 +14,14 @@ use Rattle.reach_tables.specs.declared.holding.Holding.{Holding}
 use Rattle.reach_tables.specs.declared.holding.Item.{Item}
 use Rattle.reach_tables.specs.declared.holding.Item.TheVariants.{Number, Around, Along}
 use Rattle.reach_tables.specs.declared.scope.Scope.{Scope}
-use Rattle.reach_lends.specs.Carried.{AddNothing, AreBrought, AreOfOneName, ahead_of, behind_of, is_number, seen_of}
+use Rattle.reach_lends.specs.Carried.{AreBrought, AreOfOneName, ahead_of, behind_of, seen_of}
 use Rattle.reach_tables.proofs.Appends.{flat_map-on}
 use Rattle.reach_tables.proofs.Grouping.{first-is, group-named}
 use Rattle.reach_tables.proofs.Holdings.{item-filled, number-filled}
 use Rattle.reach_tables.proofs.Once.{among-once, once-append}
 use Rattle.reach_tables.proofs.Reaching.{any-some, own-shown, seized-some, shown-none, shown-some, shown_by}
-use Rattle.reach_tables.proofs.Within.{Within, any-at, any-once, either, first-among, later-among, once-within, or-left, or-right}
-use Rattle.std.proofs.lemmas.List.Folds.{list_any-append, list_any_more}
-use Rattle.reach_entries.proofs.Going.{bytes-sym}
+use Rattle.reach_tables.proofs.Within.{Within, any-once, either, first-among, later-among, once-within, or-left, or-right}
+use Rattle.std.proofs.lemmas.List.Folds.{list_any-append}
 
 -- ---- parts of what items bring
 
@@ -154,74 +151,6 @@ behind-around is i x p p' out out' whole h at was now around same before = (λ j
 pub behind-other : (is : List Item) (i : ℕ) (x : Item) (p p' : Bool) (out out' whole : List ℕ) → i < length is → x ≡ get_or is i x → p ≡ false → p' ≡ false → (x ≡ Around → ⊥) → out' ≡ out → out ++ left_behind p (drop i is) ≡ whole → out' ++ left_behind p' (drop (i + 1) is) ≡ whole
 behind-other is i x p p' out out' whole h at was now other same before = (λ j. same j ++ left_behind (now j) (drop (i + 1) is))
     ∙ ap (λ r. out ++ r) (sym (behind-first x (drop (i + 1) is) other)) ∙ ap (λ ds. out ++ behind_of ds) (sym (dropped is i x h at)) ∙ ap (λ v. out ++ left_behind v (drop i is)) (sym was) ∙ before
-
--- ---- what is seen under a name is seen around
-
-any-false : (p : ℕ → Bool) (xs : List ℕ) (d : ℕ) → list_any p xs ≡ false → is_among d xs ≡ true → p d ≡ false
-any-false p xs d h k = side (p d) refl
-  where
-    true-false : true ≡ false → ⊥
-    true-false e = cc
-
-    side : (v : Bool) → p d ≡ v → v ≡ false
-    side true is = absurd (true-false (sym (any-at p d xs k is) ∙ h))
-    side false is = refl
-
-not-false : (v : Bool) → not v ≡ false → v ≡ true
-not-false true h = refl
-not-false false h = cc
-
-neither : (a b : Bool) → (a || b) ≡ false → (a ≡ false) × (b ≡ false)
-neither true b h = absurd cc
-neither false b h = (refl, h)
-
-all-around : (seen : List ℕ) (is : List Item) (d : ℕ) → list_any is_number is ≡ false → list_any (shares_unseen seen) is ≡ false → is_among d (flat_map (brought seen) is) ≡ true → is_among d seen ≡ true
-all-around seen [] d n u h = cc
-all-around seen (Number e ∷ is) d n u h = cc
-all-around seen (Around ∷ is) d n u h = side (either (is_among d seen) (is_among d (flat_map (brought seen) is)) (sym (list_any-append (λ x. x == d) seen (flat_map (brought seen) is)) ∙ h)) (λ k. all-around seen is d n u k)
-  where
-    side : (is_among d seen ≡ true) ⊎ (is_among d (flat_map (brought seen) is) ≡ true) → (is_among d (flat_map (brought seen) is) ≡ true → is_among d seen ≡ true) → is_among d seen ≡ true
-    side (inl k) rest = k
-    side (inr k) rest = rest k
-all-around seen (Along g ∷ is) d n u h = side (either (is_among d g.numbers) (is_among d (flat_map (brought seen) is)) (sym (list_any-append (λ x. x == d) g.numbers (flat_map (brought seen) is)) ∙ h)) parts.0 (λ k. all-around seen is d n parts.1 k)
-  where
-    parts : (list_any (λ x. not (is_among x seen)) g.numbers ≡ false) × (list_any (shares_unseen seen) is ≡ false)
-    parts = neither (list_any (λ x. not (is_among x seen)) g.numbers) (list_any (shares_unseen seen) is) u
-
-    side : (is_among d g.numbers ≡ true) ⊎ (is_among d (flat_map (brought seen) is) ≡ true) → list_any (λ x. not (is_among x seen)) g.numbers ≡ false → (is_among d (flat_map (brought seen) is) ≡ true → is_among d seen ≡ true) → is_among d seen ≡ true
-    side (inl k) none rest = not-false (is_among d seen) (any-false (λ x. not (is_among x seen)) g.numbers d none k)
-    side (inr k) none rest = rest k
-
-pub some-taken : (b : Book) (t : Holdings) (takes : Bool) (o : Scope) (n : List ℕ) (d : ℕ) → Kept (shown b o) t b.all.items → holds_none (holding t n) ≡ false → had t n ≡ [] → list_any is_number (holding t n).after ≡ false → is_among d (shown_by b t takes o n) ≡ true → is_among d (shown b o n) ≡ true
-some-taken b t takes o n d k some before number h = all-around (shown b o n) (holding t n).after d number (k.seen n)
-    (sym (any-once (λ e. e == d) [] (flat_map (brought (shown b o n)) (holding t n).after)) ∙ ap (λ xs. is_among d (once_behind xs (flat_map (brought (shown b o n)) (holding t n).after))) (sym before) ∙ sym (ap (is_among d) (shown-some b t takes o n k some)) ∙ h)
-
--- nothing is added under no name
-pub adds-none : (has around : List ℕ → List ℕ) → AddNothing has around []
-adds-none has around = record { by = λ n k. absurd (false-true k) }
-  where
-    false-true : false ≡ true → ⊥
-    false-true e = cc
-
--- nor under one name more
-pub adds-more : (has around : List ℕ → List ℕ) (xs : List (List ℕ)) (i : ℕ) (x : List ℕ) → i < length xs → x ≡ get_or xs i x → AddNothing has around (take i xs) → ((d : ℕ) → is_among d (has x) ≡ true → is_among d (around x) ≡ true) → AddNothing has around (take (i + 1) xs)
-adds-more has around xs i x h at a here = record { by = λ n k. side n (either (is_named (take i xs) n) (bytes_eq n x) (sym (list_any_more (bytes_eq n) xs i x h ∙ ap (λ y. is_named (take i xs) n || bytes_eq n y) (sym at)) ∙ k)) }
-  where
-    side : (n : List ℕ) → (is_named (take i xs) n ≡ true) ⊎ (bytes_eq n x ≡ true) → (d : ℕ) → is_among d (has n) ≡ true → is_among d (around n) ≡ true
-    side n (inl k) = a.by n k
-    side n (inr k) = subst (λ m. (d : ℕ) → is_among d (has m) ≡ true → is_among d (around m) ≡ true) (sym ((bytes_eq-Decides n x).0 k)) here
-
--- one name more is hidden
-pub hidden-more : (xs old mid new : List (List ℕ)) (i : ℕ) (x : List ℕ) → i < length xs → x ≡ get_or xs i x → ((n : List ℕ) → is_named mid n ≡ (is_named (take i xs) n || is_named old n)) → ((n : List ℕ) → is_named new n ≡ (bytes_eq x n || is_named mid n))
-    → (n : List ℕ) → is_named new n ≡ (is_named (take (i + 1) xs) n || is_named old n)
-hidden-more xs old mid new i x h at before more n = more n ∙ ap (λ v. bytes_eq x n || v) (before n) ∙ swap (bytes_eq x n) (is_named (take i xs) n) (is_named old n) ∙ ap (λ v. (is_named (take i xs) n || v) || is_named old n) (sym (bytes-sym x n (bytes_eq x n) refl))
-    ∙ ap (λ v. v || is_named old n) (sym (list_any_more (bytes_eq n) xs i x h ∙ ap (λ y. is_named (take i xs) n || bytes_eq n y) (sym at)))
-  where
-    swap : (a b c : Bool) → (a || (b || c)) ≡ ((b || a) || c)
-    swap true true c = refl
-    swap true false c = refl
-    swap false true c = refl
-    swap false false c = refl
 
 -- ---- what a reach has only entered itself
 

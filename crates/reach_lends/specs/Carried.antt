@@ -1,16 +1,15 @@
 -- What is carried along with what a reach has under a name.
-use Rattle.std.specs.Prelude.{◌≡◌, ℕ, Bool, true, false, List, [], ◌∷◌, ◌++◌, flat_map}
+use Rattle.std.specs.Prelude.{◌≡◌, ℕ, true, List, [], ◌∷◌, ◌++◌, flat_map}
 use Rattle.std.specs.List.{filter}
 use Rattle.std.specs.Str.{bytes_eq}
 use Rattle.names_model.specs.declared.definition.Definition.{Definition}
 use Rattle.names_model.specs.Definitions.{spelling_at}
 use Rattle.names_model.specs.Entries.{is_among}
 use Rattle.reach_tables.specs.Held.{brought}
-use Rattle.reach_tables.specs.Lends.{AreGroups, AreSeenBut, first_name, in_groups}
-use Rattle.reach_tables.specs.Names.{is_named}
+use Rattle.reach_tables.specs.Lends.{AreGroups, first_name, in_groups}
+use Rattle.reach_tables.specs.declared.group.Group.{Group}
 use Rattle.reach_tables.specs.declared.holding.Item.{Item}
 use Rattle.reach_tables.specs.declared.holding.Item.TheVariants.{Number, Around, Along}
-use Rattle.reach_tables.specs.declared.lent.Lending.{Lending}
 
 -- what items bring before the first that is all that is seen around
 abbrev pub ahead_of : List Item → List ℕ
@@ -26,12 +25,6 @@ behind_of (Number d ∷ is) = behind_of is
 behind_of (Around ∷ is) = flat_map (brought []) is
 behind_of (Along g ∷ is) = behind_of is
 
--- the item is a definition that the reach enters itself
-abbrev pub is_number : Item → Bool
-is_number (Number d) = true
-is_number Around = false
-is_number (Along g) = false
-
 -- items bring each of some definitions without a look around
 pub record AreBrought (ds : List ℕ) (is : List Item) : Type 0 where
   pub by : (d : ℕ) → is_among d ds ≡ true → is_among d (flat_map (brought []) is) ≡ true
@@ -44,17 +37,7 @@ seen_of all has ds = filter (λ d. is_among d (has (spelling_at all d))) ds
 pub record AreOfOneName (all : List Definition) (ds : List ℕ) : Type 0 where
   pub by : (d : ℕ) → is_among d ds ≡ true → bytes_eq (spelling_at all d) (first_name all ds) ≡ true
 
--- what was hidden stays so, and each of some definitions is seen or has a hidden name
-pub record Hides (all : List Definition) (has : List ℕ → List ℕ) (ds : List ℕ) (old new : List (List ℕ)) : Type 0 where
-  pub grows : (n : List ℕ) → is_named old n ≡ true → is_named new n ≡ true
-  pub seen : AreSeenBut all has new ds
-
--- what is seen of some definitions stands in groups behind those that were carried, and the names of what isn't are hidden
-pub record Keeps (all : List Definition) (has : List ℕ → List ℕ) (ds : List ℕ) (old new : Lending) : Type 0 where
-  pub groups : AreGroups all has old.groups → AreGroups all has new.groups
-  pub same : in_groups new.groups ≡ in_groups old.groups ++ seen_of all has ds
-  pub hidden : Hides all has ds old.hidden new.hidden
-
--- under each of some names nothing is seen but what is seen around
-pub record AddNothing (has around : List ℕ → List ℕ) (names : List (List ℕ)) : Type 0 where
-  pub by : (n : List ℕ) → is_named names n ≡ true → (d : ℕ) → is_among d (has n) ≡ true → is_among d (around n) ≡ true
+-- what is seen of some definitions stands in groups behind those that were carried
+pub record Keeps (all : List Definition) (has : List ℕ → List ℕ) (ds : List ℕ) (old new : List Group) : Type 0 where
+  pub groups : AreGroups all has old → AreGroups all has new
+  pub same : in_groups new ≡ in_groups old ++ seen_of all has ds

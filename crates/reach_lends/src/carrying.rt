@@ -5,19 +5,20 @@ ghost use Rattle.names_model.specs.Definitions.{elements_at};
 ghost use Rattle.names_model.specs.Entries.{is_among};
 ghost use Rattle.reach_tables.specs.Asking.{Rated};
 ghost use Rattle.reach_tables.specs.Held.{IsHeld, had, holds_none, is_seized};
-ghost use Rattle.reach_tables.specs.Lends.{AreGroups, AreSeen, Carries, IsGroup, SameUnder, in_groups};
+ghost use Rattle.reach_tables.specs.Lends.{AreGroups, AreKnown, AreSeen, Carries, IsGroup, SameUnder, in_groups};
 ghost use Rattle.reach_tables.specs.Placed.{Includes};
-ghost use Rattle.reach_tables.specs.Scopes.{Sound, shown, shown_around};
+ghost use Rattle.reach_tables.specs.Scopes.{Sound, is_known, is_known_around, shown, shown_around};
 ghost use Rattle.reach_tables.specs.declared.holding.Holding.{Holding};
-ghost use Rattle.reach_tables.specs.Names.{is_named};
-ghost use Rattle.reach_lends.specs.Carried.{AreBrought, AreOfOneName, Hides, Keeps, seen_of};
+ghost use Rattle.reach_lends.specs.Carried.{AreBrought, AreOfOneName, Keeps, seen_of};
+ghost use Rattle.reach_lends.specs.Known.{AreMarked};
 
+use crate::adding::knows_any;
+use crate::knowing::mark_all_elements;
 use chill_base::{List, Memory, Numbers};
 use names_model::Spelling;
 use reach_entries::{names_of, push_all, push_along_all, push_element, table_of_numbers};
 use reach_tables::{
-    Book, FEW, Group, Held, Item, Lending, Names, Qualities, Scope, Shared, Table, among,
-    find_shown, up_to_greatest,
+    Book, FEW, Group, Held, Item, Marked, Qualities, Scope, Shared, Table, among, up_to_greatest,
 };
 use std::alloc::Global;
 
@@ -46,7 +47,7 @@ fn put_list(alloc: Global, numbers: &[u32], lists: &mut Vec<Numbers>) -> Result<
     Ok(place)
 }
 
-// Puts a group of definitions of one name behind others.
+// Puts a group of definitions of one name behind others, unless there are none.
 fn push_group(
     alloc: Global,
     book: &Book,
@@ -58,6 +59,9 @@ fn push_group(
     ensures numbers { OnOk result (in_groups out.new ≡ in_groups out.old ++ numbers.now) }
     ensures lists { OnOk result (Includes lists.old.items lists.new.items) }
 {
+    if numbers.is_empty() {
+        return Ok(());
+    }
     let mut copy = Numbers::new(alloc);
     push_all(numbers, &mut copy)?;
     let place = put_list(alloc, numbers, lists)?;
@@ -105,73 +109,24 @@ fn push_groups(
     push_named(alloc, book, &table, names.as_slice(), lists, out)
 }
 
-// Hides the names of those elements of a definition that aren't seen.
-fn hide_unseen(
-    alloc: Global,
-    book: &Book,
-    scope: &Scope,
-    number: u32,
-    hidden: &mut Names,
-) -> Result<(), Memory>
-    ensures { Sound book.now scope.now → OnOk result (Hides book.now.all.items (shown book.now scope.now) (elements_at book.now.all.items number) hidden.old hidden.new) }
-{
-    let first = number as usize + 1;
-    for step in 0..book.elements(number) {
-        hide_element(alloc, book, scope, first + step as usize, hidden)?;
-    }
-    Ok(())
-}
-
-// Hides the name of an element that isn't seen.
-fn hide_element(
-    alloc: Global,
-    book: &Book,
-    scope: &Scope,
-    element: usize,
-    hidden: &mut Names,
-) -> Result<(), Memory>
-    ensures { Sound book.now scope.now → OnOk result (Hides book.now.all.items (shown book.now scope.now) (element ∷ []) hidden.old hidden.new) }
-{
-    let name = book.spelling(element);
-    if find_shown(book, scope, name, element).is_some() {
-        return Ok(());
-    }
-    hidden.insert(alloc, name)
-}
-
-// Hides the names of those elements of some definitions that aren't seen.
-fn hide_all_unseen(
-    alloc: Global,
-    book: &Book,
-    scope: &Scope,
-    numbers: &[u32],
-    hidden: &mut Names,
-) -> Result<(), Memory>
-    ensures { Sound book.now scope.now → OnOk result (Hides book.now.all.items (shown book.now scope.now) (flat_map (elements_at book.now.all.items) numbers.now) hidden.old hidden.new) }
-{
-    for number in numbers {
-        hide_unseen(alloc, book, scope, *number, hidden)?;
-    }
-    Ok(())
-}
-
-/// Carries along the elements of definitions too.
+/// Carries along the elements of definitions too, and marks all of them.
 pub fn carry(
     alloc: Global,
     book: &Book,
     scope: &Scope,
     numbers: &[u32],
     lists: &mut Vec<Numbers>,
-    out: &mut Lending,
+    out: &mut List<Shared>,
+    marked: &mut Marked,
 ) -> Result<(), Memory>
     ensures carries { (ds : List ℕ) → Sound book.now scope.now → Carries book.now.all.items (shown book.now scope.now) ds out.old → OnOk result (Carries book.now.all.items (shown book.now scope.now) (ds ++ numbers.now) out.new) }
-    ensures grows { (n : List ℕ) → Sound book.now scope.now → is_named out.old.hidden n ≡ true → OnOk result (is_named out.new.hidden n ≡ true) }
+    ensures marks { OnOk result (AreMarked (flat_map (elements_at book.now.all.items) numbers.now) marked.old marked.new) }
     ensures lists { OnOk result (Includes lists.old.items lists.new.items) }
 {
     let mut elements = Numbers::new(alloc);
     push_along_all(book, scope, numbers, &mut elements)?;
-    push_groups(alloc, book, elements.as_slice(), lists, &mut out.groups)?;
-    hide_all_unseen(alloc, book, scope, numbers, &mut out.hidden)
+    push_groups(alloc, book, elements.as_slice(), lists, out)?;
+    mark_all_elements(book, numbers, marked)
 }
 
 // Whether one of some items is a group of exactly these definitions.
@@ -244,18 +199,34 @@ fn push_among(others: &[u32], numbers: &[u32], out: &mut Numbers) -> Result<(), 
     Ok(())
 }
 
-// Those of some definitions of one name that are seen. Where the reach has only what it entered itself under the name, they
-// are looked for there.
+// Those of some definitions of one name that are seen, of which all are known around. Where the reach has only what it entered
+// itself under the name, they are looked for there, and where less of that than of them, only if it is known around too.
 fn push_seen(book: &Book, scope: &Scope, numbers: &[u32], out: &mut Numbers) -> Result<(), Memory>
-    ensures { Sound book.now scope.now → AreOfOneName book.now.all.items numbers.now → OnOk result (out.new ≡ out.old ++ seen_of book.now.all.items (shown book.now scope.now) numbers.now) }
+    ensures { Sound book.now scope.now → AreOfOneName book.now.all.items numbers.now → AreKnown (is_known_around scope.now) numbers.now → OnOk result (out.new ≡ out.old ++ seen_of book.now.all.items (shown book.now scope.now) numbers.now) }
 {
-    if let (Scope::Reach { table, .. }, Some(first)) = (scope, numbers.first()) {
+    if let (Scope::Reach { table, outer, .. }, Some(first)) = (scope, numbers.first()) {
         let held = table.find(book.spelling(*first as usize));
         if held.after.is_empty() && !held.before.is_empty() {
-            return push_among(held.before, numbers, out);
+            return push_entered(outer, held.before, numbers, out);
         }
     }
     push_each_seen(book, scope, numbers, out)
+}
+
+// Those of some definitions that are among others, of which all are known in a reach. Of fewer others none is gone over if none
+// is known there.
+fn push_entered(
+    scope: &Scope,
+    others: &[u32],
+    numbers: &[u32],
+    out: &mut Numbers,
+) -> Result<(), Memory>
+    ensures { AreKnown (is_known scope.now) numbers.now → OnOk result (out.new ≡ out.old ++ filter (λ d. is_among d others.now) numbers.now) }
+{
+    if others.len() < numbers.len() && !knows_any(scope, others) {
+        return Ok(());
+    }
+    push_among(others, numbers, out)
 }
 
 // Carries along what a reach sees of a group that is carried around it: all of it as it is, or a new group.
@@ -265,32 +236,21 @@ fn carry_group(
     scope: &Scope,
     shared: &Shared,
     lists: &mut Vec<Numbers>,
-    out: &mut Lending,
+    out: &mut List<Shared>,
 ) -> Result<(), Memory>
-    ensures keeps { Sound book.now scope.now → IsGroup book.now.all.items (shown_around book.now scope.now) shared.now → OnOk result (Keeps book.now.all.items (shown book.now scope.now) shared.now.numbers out.old out.new) }
+    ensures keeps { Sound book.now scope.now → IsGroup book.now.all.items (shown_around book.now scope.now) shared.now → AreKnown (is_known_around scope.now) shared.now.numbers → OnOk result (Keeps book.now.all.items (shown book.now scope.now) shared.now.numbers out.old out.new) }
     ensures lists { OnOk result (Includes lists.old.items lists.new.items) }
 {
     if takes_group(book, scope, shared.group()) {
-        return out.groups.push(shared.share()?);
+        return out.push(shared.share()?);
     }
     let numbers = shared.group().numbers.as_slice();
     let mut seen = Numbers::new(alloc);
     push_seen(book, scope, numbers, &mut seen)?;
     if seen.len() == numbers.len() {
-        return out.groups.push(shared.share()?);
+        return out.push(shared.share()?);
     }
-    hide_first(alloc, book, numbers, &mut out.hidden)?;
-    push_group(alloc, book, seen.as_slice(), lists, &mut out.groups)
-}
-
-// Hides the name of the first of some definitions.
-fn hide_first(alloc: Global, book: &Book, numbers: &[u32], hidden: &mut Names) -> Result<(), Memory>
-    ensures { (has : List ℕ → List ℕ) → AreOfOneName book.now.all.items numbers.now → OnOk result (Hides book.now.all.items has numbers.now hidden.old hidden.new) }
-{
-    match numbers.first() {
-        Some(first) => hidden.insert(alloc, book.spelling(*first as usize)),
-        None => Ok(()),
-    }
+    push_group(alloc, book, seen.as_slice(), lists, out)
 }
 
 /// Carries along what a reach sees of groups that are carried around it.
@@ -300,9 +260,9 @@ pub fn carry_groups(
     scope: &Scope,
     groups: &[Shared],
     lists: &mut Vec<Numbers>,
-    out: &mut Lending,
+    out: &mut List<Shared>,
 ) -> Result<(), Memory>
-    ensures keeps { Sound book.now scope.now → AreGroups book.now.all.items (shown_around book.now scope.now) groups.now → OnOk result (Keeps book.now.all.items (shown book.now scope.now) (in_groups groups.now) out.old out.new) }
+    ensures keeps { Sound book.now scope.now → AreGroups book.now.all.items (shown_around book.now scope.now) groups.now → AreKnown (is_known_around scope.now) (in_groups groups.now) → OnOk result (Keeps book.now.all.items (shown book.now scope.now) (in_groups groups.now) out.old out.new) }
     ensures lists { OnOk result (Includes lists.old.items lists.new.items) }
 {
     for shared in groups {

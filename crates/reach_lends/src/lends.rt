@@ -1,20 +1,25 @@
 // What a reach lends to the modulions in it: made anew, or made on from what is lent to it.
-ghost use Rattle.std.specs.Prelude.{◌≡◌, ◌++◌, ◌||◌, [], true, ℕ, List, IfOk, IfSome, OnOk};
-ghost use Rattle.std.specs.List.{list_any};
-ghost use Rattle.names_model.specs.Entries.{is_among};
+ghost use Rattle.std.specs.Prelude.{◌≡◌, ◌++◌, ◌||◌, ◌&&◌, [], true, ℕ, List, IfOk, IfSome, OnOk, flat_map};
+ghost use Rattle.names_model.specs.Definitions.{elements_at};
+ghost use Rattle.names_model.specs.Parts.{part_tree};
 ghost use Rattle.reach_tables.specs.Held.{IsHeld, brought};
-ghost use Rattle.reach_tables.specs.Lends.{AreLent, Carries, IsLending};
-ghost use Rattle.reach_tables.specs.Names.{is_named};
+ghost use Rattle.reach_tables.specs.Lends.{AreKnown, Carries, IsLending};
+ghost use Rattle.reach_tables.specs.Marked.{is_marked};
+ghost use Rattle.reach_tables.specs.Offsets.{nodes_of};
 ghost use Rattle.reach_tables.specs.Placed.{Includes};
-ghost use Rattle.reach_tables.specs.Scopes.{Lends, Sound, shown, shown_around};
+ghost use Rattle.reach_tables.specs.Scopes.{Lends, Sound, is_known_around, shown, shown_around};
 ghost use Rattle.reach_tables.specs.declared.holding.Holding.{Holding};
-ghost use Rattle.reach_lends.specs.Carried.{AddNothing, ahead_of, behind_of, is_number};
+ghost use Rattle.reach_lends.specs.Carried.{ahead_of, behind_of};
+ghost use Rattle.reach_lends.specs.Known.{AddsNone, AreMarked, LendsWell, has_modulion, is_modulion};
 
+use crate::adding::adds_none;
 use crate::carrying::{carry, carry_groups, sees_around};
 use chill_base::{List, Memory, Numbers};
 use names_model::{Part, Spelling};
 use reach_entries::{push_all, push_shown, seizes_all};
-use reach_tables::{Asked, Book, Held, Item, Lending, Lent, Names, Scope, lent_by, shows_any};
+use reach_tables::{
+    Asked, Book, Held, Item, Lent, Marked, Names, Scope, Shared, lent_by, shows_any,
+};
 use std::alloc::Global;
 
 // Puts what an item brings without a look around behind others.
@@ -56,60 +61,6 @@ fn push_behind(items: &[Item], out: &mut Numbers) -> Result<(), Memory>
     Ok(())
 }
 
-// Whether one of some items is a definition that the reach enters itself.
-fn has_number(items: &[Item]) -> bool
-    ensures { result ≡ list_any is_number items.now }
-{
-    for item in items {
-        if let Item::Number(_) = item {
-            return true;
-        }
-    }
-    false
-}
-
-// Whether a reach sees nothing under a name but what is seen around it. It may answer no where it has more that is seen there.
-fn adds_nothing(book: &Book, scope: &Scope, name: &Spelling) -> bool
-    ensures { Sound book.now scope.now → result ≡ true → (d : ℕ) → is_among d (shown book.now scope.now name.now) ≡ true → is_among d (shown_around book.now scope.now name.now) ≡ true }
-{
-    match scope {
-        Scope::Outside => true,
-        Scope::Reach {
-            table,
-            takes_all,
-            ..
-        } => {
-            let held = table.find(name);
-            if held.is_empty() {
-                return *takes_all || book.predefined.find(name).before.is_empty();
-            }
-            held.before.is_empty() && !has_number(held.after)
-        }
-    }
-}
-
-// Whether it does so under each of some names.
-fn add_nothing(book: &Book, scope: &Scope, names: &[Spelling]) -> bool
-    ensures { Sound book.now scope.now → result ≡ true → AddNothing (shown book.now scope.now) (shown_around book.now scope.now) names.now }
-{
-    for name in names {
-        if !adds_nothing(book, scope, name) {
-            return false;
-        }
-    }
-    true
-}
-
-// Hides names too.
-fn hide_names(alloc: Global, names: &[Spelling], hidden: &mut Names) -> Result<(), Memory>
-    ensures { OnOk result ((n : List ℕ) → is_named hidden.new n ≡ (is_named names.now n || is_named hidden.old n)) }
-{
-    for name in names {
-        hidden.insert(alloc, name)?;
-    }
-    Ok(())
-}
-
 // What goes along with what a reach has under a name before what is seen around, with that, by what is lent for it there, and
 // with what is behind.
 fn lend_on(
@@ -117,10 +68,12 @@ fn lend_on(
     book: &Book,
     scope: &Scope,
     held: &Held,
-    lending: &Lending,
+    around: &[Shared],
     lists: &mut Vec<Numbers>,
-) -> Result<Lending, Memory>
-    ensures lends { (h : Holding) (seen : List ℕ) → Sound book.now scope.now → IsHeld held.now h → Carries book.now.all.items (shown_around book.now scope.now) seen lending.now → AddNothing (shown book.now scope.now) (shown_around book.now scope.now) lending.now.hidden → IfOk result (Carries book.now.all.items (shown book.now scope.now) (((h.before ++ ahead_of h.after) ++ seen) ++ behind_of h.after)) }
+    marked: &mut Marked,
+) -> Result<List<Shared>, Memory>
+    ensures lends { (h : Holding) (seen : List ℕ) → Sound book.now scope.now → AddsNone book.now scope.now → IsHeld held.now h → Carries book.now.all.items (shown_around book.now scope.now) seen around.now → AreKnown (is_known_around scope.now) (flat_map (elements_at book.now.all.items) seen) → IfOk result (Carries book.now.all.items (shown book.now scope.now) (((h.before ++ ahead_of h.after) ++ seen) ++ behind_of h.after)) }
+    ensures marks { (h : Holding) → IsHeld held.now h → OnOk result (AreMarked (flat_map (elements_at book.now.all.items) ((h.before ++ ahead_of h.after) ++ behind_of h.after)) marked.old marked.new) }
     ensures lists { OnOk result (Includes lists.old.items lists.new.items) }
 {
     let mut ahead = Numbers::new(alloc);
@@ -128,28 +81,43 @@ fn lend_on(
     push_ahead(held.after, &mut ahead)?;
     let mut behind = Numbers::new(alloc);
     push_behind(held.after, &mut behind)?;
-    let mut made = Lending {
-        groups: List::new(alloc),
-        hidden: Names::new(alloc),
-    };
-    hide_names(alloc, lending.hidden.as_slice(), &mut made.hidden)?;
-    carry(alloc, book, scope, ahead.as_slice(), lists, &mut made)?;
-    let groups = lending.groups.as_slice();
-    carry_groups(alloc, book, scope, groups, lists, &mut made)?;
-    carry(alloc, book, scope, behind.as_slice(), lists, &mut made)?;
+    let mut made = List::new(alloc);
+    carry(
+        alloc,
+        book,
+        scope,
+        ahead.as_slice(),
+        lists,
+        &mut made,
+        marked,
+    )?;
+    carry_groups(alloc, book, scope, around, lists, &mut made)?;
+    carry(
+        alloc,
+        book,
+        scope,
+        behind.as_slice(),
+        lists,
+        &mut made,
+        marked,
+    )?;
     Ok(made)
 }
 
-// What goes along with a name, made on from what is lent for it around the reach: where the reach sees under the name what is
-// seen around, and adds nothing under the names that are hidden there.
+// What goes along with a name, made on from what is lent for it around the reach, if the reach sees under the name what is seen
+// around.
 fn lent_on(
     alloc: Global,
     book: &Book,
     scope: &Scope,
     name: &Spelling,
+    goes_on: bool,
     lists: &mut Vec<Numbers>,
-) -> Result<Option<Lending>, Memory>
-    ensures lends { Sound book.now scope.now → IfOk result (λ r. IfSome r (IsLending book.now.all.items (shown book.now scope.now) name.now)) }
+    marked: &mut Marked,
+) -> Result<Option<List<Shared>>, Memory>
+    ensures lends { Sound book.now scope.now → (goes_on ≡ true → AddsNone book.now scope.now) → IfOk result (λ r. IfSome r (IsLending book.now.all.items (shown book.now scope.now) name.now)) }
+    ensures known { Sound book.now scope.now → IfOk result (λ r. IfSome r (λ gs. AreKnown (λ d. is_marked marked.new d || (goes_on && is_known_around scope.now d)) (flat_map (elements_at book.now.all.items) (shown book.now scope.now name.now)))) }
+    ensures grows { OnOk result (AreMarked [] marked.old marked.new) }
     ensures lists { OnOk result (Includes lists.old.items lists.new.items) }
 {
     let Scope::Reach {
@@ -162,15 +130,13 @@ fn lent_on(
         return Ok(None);
     };
     let held = table.find(name);
-    if !sees_around(&held, *takes_all) {
+    if !goes_on || !sees_around(&held, *takes_all) {
         return Ok(None);
     }
     match lent_by(outer, name) {
-        Some(lending) => {
-            if !add_nothing(book, scope, lending.hidden.as_slice()) {
-                return Ok(None);
-            }
-            let made = lend_on(alloc, book, scope, &held, lending, lists)?;
+        Some(groups) => {
+            let around = groups.as_slice();
+            let made = lend_on(alloc, book, scope, &held, around, lists, marked)?;
             Ok(Some(made))
         }
         None => Ok(None),
@@ -184,17 +150,24 @@ fn lend_anew(
     scope: &Scope,
     name: &Spelling,
     lists: &mut Vec<Numbers>,
-) -> Result<Lending, Memory>
+    marked: &mut Marked,
+) -> Result<List<Shared>, Memory>
     ensures lends { Sound book.now scope.now → IfOk result (IsLending book.now.all.items (shown book.now scope.now) name.now) }
+    ensures marks { Sound book.now scope.now → OnOk result (AreMarked (flat_map (elements_at book.now.all.items) (shown book.now scope.now name.now)) marked.old marked.new) }
     ensures lists { OnOk result (Includes lists.old.items lists.new.items) }
 {
     let mut numbers = Numbers::new(alloc);
     push_shown(alloc, book, scope, name, &mut numbers)?;
-    let mut made = Lending {
-        groups: List::new(alloc),
-        hidden: Names::new(alloc),
-    };
-    carry(alloc, book, scope, numbers.as_slice(), lists, &mut made)?;
+    let mut made = List::new(alloc);
+    carry(
+        alloc,
+        book,
+        scope,
+        numbers.as_slice(),
+        lists,
+        &mut made,
+        marked,
+    )?;
     Ok(made)
 }
 
@@ -209,14 +182,15 @@ fn lend_seized(
     lists: &mut Vec<Numbers>,
     lent: &mut Lent,
 ) -> Result<(), Memory>
-    ensures lends { Sound book.now scope.now → AreLent book.now.all.items (shown book.now scope.now) lent.old → OnOk result (AreLent book.now.all.items (shown book.now scope.now) lent.new) }
+    ensures lends { Sound book.now scope.now → LendsWell book.now scope.now lent.old → OnOk result (LendsWell book.now scope.now lent.new) }
     ensures lists { OnOk result (Includes lists.old.items lists.new.items) }
 {
-    if lent.find(name).is_some() || !shows_any(book, scope, name, Asked::HasElements) {
+    if lent.lendings.find(name).is_some() || !shows_any(book, scope, name, Asked::HasElements) {
         return Ok(());
     }
-    match lent_on(alloc, book, scope, name, lists)? {
-        Some(lending) => lent.put(alloc, name, lending),
+    let goes_on = lent.goes_on;
+    match lent_on(alloc, book, scope, name, goes_on, lists, &mut lent.elements)? {
+        Some(groups) => lent.lendings.put(alloc, name, groups),
         None => lend_again(alloc, book, scope, name, once, lists, lent),
     }
 }
@@ -231,14 +205,14 @@ fn lend_again(
     lists: &mut Vec<Numbers>,
     lent: &mut Lent,
 ) -> Result<(), Memory>
-    ensures lends { Sound book.now scope.now → AreLent book.now.all.items (shown book.now scope.now) lent.old → OnOk result (AreLent book.now.all.items (shown book.now scope.now) lent.new) }
+    ensures lends { Sound book.now scope.now → LendsWell book.now scope.now lent.old → OnOk result (LendsWell book.now scope.now lent.new) }
     ensures lists { OnOk result (Includes lists.old.items lists.new.items) }
 {
     if !once.contains(name) {
         return once.insert(alloc, name);
     }
-    let lending = lend_anew(alloc, book, scope, name, lists)?;
-    lent.put(alloc, name, lending)
+    let groups = lend_anew(alloc, book, scope, name, lists, &mut lent.elements)?;
+    lent.lendings.put(alloc, name, groups)
 }
 
 // Lends for what a modulion of these parts seizes, and, where it takes all that is seen around it, for what those in it do.
@@ -252,7 +226,7 @@ fn lend_to(
     lists: &mut Vec<Numbers>,
     lent: &mut Lent,
 ) -> Result<(), Memory>
-    ensures lends { Sound book.now scope.now → AreLent book.now.all.items (shown book.now scope.now) lent.old → OnOk result (AreLent book.now.all.items (shown book.now scope.now) lent.new) }
+    ensures lends { Sound book.now scope.now → LendsWell book.now scope.now lent.old → OnOk result (LendsWell book.now scope.now lent.new) }
     ensures lists { OnOk result (Includes lists.old.items lists.new.items) }
 {
     let takes_all = seizes_all(parts);
@@ -274,7 +248,7 @@ fn lend_for(
     lists: &mut Vec<Numbers>,
     lent: &mut Lent,
 ) -> Result<(), Memory>
-    ensures lends { Sound book.now scope.now → AreLent book.now.all.items (shown book.now scope.now) lent.old → OnOk result (AreLent book.now.all.items (shown book.now scope.now) lent.new) }
+    ensures lends { Sound book.now scope.now → LendsWell book.now scope.now lent.old → OnOk result (LendsWell book.now scope.now lent.new) }
     ensures lists { OnOk result (Includes lists.old.items lists.new.items) }
 {
     match part {
@@ -296,6 +270,37 @@ fn lend_for(
     }
 }
 
+// Whether a part is a modulion.
+#[tactic(auto, using(names_model::proofs::PartViews::part_built))]
+fn is_modulion(part: &Part) -> bool
+    ensures { result ≡ is_modulion (part_tree part.now) }
+{
+    match part {
+        Part::Modulion { .. } => true,
+        Part::Define(_)
+        | Part::Mention(_)
+        | Part::Seize(_)
+        | Part::SeizeAll(_)
+        | Part::Grant(_)
+        | Part::GrantAll(_)
+        | Part::Stray(_)
+        | Part::Routine { .. }
+        | Part::Block { .. } => false,
+    }
+}
+
+// Whether a modulion is among parts.
+fn has_modulion(parts: &[Part]) -> bool
+    ensures { result ≡ has_modulion (nodes_of parts.now) }
+{
+    for part in parts {
+        if is_modulion(part) {
+            return true;
+        }
+    }
+    false
+}
+
 // What a reach of these parts lends to the modulions directly in it.
 fn lent_of(
     alloc: Global,
@@ -304,11 +309,12 @@ fn lent_of(
     parts: &[Part],
     lists: &mut Vec<Numbers>,
 ) -> Result<Lent, Memory>
-    ensures lends { Sound book.now scope.now → IfOk result (AreLent book.now.all.items (shown book.now scope.now)) }
+    ensures lends { Sound book.now scope.now → IfOk result (LendsWell book.now scope.now) }
     ensures lists { OnOk result (Includes lists.old.items lists.new.items) }
 {
+    let goes_on = has_modulion(parts) && adds_none(book, scope);
     let mut once = Names::new(alloc);
-    let mut lent = Lent::new(alloc);
+    let mut lent = Lent::new(alloc, goes_on);
     for part in parts {
         if let Part::Modulion { parts: inner, .. } = part {
             lend_to(

@@ -6,7 +6,9 @@
 //! modulions in it. What goes along with a name is made out anew, or made on from what is lent to the reach itself.
 #![tactic(auto)]
 
+mod adding;
 mod carrying;
+mod knowing;
 mod lends;
 
 pub use lends::lend_in;

@@ -7,7 +7,8 @@ use Rattle.names_model.specs.declared.definition.Definition.{Definition}
 use Rattle.names_model.specs.Definitions.{spelling_at, under}
 use Rattle.names_model.specs.Entries.{is_among, once_behind}
 use Rattle.reach_tables.specs.Held.{held}
-use Rattle.reach_tables.specs.Marks.{Added, Adds, IsTended, Marks, Takes, is_marked}
+use Rattle.reach_tables.specs.Marked.{is_marked}
+use Rattle.reach_tables.specs.Marks.{Added, Adds, IsTended, Marks, Takes}
 use Rattle.reach_tables.specs.Names.{is_named}
 use Rattle.reach_tables.specs.Scopes.{Orderly}
 use Rattle.reach_tables.specs.Tellings.{is_another_among}

@@ -13,7 +13,8 @@ use Rattle.reach_tables.specs.declared.qualities.Qualities.{Qualities}
 use Rattle.reach_tables.specs.Asking.{Rated}
 use Rattle.reach_tables.specs.Held.{Holdings, brought, entered, holding, listed, shares_unseen, starts_with_number, with_number}
 use Rattle.reach_tables.specs.declared.holding.Holding.{Holding}
-use Rattle.reach_tables.specs.Marks.{Marks, Added, is_marked}
+use Rattle.reach_tables.specs.Marked.{is_marked}
+use Rattle.reach_tables.specs.Marks.{Marks, Added}
 use Rattle.reach_tables.specs.Scopes.{Kept}
 use Rattle.reach_tables.proofs.Holdings.{after-with, entered-listed, entered-with, listed-with, rated-with, starts-with}
 use Rattle.reach_tables.proofs.Noting.{any-behind}

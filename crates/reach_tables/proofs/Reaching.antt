@@ -4,14 +4,15 @@ use Rattle.std.specs.Prelude.{◌||◌, ◌&&◌, ◌==◌, flat_map, slice_get}
 use Rattle.std.specs.List.{list_any}
 use Rattle.std.proofs.lemmas.Bool.{ne_eqb}
 use Rattle.names_model.specs.declared.definition.Definition.{Definition}
+use Rattle.names_model.specs.Definitions.{elements_at}
 use Rattle.names_model.specs.Entries.{is_among, once_behind}
 use Rattle.names_model.specs.Seeing.{is_empty, or_else}
 use Rattle.reach_tables.specs.Held.{Holdings, brought, had, held, holding, holds_none, is_around, is_seized, listed, own}
 use Rattle.reach_tables.specs.Lendings.{lending_of}
-use Rattle.reach_tables.specs.Lends.{IsLending}
-use Rattle.reach_tables.specs.Scopes.{Kept, Sound, lent_in, shown}
+use Rattle.reach_tables.specs.Lends.{AreKnown, IsLending}
+use Rattle.reach_tables.specs.Scopes.{Kept, Sound, is_known, lent_in, shown}
 use Rattle.reach_tables.specs.declared.book.Book.{Book}
-use Rattle.reach_tables.specs.declared.lent.Lending.{Lending}
+use Rattle.reach_tables.specs.declared.group.Group.{Group}
 use Rattle.reach_tables.specs.declared.scope.Scope.{Scope, Outside, Reach'}
 use Rattle.reach_tables.specs.declared.holding.Holding.{Holding}
 use Rattle.reach_tables.specs.declared.holding.Item.{Item}
@@ -160,6 +161,11 @@ item-some h i k = side h.before h.after k
 -- ---- what is lent
 
 -- what a scope lends for a name is what goes along with it
-pub lent-sound : (b : Book) (s : Scope) (n : List ℕ) (z : Lending) → Sound b s → Some z ≡ lending_of (lent_in s) n → IsLending b.all.items (shown b s) n z
-lent-sound b Outside n z h k = absurd cc
-lent-sound b (Reach' t all p o l y) n z h k = h.3.by n z (sym k)
+pub lent-sound : (b : Book) (s : Scope) (n : List ℕ) (gs : List Group) → Sound b s → Some gs ≡ lending_of (lent_in s) n → IsLending b.all.items (shown b s) n gs
+lent-sound b Outside n gs h k = absurd cc
+lent-sound b (Reach' t all p o l z) n gs h k = h.3.by n gs (sym k)
+
+-- the elements of what it lends it for are known
+pub lent-known : (b : Book) (s : Scope) (n : List ℕ) (gs : List Group) → Sound b s → Some gs ≡ lending_of (lent_in s) n → AreKnown (is_known s) (flat_map (elements_at b.all.items) (shown b s n))
+lent-known b Outside n gs h k = absurd cc
+lent-known b (Reach' t all p o l z) n gs h k = h.3.known n gs (sym k)

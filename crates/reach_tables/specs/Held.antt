@@ -1,5 +1,5 @@
 -- What tables hold.
-use Rattle.std.specs.Prelude.{◌≡◌, ℕ, Bool, true, false, not, ◌&&◌, ◌==◌, List, [], ◌∷◌, ◌++◌, flat_map, length, unwrap_or, if◌then◌else◌}
+use Rattle.std.specs.Prelude.{◌≡◌, ⊤, ℕ, Bool, true, false, not, ◌&&◌, ◌==◌, List, [], ◌∷◌, ◌++◌, Option, Some, None, flat_map, length, unwrap_or, if◌then◌else◌}
 use Rattle.std.specs.List.{list_any}
 use Rattle.std.specs.Map.{lookup}
 use Rattle.std.specs.Str.{bytes_eq}
@@ -106,3 +106,10 @@ pub record IsHeld (v : Held) (h : Holding) : Type 0 where
   pub after : v.after.now ≡ h.after
   pub seized : v.seized ≡ is_seized h
   pub qualities : v.qualities ≡ h.qualities
+
+-- what is lent of an entry, where there is one
+abbrev pub AreHeld : Option Held → Option (List ℕ × Holding) → Type 0
+AreHeld None None = ⊤
+AreHeld None (Some e) = ⊥
+AreHeld (Some v) None = ⊥
+AreHeld (Some v) (Some e) = IsHeld v e.1

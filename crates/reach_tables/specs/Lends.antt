@@ -1,14 +1,12 @@
 -- What a reach lends to the modulions in it: the elements that go along with what they seize.
-use Rattle.std.specs.Prelude.{◌≡◌, ℕ, true, ◌||◌, List, [], ◌∷◌, Some, ⊤, flat_map, slice_index_or}
+use Rattle.std.specs.Prelude.{◌≡◌, ℕ, Bool, true, List, [], ◌∷◌, Some, ⊤, flat_map, slice_index_or}
 use Rattle.std.specs.Str.{bytes_eq}
 use Rattle.names_model.specs.declared.definition.Definition.{Definition}
 use Rattle.names_model.specs.Definitions.{elements_at, spelling_at, under}
 use Rattle.names_model.specs.Entries.{along, is_among, once_behind}
 use Rattle.reach_tables.specs.Asking.{Rated}
 use Rattle.reach_tables.specs.Lendings.{Lendings, lending_of}
-use Rattle.reach_tables.specs.Names.{is_named}
 use Rattle.reach_tables.specs.declared.group.Group.{Group}
-use Rattle.reach_tables.specs.declared.lent.Lending.{Lending}
 
 -- the elements that go along with what is seen under a name
 abbrev pub going : List Definition → (List ℕ → List ℕ) → List ℕ → List ℕ
@@ -41,20 +39,20 @@ AreGroups all has (g ∷ gs) = IsGroup all has g × AreGroups all has gs
 abbrev pub in_groups : List Group → List ℕ
 in_groups gs = flat_map (λ g. g.numbers) gs
 
--- each of some definitions is seen under its own name, or that name is among these
-pub record AreSeenBut (all : List Definition) (has : List ℕ → List ℕ) (hidden : List (List ℕ)) (ds : List ℕ) : Type 0 where
-  pub by : (d : ℕ) → is_among d ds ≡ true → (is_among d (has (spelling_at all d)) || is_named hidden (spelling_at all d)) ≡ true
-
--- The elements that go along with some definitions, in groups. Each of their elements goes along, or has a hidden name.
-pub record Carries (all : List Definition) (has : List ℕ → List ℕ) (ds : List ℕ) (z : Lending) : Type 0 where
-  pub groups : AreGroups all has z.groups
-  pub same : SameUnder all (in_groups z.groups) (flat_map (along all has) ds)
-  pub hidden : AreSeenBut all has z.hidden (flat_map (elements_at all) ds)
+-- groups of all elements that go along with some definitions
+pub record Carries (all : List Definition) (has : List ℕ → List ℕ) (ds : List ℕ) (gs : List Group) : Type 0 where
+  pub groups : AreGroups all has gs
+  pub same : SameUnder all (in_groups gs) (flat_map (along all has) ds)
 
 -- those that go along with what is seen under a name
-abbrev pub IsLending : List Definition → (List ℕ → List ℕ) → List ℕ → Lending → Type 0
-IsLending all has n z = Carries all has (has n) z
+abbrev pub IsLending : List Definition → (List ℕ → List ℕ) → List ℕ → List Group → Type 0
+IsLending all has n gs = Carries all has (has n) gs
 
--- all that is lent
-pub record AreLent (all : List Definition) (has : List ℕ → List ℕ) (l : Lendings) : Type 0 where
-  pub by : (n : List ℕ) (z : Lending) → lending_of l n ≡ Some z → IsLending all has n z
+-- each of some numbers is known
+pub record AreKnown (knows : ℕ → Bool) (ds : List ℕ) : Type 0 where
+  pub by : (d : ℕ) → is_among d ds ≡ true → knows d ≡ true
+
+-- all that is lent; the elements of what it is lent for are known, whether they are seen or not
+pub record AreLent (all : List Definition) (has : List ℕ → List ℕ) (knows : ℕ → Bool) (l : Lendings) : Type 0 where
+  pub by : (n : List ℕ) (gs : List Group) → lending_of l n ≡ Some gs → IsLending all has n gs
+  pub known : (n : List ℕ) (gs : List Group) → lending_of l n ≡ Some gs → AreKnown knows (flat_map (elements_at all) (has n))

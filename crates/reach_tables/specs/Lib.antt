@@ -2,6 +2,7 @@ pub mod Asking
 pub mod Held
 pub mod Books
 pub mod Names
+pub mod Marked
 pub mod Lendings
 pub mod Lends
 pub mod Scopes

@@ -1,19 +1,15 @@
 -- Which numbers a reach has entered itself.
-use Rattle.std.specs.Prelude.{◌≡◌, ℕ, Bool, true, false, List, [], ◌∷◌, nat_eq}
+use Rattle.std.specs.Prelude.{◌≡◌, ℕ, Bool, true, false, List, [], ◌∷◌}
 use Rattle.std.specs.Str.{bytes_eq}
-use Rattle.std.specs.List.{list_any}
 use Rattle.names_model.specs.declared.definition.Definition.{Definition}
 use Rattle.names_model.specs.Definitions.{spelling_at, under}
 use Rattle.names_model.specs.Entries.{is_among, once_behind}
 use Rattle.reach_tables.specs.Held.{Holdings, entered, held, holding, no_holding}
+use Rattle.reach_tables.specs.Marked.{is_marked}
 use Rattle.reach_tables.specs.Names.{is_named}
 use Rattle.reach_tables.specs.Scopes.{Kept}
 use Rattle.reach_tables.specs.Tellings.{is_another_among}
 use Rattle.reach_tables.specs.declared.entered.Entered.{Entered}
-
--- the number is marked
-abbrev pub is_marked : List ℕ → ℕ → Bool
-is_marked marks d = list_any (nat_eq d) marks
 
 -- those are marked that the table has entered itself under their own names, and it has none under another name
 pub record Marks (marks : List ℕ) (t : Holdings) (all : List Definition) : Type 0 where

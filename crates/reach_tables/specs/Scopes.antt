@@ -1,5 +1,5 @@
 -- What tables hold of reaches, and what is seen by them.
-use Rattle.std.specs.Prelude.{◌≡◌, ℕ, true, false, List, [], if◌then◌else◌, ⊤}
+use Rattle.std.specs.Prelude.{◌≡◌, ℕ, Bool, true, false, ◌||◌, ◌&&◌, List, [], if◌then◌else◌, ⊤}
 use Rattle.std.specs.List.{list_any}
 use Rattle.std.specs.Str.{bytes_eq}
 use Rattle.names_model.specs.declared.definition.Definition.{Definition}
@@ -12,7 +12,9 @@ use Rattle.reach_tables.specs.Held.{Holdings, brought, had, held, holding, own, 
 use Rattle.reach_tables.specs.Books.{Keeps}
 use Rattle.reach_tables.specs.Lendings.{Lendings}
 use Rattle.reach_tables.specs.Lends.{AreLent}
+use Rattle.reach_tables.specs.Marked.{is_marked}
 use Rattle.reach_tables.specs.declared.book.Book.{Book}
+use Rattle.reach_tables.specs.declared.lent.Lent.{Lent}
 use Rattle.reach_tables.specs.declared.scope.Scope.{Scope, Outside, Reach'}
 
 -- the table holds what entries have under each name, where these are seen around
@@ -45,23 +47,37 @@ shown_around b (Reach' t all p o l z) n = shown b o n
 -- what a scope lends
 abbrev pub lent_in : Scope → Lendings
 lent_in Outside = []
-lent_in (Reach' t all p o l z) = z
+lent_in (Reach' t all p o l z) = z.lendings
+
+-- a number is an element of what a reach lends for, or, where it lends on, of what is lent for around it
+abbrev pub is_known : Scope → ℕ → Bool
+is_known Outside d = false
+is_known (Reach' t all p o l z) d = is_marked z.elements d || (z.goes_on && is_known o d)
+
+-- it is so around the reach
+abbrev pub is_known_around : Scope → ℕ → Bool
+is_known_around Outside d = false
+is_known_around (Reach' t all p o l z) d = is_known o d
+
+-- it is so by what the reach comes to lend
+abbrev pub is_known_by : Scope → Lent → ℕ → Bool
+is_known_by s z d = is_marked z.elements d || (z.goes_on && is_known_around s d)
 
 -- each table is kept well, shows definitions under their own names, each once, and what is lent is what goes along
 abbrev pub Sound : Book → Scope → Type 0
 Sound b Outside = ⊤
-Sound b (Reach' t all p o l z) = Kept (shown b o) t b.all.items × Orderly b.all.items (shown b (Reach' t all p o l z)) × Sound b o × AreLent b.all.items (shown b (Reach' t all p o l z)) z
+Sound b (Reach' t all p o l z) = Kept (shown b o) t b.all.items × Orderly b.all.items (shown b (Reach' t all p o l z)) × Sound b o × AreLent b.all.items (shown b (Reach' t all p o l z)) (is_known_by (Reach' t all p o l z) z) z.lendings
 
--- a scope that lends these
-abbrev pub with_lent : Scope → Lendings → Scope
+-- a scope that lends this
+abbrev pub with_lent : Scope → Lent → Scope
 with_lent Outside z = Outside
 with_lent (Reach' t all p o l y) z = Reach' t all p o l z
 
 -- the scope is another one that lends what goes along
 pub record Lends (b : Book) (s s' : Scope) : Type 0 where
-  pub lent : Lendings
+  pub lent : Lent
   pub is : s' ≡ with_lent s lent
-  pub are : AreLent b.all.items (shown b s) lent
+  pub are : AreLent b.all.items (shown b s) (is_known_by s lent) lent.lendings
 
 -- the book has the definitions of the text, and the tables show what the reach sees
 pub record Shows (b : Book) (s : Scope) (text : List Definition) (r : Reach) : Type 0 where

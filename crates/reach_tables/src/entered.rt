@@ -44,7 +44,7 @@ impl Entered {
     fn add(&mut self, alloc: Global, book: &Book, around: &Scope, number: u32) -> Result<(), Memory>
         ensures { Sound book.now around.now → IsTended (shown book.now around.now) book.now.all.items self.old → OnOk result (Adds (shown book.now around.now) book.now.all.items (number ∷ []) self.old self.new) }
     {
-        if !self.marked.mark(number)? {
+        if !self.marked.mark(number as usize)? {
             return Ok(());
         }
         let name = book.spelling(number as usize);

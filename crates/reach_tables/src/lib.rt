@@ -29,7 +29,7 @@ pub use crowded::is_another_under;
 pub use entered::{Entered, FEW};
 pub use group::{Group, Shared};
 pub use holding::{Held, Item};
-pub use lent::{Lending, Lent};
+pub use lent::{Lendings, Lent};
 pub use marked::Marked;
 pub use names::Names;
 pub use offsets::{
@@ -38,5 +38,5 @@ pub use offsets::{
 };
 pub use places::Places;
 pub use qualities::Qualities;
-pub use scope::{Scope, find_shown, first_shown, lent_by, shows_any};
+pub use scope::{Scope, find_shown, first_shown, is_known, lent_by, shows_any};
 pub use table::Table;

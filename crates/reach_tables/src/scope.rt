@@ -4,15 +4,17 @@ ghost use Rattle.std.specs.List.{list_any};
 ghost use Rattle.names_model.specs.Entries.{is_among};
 ghost use Rattle.reach_tables.specs.Asking.{meets};
 ghost use Rattle.reach_tables.specs.Lendings.{lending_of};
-ghost use Rattle.reach_tables.specs.Scopes.{Sound, lent_in, shown};
+ghost use Rattle.reach_tables.specs.Scopes.{Sound, is_known, lent_in, shown};
 
 use crate::asked::Asked;
 use crate::asking::{among, among_own, any_meets, own_meets};
 use crate::book::Book;
+use crate::group::Shared;
 use crate::holding::Item;
-use crate::lent::{Lending, Lent};
+use crate::lent::Lent;
 use crate::places::Places;
 use crate::table::Table;
+use chill_base::List;
 use names_model::Spelling;
 
 /// The table of a reach, and the reaches around it.
@@ -36,7 +38,7 @@ impl<'a> Scope<'a> {
     ghost use Rattle.std.specs.Prelude.{◌≡◌};
     ghost use Rattle.reach_tables.specs.Scopes.{with_lent};
 
-    /// Lends these from now on, and nothing else.
+    /// Lends this from now on, and nothing else.
     pub fn lend(&mut self, made: Lent)
         ensures { self.new ≡ with_lent self.old made }
     {
@@ -48,12 +50,24 @@ impl<'a> Scope<'a> {
 }
 
 /// What a reach lends for a name.
-pub fn lent_by<'s>(scope: &'s Scope, name: &Spelling) -> Option<&'s Lending>
+pub fn lent_by<'s>(scope: &'s Scope, name: &Spelling) -> Option<&'s List<Shared>>
     ensures { option_copied result ≡ lending_of (lent_in scope.now) name.now }
 {
     match scope {
         Scope::Outside => None,
-        Scope::Reach { lent, .. } => lent.find(name),
+        Scope::Reach { lent, .. } => lent.lendings.find(name),
+    }
+}
+
+/// Whether a number is an element of what a reach lends for, or, where it lends on, of what is lent for around it.
+pub fn is_known(scope: &Scope, number: usize) -> bool
+    ensures { result ≡ is_known scope.now number }
+{
+    match scope {
+        Scope::Outside => false,
+        Scope::Reach { outer, lent, .. } => {
+            lent.elements.contains(number) || (lent.goes_on && is_known(outer, number))
+        }
     }
 }
 

@@ -23,9 +23,9 @@ impl Model for Table {
 }
 
 impl Table {
-    ghost use Rattle.std.specs.Prelude.{◌≡◌, ℕ, List, length, option_copied, OnOk, if◌then◌else◌};
+    ghost use Rattle.std.specs.Prelude.{◌≡◌, ℕ, List, length, option_copied, slice_get, OnOk, if◌then◌else◌};
     ghost use Rattle.std.specs.Str.{bytes_eq};
-    ghost use Rattle.reach_tables.specs.Held.{IsHeld, holding, no_holding, with_group, with_number, with_seize};
+    ghost use Rattle.reach_tables.specs.Held.{AreHeld, IsHeld, holding, no_holding, with_group, with_number, with_seize};
     ghost use Rattle.reach_tables.specs.Placed.{crowded_at};
 
     /// The table with no definition. It takes no memory.
@@ -57,6 +57,14 @@ impl Table {
         ensures { result ≡ length self.now }
     {
         self.map.len()
+    }
+
+    /// What is kept under the name at an index.
+    pub fn held_at(&self, index: usize) -> Option<Held<'_>>
+        ensures { AreHeld result (slice_get self.now index) }
+    {
+        let (_, holding) = self.map.get_index(index)?;
+        Some(holding.lend())
     }
 
     /// The name at an index, where two parts or more are kept under it.

@@ -20,11 +20,11 @@ use Rattle.names_model.specs.Resolving.{resolved_in}
 use Rattle.reach_walk.specs.Findings.{Adds, AddsInside, AddsNodes, AddsReach, groups_at, uses_at}
 use Rattle.reach_entries.specs.Givens.{GivenTree, given_of}
 use Rattle.reach_tables.specs.Held.{Holdings}
-use Rattle.reach_tables.specs.Lendings.{Lendings}
 use Rattle.reach_walk.specs.Listed.{AllListed}
 use Rattle.reach_tables.specs.Offsets.{FitsInside, nodes_of}
 use Rattle.reach_tables.specs.Placed.{Includes, Listed, Placed}
 use Rattle.reach_walk.specs.declared.findings.Findings.{Findings}
+use Rattle.reach_tables.specs.declared.lent.Lent.{Lent}
 use Rattle.reach_tables.specs.declared.scope.Scope.{Scope, Reach'}
 use Rattle.reach_entries.proofs.PartLists.{nodes-at}
 use Rattle.reach_tables.proofs.Appends.{flat_map-append}
@@ -102,7 +102,7 @@ adds-nothing scope old = record {
 }
 
 -- N1 of a reach is told, its own definitions are listed, and then its parts are walked over
-pub found-reach : (text : List Definition) (r : Reach) (from : ℕ) (ps : PartNodes) (t : Holdings) (takes : Bool) (p : Bor (Unit {0})) (outer : Scope) (places : Placed) (z : Lendings) (s : Scope) (old opened new : Findings) (twice : List Diagnostic)
+pub found-reach : (text : List Definition) (r : Reach) (from : ℕ) (ps : PartNodes) (t : Holdings) (takes : Bool) (p : Bor (Unit {0})) (outer : Scope) (places : Placed) (z : Lent) (s : Scope) (old opened new : Findings) (twice : List Diagnostic)
     → SameMembers opened.told.items (old.told.items ++ twice) → twice ≡ told_twice text r
     → Includes old.lists.items opened.lists.items → Listed opened.lists.items t places → opened.groups.items ≡ old.groups.items → opened.uses.items ≡ old.uses.items
     → s ≡ Reach' t takes p outer places z → AddsNodes s opened new text (nodes r from ps) → AddsReach outer old new text r from ps

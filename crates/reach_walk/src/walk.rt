@@ -169,7 +169,7 @@ fn walk_modulion<'a>(
         takes_all: seizes_all(parts),
         outer: scope,
         places,
-        lent: Lent::new(alloc),
+        lent: Lent::new(alloc, false),
     };
     lend_in(alloc, book, &mut inner, parts, &mut out.lists)?;
     walk(alloc, &*book, &inner, from, parts, given, out)?;
@@ -205,7 +205,7 @@ fn walk_block<'a>(
         takes_all: true,
         outer: scope,
         places,
-        lent: Lent::new(alloc),
+        lent: Lent::new(alloc, false),
     };
     walk(alloc, &*book, &inner, from, parts, given, out)?;
     Ok(())
@@ -232,7 +232,7 @@ pub fn find_in_program(
         takes_all: false,
         outer: &outside,
         places,
-        lent: Lent::new(alloc),
+        lent: Lent::new(alloc, false),
     };
     lend_in(alloc, book, &mut inner, parts, &mut out.lists)?;
     walk(alloc, book, &inner, 0, parts, given, out)?;

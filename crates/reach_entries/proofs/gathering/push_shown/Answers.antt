@@ -1,7 +1,7 @@
 use Rattle.std.proofs.Common.{◌≡◌, ◌∙◌, ◌++◌, [], List, ℕ, append-nil, ap, sym}
 use Rattle.names_model.specs.Entries.{once_behind}
 use Rattle.reach_entries.specs.Gathered.{Gathered}
-use Rattle.reach_tables.specs.Marks.{is_marked}
+use Rattle.reach_tables.specs.Marked.{is_marked}
 use Rattle.reach_tables.specs.Scopes.{shown}
 use Rattle.reach_tables.proofs.Succeeding.{on-ok}
 use Rattle.reach_tables.proofs.Taking.{orderly}

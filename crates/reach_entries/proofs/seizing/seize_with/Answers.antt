@@ -17,8 +17,8 @@ returns-in-Some c = λ es o.
     let name = c.args.name.now.spelling in
     let has = shown b s in
     let seen = shown b s name in
-    let z = c.in-Some.lending.now in
+    let z = c.in-Some.groups.now in
     let lent = lent-sound b s name z o.sound c.in-Some.ensures in
-    on-ok c.seize.result (opens-same b s c.seize.new.self es c.args.name.now.at (seen ++ in_groups z.groups) (seen ++ going b.all.items has name) (lent-same b.all.items has name z seen lent))
+    on-ok c.seize.result (opens-same b s c.seize.new.self es c.args.name.now.at (seen ++ in_groups z) (seen ++ going b.all.items has name) (lent-same b.all.items has name z seen lent))
     (subst (λ gs. OnOk c.seize.result (Opens b s c.seize.new.self (es ++ entry c.args.name.now.at (seen ++ in_groups gs) ∷ []))) c.as_slice.ensures
     (c.seize.ensures es (subst (AreGroups b.all.items has) (sym c.as_slice.ensures) lent.groups) o))

@@ -19,7 +19,4 @@ returns-clause-carries c = λ ds s h.
     let is : elements ≡ those = c.as_slice.ensures ∙ c.in_ok-push_along_all.ensures s ∙ ap (λ (r : List ℕ). r ++ those) c.new-elements.ensures in
     let more = c.in_ok-push_groups.ensures in
     let groups = more.groups has (subst (AreSeen all has) (sym is) (along-seen all has numbers)) h.groups in
-    on-ok c.hide_all_unseen.result (λ hides. carries-more all has ds numbers elements old _ h groups is more.numbers hides) (c.hide_all_unseen.ensures s)
-
-pub returns-clause-grows : goal.returns-clause-grows
-returns-clause-grows c = λ n s k. on-ok c.hide_all_unseen.result (λ hides. hides.grows n k) (c.hide_all_unseen.ensures s)
+    on-ok c.mark_all_elements.result (λ marks. carries-more all has ds numbers elements old c.push_groups.new.out h groups is more.numbers) c.mark_all_elements.ensures

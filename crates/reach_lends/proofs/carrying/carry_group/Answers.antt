@@ -2,9 +2,9 @@ use Rattle.std.proofs.Common.{◌≡◌, ◌∙◌, ◌++◌, ℕ, List, Result,
 use Rattle.std.specs.Prelude.{OnOk}
 use Rattle.names_model.specs.Definitions.{spelling_at}
 use Rattle.names_model.specs.Entries.{is_among}
-use Rattle.reach_tables.specs.Lends.{AreSeen, IsGroup, in_groups}
-use Rattle.reach_tables.specs.Scopes.{shown, shown_around}
-use Rattle.reach_lends.specs.Carried.{AreOfOneName, Hides, seen_of}
+use Rattle.reach_tables.specs.Lends.{AreKnown, AreSeen, IsGroup, in_groups}
+use Rattle.reach_tables.specs.Scopes.{is_known_around, shown, shown_around}
+use Rattle.reach_lends.specs.Carried.{AreOfOneName, seen_of}
 use Rattle.reach_tables.specs.declared.group.Group.{Group}
 use Rattle.reach_tables.proofs.Succeeding.{on-ok}
 use Rattle.reach_lends.proofs.Carried.{keeps-part, keeps-whole, long-seen, one-name-filter, seen-filtered}
@@ -16,7 +16,7 @@ on-both (Ok x) f q k = k f q
 on-both (Err e) f q k = q
 
 pub returns-then-takes_group-clause-keeps : goal.returns-then-takes_group-clause-keeps
-returns-then-takes_group-clause-keeps c = λ s g.
+returns-then-takes_group-clause-keeps c = λ s g known.
     let b = c.args.book.now in
     let scope = c.args.scope.now in
     let all = b.all.items in
@@ -25,7 +25,7 @@ returns-then-takes_group-clause-keeps c = λ s g.
     on-ok c.push.result (λ is. keeps-whole all (shown b scope) (shown_around b scope) c.args.out.now c.push.new.self shared c.in_ok-share.field-0 g seen c.in_ok-share.ensures is) c.push.ensures.ok
 
 pub returns-then-len-numbers-clause-keeps : goal.returns-then-len-numbers-clause-keeps
-returns-then-len-numbers-clause-keeps c = λ s g.
+returns-then-len-numbers-clause-keeps c = λ s g known.
     let b = c.args.book.now in
     let scope = c.args.scope.now in
     let all = b.all.items in
@@ -33,13 +33,13 @@ returns-then-len-numbers-clause-keeps c = λ s g.
     let numbers = c.as_slice-numbers.result.now in
     let is : numbers ≡ shared.numbers = c.as_slice-numbers.ensures ∙ ap (λ (y : Group). y.numbers) c.group-2.ensures in
     let one = subst (AreOfOneName all) (sym is) (record { by = g.named }) in
-    let found = c.in_ok-push_seen.ensures s one ∙ ap (λ (r : List ℕ). r ++ seen_of all (shown b scope) numbers) c.new-seen.ensures in
+    let found = c.in_ok-push_seen.ensures s one (subst (AreKnown (is_known_around scope)) (sym is) known) ∙ ap (λ (r : List ℕ). r ++ seen_of all (shown b scope) numbers) c.new-seen.ensures in
     let long : length c.push_seen.new.out ≡ length numbers = omega (arith, c.len.ensures, c.if-len-numbers.true) in
     let seen = subst (AreSeen all (shown b scope)) is (long-seen all (shown b scope) numbers c.push_seen.new.out found long) in
     on-ok c.push-then-len-numbers.result (λ is. keeps-whole all (shown b scope) (shown_around b scope) c.args.out.now c.push-then-len-numbers.new.self shared c.in_ok-share-2.field-0 g seen c.in_ok-share-2.ensures is) c.push-then-len-numbers.ensures.ok
 
 pub returns-clause-keeps : goal.returns-clause-keeps
-returns-clause-keeps c = λ s g.
+returns-clause-keeps c = λ s g known.
     let b = c.args.book.now in
     let scope = c.args.scope.now in
     let all = b.all.items in
@@ -47,9 +47,8 @@ returns-clause-keeps c = λ s g.
     let shared = c.args.shared.now in
     let numbers = c.as_slice-numbers.result.now in
     let is : numbers ≡ shared.numbers = c.as_slice-numbers.ensures ∙ ap (λ (y : Group). y.numbers) c.group-2.ensures in
-    let found : c.as_slice.result.now ≡ seen_of all has shared.numbers = c.as_slice.ensures ∙ c.in_ok-push_seen.ensures s (subst (AreOfOneName all) (sym is) (record { by = g.named })) ∙ ap (λ (r : List ℕ). r ++ seen_of all has numbers) c.new-seen.ensures ∙ ap (seen_of all has) is in
+    let found : c.as_slice.result.now ≡ seen_of all has shared.numbers = c.as_slice.ensures ∙ c.in_ok-push_seen.ensures s (subst (AreOfOneName all) (sym is) (record { by = g.named })) (subst (AreKnown (is_known_around scope)) (sym is) known) ∙ ap (λ (r : List ℕ). r ++ seen_of all has numbers) c.new-seen.ensures ∙ ap (seen_of all has) is in
     let one = subst (AreOfOneName all) (sym found) (one-name-filter all (λ d. is_among d (has (spelling_at all d))) shared.numbers (record { by = g.named })) in
     let seen = subst (AreSeen all has) (sym found) (seen-filtered all has shared.numbers) in
-    let hides = subst (λ ds. Hides all has ds c.args.out.now.hidden c.hide_first.new.hidden) is (c.in_ok-hide_first.ensures has (subst (AreOfOneName all) (sym is) (record { by = g.named }))) in
     on-both c.push_group.result (c.push_group.ensures.groups has one seen) c.push_group.ensures.numbers
-    (λ groups more. keeps-part all has c.args.out.now _ shared.numbers groups (more ∙ ap (λ r. in_groups c.args.out.now.groups ++ r) found) hides)
+    (λ groups more. keeps-part all has c.args.out.now c.push_group.new.out shared.numbers groups (more ∙ ap (λ r. in_groups c.args.out.now ++ r) found))

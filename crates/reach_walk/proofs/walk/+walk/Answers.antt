@@ -47,7 +47,7 @@ walk-loop-part-preserved t c = λ text r s h g.
 pub walk_modulion-returns : goal.walk_modulion-returns
 walk_modulion-returns t c = λ text r s. subst (λ z. Fits c.args.from (nodes_of z) → given_trees c.args.given.now ≡ givens c.args.book.now.all.items c.args.from (nodes_of z) → AddsReach c.args.scope.now c.args.out.now c.walk.new.out text (in_modulion r c.args.from (nodes_of z)) c.args.from (nodes_of z)) c.as_slice-parts.ensures
     (λ h g. let ps = nodes_of c.as_slice-parts.result.now in
-    let shows = shows-modulion c.args.book.now c.args.scope.now _ _ _ _ _ text r _ c.args.from ps c.new.ensures s refl (c.in_ok-table.ensures.table s.sound h g) c.seizes_all.ensures in
+    let shows = shows-modulion c.args.book.now c.args.scope.now _ _ _ _ _ text r _ c.args.from ps c.new.ensures.lendings s refl (c.in_ok-table.ensures.table s.sound h g) c.seizes_all.ensures in
     let lends = c.in_ok-lend_in.ensures.lends shows.sound in
     let lists = c.in_ok-lend_in.ensures.lists in
     found-reach text (in_modulion r c.args.from ps) c.args.from ps _ _ _ c.args.scope.now _ lends.lent _ c.args.out.now _ _ _ (c.in_ok-table.ensures.told s.sound h g) (twice-modulion c.args.book.now c.args.scope.now text r _ c.args.from ps s refl) (includes-trans _ _ _ c.in_ok-places.ensures.kept lists) (listed-within _ _ _ _ lists c.in_ok-places.ensures.listed) refl refl lends.is
@@ -58,7 +58,7 @@ walk_block-returns t c = λ text r s. subst (λ z. Fits c.args.from (nodes_of z)
     (λ h. let ps = nodes_of c.as_slice-parts.result.now in
     let g : given_trees c.as_slice-given.result.now ≡ givens c.args.book.now.all.items c.args.from ps = ap given_trees c.as_slice-given.ensures ∙ c.in_ok-made.ensures h in
     found-reach text (in_block r (singles c.args.head.now) c.args.from ps) c.args.from ps _ _ _ c.args.scope.now _ _ _ c.args.out.now _ _ _ (c.in_ok-table.ensures.told s.sound h g) (twice-block c.args.book.now c.args.scope.now text r (singles c.args.head.now) c.args.from ps s) c.in_ok-places.ensures.kept c.in_ok-places.ensures.listed refl refl refl
-    (c.in_ok-walk.ensures text (in_block r (singles c.args.head.now) c.args.from ps) (shows-block c.args.book.now c.args.scope.now _ _ _ _ text r (singles c.args.head.now) c.args.from ps c.new.ensures s (c.in_ok-table.ensures.table s.sound h g)) h g))
+    (c.in_ok-walk.ensures text (in_block r (singles c.args.head.now) c.args.from ps) (shows-block c.args.book.now c.args.scope.now _ _ _ _ text r (singles c.args.head.now) c.args.from ps c.new.ensures.lendings s (c.in_ok-table.ensures.table s.sound h g)) h g))
 
 pub walk_inside-returns-in-Modulion : goal.walk_inside-returns-in-Modulion
 walk_inside-returns-in-Modulion t c = λ text r s.

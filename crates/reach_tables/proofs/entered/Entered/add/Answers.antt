@@ -1,7 +1,7 @@
 use Rattle.std.proofs.Common.{◌≡◌, ℕ, Bool, true, false, not, List, ap, if◌then◌else◌, refl, ◌∙◌}
 use Rattle.std.specs.Str.{bytes_eq}
 use Rattle.reach_tables.specs.Held.{holding, with_number}
-use Rattle.reach_tables.specs.Marks.{is_marked}
+use Rattle.reach_tables.specs.Marked.{is_marked}
 use Rattle.reach_tables.specs.Scopes.{shown}
 use Rattle.reach_tables.proofs.Adding.{adds-new, adds-old}
 use Rattle.reach_tables.proofs.Marking.{added-new}
