@@ -42,6 +42,7 @@ kept-none around all t h = record {
   brings = λ n. ap (λ (x : Holding). list_any (λ i. is_empty (brought (around n) i)) x.after) (h n);
   seen = λ n. ap (λ (x : Holding). list_any (shares_unseen (around n)) x.after) (h n);
   starts = λ n. ap (λ (x : Holding). starts_with_number x.after) (h n);
+  seized = λ n. rw (h n) refl;
 }
 
 marks-none : (all : List Definition) (t : Holdings) (marks : List ℕ) → ((n : List ℕ) → holding t n ≡ no_holding) → marks ≡ [] → Marks marks t all

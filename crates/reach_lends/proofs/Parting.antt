@@ -81,7 +81,7 @@ shown-parts b t takes o n k orderly is = side (either (is_seized (holding t n)) 
     seen = shown b o n
 
     side : (is_seized (holding t n) ≡ true) ⊎ ((holds_none (holding t n) && takes) ≡ true) → shown_by b t takes o n ≡ once_behind (had t n) (ahead_of (holding t n).after ++ (shown b o n ++ behind_of (holding t n).after))
-    side (inl e) = shown-some b t takes o n k (seized-some (holding t n) e) ∙ parted (shown b o n) (had t n) (holding t n).after e
+    side (inl e) = shown-some b t takes o n k (seized-some (holding t n) (k.seized n) e) ∙ parted (shown b o n) (had t n) (holding t n).after (sym (k.seized n) ∙ e)
     side (inr e) =
         let none = and-left (holds_none (holding t n)) takes e in
         shown-none b t takes o n none ∙ ap (λ v. if v then shown b o n else had b.predefined n) (and-right (holds_none (holding t n)) takes e)
@@ -95,7 +95,7 @@ around-seen : (b : Book) (t : Holdings) (takes : Bool) (o : Scope) (n : List ℕ
 around-seen b t takes o n d k is there = side (either (is_seized (holding t n)) (holds_none (holding t n) && takes) is)
   where
     side : (is_seized (holding t n) ≡ true) ⊎ ((holds_none (holding t n) && takes) ≡ true) → is_among d (shown_by b t takes o n) ≡ true
-    side (inl e) = any-some (λ x. x == d) b t takes o n k (seized-some (holding t n) e) ∙ ap (λ v. is_among d (own (holding t n)) || (v && is_among d (shown b o n))) e
+    side (inl e) = any-some (λ x. x == d) b t takes o n k (seized-some (holding t n) (k.seized n) e) ∙ ap (λ v. is_among d (own (holding t n)) || (v && is_among d (shown b o n))) e
         ∙ or-right (is_among d (own (holding t n))) (is_among d (shown b o n)) there
     side (inr e) = ap (is_among d) (shown-none b t takes o n (and-left (holds_none (holding t n)) takes e) ∙ ap (λ v. if v then shown b o n else had b.predefined n) (and-right (holds_none (holding t n)) takes e)) ∙ there
 

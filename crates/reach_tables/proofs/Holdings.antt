@@ -12,7 +12,7 @@ use Rattle.names_model.specs.Definitions.{is_kind_at}
 use Rattle.names_model.specs.Entries.{is_among, once_behind}
 use Rattle.names_model.specs.Seeing.{is_empty}
 use Rattle.reach_tables.specs.Asking.{Rated, fits_any, has_elements, joined}
-use Rattle.reach_tables.specs.Held.{brought, entered, holds_none, is_around, is_seized, listed, number_in, own, put_behind, starts_with_number, with_group, with_number, with_seize}
+use Rattle.reach_tables.specs.Held.{brought, entered, holds_none, is_around, listed, number_in, own, put_behind, starts_with_number, with_group, with_number, with_seize}
 use Rattle.reach_tables.specs.declared.group.Group.{Group}
 use Rattle.reach_tables.specs.declared.holding.Item.{Item}
 use Rattle.reach_tables.specs.declared.holding.Item.TheVariants.{Number, Around, Along}
@@ -39,34 +39,34 @@ flat-first before d = append-nil (before ++ d ∷ []) ∙ ap (λ r. r ++ d ∷ [
 
 -- ---- one more number
 
-put-flat : (f : Item → List ℕ) (before : List ℕ) (after : List Item) (q : Qualities) (d : ℕ) → f (Number d) ≡ d ∷ []
-    → (put_behind before after q d).before ++ flat_map f (put_behind before after q d).after ≡ (before ++ flat_map f after) ++ d ∷ []
-put-flat f before [] q d h = flat-first before d
-put-flat f before (i ∷ is) q d h = flat-last f before (i ∷ is) (Number d) ∙ ap (λ r. (before ++ flat_map f (i ∷ is)) ++ r) h
+put-flat : (f : Item → List ℕ) (before : List ℕ) (after : List Item) (q : Qualities) (s : Bool) (d : ℕ) → f (Number d) ≡ d ∷ []
+    → (put_behind before after q s d).before ++ flat_map f (put_behind before after q s d).after ≡ (before ++ flat_map f after) ++ d ∷ []
+put-flat f before [] q s d h = flat-first before d
+put-flat f before (i ∷ is) q s d h = flat-last f before (i ∷ is) (Number d) ∙ ap (λ r. (before ++ flat_map f (i ∷ is)) ++ r) h
 
-listed-put : (seen before : List ℕ) (after : List Item) (q : Qualities) (d : ℕ) → is_among d (before ++ flat_map number_in after) ≡ false → listed seen (put_behind before after q d) ≡ once_behind (once_behind before (flat_map (brought seen) after)) (d ∷ [])
-listed-put seen before [] q d h = sym (once-new before d (sym (ap (is_among d) (append-nil before)) ∙ h))
-listed-put seen before (i ∷ is) q d h = ap (once_behind before) (flat-behind (brought seen) (i ∷ is) (Number d)) ∙ once-append before (flat_map (brought seen) (i ∷ is)) (d ∷ [])
+listed-put : (seen before : List ℕ) (after : List Item) (q : Qualities) (s : Bool) (d : ℕ) → is_among d (before ++ flat_map number_in after) ≡ false → listed seen (put_behind before after q s d) ≡ once_behind (once_behind before (flat_map (brought seen) after)) (d ∷ [])
+listed-put seen before [] q s d h = sym (once-new before d (sym (ap (is_among d) (append-nil before)) ∙ h))
+listed-put seen before (i ∷ is) q s d h = ap (once_behind before) (flat-behind (brought seen) (i ∷ is) (Number d)) ∙ once-append before (flat_map (brought seen) (i ∷ is)) (d ∷ [])
 
-qualities-put : (before : List ℕ) (after : List Item) (q : Qualities) (d : ℕ) → ◌≡◌ {A = Qualities} (put_behind before after q d).qualities q
-qualities-put before [] q d = refl
-qualities-put before (i ∷ is) q d = refl
+qualities-put : (before : List ℕ) (after : List Item) (q : Qualities) (s : Bool) (d : ℕ) → ◌≡◌ {A = Qualities} (put_behind before after q s d).qualities q
+qualities-put before [] q s d = refl
+qualities-put before (i ∷ is) q s d = refl
 
-after-put : (p : Item → Bool) (before : List ℕ) (after : List Item) (q : Qualities) (d : ℕ) → p (Number d) ≡ false → list_any p (put_behind before after q d).after ≡ list_any p after
-after-put p before [] q d h = refl
-after-put p before (i ∷ is) q d h = any-behind p (i ∷ is) (Number d) ∙ ap (λ v. list_any p (i ∷ is) || v) h ∙ or-none (list_any p (i ∷ is))
+after-put : (p : Item → Bool) (before : List ℕ) (after : List Item) (q : Qualities) (s : Bool) (d : ℕ) → p (Number d) ≡ false → list_any p (put_behind before after q s d).after ≡ list_any p after
+after-put p before [] q s d h = refl
+after-put p before (i ∷ is) q s d h = any-behind p (i ∷ is) (Number d) ∙ ap (λ v. list_any p (i ∷ is) || v) h ∙ or-none (list_any p (i ∷ is))
 
 -- where the truth value says that the number is of the name
 pub entered-with : (b : Bool) (h : Holding) (d : ℕ) (q : Qualities) → entered (if b then with_number h d q else h) ≡ (if b then entered h ++ d ∷ [] else entered h)
-entered-with true h d q = put-flat number_in h.before h.after (joined h.qualities q) d refl
+entered-with true h d q = put-flat number_in h.before h.after (joined h.qualities q) h.seized d refl
 entered-with false h d q = refl
 
 pub listed-with : (b : Bool) (seen : List ℕ) (h : Holding) (d : ℕ) (q : Qualities) → (b ≡ true → is_among d (entered h) ≡ false) → listed seen (if b then with_number h d q else h) ≡ once_behind (listed seen h) (if b then d ∷ [] else [])
-listed-with true seen h d q new = listed-put seen h.before h.after (joined h.qualities q) d (new refl)
+listed-with true seen h d q new = listed-put seen h.before h.after (joined h.qualities q) h.seized d (new refl)
 listed-with false seen h d q new = refl
 
 pub after-with : (p : Item → Bool) (b : Bool) (h : Holding) (d : ℕ) (q : Qualities) → p (Number d) ≡ false → list_any p (if b then with_number h d q else h).after ≡ list_any p h.after
-after-with p true h d q k = after-put p h.before h.after (joined h.qualities q) d k
+after-with p true h d q k = after-put p h.before h.after (joined h.qualities q) h.seized d k
 after-with p false h d q k = refl
 
 starts-behind : (is : List Item) (i : Item) → starts_with_number is ≡ false → starts_with_number (i ∷ []) ≡ false → starts_with_number (is ++ i ∷ []) ≡ false
@@ -75,14 +75,14 @@ starts-behind (Number d ∷ is) i h k = h
 starts-behind (Around ∷ is) i h k = refl
 starts-behind (Along g ∷ is) i h k = refl
 
-starts-put : (before : List ℕ) (after : List Item) (q : Qualities) (d : ℕ) → starts_with_number after ≡ false → starts_with_number (put_behind before after q d).after ≡ false
-starts-put before [] q d h = refl
-starts-put before (Number e ∷ is) q d h = h
-starts-put before (Around ∷ is) q d h = refl
-starts-put before (Along g ∷ is) q d h = refl
+starts-put : (before : List ℕ) (after : List Item) (q : Qualities) (s : Bool) (d : ℕ) → starts_with_number after ≡ false → starts_with_number (put_behind before after q s d).after ≡ false
+starts-put before [] q s d h = refl
+starts-put before (Number e ∷ is) q s d h = h
+starts-put before (Around ∷ is) q s d h = refl
+starts-put before (Along g ∷ is) q s d h = refl
 
 pub starts-with : (b : Bool) (h : Holding) (d : ℕ) (q : Qualities) → starts_with_number h.after ≡ false → starts_with_number (if b then with_number h d q else h).after ≡ false
-starts-with true h d q k = starts-put h.before h.after (joined h.qualities q) d k
+starts-with true h d q k = starts-put h.before h.after (joined h.qualities q) h.seized d k
 starts-with false h d q k = k
 
 fits-joined : (p q : Qualities) (need : Need) → fits_any (joined p q) need ≡ (fits_any p need || fits_any q need)
@@ -106,10 +106,19 @@ rated-more all p q ds es h k = record {
 
 pub rated-with : (b : Bool) (all : List Definition) (h h' : Holding) (d : ℕ) (q : Qualities) → Rated all h.qualities (own h) → Rated all q (d ∷ []) → h' ≡ (if b then with_number h d q else h) → Rated all h'.qualities (own h')
 rated-with true all h h' d q k j is =
-    let e : own h' ≡ own h ++ d ∷ [] = ap own is ∙ put-flat (brought []) h.before h.after (joined h.qualities q) d refl in
-    let f : ◌≡◌ {A = Qualities} h'.qualities (joined h.qualities q) = ap (λ (x : Holding). x.qualities) is ∙ qualities-put h.before h.after (joined h.qualities q) d in
+    let e : own h' ≡ own h ++ d ∷ [] = ap own is ∙ put-flat (brought []) h.before h.after (joined h.qualities q) h.seized d refl in
+    let f : ◌≡◌ {A = Qualities} h'.qualities (joined h.qualities q) = ap (λ (x : Holding). x.qualities) is ∙ qualities-put h.before h.after (joined h.qualities q) h.seized d in
     rw (e, f) (rated-more all h.qualities q (own h) (d ∷ []) k j)
 rated-with false all h h' d q k j is = rw is k
+
+-- that a name is seized stays noted as it is
+seized-put : (before : List ℕ) (after : List Item) (q : Qualities) (s : Bool) (d : ℕ) → s ≡ list_any is_around after → (put_behind before after q s d).seized ≡ list_any is_around (put_behind before after q s d).after
+seized-put before [] q s d h = h
+seized-put before (i ∷ is) q s d h = h ∙ sym (any-behind is_around (i ∷ is) (Number d) ∙ or-none (list_any is_around (i ∷ is)))
+
+pub seized-with : (b : Bool) (h h' : Holding) (d : ℕ) (q : Qualities) → h.seized ≡ list_any is_around h.after → h' ≡ (if b then with_number h d q else h) → h'.seized ≡ list_any is_around h'.after
+seized-with true h h' d q k is = rw is (seized-put h.before h.after (joined h.qualities q) h.seized d k)
+seized-with false h h' d q k is = rw is k
 
 -- ---- what is seen around is taken
 
@@ -122,7 +131,7 @@ around-brings seen (Along g ∷ is) d h k = list_any-append (λ x. x == d) g.num
 
 -- with what is seen around behind all items, unless it is there
 abbrev seized-by : Bool → Holding → Holding
-seized-by v h = if v then h else record { before = h.before; after = h.after ++ Around ∷ []; qualities = h.qualities }
+seized-by v h = if v then h else record { before = h.before; after = h.after ++ Around ∷ []; qualities = h.qualities; seized = true }
 
 entered-by : (v : Bool) (h : Holding) → entered (seized-by v h) ≡ entered h
 entered-by true h = refl
@@ -136,7 +145,7 @@ qualities-by : (v : Bool) (h : Holding) → ◌≡◌ {A = Qualities} (seized-by
 qualities-by true h = refl
 qualities-by false h = refl
 
-listed-by : (v : Bool) (seen : List ℕ) (h : Holding) → is_seized h ≡ v → listed seen (seized-by v h) ≡ once_behind (listed seen h) seen
+listed-by : (v : Bool) (seen : List ℕ) (h : Holding) → list_any is_around h.after ≡ v → listed seen (seized-by v h) ≡ once_behind (listed seen h) seen
 listed-by true seen h is = sym (once-within (listed seen h) seen (λ d k. any-once (λ e. e == d) h.before (flat_map (brought seen) h.after)
     ∙ or-right (is_among d h.before) (is_among d (flat_map (brought seen) h.after)) (around-brings seen h.after d is k)))
 listed-by false seen h is = ap (once_behind h.before) (flat-behind (brought seen) h.after Around) ∙ once-append h.before (flat_map (brought seen) h.after) seen
@@ -146,23 +155,23 @@ after-by p true h k = refl
 after-by p false h k = any-behind p h.after Around ∙ ap (λ w. list_any p h.after || w) k ∙ or-none (list_any p h.after)
 
 pub entered-seize : (b : Bool) (h : Holding) → entered (if b then with_seize h else h) ≡ entered h
-entered-seize true h = entered-by (is_seized h) h
+entered-seize true h = entered-by h.seized h
 entered-seize false h = refl
 
 pub own-seize : (b : Bool) (h : Holding) → own (if b then with_seize h else h) ≡ own h
-own-seize true h = own-by (is_seized h) h
+own-seize true h = own-by h.seized h
 own-seize false h = refl
 
 pub qualities-seize : (b : Bool) (h : Holding) → ◌≡◌ {A = Qualities} (if b then with_seize h else h).qualities h.qualities
-qualities-seize true h = qualities-by (is_seized h) h
+qualities-seize true h = qualities-by h.seized h
 qualities-seize false h = refl
 
-pub listed-seize : (b : Bool) (seen : List ℕ) (h : Holding) → listed seen (if b then with_seize h else h) ≡ once_behind (listed seen h) (if b then seen else [])
-listed-seize true seen h = listed-by (is_seized h) seen h refl
-listed-seize false seen h = refl
+pub listed-seize : (b : Bool) (seen : List ℕ) (h : Holding) → h.seized ≡ list_any is_around h.after → listed seen (if b then with_seize h else h) ≡ once_behind (listed seen h) (if b then seen else [])
+listed-seize true seen h k = listed-by h.seized seen h (sym k)
+listed-seize false seen h k = refl
 
 pub after-seize : (p : Item → Bool) (b : Bool) (h : Holding) → (b ≡ true → p Around ≡ false) → list_any p (if b then with_seize h else h).after ≡ list_any p h.after
-after-seize p true h k = after-by p (is_seized h) h (k refl)
+after-seize p true h k = after-by p h.seized h (k refl)
 after-seize p false h k = refl
 
 starts-by : (v : Bool) (h : Holding) → starts_with_number h.after ≡ false → starts_with_number (seized-by v h).after ≡ false
@@ -170,10 +179,27 @@ starts-by true h k = k
 starts-by false h k = starts-behind h.after Around k refl
 
 pub starts-seize : (b : Bool) (h : Holding) → starts_with_number h.after ≡ false → starts_with_number (if b then with_seize h else h).after ≡ false
-starts-seize true h k = starts-by (is_seized h) h k
+starts-seize true h k = starts-by h.seized h k
 starts-seize false h k = k
 
+-- then it is noted
+noted-by : (v : Bool) (h : Holding) → v ≡ list_any is_around h.after → h.seized ≡ v → (seized-by v h).seized ≡ list_any is_around (seized-by v h).after
+noted-by true h k is = is ∙ k
+noted-by false h k is = sym (any-behind is_around h.after Around ∙ or-true (list_any is_around h.after))
+  where
+    or-true : (v : Bool) → (v || true) ≡ true
+    or-true true = refl
+    or-true false = refl
+
+pub seized-seize : (b : Bool) (h h' : Holding) → h.seized ≡ list_any is_around h.after → h' ≡ (if b then with_seize h else h) → h'.seized ≡ list_any is_around h'.after
+seized-seize true h h' k is = rw is (noted-by h.seized h k refl)
+seized-seize false h h' k is = rw is k
+
 -- ---- a group is taken
+
+pub seized-group : (b : Bool) (h h' : Holding) (g : Group) → h.seized ≡ list_any is_around h.after → h' ≡ (if b then with_group h g else h) → h'.seized ≡ list_any is_around h'.after
+seized-group true h h' g k is = rw is (k ∙ sym (any-behind is_around h.after (Along g) ∙ or-none (list_any is_around h.after)))
+seized-group false h h' g k is = rw is k
 
 pub starts-group : (b : Bool) (h : Holding) (g : Group) → starts_with_number h.after ≡ false → starts_with_number (if b then with_group h g else h).after ≡ false
 starts-group true h g k = starts-behind h.after (Along g) k refl
@@ -227,14 +253,17 @@ or-assoc true b c = refl
 or-assoc false b c = refl
 
 -- one of them passes a test where one of those does that are known without a look around, or one that is seen around and seized
-pub any-listed : (q : ℕ → Bool) (seen : List ℕ) (h : Holding) → list_any q (listed seen h) ≡ (list_any q (own h) || (is_seized h && list_any q seen))
-any-listed q seen h = any-once q h.before (flat_map (brought seen) h.after) ∙ ap (λ v. list_any q h.before || v) (any-items q seen h.after)
-    ∙ or-assoc (list_any q h.before) (list_any q (flat_map (brought []) h.after)) (is_seized h && list_any q seen)
-    ∙ ap (λ v. v || (is_seized h && list_any q seen)) (sym (list_any-append q h.before (flat_map (brought []) h.after)))
+any-parts : (q : ℕ → Bool) (seen : List ℕ) (h : Holding) → list_any q (listed seen h) ≡ (list_any q (own h) || (list_any is_around h.after && list_any q seen))
+any-parts q seen h = any-once q h.before (flat_map (brought seen) h.after) ∙ ap (λ v. list_any q h.before || v) (any-items q seen h.after)
+    ∙ or-assoc (list_any q h.before) (list_any q (flat_map (brought []) h.after)) (list_any is_around h.after && list_any q seen)
+    ∙ ap (λ v. v || (list_any is_around h.after && list_any q seen)) (sym (list_any-append q h.before (flat_map (brought []) h.after)))
+
+pub any-listed : (q : ℕ → Bool) (seen : List ℕ) (h : Holding) → h.seized ≡ list_any is_around h.after → list_any q (listed seen h) ≡ (list_any q (own h) || (h.seized && list_any q seen))
+any-listed q seen h k = any-parts q seen h ∙ ap (λ v. list_any q (own h) || (v && list_any q seen)) (sym k)
 
 -- its own are among all
 pub own-listed : (seen : List ℕ) (h : Holding) (d : ℕ) → is_among d (own h) ≡ true → is_among d (listed seen h) ≡ true
-own-listed seen h d k = any-listed (λ e. e == d) seen h ∙ or-left (is_among d (own h)) (is_seized h && is_among d seen) k
+own-listed seen h d k = any-parts (λ e. e == d) seen h ∙ or-left (is_among d (own h)) (list_any is_around h.after && is_among d seen) k
 
 -- what it enters one by one is its own
 number-brought : (is : List Item) (d : ℕ) → is_among d (flat_map number_in is) ≡ true → is_among d (flat_map (brought []) is) ≡ true

@@ -16,7 +16,7 @@ use Rattle.reach_tables.specs.declared.holding.Holding.{Holding}
 use Rattle.reach_tables.specs.Marked.{is_marked}
 use Rattle.reach_tables.specs.Marks.{Marks, Added}
 use Rattle.reach_tables.specs.Scopes.{Kept}
-use Rattle.reach_tables.proofs.Holdings.{after-with, entered-listed, entered-with, listed-with, rated-with, starts-with}
+use Rattle.reach_tables.proofs.Holdings.{after-with, entered-listed, entered-with, listed-with, rated-with, seized-with, starts-with}
 use Rattle.reach_tables.proofs.Noting.{any-behind}
 use Rattle.reach_tables.proofs.Once.{once-there}
 use Rattle.reach_tables.proofs.Within.{either}
@@ -64,6 +64,7 @@ added-new around all d q t t' marks marks' k m r h by put = record {
     brings = λ n. ap (λ (x : Holding). list_any (λ i. is_empty (brought (around n) i)) x.after) (put n) ∙ after-with (λ i. is_empty (brought (around n) i)) (bytes_eq (spelling_at all d) n) (holding t n) d q refl ∙ k.brings n;
     seen = λ n. ap (λ (x : Holding). list_any (shares_unseen (around n)) x.after) (put n) ∙ after-with (shares_unseen (around n)) (bytes_eq (spelling_at all d) n) (holding t n) d q refl ∙ k.seen n;
     starts = λ n. ap (λ (x : Holding). starts_with_number x.after) (put n) ∙ starts-with (bytes_eq (spelling_at all d) n) (holding t n) d q (k.starts n);
+    seized = λ n. seized-with (bytes_eq (spelling_at all d) n) (holding t n) (holding t' n) d q (k.seized n) (put n);
   };
   marks = record {
     by = λ e. by e ∙ marked_new (nat_eq d e) (bytes_eq (spelling_at all d) (spelling_at all e)) (entered (holding t (spelling_at all e))) d e (is_marked marks e) refl

@@ -56,7 +56,7 @@ empty-held around t all n k = side (holds_none (holding t n)) refl
 
 pub any-some : (q : ℕ → Bool) (b : Book) (t : Holdings) (takes : Bool) (o : Scope) (n : List ℕ) → Kept (shown b o) t b.all.items → holds_none (holding t n) ≡ false
     → list_any q (shown_by b t takes o n) ≡ (list_any q (own (holding t n)) || (is_seized (holding t n) && list_any q (shown b o n)))
-any-some q b t takes o n k is = ap (list_any q) (shown-some b t takes o n k is) ∙ any-listed q (shown b o n) (holding t n)
+any-some q b t takes o n k is = ap (list_any q) (shown-some b t takes o n k is) ∙ any-listed q (shown b o n) (holding t n) (k.seized n)
 
 -- ---- whether a number is there
 
@@ -66,8 +66,8 @@ own-shown b t takes o n d h =
     ap (is_among d) (or-first (listed (shown b o n) (holding t n)) (if takes then shown b o n else had b.predefined n) (some-among (listed (shown b o n) (holding t n)) d there)) ∙ there
 
 -- where the name is seized something is there
-pub seized-some : (h : Holding) → is_seized h ≡ true → holds_none h ≡ false
-seized-some h k = side h.before h.after k
+pub seized-some : (h : Holding) → h.seized ≡ list_any is_around h.after → h.seized ≡ true → holds_none h ≡ false
+seized-some h noted k = side h.before h.after (sym noted ∙ k)
   where
     side : (before : List ℕ) (after : List Item) → list_any is_around after ≡ true → ((length before == 0) && (length after == 0)) ≡ false
     side [] [] k = cc
@@ -76,7 +76,7 @@ seized-some h k = side h.before h.after k
 
 pub among-seized : (b : Book) (t : Holdings) (takes : Bool) (o : Scope) (n : List ℕ) (d : ℕ) → Kept (shown b o) t b.all.items → is_seized (holding t n) ≡ true → is_among d (own (holding t n)) ≡ false
     → is_among d (shown_by b t takes o n) ≡ is_among d (shown b o n)
-among-seized b t takes o n d k is h = any-some (λ e. e == d) b t takes o n k (seized-some (holding t n) is) ∙ (λ i. h i || (is i && is_among d (shown b o n)))
+among-seized b t takes o n d k is h = any-some (λ e. e == d) b t takes o n k (seized-some (holding t n) (k.seized n) is) ∙ (λ i. h i || (is i && is_among d (shown b o n)))
 
 pub among-alone : (b : Book) (t : Holdings) (takes : Bool) (o : Scope) (n : List ℕ) (d : ℕ) → Kept (shown b o) t b.all.items → is_seized (holding t n) ≡ false → holds_none (holding t n) ≡ false → is_among d (own (holding t n)) ≡ false
     → is_among d (shown_by b t takes o n) ≡ false

@@ -19,7 +19,7 @@ use Rattle.reach_tables.specs.declared.group.Group.{Group}
 use Rattle.reach_tables.specs.declared.holding.Holding.{Holding}
 use Rattle.reach_tables.specs.declared.qualities.Qualities.{Qualities}
 use Rattle.reach_tables.specs.declared.scope.Scope.{Scope, Outside, Reach'}
-use Rattle.reach_tables.proofs.Holdings.{after-group, after-seize, entered-group, entered-seize, listed-group, listed-seize, own-seize, qualities-seize, rated-group, starts-group, starts-seize}
+use Rattle.reach_tables.proofs.Holdings.{after-group, after-seize, entered-group, entered-seize, listed-group, listed-seize, own-seize, qualities-seize, rated-group, seized-group, seized-seize, starts-group, starts-seize}
 use Rattle.reach_tables.proofs.Within.{first-among, later-among}
 
 -- a sound scope shows definitions under their own names, each once
@@ -47,13 +47,14 @@ under-seen all has n m false o is = sym (filter-none (λ d. bytes_eq (spelling_a
 pub seized-noted : (around : List ℕ → List ℕ) (all : List Definition) (name : List ℕ) (t t' : Holdings) → Orderly all around → Kept around t all → is_empty (around name) ≡ false
     → ((n : List ℕ) → holding t' n ≡ (if bytes_eq name n then with_seize (holding t n) else holding t n)) → Takes around all (around name) t t'
 seized-noted around all name t t' o k some put = record {
-  by = λ n. ap (listed (around n)) (put n) ∙ listed-seize (bytes_eq name n) (around n) (holding t n) ∙ ap (once_behind (held around t n)) (under-seen all around name n (bytes_eq name n) o refl);
+  by = λ n. ap (listed (around n)) (put n) ∙ listed-seize (bytes_eq name n) (around n) (holding t n) (k.seized n) ∙ ap (once_behind (held around t n)) (under-seen all around name n (bytes_eq name n) o refl);
   kept = record {
     rated = λ n. rated-seize (bytes_eq name n) (holding t n) (holding t' n) (k.rated n) (put n);
     brings = λ n. ap (λ (x : Holding). list_any (λ i. is_empty (brought (around n) i)) x.after) (put n)
         ∙ after-seize (λ i. is_empty (brought (around n) i)) (bytes_eq name n) (holding t n) (λ e. ap (λ m. is_empty (around m)) (sym ((bytes_eq-Decides name n).0 e)) ∙ some) ∙ k.brings n;
     seen = λ n. ap (λ (x : Holding). list_any (shares_unseen (around n)) x.after) (put n) ∙ after-seize (shares_unseen (around n)) (bytes_eq name n) (holding t n) (λ e. refl) ∙ k.seen n;
     starts = λ n. ap (λ (x : Holding). starts_with_number x.after) (put n) ∙ starts-seize (bytes_eq name n) (holding t n) (k.starts n);
+    seized = λ n. seized-seize (bytes_eq name n) (holding t n) (holding t' n) (k.seized n) (put n);
   };
   same = λ n. ap entered (put n) ∙ entered-seize (bytes_eq name n) (holding t n);
 }
@@ -85,6 +86,7 @@ group-joined around all name g t t' named rated seen k some put = record {
     seen = λ n. ap (λ (x : Holding). list_any (shares_unseen (around n)) x.after) (put n)
         ∙ after-group (shares_unseen (around n)) (bytes_eq name n) (holding t n) g (λ e. all-seen n e) ∙ k.seen n;
     starts = λ n. ap (λ (x : Holding). starts_with_number x.after) (put n) ∙ starts-group (bytes_eq name n) (holding t n) g (k.starts n);
+    seized = λ n. seized-group (bytes_eq name n) (holding t n) (holding t' n) g (k.seized n) (put n);
   };
   same = λ n. ap entered (put n) ∙ entered-group (bytes_eq name n) (holding t n) g;
 }

@@ -18,7 +18,7 @@ Holdings = List (List ℕ × Holding)
 
 -- nothing is kept
 abbrev pub no_holding : Holding
-no_holding = record { before = []; after = []; qualities = no_qualities }
+no_holding = record { before = []; after = []; qualities = no_qualities; seized = false }
 
 -- what is kept under a name
 abbrev pub holding : Holdings → List ℕ → Holding
@@ -56,7 +56,7 @@ is_around (Along g) = false
 
 -- the name is seized
 abbrev pub is_seized : Holding → Bool
-is_seized h = list_any is_around h.after
+is_seized h = h.seized
 
 -- an item shares some that aren't seen around
 abbrev pub shares_unseen : List ℕ → Item → Bool
@@ -84,21 +84,21 @@ abbrev pub held : (List ℕ → List ℕ) → Holdings → List ℕ → List ℕ
 held around t n = listed (around n) (holding t n)
 
 -- a number is put behind the last
-abbrev pub put_behind : List ℕ → List Item → Qualities → ℕ → Holding
-put_behind before [] q d = record { before = before ++ d ∷ []; after = []; qualities = q }
-put_behind before (i ∷ is) q d = record { before = before; after = (i ∷ is) ++ Number d ∷ []; qualities = q }
+abbrev pub put_behind : List ℕ → List Item → Qualities → Bool → ℕ → Holding
+put_behind before [] q s d = record { before = before ++ d ∷ []; after = []; qualities = q; seized = s }
+put_behind before (i ∷ is) q s d = record { before = before; after = (i ∷ is) ++ Number d ∷ []; qualities = q; seized = s }
 
 -- a number of such qualities is entered
 abbrev pub with_number : Holding → ℕ → Qualities → Holding
-with_number h d q = put_behind h.before h.after (joined h.qualities q) d
+with_number h d q = put_behind h.before h.after (joined h.qualities q) h.seized d
 
 -- what is seen around under the name is taken
 abbrev pub with_seize : Holding → Holding
-with_seize h = if is_seized h then h else record { before = h.before; after = h.after ++ Around ∷ []; qualities = h.qualities }
+with_seize h = if h.seized then h else record { before = h.before; after = h.after ++ Around ∷ []; qualities = h.qualities; seized = true }
 
 -- a group is taken
 abbrev pub with_group : Holding → Group → Holding
-with_group h g = record { before = h.before; after = h.after ++ Along g ∷ []; qualities = joined h.qualities g.qualities }
+with_group h g = record { before = h.before; after = h.after ++ Along g ∷ []; qualities = joined h.qualities g.qualities; seized = h.seized }
 
 -- what is lent of it
 pub record IsHeld (v : Held) (h : Holding) : Type 0 where

@@ -8,7 +8,7 @@ use Rattle.names_model.specs.Definitions.{spelling_at}
 use Rattle.names_model.specs.Entries.{found, is_among, once_behind}
 use Rattle.names_model.specs.Seeing.{Reach, sees, seen_around, or_else, is_empty}
 use Rattle.reach_tables.specs.Asking.{Rated}
-use Rattle.reach_tables.specs.Held.{Holdings, brought, had, held, holding, own, shares_unseen, starts_with_number}
+use Rattle.reach_tables.specs.Held.{Holdings, brought, had, held, holding, is_around, own, shares_unseen, starts_with_number}
 use Rattle.reach_tables.specs.Books.{Keeps}
 use Rattle.reach_tables.specs.Lendings.{Lendings}
 use Rattle.reach_tables.specs.Lends.{AreLent}
@@ -21,13 +21,14 @@ use Rattle.reach_tables.specs.declared.scope.Scope.{Scope, Outside, Reach'}
 pub record Holds (around : List ℕ → List ℕ) (t : Holdings) (all : List Definition) (es : List Entry) : Type 0 where
   pub by : (n : List ℕ) → held around t n ≡ found all es n
 
--- the qualities in a table are those of what is kept and shared in it; what it takes from around is seen there, brings something,
--- and stands before what it enters behind
+-- the qualities in a table are those of what is kept and shared in it, and a name is noted as seized if all that is seen around is
+-- taken; what it takes from around is seen there, brings something, and stands before what it enters behind
 pub record Kept (around : List ℕ → List ℕ) (t : Holdings) (all : List Definition) : Type 0 where
   pub rated : (n : List ℕ) → Rated all (holding t n).qualities (own (holding t n))
   pub brings : (n : List ℕ) → list_any (λ i. is_empty (brought (around n) i)) (holding t n).after ≡ false
   pub seen : (n : List ℕ) → list_any (shares_unseen (around n)) (holding t n).after ≡ false
   pub starts : (n : List ℕ) → starts_with_number (holding t n).after ≡ false
+  pub seized : (n : List ℕ) → (holding t n).seized ≡ list_any is_around (holding t n).after
 
 -- what is had under a name has that name, and each is there once
 pub record Orderly (all : List Definition) (has : List ℕ → List ℕ) : Type 0 where

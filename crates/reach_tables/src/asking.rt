@@ -93,6 +93,17 @@ fn halved(number: usize, numbers: &[u32]) -> Option<u32>
     None
 }
 
+// Whether a number is among others. All are gone over, so that several are compared at a time.
+fn is_among(number: u32, numbers: &[u32]) -> bool
+    ensures { result ≡ is_among number numbers.now }
+{
+    let mut found = false;
+    for other in numbers {
+        found |= *other == number;
+    }
+    found
+}
+
 /// A number, where it is among others. They mostly go up, as they stand in the text.
 pub fn among(number: usize, numbers: &[u32]) -> Option<u32>
     ensures { result ≡ (if is_among number numbers.now then Some number else None) }
@@ -100,12 +111,16 @@ pub fn among(number: usize, numbers: &[u32]) -> Option<u32>
     if let Some(found) = halved(number, numbers) {
         return Some(found);
     }
-    for other in numbers {
-        if *other as usize == number {
-            return Some(*other);
+    match u32::try_from(number) {
+        Ok(small) => {
+            if is_among(small, numbers) {
+                Some(small)
+            } else {
+                None
+            }
         }
+        Err(_) => None,
     }
-    None
 }
 
 // A number, where an item brings it without a look around.

@@ -1,8 +1,4 @@
 // What a table keeps under a name.
-ghost use Rattle.std.specs.Prelude.{◌≡◌};
-ghost use Rattle.std.specs.List.{list_any};
-ghost use Rattle.reach_tables.specs.Held.{is_around};
-
 use crate::group::Shared;
 use crate::qualities::Qualities;
 use chill_base::{List, Memory, Numbers};
@@ -27,6 +23,8 @@ pub struct Holding {
     pub after: List<Item>,
     /// What those that are kept and shared are together.
     pub qualities: Qualities,
+    /// Whether the reach takes what is seen around under the name.
+    pub seized: bool,
 }
 
 /// The same as it is lent.
@@ -52,18 +50,6 @@ impl<'a> Held<'a> {
     }
 }
 
-// Whether one of some items is all that is seen around.
-fn takes_around(items: &[Item]) -> bool
-    ensures { result ≡ list_any is_around items.now }
-{
-    for item in items {
-        if let Item::Around = item {
-            return true;
-        }
-    }
-    false
-}
-
 impl Holding {
     ghost use Rattle.std.specs.Prelude.{◌≡◌, ◌+◌, OnOk, length, nat_lt};
     ghost use Rattle.reach_tables.specs.Held.{IsHeld, no_holding, with_group, with_number, with_seize};
@@ -76,6 +62,7 @@ impl Holding {
             before: Numbers::new(alloc),
             after: List::new(alloc),
             qualities: Qualities::none(),
+            seized: false,
         }
     }
 
@@ -95,10 +82,12 @@ impl Holding {
     pub fn seize(&mut self) -> Result<(), Memory>
         ensures { OnOk result (self.new ≡ with_seize self.old) }
     {
-        if takes_around(self.after.as_slice()) {
+        if self.seized {
             return Ok(());
         }
-        self.after.push(Item::Around)
+        self.after.push(Item::Around)?;
+        self.seized = true;
+        Ok(())
     }
 
     /// Takes definitions that go along with what is seen around under another name.
@@ -123,7 +112,7 @@ impl Holding {
         Held {
             before: self.before.as_slice(),
             after: self.after.as_slice(),
-            seized: takes_around(self.after.as_slice()),
+            seized: self.seized,
             qualities: self.qualities,
         }
     }
