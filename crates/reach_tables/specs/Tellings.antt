@@ -1,5 +1,5 @@
 -- What is told of the numbers of one place.
-use Rattle.std.specs.Prelude.{ℕ, Bool, false, not, ◌==◌, List, [], ◌∷◌, ◌++◌, Option, Some, None, ⊤, if◌then◌else◌}
+use Rattle.std.specs.Prelude.{ℕ, Bool, false, not, ◌==◌, List, ◌++◌, Option, Some, None, ⊤}
 use Rattle.std.specs.List.{list_any}
 use Rattle.std.specs.Str.{bytes_eq}
 use Rattle.chill_base.specs.declared.pos.Pos.{Pos}
@@ -9,7 +9,6 @@ use Rattle.rule_lists.specs.Listing.{IsIn, SameMembers}
 use Rattle.names_model.specs.declared.definition.Definition.{Definition}
 use Rattle.names_model.specs.Definitions.{spelling_at}
 use Rattle.names_model.specs.NameRules.{tell, told_number}
-use Rattle.reach_tables.specs.Names.{is_named}
 
 -- N1 of the number's name is told at the place; of no number nothing is said
 abbrev pub IsTold : List Definition → Pos → List Diagnostic → Option ℕ → Type 0
@@ -29,11 +28,3 @@ is_last all (Some e) d = bytes_eq (spelling_at all e) (spelling_at all d)
 pub record Tells (all : List Definition) (at : Pos) (known : List ℕ) (d : ℕ) (old new : List Diagnostic) (next : Option ℕ) : Type 0 where
   pub last : IsTold all at new next
   pub told : SameMembers new (old ++ told_number all known at d)
-
--- one of some numbers is another than one of others
-abbrev pub clashes_any : List ℕ → List ℕ → Bool
-clashes_any ds others = list_any (λ d. is_another_among d others) ds
-
--- N1 is told of a name that is among others
-abbrev pub told_of : Pos → List (List ℕ) → List ℕ → List Diagnostic
-told_of at names n = if is_named names n then tell at rules.N1 n ∷ [] else []

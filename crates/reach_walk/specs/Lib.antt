@@ -1,4 +1,2 @@
-pub mod Named
 pub mod Findings
 pub mod Measures
-pub mod Listed

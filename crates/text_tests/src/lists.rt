@@ -1,7 +1,7 @@
 // Uses of a name of many definitions point at lists: what comes was written by hand.
 use crate::walk::{defined, identifier, location, modulion};
 use chill_base::{List, Memory};
-use group_dependence::Target;
+use cycles::Target;
 use names_model::{Clause, Kind, Mention, Part};
 use reach_walk::{Findings, book_of, find_in_program};
 use std::alloc::Global;

@@ -1,0 +1,21 @@
+-- What is known of a reach that is being opened.
+use Rattle.std.specs.Prelude.{◌≡◌, List, [], ◌++◌}
+use Rattle.rule_lists.specs.Listing.{SameMembers}
+use Rattle.names_model.specs.declared.definition.Definition.{Definition}
+use Rattle.names_model.specs.declared.entry.Entry.{Entry}
+use Rattle.names_model.specs.NameRules.{told_behind}
+use Rattle.reach_tables.specs.declared.opening.Opening.{Opening}
+use Rattle.reach_tables.specs.Marks.{Marks}
+use Rattle.reach_tables.specs.Scopes.{Holds}
+
+-- its table, its marks and its N1 are those of these entries; N1 may be told once for many
+pub record Opens (o : Opening) (all : List Definition) (es : List Entry) : Type 0 where
+  pub table : Holds o.table all es
+  pub marks : Marks o.marked o.table all
+  pub told : SameMembers o.told.items (told_behind all [] es)
+
+-- of the whole that is to be entered behind its entries, the rest is left
+pub record Entering (o : Opening) (all : List Definition) (es rest whole : List Entry) : Type 0 where
+  pub done : List Entry
+  pub opens : Opens o all (es ++ done)
+  pub is : done ++ rest ≡ whole

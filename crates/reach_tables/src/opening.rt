@@ -1,0 +1,72 @@
+// A reach that is being opened: its table, and N1 of it, entry by entry.
+use crate::book::Book;
+use crate::founds::{add_numbers, split_known};
+use crate::marked::Marked;
+use crate::table::Table;
+use crate::twice::tell_numbers;
+use chill_base::{Diagnostic, Memory, Pos};
+use std::alloc::Global;
+
+/// What is known of a reach by the entries that it has so far: what they have under each name, and N1 of them.
+#[derive(Drop)]
+pub struct Opening {
+    pub table: Table,
+    pub marked: Marked,
+    pub told: Vec<Diagnostic>,
+}
+
+impl Opening {
+    ghost use Rattle.std.specs.Prelude.{◌≡◌, ◌++◌, ◌∷◌, [], List, IfOk, OnOk};
+    ghost use Rattle.names_model.specs.declared.definition.Definition.{Definition};
+    ghost use Rattle.names_model.specs.declared.entry.Entry.{Entry};
+    ghost use Rattle.names_model.specs.Entries.{entry};
+    ghost use Rattle.reach_tables.specs.Opens.{Opens};
+
+    /// A reach with no entry yet. It takes no memory.
+    pub fn new(alloc: Global) -> Opening
+        ensures { (all : List Definition) → Opens result all [] }
+    {
+        Opening {
+            table: Table::new(alloc),
+            marked: Marked::new(alloc),
+            told: Vec::new(alloc),
+        }
+    }
+
+    /// Enters the definitions of one place.
+    pub fn enter(
+        &mut self,
+        alloc: Global,
+        book: &Book,
+        at: Pos,
+        numbers: &[u32],
+    ) -> Result<(), Memory>
+        ensures { (es : List Entry) → Opens self.old book.now.all.items es → OnOk result (Opens self.new book.now.all.items (es ++ entry at numbers.now ∷ [])) }
+    {
+        tell_numbers(alloc, book, &self.table, at, numbers, &mut self.told)?;
+        let (_, fresh) = split_known(&self.table, book, numbers);
+        add_numbers(alloc, &mut self.table, &mut self.marked, book, fresh)?;
+        Ok(())
+    }
+
+    /// The table alone.
+    pub fn into_table(self) -> Table
+        ensures { result ≡ self.table }
+    {
+        self.table
+    }
+
+    /// The table, and N1 behind what was told before.
+    pub fn close(self, out: &mut Vec<Diagnostic>) -> Result<Table, Memory>
+        ensures table { IfOk result (λ t. t ≡ self.table) }
+        ensures told { OnOk result (out.new.items ≡ out.old.items ++ self.told.items) }
+    {
+        let Opening {
+            table,
+            mut told,
+            ..
+        } = self;
+        out.append(&mut told)?;
+        Ok(table)
+    }
+}
