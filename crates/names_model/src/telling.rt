@@ -3,7 +3,8 @@ ghost use Rattle.std.specs.Prelude.{◌≡◌, ◌++◌, ◌∷◌, [], OnOk};
 ghost use Rattle.names_model.specs.NameRules.{tell};
 
 use crate::identifier::Spelling;
-use chill_base::{Diagnostic, Memory, Pos, Rule, Text};
+use chill_base::{Memory, Pos, Text};
+use diagnostics::{Diagnostic, Rule};
 use std::alloc::Global;
 
 /// Tells a rule that is broken, and one name.

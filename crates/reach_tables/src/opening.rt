@@ -4,7 +4,8 @@ use crate::founds::{add_numbers, split_known};
 use crate::marked::Marked;
 use crate::table::Table;
 use crate::twice::tell_numbers;
-use chill_base::{Diagnostic, Memory, Pos};
+use chill_base::{Memory, Pos};
+use diagnostics::Diagnostic;
 use std::alloc::Global;
 
 /// What is known of a reach by the entries that it has so far: what they have under each name, and N1 of them.

@@ -1,6 +1,6 @@
 // Second entries of a name in one reach, for another definition.
 ghost use Rattle.std.specs.Prelude.{◌≡◌, ◌++◌, List, IfOk, OnOk, flat_map};
-ghost use Rattle.rule_lists.specs.Listing.{SameMembers};
+ghost use Rattle.diagnostics.specs.Listing.{SameMembers};
 ghost use Rattle.names_model.specs.declared.entry.Entry.{Entry};
 ghost use Rattle.names_model.specs.Entries.{numbers_of};
 ghost use Rattle.names_model.specs.NameRules.{told_number};
@@ -10,7 +10,8 @@ ghost use Rattle.reach_tables.specs.Tellings.{IsTold, Tells, is_another_among, i
 
 use crate::book::Book;
 use crate::table::Table;
-use chill_base::{Diagnostic, Memory, Pos, Rule};
+use chill_base::{Memory, Pos};
+use diagnostics::{Diagnostic, Rule};
 use names_model::{Spelling, push_told};
 use std::alloc::Global;
 

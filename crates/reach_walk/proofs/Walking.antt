@@ -1,9 +1,9 @@
 -- Steps of the walk over parts.
 use Rattle.std.proofs.Common.{◌≡◌, ℕ, ◌+◌, ◌<◌, List, ◌++◌, append_assoc, refl, ap, sym, ◌∙◌, length, get_or, drop, subst}
 use Rattle.std.specs.Prelude.{flat_map, OnOk, Result, ◌^◌}
-use Rattle.rule_lists.specs.Listing.{SameMembers}
+use Rattle.diagnostics.specs.Listing.{SameMembers}
 use Rattle.chill_base.specs.declared.memory.Memory.{Memory}
-use Rattle.chill_base.specs.declared.diagnostic.Diagnostic.{Diagnostic}
+use Rattle.diagnostics.specs.declared.diagnostic.Diagnostic.{Diagnostic}
 use Rattle.names_model.specs.declared.definition.Definition.{Definition}
 use Rattle.names_model.specs.declared.part.Part.{Part}
 use Rattle.names_model.specs.Parts.{PartTree, PartNodes, part_tree}

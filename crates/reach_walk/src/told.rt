@@ -7,7 +7,8 @@ ghost use Rattle.names_model.specs.Seeing.{Reach, sees};
 ghost use Rattle.names_model.specs.NameRules.{any_kind, fits_argument, told_here, told_mention, told_mentions, told_use, unless_seen};
 ghost use Rattle.reach_tables.specs.Scopes.{Shows};
 
-use chill_base::{Diagnostic, Memory, Rule};
+use chill_base::Memory;
+use diagnostics::{Diagnostic, Rule};
 use names_model::{Clause, Identifier, Mention, Need, Part, push_told};
 use reach_tables::{Book, Scope, seen_around, sees};
 use std::alloc::Global;

@@ -1,6 +1,6 @@
 // The walk over all parts, with the tables of the reaches around.
 ghost use Rattle.std.specs.Prelude.{◌≡◌, ◌++◌, ◌+◌, ◌<◌, ◌^◌, [], List, OnOk, IfOk};
-ghost use Rattle.rule_lists.specs.Listing.{SameMembers};
+ghost use Rattle.diagnostics.specs.Listing.{SameMembers};
 ghost use Rattle.names_model.specs.declared.definition.Definition.{Definition};
 ghost use Rattle.names_model.specs.Parts.{part_tree};
 ghost use Rattle.names_model.specs.Sizes.{clauses_size, size_of};
@@ -16,7 +16,8 @@ ghost use Rattle.reach_tables.specs.Places.{singles};
 ghost use Rattle.reach_tables.specs.Scopes.{Holds, Shows, shown, told_by};
 
 use crate::findings::{Findings, note_here};
-use chill_base::{Diagnostic, List, Memory};
+use chill_base::{List, Memory};
+use diagnostics::Diagnostic;
 use names_model::{Clause, Part, head_size, size_of};
 use reach_tables::{
     Book, Given, Opening, Place, Scope, Source, Table, enter_params, enter_parts, enter_places, givens_of,

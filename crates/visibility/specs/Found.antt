@@ -1,7 +1,7 @@
 -- What is found of the names of a program.
 use Rattle.std.specs.Prelude.{◌≡◌, List, length}
 use Rattle.chill_tree.specs.ItemTree.{ProgramTree}
-use Rattle.rule_lists.specs.Listing.{SameMembers}
+use Rattle.diagnostics.specs.Listing.{SameMembers}
 use Rattle.names_model.specs.Definitions.{text_definitions}
 use Rattle.names_model.specs.Dependence.{groups_in}
 use Rattle.names_model.specs.NameRules.{told_in}

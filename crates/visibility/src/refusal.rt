@@ -1,5 +1,6 @@
 // Why the names of a program aren't resolved.
-use chill_base::{Diagnostics, Memory};
+use chill_base::Memory;
+use diagnostics::Diagnostics;
 
 /// Why the names of a program aren't resolved.
 #[derive(Debug, Drop)]

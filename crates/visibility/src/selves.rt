@@ -9,7 +9,8 @@ ghost use Rattle.reach_tables.specs.Books.{Keeps};
 ghost use Rattle.visibility.specs.Tested.{Tests};
 
 use crate::locations::among_locations;
-use chill_base::{Diagnostic, Memory, Rule};
+use chill_base::Memory;
+use diagnostics::{Diagnostic, Rule};
 use cycles::{Group, selves};
 use names_model::{Definition, Kind, push_told};
 use reach_tables::Book;

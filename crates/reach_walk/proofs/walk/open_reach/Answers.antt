@@ -1,7 +1,7 @@
 use Rattle.std.proofs.Common.{◌≡◌, List, [], ◌++◌, Result, Ok, Err, subst, sym}
 use Rattle.std.specs.Prelude.{OnOk}
-use Rattle.chill_base.specs.declared.diagnostic.Diagnostic.{Diagnostic}
-use Rattle.rule_lists.specs.Listing.{SameMembers}
+use Rattle.diagnostics.specs.declared.diagnostic.Diagnostic.{Diagnostic}
+use Rattle.diagnostics.specs.Listing.{SameMembers}
 use Rattle.reach_tables.specs.Places.{singles}
 use Rattle.reach_tables.proofs.Members.{same-append, same-refl}
 use Rattle.reach_walk.proofs.walk.open_reach.Goals as goal
