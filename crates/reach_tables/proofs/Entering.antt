@@ -52,37 +52,32 @@ opens-more o o' all es e h added told = record {
     here = flat_map (told_number all (numbers_of es) e.at) e.numbers
 
 -- more is entered behind what was
-pub opens-behind : (o : Opening) (all : List Definition) (es fs gs hs : List Entry) → Opens o all ((es ++ fs) ++ gs) → fs ++ gs ≡ hs → Opens o all (es ++ hs)
-opens-behind o all es fs gs hs h is = subst (λ xs. Opens o all xs) (append_assoc es fs gs ∙ ap (λ r. es ++ r) is) h
+pub behind : (P : List Entry → Type 0) (es fs gs hs : List Entry) → P ((es ++ fs) ++ gs) → fs ++ gs ≡ hs → P (es ++ hs)
+behind P es fs gs hs h is = subst P (append_assoc es fs gs ∙ ap (λ r. es ++ r) is) h
 
 -- nothing is entered yet
-pub entering-none : (o : Opening) (all : List Definition) (es whole : List Entry) → Opens o all es → Entering o all es whole whole
-entering-none o all es whole h = record { done = []; opens = subst (λ xs. Opens o all xs) (sym (append-nil es)) h; is = refl }
+pub entering-none : (P : List Entry → Type 0) (es whole : List Entry) → P es → Entering P es whole whole
+entering-none P es whole h = record { done = []; holds = subst P (sym (append-nil es)) h; is = refl }
 
 -- the first of the rest is entered
-pub entering-on : (o o' : Opening) (all : List Definition) (es rest first left whole : List Entry) → Entering o all es rest whole → rest ≡ first ++ left
-    → ((fs : List Entry) → Opens o all fs → Opens o' all (fs ++ first)) → Entering o' all es left whole
-entering-on o o' all es rest first left whole e is enters = record {
+pub entering-on : (P P' : List Entry → Type 0) (es rest first left whole : List Entry) → Entering P es rest whole → rest ≡ first ++ left
+    → ((fs : List Entry) → P fs → P' (fs ++ first)) → Entering P' es left whole
+entering-on P P' es rest first left whole e is enters = record {
   done = e.done ++ first;
-  opens = opens-behind o' all es e.done first (e.done ++ first) (enters (es ++ e.done) e.opens) refl;
+  holds = behind P' es e.done first (e.done ++ first) (enters (es ++ e.done) e.holds) refl;
   is = append_assoc e.done first left ∙ ap (λ r. e.done ++ r) (sym is) ∙ e.is;
 }
 
 -- nothing is left
-pub entering-end : (o : Opening) (all : List Definition) (es rest whole : List Entry) → Entering o all es rest whole → rest ≡ [] → Opens o all (es ++ whole)
-entering-end o all es rest whole e is = subst (λ xs. Opens o all (es ++ xs)) (sym (append-nil e.done) ∙ ap (λ r. e.done ++ r) (sym is) ∙ e.is) e.opens
-
--- three lists of entries, one behind the other
-pub opens-three : (o : Opening) (all : List Definition) (es own taken lent own' lent' : List Entry) → own ≡ own' → lent ≡ lent' → Opens o all (((es ++ own) ++ taken) ++ lent) → Opens o all (es ++ (own' ++ taken ++ lent'))
-opens-three o all es own taken lent own' lent' a b h = subst (λ xs. Opens o all xs)
-    (ap (λ r. r ++ lent) (append_assoc es own taken) ∙ append_assoc es (own ++ taken) lent ∙ (λ i. es ++ ((a i ++ taken) ++ b i))) h
+pub entering-end : (P : List Entry → Type 0) (es rest whole : List Entry) → Entering P es rest whole → rest ≡ [] → P (es ++ whole)
+entering-end P es rest whole e is = subst (λ xs. P (es ++ xs)) (sym (append-nil e.done) ∙ ap (λ r. e.done ++ r) (sym is) ∙ e.is) e.holds
 
 -- two lists of entries, one behind the other
 pub opens-two : (o : Opening) (all : List Definition) (es own own' more : List Entry) → own ≡ own' → Opens o all ((es ++ own) ++ more) → Opens o all (es ++ (own' ++ more))
-opens-two o all es own own' more a h = subst (λ xs. Opens o all xs) (append_assoc es own more ∙ ap (λ r. es ++ (r ++ more)) a) h
+opens-two o all es own own' more a h = subst (Opens o all) (append_assoc es own more ∙ ap (λ r. es ++ (r ++ more)) a) h
 
 -- one place of a list is entered
 pub opens-place : (o : Opening) (all : List Definition) (es : List Entry) (places : List Place) (i : ℕ) (d : Place) → i < length places
     → Opens o all ((es ++ singles (take i places)) ++ single (get_or places i d) ∷ []) → Opens o all (es ++ singles (take (i + 1) places))
-opens-place o all es places i d h opens = opens-behind o all es (singles (take i places)) (single (get_or places i d) ∷ []) (singles (take (i + 1) places)) opens
+opens-place o all es places i d h opens = behind (Opens o all) es (singles (take i places)) (single (get_or places i d) ∷ []) (singles (take (i + 1) places)) opens
     (sym (map-append single (take i places) (get_or places i d ∷ [])) ∙ ap singles (sym (take_more places i d h)))

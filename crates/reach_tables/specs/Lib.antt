@@ -5,6 +5,7 @@ pub mod Marks
 pub mod Named
 pub mod Offsets
 pub mod Opens
+pub mod Passages
 pub mod Places
 pub mod Scopes
 pub mod Tellings

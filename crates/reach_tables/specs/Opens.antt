@@ -14,8 +14,8 @@ pub record Opens (o : Opening) (all : List Definition) (es : List Entry) : Type 
   pub marks : Marks o.marked o.table all
   pub told : SameMembers o.told.items (told_behind all [] es)
 
--- of the whole that is to be entered behind its entries, the rest is left
-pub record Entering (o : Opening) (all : List Definition) (es rest whole : List Entry) : Type 0 where
+-- of the whole that is to be entered behind some entries, the rest is left; of those that are there a fact is known
+pub record Entering (P : List Entry → Type 0) (es rest whole : List Entry) : Type 0 where
   pub done : List Entry
-  pub opens : Opens o all (es ++ done)
+  pub holds : P (es ++ done)
   pub is : done ++ rest ≡ whole

@@ -1,5 +1,5 @@
 -- What is told of the numbers of one place.
-use Rattle.std.specs.Prelude.{ℕ, Bool, false, not, ◌==◌, List, ◌++◌, Option, Some, None, ⊤}
+use Rattle.std.specs.Prelude.{ℕ, Bool, false, not, ◌==◌, List, [], ◌∷◌, ◌++◌, Option, Some, None, ⊤, if◌then◌else◌}
 use Rattle.std.specs.List.{list_any}
 use Rattle.std.specs.Str.{bytes_eq}
 use Rattle.chill_base.specs.declared.pos.Pos.{Pos}
@@ -28,3 +28,8 @@ is_last all (Some e) d = bytes_eq (spelling_at all e) (spelling_at all d)
 pub record Tells (all : List Definition) (at : Pos) (known : List ℕ) (d : ℕ) (old new : List Diagnostic) (next : Option ℕ) : Type 0 where
   pub last : IsTold all at new next
   pub told : SameMembers new (old ++ told_number all known at d)
+
+-- those of some numbers that don't have the name of the one before them
+abbrev pub firsts : List Definition → Option ℕ → List ℕ → List ℕ
+firsts all last [] = []
+firsts all last (d ∷ ds) = (if is_last all last d then [] else d ∷ []) ++ firsts all (if is_last all last d then last else Some d) ds

@@ -6,6 +6,7 @@
 //! parts with these tables.
 #![tactic(auto)]
 
+mod among;
 mod book;
 mod collect;
 mod definitions;

@@ -1,26 +1,15 @@
 // What passes the border of a modulion.
-ghost use Rattle.std.specs.Prelude.{◌≡◌, ◌++◌, ◌∷◌, [], OnOk, flat_map, Some, None, if◌then◌else◌};
+ghost use Rattle.std.specs.Prelude.{◌≡◌, ◌++◌, ◌∷◌, [], OnOk, flat_map, if◌then◌else◌};
 ghost use Rattle.names_model.specs.Definitions.{spelling_at};
 ghost use Rattle.names_model.specs.Entries.{along, given_all, is_among, passed};
 ghost use Rattle.reach_tables.specs.Scopes.{told_by};
 
+use crate::among::among;
 use crate::book::Book;
 use crate::entries::push_all;
 use crate::source::Source;
 use chill_base::{Memory, Numbers};
 use names_model::Spelling;
-
-// A number, where it is among others.
-fn among(number: usize, numbers: &[u32]) -> Option<u32>
-    ensures { result ≡ (if is_among number numbers.now then Some number else None) }
-{
-    for other in numbers {
-        if *other as usize == number {
-            return Some(*other);
-        }
-    }
-    None
-}
 
 // Puts an element behind others, where the source tells of it.
 fn push_element(

@@ -9,7 +9,7 @@ use Rattle.reach_tables.proofs.Entering.{entering-on, entering-end, entering-non
 use Rattle.reach_tables.proofs.giving.enter_up.Goals as goal
 
 pub loop-part-init : goal.loop-part-init
-loop-part-init c = λ h g es o. record { fits = h; left = g; entering = entering-none _ _ es _ o }
+loop-part-init c = λ h g es o. record { fits = h; left = g; entering = entering-none _ es _ o }
 
 pub loop-part-preserved : goal.loop-part-preserved
 loop-part-preserved c = λ h g es o.
@@ -24,11 +24,11 @@ loop-part-preserved c = λ h g es o.
     record {
       fits = rw step fits.2;
       left = rw step split.1;
-      entering = rw step (entering-on _ _ all es _ _ _ _ i.entering (ap (up_entries all n) (nodes-at c.args.parts.now k x c.loop-part-test.true c.part-item.is))
+      entering = rw step (entering-on _ _ es _ _ _ _ i.entering (ap (up_entries all n) (nodes-at c.args.parts.now k x c.loop-part-test.true c.part-item.is))
           (λ fs. c.in_ok-enter_up_part.ensures fits.0 split.0 fs));
     }
 
 pub returns : goal.returns
 returns c = λ h g es o.
     let i = c.loop-part.invariant h g es o in
-    entering-end _ _ es _ _ i.entering (ap (up_entries c.args.book.now.all.items c.loop-part.next) (nodes-end c.args.parts.now c.loop-part.part-index c.loop-part-test.false))
+    entering-end _ es _ _ i.entering (ap (up_entries c.args.book.now.all.items c.loop-part.next) (nodes-end c.args.parts.now c.loop-part.part-index c.loop-part-test.false))

@@ -11,5 +11,5 @@ abbrev pub invariant-loop-part : goal.invariant-loop-part
 invariant-loop-part l = Fits l.fn.from (nodes_of l.fn.parts) → given_trees l.fn.given ≡ givens l.book.all.items l.fn.from (nodes_of l.fn.parts) → (es : List Entry) → Opens l.fn.out l.book.all.items es → record {
   fits : Fits l.next (nodes_of (drop l.part-index l.parts));
   left : given_trees l.left ≡ givens l.book.all.items l.next (nodes_of (drop l.part-index l.parts));
-  entering : Entering l.out l.book.all.items es (up_entries l.book.all.items l.next (nodes_of (drop l.part-index l.parts))) (up_entries l.book.all.items l.fn.from (nodes_of l.fn.parts));
+  entering : Entering (Opens l.out l.book.all.items) es (up_entries l.book.all.items l.next (nodes_of (drop l.part-index l.parts))) (up_entries l.book.all.items l.fn.from (nodes_of l.fn.parts));
 }
