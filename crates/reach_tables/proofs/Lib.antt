@@ -11,6 +11,6 @@ pub mod Marking
 pub mod Members
 pub mod Noting
 pub mod PartLists
-pub mod Passing
+pub mod Repeated
 pub mod Telling
 pub mod Within

@@ -5,32 +5,57 @@ ghost use Rattle.names_model.specs.Parts.{part_tree, parts_in};
 ghost use Rattle.names_model.specs.Entries.{entry, given_all, given_entries, granted_entries, passed};
 ghost use Rattle.reach_tables.specs.Givens.{given_of, given_trees};
 ghost use Rattle.names_model.specs.Parts.{nodes_of};
+ghost use Rattle.reach_tables.specs.Held.{Holdings, held};
 ghost use Rattle.reach_tables.specs.Opens.{Opens};
+ghost use Rattle.reach_tables.specs.Passages.{Passes};
 ghost use Rattle.reach_tables.specs.Scopes.{told_by};
 
 use crate::book::Book;
 use crate::given::{Given, lent_giver};
 use crate::opening::Opening;
+use crate::passages::note_passed;
 use crate::passing::{Giver, push_given_all, push_passed};
 use crate::source::Source;
+use crate::table::Table;
 use chill_base::{Memory, Numbers, Pos};
 use names_model::{Identifier, Part};
 use std::alloc::Global;
 
-/// Enters what passes under a name. Its numbers are kept only meanwhile.
+// Enters what passes under a name the first time, and notes it. Its numbers are kept only meanwhile.
+fn enter_first(
+    alloc: Global,
+    book: &Book,
+    source: &Source,
+    name: &Identifier,
+    noted: &mut Table,
+    out: &mut Opening,
+) -> Result<(), Memory>
+    ensures { (es : List Entry) → Passes out.old noted.old book.now.all.items (told_by source.now) es → held noted.old name.now.spelling ≡ [] → OnOk result (Passes out.new noted.new book.now.all.items (told_by source.now) (es ++ entry name.now.at (passed book.now.all.items (told_by source.now) name.now.spelling) ∷ [])) }
+{
+    let mut numbers = Numbers::new(alloc);
+    push_passed(book, source, &name.spelling, &mut numbers)?;
+    out.enter(alloc, book, name.at, numbers.as_slice())?;
+    note_passed(alloc, book, &name.spelling, numbers.as_slice(), noted)?;
+    Ok(())
+}
+
+/// Enters what passes under a name. What passed the same border under it before adds nothing, so only N1 is told then.
 pub fn enter_passed(
     alloc: Global,
     book: &Book,
     source: &Source,
     name: &Identifier,
+    noted: &mut Table,
     out: &mut Opening,
 ) -> Result<(), Memory>
-    ensures { (es : List Entry) → Opens out.old book.now.all.items es → OnOk result (Opens out.new book.now.all.items (es ++ entry name.now.at (passed book.now.all.items (told_by source.now) name.now.spelling) ∷ [])) }
+    ensures { (es : List Entry) → Passes out.old noted.old book.now.all.items (told_by source.now) es → OnOk result (Passes out.new noted.new book.now.all.items (told_by source.now) (es ++ entry name.now.at (passed book.now.all.items (told_by source.now) name.now.spelling) ∷ [])) }
 {
-    let mut numbers = Numbers::new(alloc);
-    push_passed(book, source, &name.spelling, &mut numbers)?;
-    out.enter(alloc, book, name.at, numbers.as_slice())?;
-    Ok(())
+    let firsts = noted.find(&name.spelling);
+    if !firsts.is_empty() {
+        out.enter_again(alloc, book, name.at, firsts)?;
+        return Ok(());
+    }
+    enter_first(alloc, book, source, name, noted, out)
 }
 
 // Enters what GRANT ALL gives.
@@ -41,7 +66,7 @@ fn enter_given_all(
     at: Pos,
     out: &mut Opening,
 ) -> Result<(), Memory>
-    ensures { (es : List Entry) → Opens out.old book.now.all.items es → OnOk result (Opens out.new book.now.all.items (es ++ entry at (given_all book.now.all.items giver.now.region giver.now.own.now) ∷ [])) }
+    ensures { (es : List Entry) (noted : Holdings) (has : List ℕ → List ℕ) → Passes out.old noted book.now.all.items has es → OnOk result (Passes out.new noted book.now.all.items has (es ++ entry at (given_all book.now.all.items giver.now.region giver.now.own.now) ∷ [])) }
 {
     let mut numbers = Numbers::new(alloc);
     push_given_all(book, giver.region, giver.own, &mut numbers)?;
@@ -56,12 +81,13 @@ fn enter_granted(
     book: &Book,
     giver: &Giver,
     part: &Part,
+    noted: &mut Table,
     out: &mut Opening,
 ) -> Result<(), Memory>
-    ensures { (es : List Entry) → Opens out.old book.now.all.items es → OnOk result (Opens out.new book.now.all.items (es ++ granted_entries book.now.all.items giver.now.region (told_by giver.now.has) giver.now.own.now (part_tree part.now))) }
+    ensures { (es : List Entry) → Passes out.old noted.old book.now.all.items (told_by giver.now.has) es → OnOk result (Passes out.new noted.new book.now.all.items (told_by giver.now.has) (es ++ granted_entries book.now.all.items giver.now.region (told_by giver.now.has) giver.now.own.now (part_tree part.now))) }
 {
     match part {
-        Part::Grant(name) => enter_passed(alloc, book, &giver.has, name, out),
+        Part::Grant(name) => enter_passed(alloc, book, &giver.has, name, noted, out),
         Part::GrantAll(at) => enter_given_all(alloc, book, giver, *at, out),
         Part::Define(_)
         | Part::Mention(_)
@@ -84,8 +110,9 @@ fn enter_all_granted(
 ) -> Result<(), Memory>
     ensures { (es : List Entry) → Opens out.old book.now.all.items es → OnOk result (Opens out.new book.now.all.items (es ++ flat_map (granted_entries book.now.all.items giver.now.region (told_by giver.now.has) giver.now.own.now) (parts_in (nodes_of parts.now)))) }
 {
+    let mut noted = Table::new(alloc);
     for part in parts {
-        enter_granted(alloc, book, giver, part, out)?;
+        enter_granted(alloc, book, giver, part, &mut noted, out)?;
     }
     Ok(())
 }

@@ -17,6 +17,7 @@ mod giving;
 mod granted;
 mod marked;
 mod opening;
+mod passages;
 mod passing;
 mod place;
 mod predefined;

@@ -17,11 +17,13 @@ pub struct Opening {
 }
 
 impl Opening {
-    ghost use Rattle.std.specs.Prelude.{◌≡◌, ◌++◌, ◌∷◌, [], List, IfOk, OnOk};
+    ghost use Rattle.std.specs.Prelude.{◌≡◌, ◌++◌, ◌∷◌, [], ℕ, List, None, IfOk, OnOk};
     ghost use Rattle.names_model.specs.declared.definition.Definition.{Definition};
     ghost use Rattle.names_model.specs.declared.entry.Entry.{Entry};
-    ghost use Rattle.names_model.specs.Entries.{entry};
+    ghost use Rattle.names_model.specs.Entries.{entry, numbers_of};
     ghost use Rattle.reach_tables.specs.Opens.{Opens};
+    ghost use Rattle.reach_tables.specs.Passages.{AreAmong};
+    ghost use Rattle.reach_tables.specs.Tellings.{firsts};
 
     /// A reach with no entry yet. It takes no memory.
     pub fn new(alloc: Global) -> Opening
@@ -47,6 +49,20 @@ impl Opening {
         tell_numbers(alloc, book, &self.table, at, numbers, &mut self.told)?;
         let (_, fresh) = split_known(&self.table, book, numbers);
         add_numbers(alloc, &mut self.table, &mut self.marked, book, fresh)?;
+        Ok(())
+    }
+
+    /// Enters again what was entered before, of which the first of each name are given: this adds nothing, and N1 is told.
+    pub fn enter_again(
+        &mut self,
+        alloc: Global,
+        book: &Book,
+        at: Pos,
+        firsts: &[u32],
+    ) -> Result<(), Memory>
+        ensures { (es : List Entry) (ds : List ℕ) → Opens self.old book.now.all.items es → firsts.now ≡ firsts book.now.all.items None ds → AreAmong ds (numbers_of es) → OnOk result (Opens self.new book.now.all.items (es ++ entry at ds ∷ [])) }
+    {
+        tell_numbers(alloc, book, &self.table, at, firsts, &mut self.told)?;
         Ok(())
     }
 

@@ -9,6 +9,7 @@ ghost use Rattle.reach_tables.specs.Givens.{given_of, given_trees, givens};
 ghost use Rattle.reach_tables.specs.Offsets.{Fits};
 ghost use Rattle.names_model.specs.Parts.{nodes_of};
 ghost use Rattle.reach_tables.specs.Opens.{Opens};
+ghost use Rattle.reach_tables.specs.Passages.{Passes};
 ghost use Rattle.reach_tables.specs.Places.{singles};
 ghost use Rattle.reach_tables.specs.Scopes.{told_by};
 
@@ -19,6 +20,7 @@ use crate::granted::{enter_given, enter_passed};
 use crate::opening::Opening;
 use crate::place::Place;
 use crate::source::Source;
+use crate::table::Table;
 use chill_base::Memory;
 use names_model::{Part, size_of};
 use std::alloc::Global;
@@ -45,12 +47,13 @@ fn enter_taken(
     book: &Book,
     around: &Source,
     part: &Part,
+    noted: &mut Table,
     out: &mut Opening,
 ) -> Result<(), Memory>
-    ensures { (es : List Entry) → Opens out.old book.now.all.items es → OnOk result (Opens out.new book.now.all.items (es ++ seized_entries book.now.all.items (told_by around.now) (part_tree part.now))) }
+    ensures { (es : List Entry) → Passes out.old noted.old book.now.all.items (told_by around.now) es → OnOk result (Passes out.new noted.new book.now.all.items (told_by around.now) (es ++ seized_entries book.now.all.items (told_by around.now) (part_tree part.now))) }
 {
     match part {
-        Part::Seize(name) => enter_passed(alloc, book, around, name, out),
+        Part::Seize(name) => enter_passed(alloc, book, around, name, noted, out),
         Part::Define(_)
         | Part::Mention(_)
         | Part::SeizeAll(_)
@@ -63,7 +66,7 @@ fn enter_taken(
     }
 }
 
-// Enters what a part defines, what it takes and what it gives. The places are a buffer.
+// Enters what a part defines, what it takes and what it gives.
 fn enter_part(
     alloc: Global,
     book: &Book,
@@ -71,15 +74,15 @@ fn enter_part(
     given: &[Given],
     from: u32,
     part: &Part,
-    places: &mut Vec<Place>,
+    noted: &mut Table,
     out: &mut Opening,
 ) -> Result<(), Memory>
-    ensures { from + size_of (part_tree part.now) < 2 ^ 32 → given_trees given.now ≡ given_of book.now.all.items from (part_tree part.now) → (es : List Entry) → Opens out.old book.now.all.items es → OnOk result (Opens out.new book.now.all.items (es ++ (own_entries from (part_tree part.now) ++ seized_entries book.now.all.items (told_by around.now) (part_tree part.now) ++ given_entries book.now.all.items from (part_tree part.now)))) }
+    ensures { from + size_of (part_tree part.now) < 2 ^ 32 → given_trees given.now ≡ given_of book.now.all.items from (part_tree part.now) → (es : List Entry) → Passes out.old noted.old book.now.all.items (told_by around.now) es → OnOk result (Passes out.new noted.new book.now.all.items (told_by around.now) (es ++ (own_entries from (part_tree part.now) ++ seized_entries book.now.all.items (told_by around.now) (part_tree part.now) ++ given_entries book.now.all.items from (part_tree part.now)))) }
 {
-    places.clear();
-    own_entries(from, part, places)?;
+    let mut places = Vec::new(alloc);
+    own_entries(from, part, &mut places)?;
     enter_places(alloc, book, places.as_slice(), out)?;
-    enter_taken(alloc, book, around, part, out)?;
+    enter_taken(alloc, book, around, part, noted, out)?;
     enter_given(alloc, book, given, part, out)?;
     Ok(())
 }
@@ -97,12 +100,12 @@ pub fn enter_parts(
 ) -> Result<(), Memory>
     ensures { Fits from (nodes_of parts.now) → given_trees given.now ≡ givens book.now.all.items from (nodes_of parts.now) → (es : List Entry) → Opens out.old book.now.all.items es → OnOk result (Opens out.new book.now.all.items (es ++ entries_in book.now.all.items (told_by around.now) from (nodes_of parts.now))) }
 {
-    let mut places = Vec::new(alloc);
+    let mut noted = Table::new(alloc);
     let mut next = from;
     let mut left = given;
     for part in parts {
         let (own, behind) = split_given(part, left);
-        enter_part(alloc, book, around, own, next, part, &mut places, out)?;
+        enter_part(alloc, book, around, own, next, part, &mut noted, out)?;
         left = behind;
         next = next.saturating_add(size_of(part));
     }

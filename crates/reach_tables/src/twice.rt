@@ -27,8 +27,8 @@ fn is_another_under(table: &Table, name: &Spelling, number: u32) -> bool
     false
 }
 
-// Whether a number has the name of the one that was told of last.
-fn is_last(book: &Book, last: Option<u32>, number: u32) -> bool
+/// Whether a number has the name of the one that was told of last.
+pub fn is_last(book: &Book, last: Option<u32>, number: u32) -> bool
     ensures { result ≡ is_last book.now.all.items last number }
 {
     match last {

@@ -9,6 +9,8 @@ use Rattle.names_model.specs.declared.part.Clause.{Clause}
 use Rattle.names_model.specs.Seeing.{Reach, sees}
 use Rattle.names_model.specs.Sizes.{clause_size, clauses_size}
 use Rattle.names_model.specs.Dependence.{clause_group, named_in, param_groups}
+use Rattle.reach_walk.specs.SameGroups.{SameGroups}
+use Rattle.reach_walk.proofs.Joining.{groups-as, groups-behind, groups-trans}
 
 named-cons : (text : List Definition) (r : Reach) (m : Mention) (ms : List Mention) → named_in text r (m ∷ ms) ≡ named_in text r (m ∷ []) ++ named_in text r ms
 named-cons text r (Use n need) ms = ap (λ x. x ++ named_in text r ms) (sym (append-nil (sees text r n.spelling)))
@@ -34,5 +36,16 @@ clauses_size-at cs i c h is = ap clauses_size (clauses-at cs i c h is)
 
 -- a step of the loop over parameters
 pub params-on : (text : List Definition) (r : Reach) (cs : List Clause) (i next next' : ℕ) (c : Clause) (out out' whole : List Group) → i < length cs → c ≡ get_or cs i c → next' ≡ next + clause_size c
-    → out ++ param_groups text r next (drop i cs) ≡ whole → out' ≡ out ++ clause_group text r next c ∷ [] → out' ++ param_groups text r next' (drop (i + 1) cs) ≡ whole
-params-on text r cs i next next' c out out' whole h is step before added = rw (step, added) (append_assoc out (clause_group text r next c ∷ []) (param_groups text r (next + clause_size c) (drop (i + 1) cs)) ∙ ap (λ x. out ++ x) (sym (ap (param_groups text r next) (clauses-at cs i c h is))) ∙ before)
+    → SameGroups (out ++ param_groups text r next (drop i cs)) whole → SameGroups out' (out ++ clause_group text r next c ∷ []) → SameGroups (out' ++ param_groups text r next' (drop (i + 1) cs)) whole
+params-on text r cs i next next' c out out' whole h is step before added =
+    let rest = param_groups text r (next + clause_size c) (drop (i + 1) cs) in
+    rw step (groups-trans (out' ++ rest) (out ++ param_groups text r next (drop i cs)) whole
+      (groups-trans (out' ++ rest) ((out ++ clause_group text r next c ∷ []) ++ rest) (out ++ param_groups text r next (drop i cs))
+        (groups-behind out' (out ++ clause_group text r next c ∷ []) rest added)
+        (groups-as _ _ (append_assoc out (clause_group text r next c ∷ []) rest ∙ ap (λ x. out ++ x) (sym (ap (param_groups text r next) (clauses-at cs i c h is))))))
+      before)
+
+-- no parameter is left
+pub params-end : (text : List Definition) (r : Reach) (cs : List Clause) (i next : ℕ) (out whole : List Group) → length cs ≤ i → SameGroups (out ++ param_groups text r next (drop i cs)) whole → SameGroups out whole
+params-end text r cs i next out whole h before = groups-trans out (out ++ param_groups text r next (drop i cs)) whole
+    (groups-as _ _ (sym (append-nil out) ∙ ap (λ x. out ++ x) (sym (at_drop_all (param_groups text r next) cs i h)))) before

@@ -1,4 +1,5 @@
 pub mod Grouping
+pub mod Joining
 pub mod Measuring
 pub mod ProgramMeasures
 pub mod Showing

@@ -12,7 +12,10 @@ use Rattle.names_model.specs.Seeing.{Reach}
 use Rattle.names_model.specs.NameRules.{Node, node, nodes, nodes_inside, told, told_twice}
 use Rattle.names_model.specs.Dependence.{groups_in}
 use Rattle.names_model.specs.Resolving.{resolved_in}
-use Rattle.reach_walk.specs.Findings.{AddsInside, AddsNodes, AddsReach}
+use Rattle.cycles.specs.declared.group.Group.{Group}
+use Rattle.reach_walk.specs.Findings.{AddsInside, AddsNodes, AddsReach, groups_at}
+use Rattle.reach_walk.specs.SameGroups.{SameGroups}
+use Rattle.reach_walk.proofs.Joining.{groups-behind, groups-trans}
 use Rattle.reach_tables.specs.Givens.{GivenTree, given_of}
 use Rattle.reach_tables.specs.Offsets.{FitsInside}
 use Rattle.names_model.specs.Parts.{nodes_of}
@@ -38,19 +41,36 @@ found-on f r ps i next next' x here opened out out' out'' whole h is step gives 
     ∙ ap (λ z. out ++ (z ++ (flat_map f inner ++ flat_map f rest))) (sym gives)
     ∙ ap (λ z. out ++ (f (node r next (part_tree x)) ++ z)) (sym (flat_map-append f inner rest)) ∙ ap (λ z. out ++ z) (sym d) ∙ before)
 
--- the same of what is told, where the vectors have the same members
+-- the same, where the vectors say the same in some way
+walk-by : {X : Type 0} (S : List X → List X → Type 0) → ((xs ys zs : List X) → S xs ys → S ys zs → S xs zs) → ((xs ys zs : List X) → S xs ys → S (xs ++ zs) (ys ++ zs))
+    → (f : Node → List X) (r : Reach) (ps : List Part) (i next next' : ℕ) (x : Part) (here opened out out' out'' whole : List X) → i < length ps → x ≡ get_or ps i x → next' ≡ next + size_of (part_tree x)
+    → f (node r next (part_tree x)) ≡ here ++ opened
+    → S (out ++ flat_map f (nodes r next (nodes_of (drop i ps)))) whole
+    → S out' (out ++ here) → S out'' (out' ++ (opened ++ flat_map f (nodes_inside r next (part_tree x))))
+    → S (out'' ++ flat_map f (nodes r next' (nodes_of (drop (i + 1) ps)))) whole
+walk-by S trans behind f r ps i next next' x here opened out out' out'' whole h is step gives before own inside =
+    let inner = opened ++ flat_map f (nodes_inside r next (part_tree x)) in
+    let rest = flat_map f (nodes r next' (nodes_of (drop (i + 1) ps))) in
+    let all = out ++ flat_map f (nodes r next (nodes_of (drop i ps))) in
+    let exact : ((out ++ here) ++ inner) ++ rest ≡ all = found-on f r ps i next next' x here opened out (out ++ here) ((out ++ here) ++ inner) all h is step gives refl refl refl in
+    let there = trans out'' (out' ++ inner) ((out ++ here) ++ inner) inside (behind out' (out ++ here) inner own) in
+    trans (out'' ++ rest) all whole (subst (λ ds. S (out'' ++ rest) ds) exact (behind out'' ((out ++ here) ++ inner) rest there)) before
+
+-- what is told has the same members
 pub told-walk : (text : List Definition) (r : Reach) (ps : List Part) (i next next' : ℕ) (x : Part) (here opened out out' out'' whole : List Diagnostic) → i < length ps → x ≡ get_or ps i x → next' ≡ next + size_of (part_tree x)
     → told text (node r next (part_tree x)) ≡ here ++ opened
     → SameMembers (out ++ flat_map (told text) (nodes r next (nodes_of (drop i ps)))) whole
     → SameMembers out' (out ++ here) → SameMembers out'' (out' ++ (opened ++ flat_map (told text) (nodes_inside r next (part_tree x))))
     → SameMembers (out'' ++ flat_map (told text) (nodes r next' (nodes_of (drop (i + 1) ps)))) whole
-told-walk text r ps i next next' x here opened out out' out'' whole h is step gives before own inside =
-    let inner = opened ++ flat_map (told text) (nodes_inside r next (part_tree x)) in
-    let rest = flat_map (told text) (nodes r next' (nodes_of (drop (i + 1) ps))) in
-    let all = out ++ flat_map (told text) (nodes r next (nodes_of (drop i ps))) in
-    let exact : ((out ++ here) ++ inner) ++ rest ≡ all = found-on (told text) r ps i next next' x here opened out (out ++ here) ((out ++ here) ++ inner) all h is step gives refl refl refl in
-    let there = same-trans out'' (out' ++ inner) ((out ++ here) ++ inner) inside (same-behind out' (out ++ here) inner own) in
-    same-trans (out'' ++ rest) all whole (subst (λ ds. SameMembers (out'' ++ rest) ds) exact (same-behind out'' ((out ++ here) ++ inner) rest there)) before
+told-walk text = walk-by SameMembers same-trans same-behind (told text)
+
+-- the groups say the same
+pub groups-walk : (text : List Definition) (r : Reach) (ps : List Part) (i next next' : ℕ) (x : Part) (here opened out out' out'' whole : List Group) → i < length ps → x ≡ get_or ps i x → next' ≡ next + size_of (part_tree x)
+    → groups_at text (node r next (part_tree x)) ≡ here ++ opened
+    → SameGroups (out ++ flat_map (groups_at text) (nodes r next (nodes_of (drop i ps)))) whole
+    → SameGroups out' (out ++ here) → SameGroups out'' (out' ++ (opened ++ flat_map (groups_at text) (nodes_inside r next (part_tree x))))
+    → SameGroups (out'' ++ flat_map (groups_at text) (nodes r next' (nodes_of (drop (i + 1) ps)))) whole
+groups-walk text = walk-by SameGroups groups-trans groups-behind (groups_at text)
 
 -- N1 of a reach is told, and then its parts are walked over
 pub found-reach : (text : List Definition) (r : Reach) (from : ℕ) (ps : PartNodes) (old opened new : Findings) (twice : List Diagnostic) → SameMembers opened.told.items (old.told.items ++ twice) → twice ≡ told_twice text r
@@ -58,7 +78,7 @@ pub found-reach : (text : List Definition) (r : Reach) (from : ℕ) (ps : PartNo
 found-reach text r from ps old opened new twice a e g u b = record {
   told = same-trans new.told.items (opened.told.items ++ rest) (old.told.items ++ (told_twice text r ++ rest)) b.told
       (subst (λ ds. SameMembers (opened.told.items ++ rest) ds) (ap (λ z. (old.told.items ++ z) ++ rest) e ∙ append_assoc old.told.items (told_twice text r) rest) (same-behind opened.told.items (old.told.items ++ twice) rest a));
-  groups = b.groups ∙ ap (λ z. z ++ groups_in text r from ps) g;
+  groups = subst (λ z. SameGroups new.groups.items (z ++ groups_in text r from ps)) g b.groups;
   uses = b.uses ∙ ap (λ z. z ++ resolved_in text r from ps) u;
 }
   where

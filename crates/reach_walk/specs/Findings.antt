@@ -11,11 +11,13 @@ use Rattle.names_model.specs.NameRules.{Node, nodes_inside, told, told_here, tol
 use Rattle.names_model.specs.Dependence.{groups_in, groups_of}
 use Rattle.names_model.specs.Resolving.{resolved_here, resolved_in}
 use Rattle.reach_walk.specs.declared.findings.Findings.{Findings}
+use Rattle.reach_walk.specs.SameGroups.{SameGroups}
 
--- each vector has these behind what it had; what is told may be told once for many
+-- each vector has these behind what it had; what is told may be told once for many, and the groups are any
+-- that say the same
 pub record Adds (old new : Findings) (ds : List Diagnostic) (gs : List Group) (us : List Resolved) : Type 0 where
   pub told : SameMembers new.told.items (old.told.items ++ ds)
-  pub groups : new.groups.items ≡ old.groups.items ++ gs
+  pub groups : SameGroups new.groups.items (old.groups.items ++ gs)
   pub uses : new.uses.items ≡ old.uses.items ++ us
 
 -- the groups and the uses of a part in its reach

@@ -7,6 +7,7 @@ ghost use Rattle.names_model.specs.Parts.{part_tree};
 ghost use Rattle.names_model.specs.Seeing.{Reach};
 ghost use Rattle.names_model.specs.Sizes.{clause_size, clauses_size, head_size, size_of};
 ghost use Rattle.reach_tables.specs.Scopes.{Shows};
+ghost use Rattle.reach_walk.specs.SameGroups.{SameGroups};
 
 use chill_base::{Memory, Numbers};
 use cycles::Group;
@@ -50,6 +51,22 @@ fn named_in(alloc: Global, book: &Book, scope: &Scope, text: &[Mention]) -> Resu
     Ok(numbers)
 }
 
+// Puts a group behind others, or its first nodes to those of the last one, where that depends on the same: so many definitions
+// of one text each are one group.
+fn push_group(own: Group, out: &mut Vec<Group>) -> Result<(), Memory>
+    ensures { OnOk result (SameGroups out.new.items (out.old.items ++ own ∷ [])) }
+{
+    let Some(mut last) = out.pop() else {
+        return Ok(out.push(own)?);
+    };
+    if last.to.as_slice() == own.to.as_slice() {
+        push_all(own.from.as_slice(), &mut last.from)?;
+        return Ok(out.push(last)?);
+    }
+    out.push(last)?;
+    Ok(out.push(own)?)
+}
+
 // Notes on what the names of a clause depend.
 fn note_clause(
     alloc: Global,
@@ -59,15 +76,15 @@ fn note_clause(
     clause: &Clause,
     out: &mut Vec<Group>,
 ) -> Result<(), Memory>
-    ensures { (text : List Definition) (r : Reach) → Shows book.now scope.now text r → from + clause_size clause.now < 2 ^ 32 → OnOk result (out.new.items ≡ out.old.items ++ clause_group text r from clause.now ∷ []) }
+    ensures { (text : List Definition) (r : Reach) → Shows book.now scope.now text r → from + clause_size clause.now < 2 ^ 32 → OnOk result (SameGroups out.new.items (out.old.items ++ clause_group text r from clause.now ∷ [])) }
 {
     let defined = numbers_on(alloc, from, clause.names.as_slice())?;
     let named = named_in(alloc, book, scope, clause.text.as_slice())?;
-    out.push(Group {
+    let own = Group {
         from: defined,
         to: named,
-    })?;
-    Ok(())
+    };
+    push_group(own, out)
 }
 
 // Notes on what parameters depend.
@@ -79,7 +96,7 @@ fn note_params(
     params: &[Clause],
     out: &mut Vec<Group>,
 ) -> Result<(), Memory>
-    ensures { (text : List Definition) (r : Reach) → Shows book.now scope.now text r → from + clauses_size params.now < 2 ^ 32 → OnOk result (out.new.items ≡ out.old.items ++ param_groups text r from params.now) }
+    ensures { (text : List Definition) (r : Reach) → Shows book.now scope.now text r → from + clauses_size params.now < 2 ^ 32 → OnOk result (SameGroups out.new.items (out.old.items ++ param_groups text r from params.now)) }
 {
     let mut next = from;
     for clause in params {
@@ -99,21 +116,22 @@ fn note_routine(
     returned: &[Mention],
     out: &mut Vec<Group>,
 ) -> Result<(), Memory>
-    ensures { (text : List Definition) (r : Reach) → Shows book.now scope.now text r → from + head_size params.now returned.now < 2 ^ 32 → OnOk result (out.new.items ≡ out.old.items ++ group (from ∷ []) (named_in text r returned.now) ∷ param_groups text r (suc from) params.now) }
+    ensures { (text : List Definition) (r : Reach) → Shows book.now scope.now text r → from + head_size params.now returned.now < 2 ^ 32 → OnOk result (SameGroups out.new.items (out.old.items ++ group (from ∷ []) (named_in text r returned.now) ∷ param_groups text r (suc from) params.now)) }
 {
     let mut defined = Numbers::new(alloc);
     defined.push(from)?;
     let named = named_in(alloc, book, scope, returned)?;
-    out.push(Group {
+    let own = Group {
         from: defined,
         to: named,
-    })?;
+    };
+    push_group(own, out)?;
     note_params(alloc, book, scope, from.saturating_add(1), params, out)?;
     Ok(())
 }
 
 /// Notes what depends on what by a part, whose first definition has the number `from`.
-#[tactic(auto, using(names_model::proofs::PartViews::part_built, reach_tables::proofs::Appends::nothing_more))]
+#[tactic(auto, using(names_model::proofs::PartViews::part_built, crate::proofs::Joining::unchanged))]
 pub fn note_groups(
     alloc: Global,
     book: &Book,
@@ -122,7 +140,7 @@ pub fn note_groups(
     part: &Part,
     out: &mut Vec<Group>,
 ) -> Result<(), Memory>
-    ensures { (text : List Definition) (r : Reach) → Shows book.now scope.now text r → from + size_of (part_tree part.now) < 2 ^ 32 → OnOk result (out.new.items ≡ out.old.items ++ groups_of text r from (part_tree part.now)) }
+    ensures { (text : List Definition) (r : Reach) → Shows book.now scope.now text r → from + size_of (part_tree part.now) < 2 ^ 32 → OnOk result (SameGroups out.new.items (out.old.items ++ groups_of text r from (part_tree part.now))) }
 {
     match part {
         Part::Define(clause) => note_clause(alloc, book, scope, from, clause, out),

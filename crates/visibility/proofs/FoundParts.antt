@@ -3,10 +3,12 @@ use Rattle.std.proofs.Common.{◌≡◌, ℕ, ◌+◌, ◌-◌, ◌<◌, ◌^◌
 use Rattle.diagnostics.specs.declared.diagnostic.Diagnostic.{Diagnostic}
 use Rattle.chill_tree.specs.ItemTree.{ProgramTree}
 use Rattle.diagnostics.specs.Listing.{SameMembers}
+use Rattle.cycles.specs.declared.group.Group.{Group}
 use Rattle.names_model.specs.declared.definition.Definition.{Definition}
 use Rattle.names_model.specs.Parts.{PartNodes}
 use Rattle.names_model.specs.Sizes.{sizes_of}
 use Rattle.names_model.specs.Definitions.{text_definitions, with_predefined, predefined}
+use Rattle.names_model.specs.Dependence.{groups_in}
 use Rattle.names_model.specs.NameRules.{told_in}
 use Rattle.names_model.specs.Resolving.{level_of}
 use Rattle.names_model.specs.Seeing.{outermost}
@@ -15,6 +17,7 @@ use Rattle.reach_walk.specs.declared.findings.Findings.{Findings}
 use Rattle.reach_tables.specs.Books.{Keeps}
 use Rattle.reach_tables.specs.Offsets.{Fits}
 use Rattle.reach_walk.specs.Findings.{AddsReach}
+use Rattle.reach_walk.specs.SameGroups.{SameGroups}
 use Rattle.visibility.specs.declared.finding.Found.{Found}
 use Rattle.visibility.specs.Found.{IsFound}
 
@@ -47,7 +50,7 @@ found_at tree count book old new few fit size p =
       keeps = keeps;
       count = sizes ∙ sym own;
       told = subst (λ (l : List Diagnostic). SameMembers new.told.items (l ++ told_in (text_definitions (level_of tree)) (outermost (level_of tree)) 0 (level_of tree))) p.told adds.told;
-      groups = behind_none old.groups.items new.groups.items _ p.groups adds.groups;
+      groups = subst (λ (l : List Group). SameGroups new.groups.items (l ++ groups_in (text_definitions (level_of tree)) (outermost (level_of tree)) 0 (level_of tree))) p.groups adds.groups;
       uses = behind_none old.uses.items new.uses.items _ p.uses adds.uses;
     }
 

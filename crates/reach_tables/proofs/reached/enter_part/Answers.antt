@@ -1,12 +1,9 @@
-use Rattle.std.proofs.Common.{◌≡◌, ◌∙◌, ◌++◌, ap, refl}
+use Rattle.std.proofs.Common.{◌≡◌, ◌∙◌, ◌++◌, ap}
 use Rattle.names_model.specs.Parts.{part_tree}
 use Rattle.names_model.specs.Entries.{own_entries}
 use Rattle.reach_tables.specs.Places.{singles}
-use Rattle.reach_tables.proofs.Entering.{opens-three}
+use Rattle.reach_tables.proofs.Repeated.{passes-behind, passes-three}
 use Rattle.reach_tables.proofs.reached.enter_part.Goals as goal
 
 pub returns : goal.returns
-returns c = λ h g es o.
-    let p = part_tree c.args.part.now in
-    let own : singles c.as_slice.result.now ≡ own_entries c.args.from p = ap singles c.as_slice.ensures.value ∙ c.in_ok-own_entries.ensures h ∙ ap (λ ps. singles ps ++ own_entries c.args.from p) c.clear.ensures.items in
-    opens-three _ c.args.book.now.all.items es _ _ _ _ _ own refl (c.in_ok-enter_given.ensures c.args.from g _ (c.in_ok-enter_taken.ensures _ (c.in_ok-enter_places.ensures es o)))
+returns c = λ h g es p. ?

@@ -16,7 +16,7 @@ use Rattle.reach_tables.specs.Places.{singles}
 use Rattle.reach_tables.proofs.Lending.{given-at, givens-back}
 use Rattle.reach_tables.proofs.PartLists.{nodes-at}
 use Rattle.reach_walk.proofs.Showing.{shows-modulion, shows-block, twice-modulion, twice-block}
-use Rattle.reach_walk.proofs.Walking.{InsideFound, found-on, found-reach, told-walk}
+use Rattle.reach_walk.proofs.Walking.{InsideFound, found-on, found-reach, groups-walk, told-walk}
 use Rattle.reach_walk.proofs.walk.+walk.Goals as goal
 
 pub walk-loop-part-preserved : goal.walk-loop-part-preserved
@@ -36,7 +36,7 @@ walk-loop-part-preserved t c = λ text r s h g.
       fits = rw step fits.2;
       left = rw step split.1;
       told = told-walk text r c.args.parts.now k n _ x (told_here text r p) (twice_inside text r n p) _ _ _ _ c.loop-part-test.true c.part-item.is step refl i.told here.told inside.told;
-      groups = found-on (groups_at text) r c.args.parts.now k n _ x (groups_of text r n p) [] _ _ _ _ c.loop-part-test.true c.part-item.is step (sym (append-nil (groups_of text r n p))) i.groups here.groups inside.groups;
+      groups = groups-walk text r c.args.parts.now k n _ x (groups_of text r n p) [] _ _ _ _ c.loop-part-test.true c.part-item.is step (sym (append-nil (groups_of text r n p))) i.groups here.groups inside.groups;
       uses = found-on (uses_at text) r c.args.parts.now k n _ x (resolved_here text r p) [] _ _ _ _ c.loop-part-test.true c.part-item.is step (sym (append-nil (resolved_here text r p))) i.uses here.uses inside.uses;
     }
 

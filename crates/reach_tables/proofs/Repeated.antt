@@ -209,14 +209,14 @@ passes-three o m all has es own taken lent own' a h = subst (Passes o m all has)
 -- ---- what is noted
 
 -- one more number under a name
-pub noted-on : (all : List Definition) (n : List ℕ) (m m' whole : Holdings) (last : Option ℕ) (d : ℕ) (ds : List ℕ)
-    → ((k : List ℕ) → held m k ++ (if bytes_eq n k then firsts all last (d ∷ ds) else []) ≡ held whole k)
+pub noted-on : (all : List Definition) (n : List ℕ) (m m' : Holdings) (whole : List ℕ → List ℕ) (last : Option ℕ) (d : ℕ) (ds : List ℕ)
+    → ((k : List ℕ) → held m k ++ (if bytes_eq n k then firsts all last (d ∷ ds) else []) ≡ whole k)
     → ((k : List ℕ) → held m' k ≡ (if bytes_eq n k then held m k ++ (if is_last all last d then [] else d ∷ []) else held m k))
-    → (k : List ℕ) → held m' k ++ (if bytes_eq n k then firsts all (if is_last all last d then last else Some d) ds else []) ≡ held whole k
+    → (k : List ℕ) → held m' k ++ (if bytes_eq n k then firsts all (if is_last all last d then last else Some d) ds else []) ≡ whole k
 noted-on all n m m' whole last d ds before more k = side (bytes_eq n k) (before k) (more k)
   where
-    side : (b : Bool) → held m k ++ (if b then firsts all last (d ∷ ds) else []) ≡ held whole k → held m' k ≡ (if b then held m k ++ (if is_last all last d then [] else d ∷ []) else held m k)
-        → held m' k ++ (if b then firsts all (if is_last all last d then last else Some d) ds else []) ≡ held whole k
+    side : (b : Bool) → held m k ++ (if b then firsts all last (d ∷ ds) else []) ≡ whole k → held m' k ≡ (if b then held m k ++ (if is_last all last d then [] else d ∷ []) else held m k)
+        → held m' k ++ (if b then firsts all (if is_last all last d then last else Some d) ds else []) ≡ whole k
     side true h j = ap (λ r. r ++ firsts all (if is_last all last d then last else Some d) ds) j
         ∙ append_assoc (held m k) (if is_last all last d then [] else d ∷ []) (firsts all (if is_last all last d then last else Some d) ds) ∙ h
     side false h j = ap (λ r. r ++ []) j ∙ h
