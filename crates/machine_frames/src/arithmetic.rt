@@ -4,7 +4,7 @@ ghost use Rattle.machine_frames.specs.Frames.{Does, IsReady, KeepsRoom};
 
 use crate::activation::{Acted, Activation};
 use kernel_base::Exc;
-use machine_numbers::{
+use crate::numbers::{
     difference, index_offset, magnitude_of, modulus_of, negation, predecessor, product,
     quotient_of, remainder_of, successor, sum, within_bounds,
 };

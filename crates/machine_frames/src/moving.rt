@@ -5,7 +5,7 @@ ghost use Rattle.machine_frames.specs.Frames.{Does, IsReady, KeepsRoom};
 
 use crate::activation::{Acted, Activation};
 use kernel_base::Exc;
-use machine_numbers::offset_from;
+use crate::numbers::offset_from;
 
 /// Pushes a number.
 pub fn push(top: &mut Activation, number: i64) -> Acted

@@ -4,7 +4,7 @@ ghost use Rattle.machine_frames.specs.Frames.{Does, IsReady, KeepsRoom};
 
 use crate::activation::{Acted, Activation};
 use kernel_base::Exc;
-use machine_numbers::{
+use crate::numbers::{
     all_members, common_members, count_members, greatest_member, has_offset_in, includes,
     least_member, members_without, missing_members, offsets_between, single_members, truth_from,
 };
