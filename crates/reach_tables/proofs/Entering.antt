@@ -25,7 +25,7 @@ once-append xs [] zs = refl
 once-append xs (y ∷ ys) zs = once-append (if is_among y xs then xs else xs ++ y ∷ []) ys zs
 
 -- one more entry
-numbers-more : (es : List Entry) (e : Entry) → numbers_of (es ++ e ∷ []) ≡ numbers_of es ++ e.numbers
+pub numbers-more : (es : List Entry) (e : Entry) → numbers_of (es ++ e ∷ []) ≡ numbers_of es ++ e.numbers
 numbers-more es e = flat_map-append (λ (x : Entry). x.numbers) es (e ∷ []) ∙ ap (λ r. numbers_of es ++ r) (append-nil e.numbers)
 
 found-more : (all : List Definition) (es : List Entry) (e : Entry) (n : List ℕ) → once_behind (found all es n) (under all n e.numbers) ≡ found all (es ++ e ∷ []) n

@@ -12,7 +12,7 @@ in-right x [] ys h = h
 in-right x (z ∷ xs) ys h = inr (in-right x xs ys h)
 
 -- what is in both is in one of them
-in-either : {X : Type 0} (x : X) (xs ys : List X) → IsIn x (xs ++ ys) → IsIn x xs ⊎ IsIn x ys
+pub in-either : {X : Type 0} (x : X) (xs ys : List X) → IsIn x (xs ++ ys) → IsIn x xs ⊎ IsIn x ys
 in-either x [] ys h = inr h
 in-either x (z ∷ xs) ys (inl e) = inl (inl e)
 in-either x (z ∷ xs) ys (inr h) = further (in-either x xs ys h)

@@ -1,5 +1,6 @@
 -- What passes again under a name adds nothing, and is told of by the first of each name.
-use Rattle.std.proofs.Common.{◌≡◌, ℕ, Bool, true, false, List, [], ◌∷◌, ◌++◌, ◌⊎◌, inl, inr, Option, Some, None, append-nil, append_assoc, refl, ap, sym, ◌∙◌, subst, if◌then◌else◌}
+use Rattle.std.proofs.Common.{◌≡◌, ℕ, Bool, true, false, List, [], ◌∷◌, ◌++◌, ◌⊎◌, inl, inr, Option, Some, None, append-nil, append_assoc, refl, ap, sym, ◌∙◌, subst, length, drop, ◌≤◌, ⊤, if◌then◌else◌}
+use Rattle.std.proofs.lemmas.List.{at_drop_all}
 use Rattle.std.specs.Prelude.{◌||◌, ◌&&◌, ◌==◌, not, flat_map}
 use Rattle.std.specs.List.{list_any}
 use Rattle.std.specs.Str.{bytes_eq}
@@ -33,11 +34,11 @@ use Rattle.reach_tables.proofs.Within.{any-at, any-had, either, first-among, lat
 -- a number that is among the first of two lists, or among the second
 pub among-left : (d : ℕ) (xs ys : List ℕ) → is_among d xs ≡ true → is_among d (xs ++ ys) ≡ true
 among-left d [] ys h = cc
-among-left d (x ∷ xs) ys h = side (either (x == d) (is_among d xs) h)
+among-left d (x ∷ xs) ys h = side (λ k. among-left d xs ys k) (either (x == d) (is_among d xs) h)
   where
-    side : ((x == d) ≡ true) ⊎ (is_among d xs ≡ true) → is_among d (x ∷ (xs ++ ys)) ≡ true
-    side (inl e) = ap (λ b. b || is_among d (xs ++ ys)) e
-    side (inr k) = later-among d x (xs ++ ys) (among-left d xs ys k)
+    side : (is_among d xs ≡ true → is_among d (xs ++ ys) ≡ true) → ((x == d) ≡ true) ⊎ (is_among d xs ≡ true) → is_among d (x ∷ (xs ++ ys)) ≡ true
+    side rest (inl e) = ap (λ b. b || is_among d (xs ++ ys)) e
+    side rest (inr k) = later-among d x (xs ++ ys) (rest k)
 
 pub among-right : (d : ℕ) (xs ys : List ℕ) → is_among d ys ≡ true → is_among d (xs ++ ys) ≡ true
 among-right d [] ys h = h
@@ -100,10 +101,11 @@ LastHeld : Holdings → List Definition → Option ℕ → Type 0
 LastHeld t all None = ⊤
 LastHeld t all (Some r) = is_among r (held t (spelling_at all r)) ≡ true
 
+-- what is told of all is told of the first of each name, or of the one before
 told-there : (t : Holdings) (all : List Definition) (es : List Entry) (at : Pos) → Holds t all es → (ds : List ℕ) → EachHeld all t ds → (last : Option ℕ) → LastHeld t all last
     → (x : Diagnostic) → IsIn x (flat_map (told_number all (numbers_of es) at) ds) → IsIn x (of_last (told_number all (numbers_of es) at) last ++ flat_map (told_number all (numbers_of es) at) (firsts all last ds))
 told-there t all es at h [] e last l x k = absurd k
-told-there t all es at h (d ∷ ds) e last l x k = side (is_last all last d) refl (in-either x (f d) (flat_map f ds) k)
+told-there t all es at h (d ∷ ds) e last l x k = side (told-there t all es at h ds rest last l x) (told-there t all es at h ds rest (Some d) here x) (is_last all last d) refl (in-either x (f d) (flat_map f ds) k)
   where
     f : ℕ → List Diagnostic
     f = told_number all (numbers_of es) at
@@ -114,27 +116,29 @@ told-there t all es at h (d ∷ ds) e last l x k = side (is_last all last d) ref
     rest : EachHeld all t ds
     rest = record { by = λ c j. e.by c (later-among c d ds j) }
 
-    same : (last : Option ℕ) → LastHeld t all last → is_last all last d ≡ true → IsIn x (f d) → IsIn x (of_last f last)
-    same None l is j = cc
-    same (Some r) l is j = subst (IsIn x) (told-alike t all es at d r h ((bytes_eq-Decides (spelling_at all r) (spelling_at all d)).0 is) here l) j
+    same : (before : Option ℕ) → LastHeld t all before → is_last all before d ≡ true → IsIn x (f d) → IsIn x (of_last f before)
+    same None z is j = cc
+    same (Some r) z is j = subst (IsIn x) (told-alike t all es at d r h ((bytes_eq-Decides (spelling_at all r) (spelling_at all d)).0 is) here z) j
 
-    side : (b : Bool) → is_last all last d ≡ b → IsIn x (f d) ⊎ IsIn x (flat_map f ds) → IsIn x (of_last f last ++ flat_map f ((if b then [] else d ∷ []) ++ firsts all (if b then last else Some d) ds))
-    side true is (inl j) = in-left x (of_last f last) (flat_map f (firsts all last ds)) (same last l is j)
-    side true is (inr j) = told-there t all es at h ds rest last l x j
-    side false is (inl j) = in-right x (of_last f last) (f d ++ flat_map f (firsts all (Some d) ds)) (in-left x (f d) (flat_map f (firsts all (Some d) ds)) j)
-    side false is (inr j) = in-right x (of_last f last) (f d ++ flat_map f (firsts all (Some d) ds)) (told-there t all es at h ds rest (Some d) here x j)
+    side : (IsIn x (flat_map f ds) → IsIn x (of_last f last ++ flat_map f (firsts all last ds))) → (IsIn x (flat_map f ds) → IsIn x (f d ++ flat_map f (firsts all (Some d) ds)))
+        → (b : Bool) → is_last all last d ≡ b → IsIn x (f d) ⊎ IsIn x (flat_map f ds) → IsIn x (of_last f last ++ flat_map f ((if b then [] else d ∷ []) ++ firsts all (if b then last else Some d) ds))
+    side on more true is (inl j) = in-left x (of_last f last) (flat_map f (firsts all last ds)) (same last l is j)
+    side on more true is (inr j) = on j
+    side on more false is (inl j) = in-right x (of_last f last) (f d ++ flat_map f (firsts all (Some d) ds)) (in-left x (f d) (flat_map f (firsts all (Some d) ds)) j)
+    side on more false is (inr j) = in-right x (of_last f last) (f d ++ flat_map f (firsts all (Some d) ds)) (more j)
 
 told-back : (f : ℕ → List Diagnostic) (all : List Definition) (ds : List ℕ) (last : Option ℕ) (x : Diagnostic) → IsIn x (flat_map f (firsts all last ds)) → IsIn x (flat_map f ds)
 told-back f all [] last x k = k
-told-back f all (d ∷ ds) last x k = side (is_last all last d) k
+told-back f all (d ∷ ds) last x k = side (told-back f all ds last x) (told-back f all ds (Some d) x) (is_last all last d) k
   where
-    side : (b : Bool) → IsIn x (flat_map f ((if b then [] else d ∷ []) ++ firsts all (if b then last else Some d) ds)) → IsIn x (f d ++ flat_map f ds)
-    side true j = in-right x (f d) (flat_map f ds) (told-back f all ds last x j)
-    side false j = later (in-either x (f d) (flat_map f (firsts all (Some d) ds)) j)
-      where
-        later : IsIn x (f d) ⊎ IsIn x (flat_map f (firsts all (Some d) ds)) → IsIn x (f d ++ flat_map f ds)
-        later (inl i) = in-left x (f d) (flat_map f ds) i
-        later (inr i) = in-right x (f d) (flat_map f ds) (told-back f all ds (Some d) x i)
+    later : (IsIn x (flat_map f (firsts all (Some d) ds)) → IsIn x (flat_map f ds)) → IsIn x (f d) ⊎ IsIn x (flat_map f (firsts all (Some d) ds)) → IsIn x (f d ++ flat_map f ds)
+    later more (inl i) = in-left x (f d) (flat_map f ds) i
+    later more (inr i) = in-right x (f d) (flat_map f ds) (more i)
+
+    side : (IsIn x (flat_map f (firsts all last ds)) → IsIn x (flat_map f ds)) → (IsIn x (flat_map f (firsts all (Some d) ds)) → IsIn x (flat_map f ds))
+        → (b : Bool) → IsIn x (flat_map f ((if b then [] else d ∷ []) ++ firsts all (if b then last else Some d) ds)) → IsIn x (f d ++ flat_map f ds)
+    side on more true j = in-right x (f d) (flat_map f ds) (on j)
+    side on more false j = later more (in-either x (f d) (flat_map f (firsts all (Some d) ds)) j)
 
 -- the first of each name are told of where all are
 told-firsts : (t : Holdings) (all : List Definition) (es : List Entry) (at : Pos) (ds : List ℕ) → Holds t all es → EachHeld all t ds
@@ -208,15 +212,11 @@ passes-three o m all has es own taken lent own' a h = subst (Passes o m all has)
 
 -- ---- what is noted
 
--- one more number under a name
-pub noted-on : (all : List Definition) (n : List ℕ) (m m' : Holdings) (whole : List ℕ → List ℕ) (last : Option ℕ) (d : ℕ) (ds : List ℕ)
-    → ((k : List ℕ) → held m k ++ (if bytes_eq n k then firsts all last (d ∷ ds) else []) ≡ whole k)
-    → ((k : List ℕ) → held m' k ≡ (if bytes_eq n k then held m k ++ (if is_last all last d then [] else d ∷ []) else held m k))
-    → (k : List ℕ) → held m' k ++ (if bytes_eq n k then firsts all (if is_last all last d then last else Some d) ds else []) ≡ whole k
-noted-on all n m m' whole last d ds before more k = side (bytes_eq n k) (before k) (more k)
+-- no number is left
+pub noted-end : (all : List Definition) (n : List ℕ) (m : Holdings) (whole : List ℕ → List ℕ) (last : Option ℕ) (ds : List ℕ) (i : ℕ) → length ds ≤ i
+    → ((k : List ℕ) → held m k ++ (if bytes_eq n k then firsts all last (drop i ds) else []) ≡ whole k) → (k : List ℕ) → held m k ≡ whole k
+noted-end all n m whole last ds i h before k = side (bytes_eq n k) (before k)
   where
-    side : (b : Bool) → held m k ++ (if b then firsts all last (d ∷ ds) else []) ≡ whole k → held m' k ≡ (if b then held m k ++ (if is_last all last d then [] else d ∷ []) else held m k)
-        → held m' k ++ (if b then firsts all (if is_last all last d then last else Some d) ds else []) ≡ whole k
-    side true h j = ap (λ r. r ++ firsts all (if is_last all last d then last else Some d) ds) j
-        ∙ append_assoc (held m k) (if is_last all last d then [] else d ∷ []) (firsts all (if is_last all last d then last else Some d) ds) ∙ h
-    side false h j = ap (λ r. r ++ []) j ∙ h
+    side : (b : Bool) → held m k ++ (if b then firsts all last (drop i ds) else []) ≡ whole k → held m k ≡ whole k
+    side true j = sym (append-nil (held m k)) ∙ ap (λ r. held m k ++ r) (sym (at_drop_all (firsts all last) ds i h)) ∙ j
+    side false j = sym (append-nil (held m k)) ∙ j

@@ -59,7 +59,7 @@ filter-from p d (y ∷ ys) h = at (p y) refl (λ k. filter-from p d ys k) h
     at true is rest k = here is rest (either (y == d) (is_among d (filter p ys)) k)
     at false is rest k = later (rest k)
 
-any-at : (p : ℕ → Bool) (d : ℕ) (xs : List ℕ) → is_among d xs ≡ true → p d ≡ true → list_any p xs ≡ true
+pub any-at : (p : ℕ → Bool) (d : ℕ) (xs : List ℕ) → is_among d xs ≡ true → p d ≡ true → list_any p xs ≡ true
 any-at p d [] h k = cc
 any-at p d (x ∷ xs) h k = side (λ e. any-at p d xs e k) (either (x == d) (is_among d xs) h)
   where

@@ -50,9 +50,9 @@ pub fn enter_passed(
 ) -> Result<(), Memory>
     ensures { (es : List Entry) → Passes out.old noted.old book.now.all.items (told_by source.now) es → OnOk result (Passes out.new noted.new book.now.all.items (told_by source.now) (es ++ entry name.now.at (passed book.now.all.items (told_by source.now) name.now.spelling) ∷ [])) }
 {
-    let firsts = noted.find(&name.spelling);
-    if !firsts.is_empty() {
-        out.enter_again(alloc, book, name.at, firsts)?;
+    let before = noted.find(&name.spelling);
+    if !before.is_empty() {
+        out.enter_again(alloc, book, name.at, before)?;
         return Ok(());
     }
     enter_first(alloc, book, source, name, noted, out)
@@ -66,11 +66,25 @@ fn enter_given_all(
     at: Pos,
     out: &mut Opening,
 ) -> Result<(), Memory>
-    ensures { (es : List Entry) (noted : Holdings) (has : List ℕ → List ℕ) → Passes out.old noted book.now.all.items has es → OnOk result (Passes out.new noted book.now.all.items has (es ++ entry at (given_all book.now.all.items giver.now.region giver.now.own.now) ∷ [])) }
+    ensures { (es : List Entry) → Opens out.old book.now.all.items es → OnOk result (Opens out.new book.now.all.items (es ++ entry at (given_all book.now.all.items giver.now.region giver.now.own.now) ∷ [])) }
 {
     let mut numbers = Numbers::new(alloc);
     push_given_all(book, giver.region, giver.own, &mut numbers)?;
     out.enter(alloc, book, at, numbers.as_slice())?;
+    Ok(())
+}
+
+// The same, whatever was noted of what passed by name.
+fn enter_grant_all(
+    alloc: Global,
+    book: &Book,
+    giver: &Giver,
+    at: Pos,
+    out: &mut Opening,
+) -> Result<(), Memory>
+    ensures { (es : List Entry) (noted : Holdings) (has : List ℕ → List ℕ) → Passes out.old noted book.now.all.items has es → OnOk result (Passes out.new noted book.now.all.items has (es ++ entry at (given_all book.now.all.items giver.now.region giver.now.own.now) ∷ [])) }
+{
+    enter_given_all(alloc, book, giver, at, out)?;
     Ok(())
 }
 
@@ -88,7 +102,7 @@ fn enter_granted(
 {
     match part {
         Part::Grant(name) => enter_passed(alloc, book, &giver.has, name, noted, out),
-        Part::GrantAll(at) => enter_given_all(alloc, book, giver, *at, out),
+        Part::GrantAll(at) => enter_grant_all(alloc, book, giver, *at, out),
         Part::Define(_)
         | Part::Mention(_)
         | Part::Seize(_)

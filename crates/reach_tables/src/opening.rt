@@ -58,11 +58,11 @@ impl Opening {
         alloc: Global,
         book: &Book,
         at: Pos,
-        firsts: &[u32],
+        numbers: &[u32],
     ) -> Result<(), Memory>
-        ensures { (es : List Entry) (ds : List ℕ) → Opens self.old book.now.all.items es → firsts.now ≡ firsts book.now.all.items None ds → AreAmong ds (numbers_of es) → OnOk result (Opens self.new book.now.all.items (es ++ entry at ds ∷ [])) }
+        ensures { (es : List Entry) (ds : List ℕ) → Opens self.old book.now.all.items es → numbers.now ≡ firsts book.now.all.items None ds → AreAmong ds (numbers_of es) → OnOk result (Opens self.new book.now.all.items (es ++ entry at ds ∷ [])) }
     {
-        tell_numbers(alloc, book, &self.table, at, firsts, &mut self.told)?;
+        tell_numbers(alloc, book, &self.table, at, numbers, &mut self.told)?;
         Ok(())
     }
 

@@ -2,7 +2,7 @@
 use chill_base::Pos;
 
 /// The entry of one definition. It takes no memory.
-#[derive(Clone, Copy, Debug)]
+#[derive(Clone, Copy)]
 pub struct Place {
     pub at: Pos,
     pub number: u32,
