@@ -6,9 +6,9 @@ ghost use Rattle.cycles.specs.Stars.{LieBelow};
 ghost use Rattle.cycles.specs.Testing.{depends_on};
 
 use crate::group::Group;
+use crate::on_graph::on_cycles;
 use crate::stars::{bound, star_edges};
 use chill_base::Memory;
-use crate::on_graph::on_cycles;
 use std::alloc::Global;
 
 // The marks of nodes that all lie below `base`.

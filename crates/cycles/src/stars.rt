@@ -3,9 +3,9 @@ ghost use Rattle.std.specs.Prelude.{◌≡◌, ℕ, ◌+◌, ◌<◌, ◌≤◌,
 ghost use Rattle.cycles.specs.Groups.{edge};
 ghost use Rattle.cycles.specs.Stars.{LieBelow, star, stars};
 
+use crate::Edge;
 use crate::group::Group;
 use chill_base::Memory;
-use crate::Edge;
 use std::alloc::Global;
 
 // The greatest of some numbers and of one more.

@@ -1,8 +1,7 @@
 -- What passes again under a name adds nothing, and is told of by the first of each name.
-use Rattle.std.proofs.Common.{◌≡◌, ℕ, Bool, true, false, List, [], ◌∷◌, ◌++◌, ◌⊎◌, inl, inr, Option, Some, None, append-nil, append_assoc, refl, ap, sym, ◌∙◌, subst, length, drop, ◌≤◌, ⊤, if◌then◌else◌}
+use Rattle.std.proofs.Common.{◌≡◌, ℕ, Bool, true, false, List, [], ◌∷◌, ◌++◌, ◌⊎◌, inl, inr, Option, Some, None, append-nil, append_assoc, refl, ap, sym, ◌∙◌, subst, length, drop, ◌≤◌, if◌then◌else◌}
 use Rattle.std.proofs.lemmas.List.{at_drop_all}
-use Rattle.std.specs.Prelude.{◌||◌, ◌&&◌, ◌==◌, not, flat_map}
-use Rattle.std.specs.List.{list_any}
+use Rattle.std.specs.Prelude.{◌||◌, ◌&&◌, ◌==◌, not, flat_map, ⊤}
 use Rattle.std.specs.Str.{bytes_eq}
 use Rattle.std.proofs.lemmas.Bool.{eqb-true}
 use Rattle.std.proofs.lemmas.Slice.Eq.{bytes_eq-Decides}
@@ -49,7 +48,7 @@ pub each-held : (t : Holdings) (all : List Definition) (es : List Entry) (ds : L
 each-held t all es ds h a = record {
   by = λ d k. ap (is_among d) (h.by (spelling_at all d)) ∙ any-had (λ e. bytes_eq (spelling_at all e) (spelling_at all d)) (λ e. e == d) (numbers_of es)
       ∙ any-at (λ e. bytes_eq (spelling_at all e) (spelling_at all d) && (e == d)) d (numbers_of es) (a d k)
-        (ap (λ b. b && (d == d)) ((bytes_eq-Decides (spelling_at all d) (spelling_at all d)).1 refl) ∙ same-self d);
+      (ap (λ b. b && (d == d)) ((bytes_eq-Decides (spelling_at all d) (spelling_at all d)).1 refl) ∙ same-self d);
 }
 
 -- what was entered stays so
@@ -104,6 +103,7 @@ LastHeld t all (Some r) = is_among r (held t (spelling_at all r)) ≡ true
 -- what is told of all is told of the first of each name, or of the one before
 told-there : (t : Holdings) (all : List Definition) (es : List Entry) (at : Pos) → Holds t all es → (ds : List ℕ) → EachHeld all t ds → (last : Option ℕ) → LastHeld t all last
     → (x : Diagnostic) → IsIn x (flat_map (told_number all (numbers_of es) at) ds) → IsIn x (of_last (told_number all (numbers_of es) at) last ++ flat_map (told_number all (numbers_of es) at) (firsts all last ds))
+unfolding LastHeld of_last
 told-there t all es at h [] e last l x k = absurd k
 told-there t all es at h (d ∷ ds) e last l x k = side (told-there t all es at h ds rest last l x) (told-there t all es at h ds rest (Some d) here x) (is_last all last d) refl (in-either x (f d) (flat_map f ds) k)
   where
@@ -143,6 +143,7 @@ told-back f all (d ∷ ds) last x k = side (told-back f all ds last x) (told-bac
 -- the first of each name are told of where all are
 told-firsts : (t : Holdings) (all : List Definition) (es : List Entry) (at : Pos) (ds : List ℕ) → Holds t all es → EachHeld all t ds
     → SameMembers (flat_map (told_number all (numbers_of es) at) (firsts all None ds)) (flat_map (told_number all (numbers_of es) at) ds)
+unfolding LastHeld of_last
 told-firsts t all es at ds h e = record {
   there = told-back (told_number all (numbers_of es) at) all ds None;
   back = told-there t all es at h ds e None tt;
@@ -151,12 +152,12 @@ told-firsts t all es at ds h e = record {
 -- ---- what is known of a reach
 
 -- what was entered is entered again
-pub opens-again : (o o' : Opening) (all : List Definition) (es : List Entry) (at : Pos) (ds : List ℕ) → Opens o all es → AreAmong ds (numbers_of es) → o'.table ≡ o.table → o'.marked ≡ o.marked
-    → SameMembers o'.told.items (o.told.items ++ flat_map (told_number all (numbers_of es) at) (firsts all None ds)) → Opens o' all (es ++ entry at ds ∷ [])
-opens-again o o' all es at ds p a table marked told = opens-more o o' all es (entry at ds) p
+pub opens-again : (o o' : Opening) (all : List Definition) (es : List Entry) (at : Pos) (ds xs : List ℕ) → Opens o all es → xs ≡ firsts all None ds → AreAmong ds (numbers_of es) → o'.table ≡ o.table → o'.marked ≡ o.marked
+    → SameMembers o'.told.items (o.told.items ++ flat_map (told_number all (numbers_of es) at) xs) → Opens o' all (es ++ entry at ds ∷ [])
+opens-again o o' all es at ds xs p is a table marked told = opens-more o o' all es (entry at ds) p
     (rw (table, marked) (added-known all ds [] ds o.table o.table o.marked (each-held o.table all es ds p.table a) (sym (append-nil ds)) (record { by = λ n. refl; marks = p.marks })))
-    (same-trans o'.told.items (o.told.items ++ flat_map f (firsts all None ds)) (o.told.items ++ flat_map f ds) told
-      (same-append o.told.items (flat_map f (firsts all None ds)) o.told.items (flat_map f ds) (same-refl o.told.items) (told-firsts o.table all es at ds p.table (each-held o.table all es ds p.table a))))
+    (same-trans o'.told.items (o.told.items ++ flat_map f (firsts all None ds)) (o.told.items ++ flat_map f ds) (subst (λ ys. SameMembers o'.told.items (o.told.items ++ flat_map f ys)) is told)
+    (same-append o.told.items (flat_map f (firsts all None ds)) o.told.items (flat_map f ds) (same-refl o.told.items) (told-firsts o.table all es at ds p.table (each-held o.table all es ds p.table a))))
   where
     f : ℕ → List Diagnostic
     f = told_number all (numbers_of es) at

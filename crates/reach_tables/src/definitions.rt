@@ -10,7 +10,9 @@ ghost use Rattle.reach_tables.specs.Offsets.{Fits, FitsInside};
 ghost use Rattle.names_model.specs.Parts.{nodes_of};
 
 use chill_base::{List, Memory};
-use names_model::{Clause, Definition, Identifier, Inside, Kind, Mention, Part, elements_size, head_size, size_of};
+use names_model::{
+    Clause, Definition, Identifier, Inside, Kind, Mention, Part, elements_size, head_size, size_of,
+};
 use std::alloc::Global;
 
 // Where the definitions in a block stand.

@@ -9,7 +9,9 @@ ghost use Rattle.reach_tables.specs.Places.{singles};
 
 use crate::place::Place;
 use chill_base::{Memory, Numbers, Pos};
-use names_model::{Clause, Identifier, Mention, Part, clause_size, clauses_size, names_size, size_of};
+use names_model::{
+    Clause, Identifier, Mention, Part, clause_size, clauses_size, names_size, size_of,
+};
 use std::alloc::Global;
 
 /// Enters one definition.

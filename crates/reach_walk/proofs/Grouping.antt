@@ -40,10 +40,10 @@ pub params-on : (text : List Definition) (r : Reach) (cs : List Clause) (i next 
 params-on text r cs i next next' c out out' whole h is step before added =
     let rest = param_groups text r (next + clause_size c) (drop (i + 1) cs) in
     rw step (groups-trans (out' ++ rest) (out ++ param_groups text r next (drop i cs)) whole
-      (groups-trans (out' ++ rest) ((out ++ clause_group text r next c ∷ []) ++ rest) (out ++ param_groups text r next (drop i cs))
-        (groups-behind out' (out ++ clause_group text r next c ∷ []) rest added)
-        (groups-as _ _ (append_assoc out (clause_group text r next c ∷ []) rest ∙ ap (λ x. out ++ x) (sym (ap (param_groups text r next) (clauses-at cs i c h is))))))
-      before)
+    (groups-trans (out' ++ rest) ((out ++ clause_group text r next c ∷ []) ++ rest) (out ++ param_groups text r next (drop i cs))
+    (groups-behind out' (out ++ clause_group text r next c ∷ []) rest added)
+    (groups-as _ _ (append_assoc out (clause_group text r next c ∷ []) rest ∙ ap (λ x. out ++ x) (sym (ap (param_groups text r next) (clauses-at cs i c h is))))))
+    before)
 
 -- no parameter is left
 pub params-end : (text : List Definition) (r : Reach) (cs : List Clause) (i next : ℕ) (out whole : List Group) → length cs ≤ i → SameGroups (out ++ param_groups text r next (drop i cs)) whole → SameGroups out whole

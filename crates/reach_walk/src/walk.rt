@@ -20,8 +20,8 @@ use chill_base::{List, Memory};
 use diagnostics::Diagnostic;
 use names_model::{Clause, Part, head_size, size_of};
 use reach_tables::{
-    Book, Given, Opening, Place, Scope, Source, Table, enter_params, enter_parts, enter_places, givens_of,
-    lent_inner, seizes_all, split_given,
+    Book, Given, Opening, Place, Scope, Source, Table, enter_params, enter_parts, enter_places,
+    givens_of, lent_inner, seizes_all, split_given,
 };
 use std::alloc::Global;
 

@@ -21,13 +21,7 @@ fn mentioned(alloc: Global, line: u32, name: &str, need: Need) -> Result<Part, M
     }))
 }
 
-fn defined(
-    alloc: Global,
-    line: u32,
-    kind: Kind,
-    name: &str,
-    used: &str,
-) -> Result<Part, Memory> {
+fn defined(alloc: Global, line: u32, kind: Kind, name: &str, used: &str) -> Result<Part, Memory> {
     let mut names = List::new(alloc);
     names.push(identifier(alloc, line, name)?)?;
     let mut text = List::new(alloc);

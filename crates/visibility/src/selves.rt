@@ -10,8 +10,8 @@ ghost use Rattle.visibility.specs.Tested.{Tests};
 
 use crate::locations::among_locations;
 use chill_base::Memory;
-use diagnostics::{Diagnostic, Rule};
 use cycles::{Group, selves};
+use diagnostics::{Diagnostic, Rule};
 use names_model::{Definition, Kind, push_told};
 use reach_tables::Book;
 use std::alloc::Global;

@@ -15,5 +15,5 @@ returns c = λ es p none.
     let n = c.args.name.now.spelling in
     let all-passed = c.in_ok-push_passed.ensures ∙ ap (λ xs. xs ++ passed all has n) c.new-numbers.ensures in
     passes-first _ _ c.args.noted.now _ all has es c.args.name.now.at n p none
-      (subst (λ xs. Opens c.enter.new.self all (es ++ entry c.args.name.now.at xs ∷ [])) (c.as_slice.ensures ∙ all-passed) (c.in_ok-enter.ensures es p.opens))
-      (subst (λ xs. (k : _) → held c.note_passed.new.out k ≡ (if bytes_eq n k then held c.args.noted.now k ++ firsts all None xs else held c.args.noted.now k)) (c.as_slice-2.ensures ∙ all-passed) c.in_ok-note_passed.ensures)
+    (subst (λ xs. Opens c.enter.new.self all (es ++ entry c.args.name.now.at xs ∷ [])) (c.as_slice.ensures ∙ all-passed) (c.in_ok-enter.ensures es p.opens))
+    (subst (λ xs. (k : _) → held c.note_passed.new.out k ≡ (if bytes_eq n k then held c.args.noted.now k ++ firsts all None xs else held c.args.noted.now k)) (c.as_slice-2.ensures ∙ all-passed) c.in_ok-note_passed.ensures)
