@@ -1,5 +1,5 @@
 -- Groups that depend on the same are joined.
-use Rattle.std.proofs.Common.{◌≡◌, ℕ, List, [], ◌∷◌, ◌++◌, refl, ap, sym, ◌∙◌, append-nil, append_assoc}
+use Rattle.std.proofs.Common.{◌≡◌, ℕ, List, [], ◌∷◌, ◌++◌, refl, ap, sym, ◌∙◌, append-nil, append_assoc, subst}
 use Rattle.std.specs.Prelude.{flat_map, map}
 use Rattle.std.proofs.lemmas.List.{map-append}
 use Rattle.cycles.specs.declared.edge.Edge.{Edge}
@@ -8,7 +8,9 @@ use Rattle.cycles.specs.Groups.{edge, edges_of, group_edges}
 use Rattle.names_model.specs.declared.definition.Definition.{Definition}
 use Rattle.names_model.specs.Definitions.{is_kind_at}
 use Rattle.names_model.specs.Kinds.{is_location}
-use Rattle.names_model.specs.Dependence.{among_locations, group, locations_in}
+use Rattle.names_model.specs.Dependence.{among_locations, group, groups_of, locations_in}
+use Rattle.names_model.specs.Parts.{PartTree}
+use Rattle.names_model.specs.Seeing.{Reach}
 use Rattle.reach_tables.proofs.Appends.{flat_map-append}
 use Rattle.reach_tables.proofs.Filters.{filter-append}
 use Rattle.reach_walk.specs.SameGroups.{SameGroups}
@@ -61,3 +63,22 @@ joined gs xs ys to = record {
       ∙ ap (λ r. edges_of (r ++ group (l ys) (l to) ∷ [])) (sym (among-append all gs (group xs to ∷ [])))
       ∙ ap edges_of (sym (among-append all (gs ++ group xs to ∷ []) (group ys to ∷ [])));
 }
+
+-- the first nodes of a group go to those of the last one
+pub joined-last : (old popped : List Group) (last own new : Group) → old ≡ popped ++ last ∷ [] → new.from ≡ last.from ++ own.from → new.to ≡ last.to → last.to ≡ own.to → SameGroups (popped ++ new ∷ []) (old ++ own ∷ [])
+joined-last old popped last own new is from to same =
+    let whole : new ≡ group (last.from ++ own.from) last.to = λ i. record { from = from i; to = to i } in
+    let behind : (popped ++ group last.from last.to ∷ []) ++ group own.from last.to ∷ [] ≡ old ++ own ∷ [] = λ i. sym is i ++ group own.from (same i) ∷ [] in
+    groups-trans (popped ++ new ∷ []) (popped ++ group (last.from ++ own.from) last.to ∷ []) (old ++ own ∷ [])
+      (groups-as _ _ (ap (λ (g : Group). popped ++ g ∷ []) whole))
+      (groups-trans _ ((popped ++ group last.from last.to ∷ []) ++ group own.from last.to ∷ []) (old ++ own ∷ []) (joined popped last.from own.from last.to) (groups-as _ _ behind))
+
+-- a group is noted, and those of the parameters behind it
+pub routine-noted : (old mid new : List Group) (own own' : Group) (ps ps' : List Group) → SameGroups mid (old ++ own ∷ []) → own ≡ own' → SameGroups new (mid ++ ps) → ps ≡ ps' → SameGroups new (old ++ own' ∷ ps')
+routine-noted old mid new own own' ps ps' first is second rest = groups-trans new (mid ++ ps) (old ++ own' ∷ ps') second
+    (groups-trans (mid ++ ps) ((old ++ own ∷ []) ++ ps) (old ++ own' ∷ ps') (groups-behind mid (old ++ own ∷ []) ps first)
+      (groups-as _ _ (append_assoc old (own ∷ []) ps ∙ (λ i. old ++ is i ∷ rest i))))
+
+-- a part that defines nothing has no group
+pub nothing-noted : (text : List Definition) (r : Reach) (from : ℕ) (p t : PartTree) (gs : List Group) → p ≡ t → groups_of text r from t ≡ [] → SameGroups gs (gs ++ groups_of text r from p)
+nothing-noted text r from p t gs is none = subst (λ hs. SameGroups gs (gs ++ hs)) (sym (ap (groups_of text r from) is ∙ none)) (unchanged gs)

@@ -131,7 +131,7 @@ fn note_routine(
 }
 
 /// Notes what depends on what by a part, whose first definition has the number `from`.
-#[tactic(auto, using(names_model::proofs::PartViews::part_built, crate::proofs::Joining::unchanged))]
+#[tactic(auto, using(names_model::proofs::PartViews::part_built))]
 pub fn note_groups(
     alloc: Global,
     book: &Book,
