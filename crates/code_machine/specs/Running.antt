@@ -1,14 +1,14 @@
 -- Machines that run a code, and what a burst makes of them.
 use Rattle.std.specs.Prelude.{◌≡◌, ℕ, ◌+◌, ◌^◌, ◌<◌, ◌≤◌, All, [], ◌∷◌, ◌++◌, length, vec_capacity}
-use Rattle.chill_base.specs.declared.request.Request.TheVariants.{End}
+use Rattle.kernel_base.specs.declared.request.Request.TheVariants.{End}
 use Rattle.world_model.specs.Session.{Ask}
 use Rattle.world_model.specs.Journal.{ticks_of}
 use Rattle.code_types.specs.declared.code.Code.{Code}
 use Rattle.code_types.specs.State.{State, Mode}
 use Rattle.code_types.specs.State.{Running as RunningMode, Called as CalledMode, Asking as AskingMode, Raising as RaisingMode, Ended as EndedMode}
 use Rattle.code_types.specs.Talk.{Leads}
-use Rattle.code_standing.specs.Leading.{WaitsWith}
-use Rattle.code_standing.specs.Standing.{StandsOn}
+use Rattle.code_safety.specs.Leading.{WaitsWith}
+use Rattle.code_safety.specs.Standing.{StandsOn}
 use Rattle.machine_steps.specs.declared.process.Doing.{Doing}
 use Rattle.machine_steps.specs.declared.process.Doing.TheVariants.{Running, Called, Asking, Raising, Ended}
 use Rattle.machine_steps.specs.declared.process.Process.{Process}

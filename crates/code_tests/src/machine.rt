@@ -8,10 +8,11 @@ mod operators;
 mod raising;
 mod requests;
 
-use chill_base::{Alternative, Answer, Exc, How, List, Place, Request, Scalars};
+use chill_base::{List, Scalars};
 use code_guard::{Guarded, guard};
 use code_machine::{Machine, Stop};
 use code_types::{BodyRow, Code, Handler, Instr};
+use kernel_base::{Alternative, Answer, Exc, How, Place, Request};
 use std::alloc::{AllocError, Global};
 use std::process::Abort;
 use std::test::Fail;
@@ -154,7 +155,10 @@ fn guarded_of(alloc: Global, shape: &Shape) -> Result<Guarded, Fail> {
         handlers: List::from_vec(handlers_of(alloc, shape.1)?),
         bodies: List::from_vec(rows_of(alloc, shape.2)?),
     };
-    Ok(guard(alloc, code)?)
+    match guard(alloc, code) {
+        Ok(guarded) => Ok(guarded),
+        Err(_) => Err(Fail::from("a code that isn't guarded")),
+    }
 }
 
 fn scalars_of(alloc: Global, numbers: &[i64]) -> Result<Scalars, AllocError> {

@@ -1,15 +1,15 @@
 -- A run with more behind it: an earlier trace, more answers and more ticks change nothing of what it comes to.
 use Rattle.std.proofs.Common.{◌≡◌, ℕ, zero, suc, ◌+◌, Bool, true, false, List, [], ◌∷◌, ◌++◌, refl, sym, ◌∙◌, ap, subst, arith, append_assoc, append-nil}
 use Rattle.std.specs.Prelude.{if◌then◌else◌}
-use Rattle.chill_base.specs.declared.answer.Answer.{Answer}
-use Rattle.chill_base.specs.declared.request.Request.{Request}
+use Rattle.kernel_base.specs.declared.answer.Answer.{Answer}
+use Rattle.kernel_base.specs.declared.request.Request.{Request}
 use Rattle.world_model.specs.Session.{Item, Tick, Ask, Session, first_answer, tick_of, session_of}
 use Rattle.code_types.specs.declared.code.Code.{Code}
 use Rattle.code_types.specs.Answers.{fits_request, answered}
 use Rattle.code_types.specs.State.{Slot, State}
 use Rattle.code_types.specs.Steps.{Move, Goes, Makes, Asks, Awaits, Stays, move, Run, At, Over, run_behind, run_with, run_after, steps}
 use Rattle.code_types.specs.Talk.{Leads}
-use Rattle.code_types.proofs.Runs.{steps-+, steps-over}
+use Rattle.code_types.proofs.ManySteps.{steps-+, steps-over}
 
 -- a session with an earlier trace, more answers and more ticks
 abbrev pub more_session : List Item → List Answer → ℕ → Session → Session

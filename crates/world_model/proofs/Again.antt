@@ -1,12 +1,12 @@
 -- A wait frees the region that was locked last, and the process locks it again before anything else.
 use Rattle.std.proofs.Common.{◌≡◌, ℕ, zero, suc, List, [], ◌∷◌, ◌++◌, refl, sym, ap, ◌∙◌, subst, inl, inr, Option, Some, None, slice_get, slice_set}
 use Rattle.std.specs.Prelude.{slice_index_or}
-use Rattle.chill_base.specs.declared.facts.Facts.{Facts}
-use Rattle.chill_base.specs.declared.request.Request.{Request}
-use Rattle.chill_base.specs.declared.request.Request.TheVariants.{Enter}
-use Rattle.chill_base.specs.declared.answer.Answer.{Answer}
-use Rattle.chill_base.specs.declared.event.Event.{Event}
-use Rattle.chill_base.specs.declared.event.Event.TheVariants.{Waits, Goes}
+use Rattle.kernel_base.specs.declared.facts.Facts.{Facts}
+use Rattle.kernel_base.specs.declared.request.Request.{Request}
+use Rattle.kernel_base.specs.declared.request.Request.TheVariants.{Enter}
+use Rattle.kernel_base.specs.declared.answer.Answer.{Answer}
+use Rattle.kernel_base.specs.declared.event.Event.{Event}
+use Rattle.kernel_base.specs.declared.event.Event.TheVariants.{Waits, Goes}
 use Rattle.world_model.specs.declared.world.Phase.{Phase}
 use Rattle.world_model.specs.declared.world.Phase.TheVariants.{Active, Waiting, Chosen}
 use Rattle.world_model.specs.declared.world.World.{World}
@@ -15,9 +15,9 @@ use Rattle.world_model.specs.Waiting.{phase_of, IsActive}
 use Rattle.world_model.specs.World.{held_by, with_phase, locked_back, freed_last, drawn, with_drawn, after_waits, back_in, after, after_all, opening}
 use Rattle.world_model.specs.Allowed.{IsPossible, IsRunFrom, MayGo, MayLockBack, IsFree, Occupies}
 use Rattle.world_model.specs.Laws.{IsEnter, IsDoneBy, Locks, Frees, SomeLocksAgain, FreedRegionLaw}
-use Rattle.world_model.proofs.Runs.{front_runs, rest_runs}
-use Rattle.world_model.proofs.Places.{written_here, last_is_in}
-use Rattle.world_model.proofs.Holding.{HoldsOccupied, journal_holds}
+use Rattle.world_model.proofs.RunParts.{front_runs, rest_runs}
+use Rattle.world_model.proofs.ChangedLists.{written_here, last_is_in}
+use Rattle.world_model.proofs.HeldIsOccupied.{HoldsOccupied, journal_holds}
 use Rattle.world_model.proofs.Freeing.{BackIs, HasBack, step_kept, freeing_kept}
 
 -- a list that isn't the default stands there, so a write is read back

@@ -1,17 +1,17 @@
 -- What was chosen by priority had the highest.
 use Rattle.std.proofs.Common.{◌≡◌, ℕ, zero, suc, List, ℤ, refl, ap, Option, Some, None}
-use Rattle.chill_base.specs.declared.facts.Facts.{Facts}
-use Rattle.chill_base.specs.declared.request.Alternative.{Alternative}
-use Rattle.chill_base.specs.declared.request.Request.TheVariants.{Continue, ReceiveBuffer, ReceiveSignal}
-use Rattle.chill_base.specs.declared.answer.Answer.TheVariants.{Got, Chose}
-use Rattle.chill_base.specs.declared.event.Event.{Event}
-use Rattle.chill_base.specs.declared.event.Event.TheVariants.{Did}
+use Rattle.kernel_base.specs.declared.facts.Facts.{Facts}
+use Rattle.kernel_base.specs.declared.request.Alternative.{Alternative}
+use Rattle.kernel_base.specs.declared.request.Request.TheVariants.{Continue, ReceiveBuffer, ReceiveSignal}
+use Rattle.kernel_base.specs.declared.answer.Answer.TheVariants.{Got, Chose}
+use Rattle.kernel_base.specs.declared.event.Event.{Event}
+use Rattle.kernel_base.specs.declared.event.Event.TheVariants.{Did}
 use Rattle.world_model.specs.declared.world.StoredValue.{StoredValue}
 use Rattle.world_model.specs.declared.world.World.{World}
 use Rattle.world_model.specs.World.{world_of, buffer_length}
 use Rattle.world_model.specs.Allowed.{IsPossible, TakesValue, TakesSignal, IsRefill, IsCandidateOf}
 use Rattle.world_model.specs.Laws.{PriorityLaw, ChoseHighest, IsRefilledByHighest, GotHighestValue, GotHighestSignal}
-use Rattle.world_model.proofs.Runs.{next_allowed}
+use Rattle.world_model.proofs.RunParts.{next_allowed}
 
 -- the refill, by the length of the buffer
 refilled : (facts : Facts) (w : World) (length : Option ℕ) (buffer : ℕ) (value : StoredValue) (refill : Option ℕ) → buffer_length facts buffer ≡ length → IsCandidateOf length w buffer value → IsRefill length w buffer value.sender refill → IsRefilledByHighest facts w refill

@@ -3,13 +3,13 @@ use Rattle.std.proofs.Common.{◌≡◌, ◌⊎◌, ◌==◌, ℕ, zero, suc, Bo
 use Rattle.std.specs.Prelude.{if◌then◌else◌, option_map}
 use Rattle.std.proofs.lemmas.Bool.{cases_eq, cases_Bool}
 use Rattle.std.proofs.lemmas.Option.{slice_get-map}
-use Rattle.chill_base.specs.declared.facts.Facts.{Facts}
-use Rattle.chill_base.specs.declared.request.Request.{Request}
-use Rattle.chill_base.specs.declared.request.Request.TheVariants.{Read, Write, Enter, Leave, Delay, Continue, SendBuffer, ReceiveBuffer, SendSignal, ReceiveSignal, Start, Put, Get, End}
-use Rattle.chill_base.specs.declared.answer.Answer.{Answer}
-use Rattle.chill_base.specs.declared.answer.Answer.TheVariants.{Woken, Got, Instance, Chose, Handed}
-use Rattle.chill_base.specs.declared.event.Event.{Event}
-use Rattle.chill_base.specs.declared.event.Event.TheVariants.{Did, Waits, Goes, Runs}
+use Rattle.kernel_base.specs.declared.facts.Facts.{Facts}
+use Rattle.kernel_base.specs.declared.request.Request.{Request}
+use Rattle.kernel_base.specs.declared.request.Request.TheVariants.{Read, Write, Enter, Leave, Delay, Continue, SendBuffer, ReceiveBuffer, SendSignal, ReceiveSignal, Start, Put, Get, End}
+use Rattle.kernel_base.specs.declared.answer.Answer.{Answer}
+use Rattle.kernel_base.specs.declared.answer.Answer.TheVariants.{Woken, Got, Instance, Chose, Handed}
+use Rattle.kernel_base.specs.declared.event.Event.{Event}
+use Rattle.kernel_base.specs.declared.event.Event.TheVariants.{Did, Waits, Goes, Runs}
 use Rattle.world_model.specs.declared.world.World.{World}
 use Rattle.world_model.specs.Lists.{last_of}
 use Rattle.world_model.specs.declared.waiting.Waiter.{Waiter}
@@ -18,8 +18,8 @@ use Rattle.world_model.specs.Waiting.{phase_of, sleeper, buffer_receiver, signal
 use Rattle.world_model.specs.World.{occupant, held_by, locked, freed, entered, left, locked_back, freed_last, other_occupant, chosen, with_next_send, refilled, refilled_by, refilled_buffer, buffer_length, after_continue, after_send_buffer, after_receive_buffer, after_send_signal, after_receive_signal, after_start, after_request, drawn, with_drawn, after_waits, back_in, after, after_all, opening}
 use Rattle.world_model.specs.Allowed.{IsFree, Occupies, IsPossible, MayLockBack}
 use Rattle.world_model.specs.Laws.{OneOccupantLaw, SomeFrees}
-use Rattle.world_model.proofs.Runs.{rest_runs}
-use Rattle.world_model.proofs.Places.{written_or_old, read_is}
+use Rattle.world_model.proofs.RunParts.{rest_runs}
+use Rattle.world_model.proofs.ChangedLists.{written_or_old, read_is}
 
 -- a request that leaves all as it is of who holds and occupies which region
 abbrev pub IsQuiet : Request → Type 0

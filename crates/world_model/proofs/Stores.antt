@@ -3,11 +3,11 @@ use Rattle.std.proofs.Common.{◌≡◌, ◌≤◌, ◌+◌, ℕ, zero, suc, Boo
 use Rattle.std.specs.Prelude.{if◌then◌else◌, ◌==◌, slice_index_or}
 use Rattle.std.specs.List.{filter}
 use Rattle.std.proofs.lemmas.Bool.{cases_eq, cases_Bool}
-use Rattle.chill_base.specs.declared.facts.Facts.{Facts}
-use Rattle.chill_base.specs.declared.request.Request.{Request}
-use Rattle.chill_base.specs.declared.request.Request.TheVariants.{Read, Write, Enter, Leave, Delay, Continue, SendBuffer, ReceiveBuffer, SendSignal, ReceiveSignal, Start, Put, Get, End}
-use Rattle.chill_base.specs.declared.answer.Answer.{Answer}
-use Rattle.chill_base.specs.declared.answer.Answer.TheVariants.{Woken, Got, Instance, Chose, Handed, Stored}
+use Rattle.kernel_base.specs.declared.facts.Facts.{Facts}
+use Rattle.kernel_base.specs.declared.request.Request.{Request}
+use Rattle.kernel_base.specs.declared.request.Request.TheVariants.{Read, Write, Enter, Leave, Delay, Continue, SendBuffer, ReceiveBuffer, SendSignal, ReceiveSignal, Start, Put, Get, End}
+use Rattle.kernel_base.specs.declared.answer.Answer.{Answer}
+use Rattle.kernel_base.specs.declared.answer.Answer.TheVariants.{Woken, Got, Instance, Chose, Handed, Stored}
 use Rattle.world_model.specs.declared.world.StoredValue.{StoredValue}
 use Rattle.world_model.specs.declared.world.PendingSignal.{PendingSignal}
 use Rattle.world_model.specs.declared.world.World.{World}
@@ -15,7 +15,7 @@ use Rattle.world_model.specs.declared.waiting.Waiter.{Waiter}
 use Rattle.world_model.specs.declared.waiting.Offer.{Offer}
 use Rattle.world_model.specs.Waiting.{sleeper, buffer_receiver, signal_receiver, offer}
 use Rattle.world_model.specs.World.{occupant, entered, left, freed, chosen, with_next_send, next_value, stored_in, with_stored, values_but, refilled, refilled_by, refilled_buffer, buffer_length, after_continue, after_send_buffer, after_receive_buffer, after_send_signal, after_receive_signal, after_start, after_request}
-use Rattle.world_model.proofs.Places.{read_elsewhere, read_here, pushed_or_old}
+use Rattle.world_model.proofs.ChangedLists.{read_elsewhere, read_here, pushed_or_old}
 
 -- the store, the stored values and the pending signals are as before
 abbrev pub KeepsStores : World → World → Type 0

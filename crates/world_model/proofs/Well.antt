@@ -4,19 +4,19 @@ use Rattle.std.specs.Prelude.{slice_index_or, IsSomeAnd}
 use Rattle.std.specs.Option.{option_and_then}
 use Rattle.std.proofs.lemmas.Bool.{cases_eq}
 use Rattle.std.proofs.lemmas.Option.{slice_get_within}
-use Rattle.chill_base.specs.declared.facts.Facts.{Facts}
-use Rattle.chill_base.specs.declared.facts.Bits.{Bits}
-use Rattle.chill_base.specs.declared.value.Value.{Value}
-use Rattle.chill_base.specs.declared.ends.How.TheVariants.{Normal}
-use Rattle.chill_base.specs.declared.request.Place.{Place}
-use Rattle.chill_base.specs.declared.request.Request.{Request}
-use Rattle.chill_base.specs.declared.request.Request.TheVariants.{Write, Enter, SendBuffer, End}
-use Rattle.chill_base.specs.declared.answer.Answer.{Answer}
-use Rattle.chill_base.specs.declared.answer.Answer.TheVariants.{Done}
-use Rattle.chill_base.specs.declared.event.Event.{Event}
-use Rattle.chill_base.specs.declared.event.Event.TheVariants.{Did, Waits, Goes, Runs}
-use Rattle.chill_base.specs.Value.{scalars_of}
-use Rattle.chill_base.specs.Facts.{FitsWrite, IsSound, FitsRequest}
+use Rattle.kernel_base.specs.declared.facts.Facts.{Facts}
+use Rattle.chill_base.specs.declared.layout.Bits.{Bits}
+use Rattle.kernel_base.specs.declared.value.Value.{Value}
+use Rattle.kernel_base.specs.declared.ends.How.TheVariants.{Normal}
+use Rattle.kernel_base.specs.declared.request.Place.{Place}
+use Rattle.kernel_base.specs.declared.request.Request.{Request}
+use Rattle.kernel_base.specs.declared.request.Request.TheVariants.{Write, Enter, SendBuffer, End}
+use Rattle.kernel_base.specs.declared.answer.Answer.{Answer}
+use Rattle.kernel_base.specs.declared.answer.Answer.TheVariants.{Done}
+use Rattle.kernel_base.specs.declared.event.Event.{Event}
+use Rattle.kernel_base.specs.declared.event.Event.TheVariants.{Did, Waits, Goes, Runs}
+use Rattle.kernel_base.specs.Value.{scalars_of}
+use Rattle.kernel_base.specs.Facts.{FitsWrite, IsSound, FitsRequest}
 use Rattle.world_model.specs.declared.world.Phase.{Phase}
 use Rattle.world_model.specs.declared.world.Phase.TheVariants.{Active, Waiting, Chosen, Ended}
 use Rattle.world_model.specs.declared.world.StoredValue.{StoredValue}
@@ -25,9 +25,9 @@ use Rattle.world_model.specs.Lists.{last_of, with_scalars}
 use Rattle.world_model.specs.Waiting.{phase_of, offer_in, offer}
 use Rattle.world_model.specs.World.{opening, held_by, freed_last, locked_back, back_in, drawn, with_drawn, after_waits, after_request, after, after_all, written}
 use Rattle.world_model.specs.Allowed.{IsPossible, IsRunFrom}
-use Rattle.world_model.proofs.Places.{written_elsewhere, written_here, written_or_old, read_elsewhere}
+use Rattle.world_model.proofs.ChangedLists.{written_elsewhere, written_here, written_or_old, read_elsewhere}
 use Rattle.world_model.proofs.Freeing.{freeing_kept, back_kept}
-use Rattle.world_model.proofs.Moves.{Moves, Stays, IsChosenNow, Begins, did_moves}
+use Rattle.world_model.proofs.PhaseMoves.{Moves, Stays, IsChosenNow, Begins, did_moves}
 use Rattle.world_model.proofs.Stores.{AreSent, OfferSent, KeepsStores, did_sent, did_store}
 
 -- Instance 0 is none, instance 1 was made, and who waits to send has drawn a number from 1 on.

@@ -4,13 +4,14 @@ ghost use Rattle.world_model.specs.World as worlds;
 ghost use Rattle.world_model.specs.World.{with_phase, locked, freed, ended, entered, left, freed_last, locked_back, occupant, held_by, other_occupant, chosen, with_stored, values_but, signals_but};
 ghost use Rattle.world_model.specs.Lists.{without, last_of};
 ghost use Rattle.world_model.specs.Waiting as waiting;
-ghost use Rattle.chill_base.specs.declared.answer.Answer.{Answer};
-ghost use Rattle.chill_base.specs.declared.answer.Answer.TheVariants.{Woken, Got};
+ghost use Rattle.kernel_base.specs.declared.answer.Answer.{Answer};
+ghost use Rattle.kernel_base.specs.declared.answer.Answer.TheVariants.{Woken, Got};
 ghost use Rattle.world_model.specs.declared.world.Phase.TheVariants.{Active};
 
 use crate::waiting::{buffer_receiver, signal_receiver, sleeper};
 use crate::{PendingSignal, Phase, StoredValue, Waiter, World};
-use chill_base::{Answer, Facts, How, Item, List, Memory, Scalars, Text};
+use chill_base::{Item, List, Memory, Scalars, Text};
+use kernel_base::{Answer, Facts, How};
 use std::mem;
 
 /// Sets the phase of an instance that was made.
@@ -231,24 +232,12 @@ pub fn hand_over(
 }
 
 /// Hands a signal to one that waits for it and may receive it.
-pub fn hand_signal(
-    facts: &Facts,
-    world: &mut World,
-    p: u32,
-    signal: u32,
-    to: Option<u32>,
-    send: u32,
-    scalars: &Scalars,
-    by: u32,
-) -> Result<(), Memory>
-    ensures { OnOk result (world.new ≡ chosen world.old p (waiting.signal_receiver facts.now world.old signal to p) (λ alternative. Got alternative send scalars.now by)) }
+pub fn hand_signal(facts: &Facts, world: &mut World, p: u32, signal: PendingSignal)
+    ensures { world.new ≡ chosen world.old p (waiting.signal_receiver facts.now world.old signal.signal signal.to p) (λ alternative. Got alternative signal.value.send signal.value.scalars signal.value.sender) }
 {
-    match signal_receiver(facts, world, signal, to, p as usize) {
-        Some(waiter) => {
-            choose_receiver(world, p, waiter, send, scalars.copy()?, by);
-            Ok(())
-        }
-        None => Ok(()),
+    let PendingSignal { signal, to, value } = signal;
+    if let Some(waiter) = signal_receiver(facts, world, signal, to, p as usize) {
+        choose_receiver(world, p, waiter, value.send, value.scalars, value.sender);
     }
 }
 
