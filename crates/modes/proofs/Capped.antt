@@ -36,9 +36,11 @@ large_right (suc a) b p q =
 -- a product of factors that stop at a limit comes to the limit where the product does
 pub cap-product : (a b : ℕ) → min (min a 4097 * min b 4097) 4097 ≡ min (a * b) 4097
 cap-product a b = elim (cases_lt a 4097) [
-    inl p ↦ elim (cases_lt b 4097) [
-      inl q ↦ both_small a b (omega arith) (omega arith)
-    | inr q ↦ large_right a b (omega arith) q ]
-  | inr p ↦ large_left a b p ]
+  | inl p ↦ elim (cases_lt b 4097) [
+    | inl q ↦ both_small a b (omega arith) (omega arith)
+    | inr q ↦ large_right a b (omega arith) q
+  ]
+  | inr p ↦ large_left a b p
+]
 
 pub ruleset counted = (mode_built, cap-product)

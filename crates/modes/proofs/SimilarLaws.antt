@@ -47,15 +47,18 @@ pub equivalent-sym : (a b : ModeTree) → Equivalent a b → Equivalent b a
 equivalent-sym a b e = record {
   v_equivalent = record { similar = similar-sym a b e.v_equivalent.similar; novelty = sym e.v_equivalent.novelty };
   read = sym e.read;
-  bounds = sym e.bounds }
+  bounds = sym e.bounds;
+}
 
 pub equivalent-trans : (a b c : ModeTree) → Equivalent a b → Equivalent b c → Equivalent a c
 equivalent-trans a b c e f = record {
   v_equivalent = record {
     similar = similar-trans a b c e.v_equivalent.similar f.v_equivalent.similar;
-    novelty = e.v_equivalent.novelty ∙ f.v_equivalent.novelty };
+    novelty = e.v_equivalent.novelty ∙ f.v_equivalent.novelty;
+  };
   read = e.read ∙ f.read;
-  bounds = e.bounds ∙ f.bounds }
+  bounds = e.bounds ∙ f.bounds;
+}
 
 pub equivalent-similar : (a b : ModeTree) → Equivalent a b → Similar a b
 equivalent-similar a b e = e.v_equivalent.similar
@@ -88,5 +91,7 @@ pub class-equivalent : (class : ClassTree) (a b : ModeTree) → Equivalent a b �
 class-equivalent class a b e = (goes_on class a b e, goes_on class b a (equivalent-sym a b e))
 
 pub ruleset similar_laws = (similar-refl, similar-sym, similar-trans)
+
 pub ruleset equivalent_laws = (equivalent-refl, equivalent-sym, equivalent-trans, equivalent-similar)
+
 pub ruleset class_laws = (class-equivalent)

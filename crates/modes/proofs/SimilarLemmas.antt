@@ -40,12 +40,13 @@ shape-form (buffer l e) = refl
 shape-form (read m) = shape-form m
 shape-form (named d n m) = shape-form m
 
-
-both : (a b : Bool) → IsTrue (a && b) → IsTrue a × IsTrue b
+-- both parts of a conjunction hold
+pub both : (a b : Bool) → IsTrue (a && b) → IsTrue a × IsTrue b
 both true b h = (search rules, h)
 both false b h = (h, cc)
 
-of_both : (a b : Bool) → IsTrue a → IsTrue b → IsTrue (a && b)
+-- and what holds of both parts holds of it
+pub of_both : (a b : Bool) → IsTrue a → IsTrue b → IsTrue (a && b)
 of_both true b h k = k
 of_both false b h k = h
 
@@ -82,4 +83,5 @@ pub other_count : (xs ys : List Field) → SimilarFields (field_nodes (field_tre
 other_count xs ys s = sym (length-map xs field_tree) ∙ shape-count (field_trees xs) (field_trees ys) s.shape ∙ length-map ys field_tree
 
 pub ruleset similar_steps = (mode_built, shape-form)
+
 pub ruleset field_steps = (fields-step, other_count)

@@ -1,6 +1,6 @@
 -- Modes, without where they lie in memory.
 use Rattle.std.specs.Prelude.{ℕ, Bool, List, [], ◌∷◌, map, ℤ, Option, option_map}
-use Rattle.chill_base.specs.declared.facts.Bits.{Bits}
+use Rattle.chill_base.specs.declared.layout.Bits.{Bits}
 use Rattle.modes.specs.declared.mode.Mode.{Mode, Mode-F, fold-Mode}
 use Rattle.modes.specs.declared.mode.Mode.TheOpen as opens
 use Rattle.modes.specs.declared.mode.Field.{Field, Field-F, fold-Field}

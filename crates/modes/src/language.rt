@@ -25,9 +25,7 @@ fn parts_fit(mode: &Mode) -> bool
     match mode {
         Mode::Int | Mode::Bool | Mode::Char | Mode::Instance => true,
         Mode::Set { count, .. } => *count >= 1 && *count <= 4096,
-        Mode::Range { parent, low, high } => {
-            parts_fit(parent) && lie_in(*low, *high, parent)
-        }
+        Mode::Range { parent, low, high } => { parts_fit(parent) && lie_in(*low, *high, parent) }
         Mode::Powerset { member } => parts_fit(member) && has_few_values(member),
         Mode::Chars { length } => *length <= 256,
         Mode::Array { index, element, .. } => {

@@ -12,8 +12,7 @@ pub fn similar_law()
     ensures reflexive { (a : ModeTree) → IsOfLanguage a → Similar a a }
     ensures symmetric { (a b : ModeTree) → Similar a b → Similar b a }
     ensures transitive { (a b c : ModeTree) → Similar a b → Similar b c → Similar a c }
-{
-}
+{}
 
 /// Equivalent is an equivalence as well, and equivalent modes are similar.
 #[tactic(auto, using(crate::proofs::SimilarLaws::equivalent_laws))]
@@ -22,12 +21,10 @@ pub fn equivalent_law()
     ensures symmetric { (a b : ModeTree) → Equivalent a b → Equivalent b a }
     ensures transitive { (a b c : ModeTree) → Equivalent a b → Equivalent b c → Equivalent a c }
     ensures similar { (a b : ModeTree) → Equivalent a b → Similar a b }
-{
-}
+{}
 
 /// What goes with a mode goes with each that is equivalent.
 #[tactic(auto, using(crate::proofs::SimilarLaws::class_laws))]
 pub fn class_law()
     ensures { (class : ClassTree) (a b : ModeTree) → Equivalent a b → (GoesWith class a ↔ GoesWith class b) }
-{
-}
+{}

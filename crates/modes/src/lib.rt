@@ -6,8 +6,8 @@
 //! it lies in memory.
 #![tactic(auto)]
 
-mod discrete;
 mod class;
+mod discrete;
 mod form;
 mod language;
 mod laws;
@@ -17,8 +17,8 @@ mod roots;
 mod scalars;
 mod similarity;
 
-pub use discrete::{bounds, is_discrete, number_of_values};
 pub use class::{compatible, goes_with};
+pub use discrete::{bounds, is_discrete, number_of_values};
 pub use form::{Form, form_of};
 pub use language::is_of_language;
 pub use laws::{class_law, equivalent_law, similar_law};

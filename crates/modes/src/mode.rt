@@ -16,7 +16,10 @@ pub enum Mode {
     /// The instances of processes, and NULL.
     Instance,
     /// `count` elements, whose first is defined as number `definition` in the text.
-    Set { definition: u32, count: u32 },
+    Set {
+        definition: u32,
+        count: u32,
+    },
     /// The values of a discrete mode from `low` to `high`.
     Range {
         parent: Rc<Mode>,
@@ -24,9 +27,13 @@ pub enum Mode {
         high: i64,
     },
     /// The sets of values of a discrete mode.
-    Powerset { member: Rc<Mode> },
+    Powerset {
+        member: Rc<Mode>,
+    },
     /// Texts of `length` characters.
-    Chars { length: u32 },
+    Chars {
+        length: u32,
+    },
     /// An element for each value of the index mode.
     Array {
         index: Rc<Mode>,
@@ -34,16 +41,23 @@ pub enum Mode {
         how: Spread,
     },
     /// Fields in order; `packed` tells that PACK is written.
-    Struct { fields: Fields, packed: bool },
+    Struct {
+        fields: Fields,
+        packed: bool,
+    },
     /// An event, with the length that is written.
-    Event { length: Option<u32> },
+    Event {
+        length: Option<u32>,
+    },
     /// A buffer, with the length that is written.
     Buffer {
         length: Option<u32>,
         element: Rc<Mode>,
     },
     /// The mode, whose locations are only read.
-    Read { of: Rc<Mode> },
+    Read {
+        of: Rc<Mode>,
+    },
     /// A name of the mode, whose definition has this number: a NEWMODE where it is `novel`, else a SYNMODE.
     Named {
         definition: u32,

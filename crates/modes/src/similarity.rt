@@ -48,9 +48,7 @@ pub fn similar(a: &Mode, b: &Mode) -> bool
             Form::Struct {
                 fields: others,
                 packed: other_packed,
-            } => {
-                *packed == other_packed && similar_fields(fields.as_slice(), others.as_slice())
-            }
+            } => { *packed == other_packed && similar_fields(fields.as_slice(), others.as_slice()) }
             _ => false,
         },
         Mode::Event { .. } | Mode::Buffer { .. } => false,
