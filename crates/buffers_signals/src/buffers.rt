@@ -1,6 +1,6 @@
 // Buffers, with the values in them, and those that wait to send to them and to receive from them (Z.200, chapter on
 // concurrent execution).
-ghost use Rattle.std.specs.Prelude.{◌≡◌, ◌+◌, ◌<◌, ◌≤◌, ◌×◌, ◌++◌, ◌∷◌, [], None, Some, IfOk, IfSome, IfNone, OnOk, IsTrue, IsFalse, length, slice_get, slice_index_or};
+ghost use Rattle.std.specs.Prelude.{◌≡◌, ◌+◌, ◌<◌, ◌≤◌, ◌++◌, ◌∷◌, [], None, Some, IfOk, IfSome, IfNone, OnOk, IsTrue, IsFalse, length, slice_get, slice_index_or};
 ghost use Rattle.std.specs.List.{find};
 ghost use Rattle.kernel_lists.specs.Once.{AreOnce};
 ghost use Rattle.buffers_signals.specs.Lists.{sender_of, receiver_of, values_in, lists};
@@ -27,7 +27,7 @@ pub struct Buffers {
 }
 
 impl Model for Buffers {
-    ghost use Rattle.std.specs.Prelude.{◌×◌, min};
+    ghost use Rattle.std.specs.Prelude.{min};
     ghost use Rattle.kernel_lists.specs.Room.{spare};
     ghost use Rattle.kernel_lists.specs.Once.{AreOnce};
     ghost use Rattle.buffers_signals.specs.Lists.{sender_of, receiver_of};

@@ -1,5 +1,5 @@
 // The receiver that came first, the value that goes first, and the answers that hand a value on.
-ghost use Rattle.std.specs.Prelude.{◌≡◌, ◌==◌, ◌+◌, ◌<◌, ◌≤◌, ◌×◌, slice_get, Some, None, IsSome, IfSome, IfNone, length, if◌then◌else◌, slice_index_or};
+ghost use Rattle.std.specs.Prelude.{◌≡◌, ◌==◌, ◌+◌, ◌<◌, ◌≤◌, slice_get, Some, None, IsSome, IfSome, IfNone, length, if◌then◌else◌, slice_index_or};
 ghost use Rattle.kernel_base.specs.declared.answer.Answer.TheVariants.{Got};
 ghost use Rattle.kernel_lists.specs.Best.{best_of};
 ghost use Rattle.std.specs.Prelude.{ℕ, false};
