@@ -6,7 +6,7 @@ use Rattle.world_model.specs.declared.world.PendingSignal.{PendingSignal}
 use Rattle.world_model.specs.Lists.{number_for}
 use Rattle.kernel_lists.specs.declared.best.Rank.{Rank}
 use Rattle.kernel_lists.specs.declared.best.Best.{Best}
-use Rattle.kernel_lists.specs.Best.{best_of, precedes_in}
+use Rattle.kernel_lists.specs.Best.{precedes_in}
 use Rattle.buffers_signals.specs.declared.messages.Held.{Held}
 use Rattle.buffers_signals.specs.declared.receiving.Source.{Source}
 use Rattle.buffers_signals.specs.declared.receiving.Source.TheVariants.{Stored, Offered, Nowhere}

@@ -1,6 +1,6 @@
 // Which value is received from buffers.
-ghost use Rattle.std.specs.Prelude.{◌≡◌, slice_index_or, None};
-ghost use Rattle.kernel_lists.specs.Best.{best_of};
+ghost use Rattle.std.specs.Prelude.{◌≡◌, slice_index_or, IfSome, IfNone};
+ghost use Rattle.kernel_lists.specs.Best.{IsBest, NoneRanked};
 ghost use Rattle.buffers_signals.specs.Ranks.{is_listed, is_unbuffered, stored_rank, offered_rank, rank_where, source_between};
 
 use crate::Held;
@@ -54,7 +54,8 @@ pub fn best_stored(
     buffers: &[Alternative],
     stored: &[Held],
 ) -> Option<Best>
-    ensures { result ≡ best_of (stored_rank lengths.now buffers.now) stored.now }
+    ensures some { IfSome result (IsBest (stored_rank lengths.now buffers.now) stored.now) }
+    ensures none { IfNone result (NoneRanked (stored_rank lengths.now buffers.now) stored.now) }
 {
     let mut found = None;
     for place in 0..stored.len() {
@@ -69,7 +70,8 @@ pub fn best_offered(
     buffers: &[Alternative],
     senders: &[Held],
 ) -> Option<Best>
-    ensures { result ≡ best_of (offered_rank lengths.now buffers.now) senders.now }
+    ensures some { IfSome result (IsBest (offered_rank lengths.now buffers.now) senders.now) }
+    ensures none { IfNone result (NoneRanked (offered_rank lengths.now buffers.now) senders.now) }
 {
     let mut found = None;
     for place in 0..senders.len() {

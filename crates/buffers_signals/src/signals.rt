@@ -1,7 +1,7 @@
 // Signals that are pending, and those that wait for them (Z.200, chapter on concurrent execution).
 ghost use Rattle.std.specs.Prelude.{◌≡◌, ◌==◌, ◌&&◌, ◌+◌, ◌<◌, ◌≤◌, ◌++◌, ◌∷◌, [], None, Some, IfOk, IfSome, IfNone, OnOk, IsTrue, IsFalse, length, slice_get, slice_index_or};
 ghost use Rattle.std.specs.List.{find};
-ghost use Rattle.kernel_lists.specs.Best.{best_of};
+ghost use Rattle.kernel_lists.specs.Best.{IsBest, NoneRanked};
 ghost use Rattle.kernel_lists.specs.Once.{entry_of, AreOnce};
 ghost use Rattle.buffers_signals.specs.Lists.{receiver_of};
 ghost use Rattle.buffers_signals.specs.Ranks.{signal_rank};
@@ -244,7 +244,8 @@ fn best_pending(
     process: u32,
     signals: &[Alternative],
 ) -> Option<Best>
-    ensures { result ≡ best_of (signal_rank wanted.now who process signals.now) pending.now }
+    ensures some { IfSome result (IsBest (signal_rank wanted.now who process signals.now) pending.now) }
+    ensures none { IfNone result (NoneRanked (signal_rank wanted.now who process signals.now) pending.now) }
 {
     let mut found = None;
     for place in 0..pending.len() {

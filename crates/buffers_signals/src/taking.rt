@@ -1,7 +1,7 @@
 // The receiver that came first, the value that goes first, and the answers that hand a value on.
 ghost use Rattle.std.specs.Prelude.{◌≡◌, ◌==◌, ◌+◌, ◌<◌, ◌≤◌, slice_get, Some, None, IsSome, IfSome, IfNone, length, if◌then◌else◌, slice_index_or};
 ghost use Rattle.kernel_base.specs.declared.answer.Answer.TheVariants.{Got};
-ghost use Rattle.kernel_lists.specs.Best.{best_of};
+ghost use Rattle.kernel_lists.specs.Best.{IsBest, NoneRanked};
 ghost use Rattle.std.specs.Prelude.{ℕ, false};
 ghost use Rattle.std.specs.List.{find};
 ghost use Rattle.kernel_lists.specs.Room.{spare};
@@ -76,7 +76,8 @@ fn rank_for(held: &Held, buffer: u32) -> Option<Rank>
 
 /// The best of the values whose senders wait for a buffer.
 pub fn best_sender(senders: &[Held], buffer: u32) -> Option<Best>
-    ensures { result ≡ best_of (sender_rank buffer) senders.now }
+    ensures some { IfSome result (IsBest (sender_rank buffer) senders.now) }
+    ensures none { IfNone result (NoneRanked (sender_rank buffer) senders.now) }
 {
     let mut found = None;
     for place in 0..senders.len() {

@@ -1,7 +1,7 @@
 -- Who is delayed, and whom CONTINUE chooses.
-use Rattle.std.specs.Prelude.{◌≡◌, ℕ, Bool, List, [], ◌∷◌, slice_get, slice_index_or, Some, None, is_some}
+use Rattle.std.specs.Prelude.{◌≡◌, ℕ, Bool, List, [], ◌∷◌, slice_index_or, Some, None, is_some}
 use Rattle.std.specs.Option.{option_map}
-use Rattle.std.specs.List.{count_by, list_any, remove}
+use Rattle.std.specs.List.{count_by, list_any}
 use Rattle.std.specs.declared.option.Option.{Option}
 use Rattle.kernel_base.specs.declared.request.Alternative.{Alternative}
 use Rattle.world_model.specs.Lists.{number_for}

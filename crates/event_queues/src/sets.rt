@@ -1,6 +1,6 @@
 // Events and those that are delayed on them (Z.200, chapter on concurrent execution).
 ghost use Rattle.std.specs.Prelude.{◌≡◌, ◌+◌, ◌<◌, ◌≤◌, ◌++◌, ◌∷◌, [], None, slice_get, slice_index_or, Some, IfOk, IfSome, IfNone, OnOk, length};
-ghost use Rattle.kernel_lists.specs.Best.{best_of};
+ghost use Rattle.kernel_lists.specs.Best.{IsBest};
 ghost use Rattle.kernel_lists.specs.Once.{entry_of, others, AreOnce};
 ghost use Rattle.event_queues.specs.Delayed.{who_of, count_on, is_full_on, is_full_for, rank_on, Wakes, NobodyOn};
 
@@ -144,7 +144,8 @@ fn rank_of(one: &Delayed, event: u32) -> Option<Rank>
 }
 
 fn best_on(delayed: &[Delayed], event: u32) -> Option<Best>
-    ensures { result ≡ best_of (rank_on event) delayed.now }
+    ensures some { IfSome result (IsBest (rank_on event) delayed.now) }
+    ensures none { IfNone result (NobodyOn event delayed.now) }
 {
     let mut found = None;
     for place in 0..delayed.len() {

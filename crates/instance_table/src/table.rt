@@ -2,6 +2,7 @@
 ghost use Rattle.std.specs.Prelude.{◌≡◌, ◌+◌, ◌-◌, ◌<◌, ◌≤◌, ◌^◌, ◌++◌, [], ◌∷◌, length, slice_get, slice_set, OnOk, IfOk};
 ghost use Rattle.kernel_base.specs.declared.ends.How.TheVariants.{Normal};
 ghost use Rattle.instance_table.specs.Table.{made_at, count_of_live, count_of_active};
+ghost use Rattle.instance_table.specs.Kept.{one_if};
 ghost use Rattle.instance_table.specs.declared.phase.Phase.TheVariants.{Active, Ended};
 
 use crate::Phase;
@@ -21,18 +22,18 @@ pub struct Instances {
 }
 
 impl Model for Instances {
-    ghost use Rattle.std.specs.Prelude.{◌∷◌, map, min, ◌-◌, vec_len, vec_capacity};
+    ghost use Rattle.std.specs.Prelude.{◌∷◌, min, ◌-◌, vec_len, vec_capacity};
     ghost use Rattle.slab.specs.Slab.{slab_len};
     ghost use Rattle.kernel_base.specs.declared.ends.How.TheVariants.{Normal};
     ghost use Rattle.instance_table.specs.declared.phase.Phase.TheVariants.{Ended};
     ghost use Rattle.instance_table.specs.Table.{Table};
-    ghost use Rattle.instance_table.specs.Kept.{process_at, phase_at, IsKept};
+    ghost use Rattle.instance_table.specs.Kept.{processes_of, phases_of, IsKept};
 
     ghost Value = { Table };
 
     ghost view = { λ t. record {
-      processes = 0 ∷ map (process_at t.records.slots) t.keys.items;
-      phases = Ended Normal ∷ map (phase_at t.records.slots) t.keys.items;
+      processes = 0 ∷ processes_of t.records.slots t.keys.items;
+      phases = Ended Normal ∷ phases_of t.records.slots t.keys.items;
       spare = min (vec_capacity t.keys - vec_len t.keys) (t.records.capacity - slab_len t.records);
     } };
 
@@ -141,6 +142,9 @@ impl Instances {
 
 // A count in which one counted before or not, and counts now or not.
 fn counted(count: u32, before: bool, now: bool) -> u32
+    requires before { one_if before ≤ count }
+    requires fits { count + one_if now < 2 ^ 32 + one_if before }
+    ensures { result + one_if before ≡ count + one_if now }
 {
     match (before, now) {
         (true, false) => count - 1,
