@@ -2,7 +2,7 @@
 use Rattle.std.proofs.Common.{◌≡◌, ◌≢◌, ℕ, ◌+◌, ◌<◌, ◌≤◌, List, [], ◌∷◌, ◌++◌, length, length-append, Some, None, slice_get, All, IsFalse, IsSomeAnd, IfSome, subst, refl, sym, ◌∙◌, ap, ◌⊎◌, inl, inr, arith}
 use Rattle.std.specs.declared.option.Option.{Option}
 use Rattle.std.proofs.lemmas.Option.{slice_get_within}
-use Rattle.world_model.proofs.Places.{pushed_or_old, pushed_keeps}
+use Rattle.world_model.proofs.ChangedLists.{pushed_or_old, pushed_keeps}
 use Rattle.kernel_base.proofs.Layers.{slice_get-append_right}
 use Rattle.code_types.specs.declared.instr.Instr.{Instr}
 use Rattle.code_types.specs.declared.code.Handler.{Handler}

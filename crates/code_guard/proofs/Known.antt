@@ -4,7 +4,7 @@ use Rattle.std.specs.Prelude.{if◌then◌else◌}
 use Rattle.std.specs.declared.option.Option.{Option}
 use Rattle.std.proofs.Math.ListN.{length-set}
 use Rattle.std.proofs.lemmas.Bool.Decides.{nat_tests}
-use Rattle.world_model.proofs.Places.{written_or_old, written_here, written_elsewhere}
+use Rattle.world_model.proofs.ChangedLists.{written_or_old, written_here, written_elsewhere}
 use Rattle.code_types.specs.declared.instr.Instr.{Instr}
 use Rattle.code_types.specs.declared.code.Handler.{Handler}
 use Rattle.code_types.specs.declared.code.BodyRow.{BodyRow}

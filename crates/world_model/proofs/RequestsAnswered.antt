@@ -20,9 +20,9 @@ use Rattle.world_model.specs.Allowed.{IsPossible, IsRunFrom}
 use Rattle.world_model.specs.Gives.{Gives}
 use Rattle.world_model.specs.Journal.{requests_by, requests_of, answers_by, answers_of}
 use Rattle.world_model.specs.Laws.{IsAnsweredBy, GivenAnswersLaw}
-use Rattle.world_model.proofs.Places.{written_here, written_elsewhere}
+use Rattle.world_model.proofs.ChangedLists.{written_here, written_elsewhere}
 use Rattle.world_model.proofs.Freeing.{freeing_kept, back_kept}
-use Rattle.world_model.proofs.Moves.{Moves, Stays, IsChosenNow, Begins, did_moves}
+use Rattle.world_model.proofs.PhaseMoves.{Moves, Stays, IsChosenNow, Begins, did_moves}
 use Rattle.world_model.proofs.Well.{IsWell, some_active, opening_well, step_well}
 use Rattle.world_model.proofs.Given.{did_gives}
 

@@ -18,7 +18,7 @@ use Rattle.world_model.specs.declared.waiting.Waiter.{Waiter}
 use Rattle.world_model.specs.declared.waiting.Offer.{Offer}
 use Rattle.world_model.specs.Waiting.{phase_of, waiter_for, sleeper_in, sleeper, buffer_receiver_in, buffer_receiver, signal_receiver_in, signal_receiver, may_receive, offer_in, offer}
 use Rattle.world_model.specs.World.{occupant, entered, left, freed, chosen, with_next_send, refilled, refilled_by, refilled_buffer, buffer_length, after_continue, after_send_buffer, after_receive_buffer, after_send_signal, after_receive_signal, after_start, after_request}
-use Rattle.world_model.proofs.Places.{written_here, written_elsewhere}
+use Rattle.world_model.proofs.ChangedLists.{written_here, written_elsewhere}
 
 -- one that waited was chosen, with an answer that can come for its request
 pub record IsChosen (old new : Option Phase) : Type 0 where

@@ -19,7 +19,7 @@ use Rattle.world_model.specs.Waiting.{phase_of}
 use Rattle.world_model.specs.World.{occupant, held_by, with_phase, locked, freed, entered, left, locked_back, freed_last, other_occupant, ended, after_start, after_request, drawn, with_drawn, after_waits, back_in, after, after_all, opening}
 use Rattle.world_model.specs.Allowed.{IsFree, Occupies, IsPossible, MayLockBack, IsRunFrom, IsRun}
 use Rattle.world_model.proofs.Locking.{KeepsHolding, quiet_keeps}
-use Rattle.world_model.proofs.Places.{written_here, written_elsewhere, read_is, stands_there, read_elsewhere, read_here, read_pushed, in_without, last_is_in, pushed_or_old}
+use Rattle.world_model.proofs.ChangedLists.{written_here, written_elsewhere, read_is, stands_there, read_elsewhere, read_here, read_pushed, in_without, last_is_in, pushed_or_old}
 
 -- the region stands in this list
 abbrev pub StandsIn : List ℕ → ℕ → Type 0
