@@ -209,7 +209,7 @@ fn the_journal_of_a_run(rt: HostRuntime) -> Result<(), Fail> {
     let mut out = MemorySink::new(alloc, 100, 100, fault(alloc, 0)?)?;
     let mut err = MemorySink::new(alloc, 100, 100, fault(alloc, 0)?)?;
     let outcome = chill(alloc, &words, &mut library, &mut out, &mut err);
-    assert_eq!(rt; outcome.over, Some(Over::AllEnded));
+    assert!(rt; matches!(outcome.over, Some(Over::AllEnded)));
     let mut wanted = Events::new(alloc);
     wanted.push(done(Request::Put {
         bytes: text(alloc, "3")?,
