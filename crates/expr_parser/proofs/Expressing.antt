@@ -4,8 +4,10 @@ use Rattle.std.specs.Prelude.{IsErrAnd}
 use Rattle.std.proofs.lemmas.List.{append-nil, drop_at, drop-drop, take_all}
 use Rattle.chill_base.specs.declared.pos.Pos.{Pos}
 use Rattle.chill_tree.specs.declared.token.Token.{Token}
+use Rattle.std.specs.declared.alloc.Global.{Global}
+use Rattle.std.specs.declared.boxed.Box.{Box}
 use Rattle.chill_tree.specs.declared.tree.expr.Expr.{Expr}
-use Rattle.chill_tree.specs.ExprTree.{ExprTree, expr_tree}
+use Rattle.chill_tree.specs.ExprTree.{ExprTree, boxed_expr}
 use Rattle.rules_model.specs.Marks.{Toks}
 use Rattle.rules_model.specs.ExprGrammar.{IsExpr, IsRanked}
 use Rattle.rules_model.specs.Nesting.{room_after, deep_or, first_deep, StaysBelow}
@@ -206,6 +208,6 @@ pub to_end : (from : ℕ) (toks slice : Toks) → slice ≡ toks → take (lengt
 to_end from toks slice e = take_all (length slice - from) (drop from slice) (omega (arith, length-drop from slice)) ∙ ap (drop from) e
 
 -- an error that is handed on
-pub handed_on : (toks : Toks) (from : ℕ) (r : Result (Expr × ℕ) ParseRefusal) (e : ParseRefusal) → IsErrAnd r (λ x. x ≡ e) → RefusesExpr (drop from toks) e → Expresses toks from r
+pub handed_on : (toks : Toks) (from : ℕ) (r : Result (Box Expr Global × ℕ) ParseRefusal) (e : ParseRefusal) → IsErrAnd r (λ x. x ≡ e) → RefusesExpr (drop from toks) e → Expresses toks from r
 handed_on toks from (Ok x) e h refuses = absurd h
 handed_on toks from (Err x) e h refuses = subst (λ (y : ParseRefusal). RefusesExpr (drop from toks) y) (sym h) refuses
