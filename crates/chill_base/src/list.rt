@@ -3,7 +3,7 @@ ghost use Rattle.std.specs.Borrow.{Lends, sem};
 ghost use Rattle.std.specs.Prelude.{◌≡◌, ◌<◌, ◌++◌, ◌↔◌, [], ◌∷◌, length, slice_get, IsTrue, IsNone, IfOk, OnOk, OnErr, option_to_list};
 
 use crate::Memory;
-use std::alloc::{AllocError, Global};
+use std::alloc::Global;
 use std::marker::Model;
 
 /// What a list may hold if it is to be copied and compared.
@@ -152,17 +152,6 @@ impl<T: Item> Item for List<T> {
             }
         }
         true
-    }
-}
-
-impl<T: Item> Clone for List<T> {
-    ghost is_clone = { λ x y. y ≡ x };
-
-    fn clone(&self) -> Result<Self, AllocError> {
-        match self.copy() {
-            Ok(copy) => Ok(copy),
-            Err(_) => Err(AllocError),
-        }
     }
 }
 

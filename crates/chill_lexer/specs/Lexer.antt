@@ -1,8 +1,8 @@
 -- What the lexer tells of a text that has no tokens.
 use Rattle.std.specs.Prelude.{◌≡◌, ℕ, List, []}
 use Rattle.chill_base.specs.declared.pos.Pos.{Pos}
-use Rattle.chill_base.specs.declared.diagnostic.Diagnostic.{Diagnostic}
-use Rattle.chill_base.specs.declared.rule.Rule.TheVariants as rules
+use Rattle.diagnostics.specs.declared.diagnostic.Diagnostic.{Diagnostic}
+use Rattle.diagnostics.specs.declared.rule.Rule.TheVariants as rules
 use Rattle.chill_lexer.specs.declared.lexer.LexRefusal.{LexRefusal}
 use Rattle.chill_lexer.specs.declared.lexer.LexRefusal.TheVariants as refusals
 use Rattle.rules_model.specs.TokensCut.{IsBadAt}

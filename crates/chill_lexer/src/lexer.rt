@@ -5,12 +5,13 @@ ghost use Rattle.chill_lexer.specs.Lexer.{IsRefusal, IsNoToken};
 
 use crate::front::{self, Front};
 use crate::put;
-use chill_base::{Diagnostic, Memory, Pos, Rule, Text};
+use chill_base::{Memory, Pos, Text};
 use chill_tree::{Token, Tokens};
+use diagnostics::{Diagnostic, Rule};
 use std::alloc::Global;
 
 /// Why a text has no tokens.
-#[derive(Debug, Drop)]
+#[derive(Drop)]
 pub enum LexRefusal {
     /// A byte begins no token.
     Bad(Diagnostic),

@@ -4,8 +4,8 @@ use Rattle.std.specs.Prelude.{◌≢◌}
 use Rattle.std.proofs.lemmas.Bool.{cases_lt}
 use Rattle.chill_base.specs.declared.pos.Pos.{Pos}
 use Rattle.chill_base.specs.declared.memory.Memory.{Memory}
-use Rattle.chill_base.specs.declared.rule.Rule.TheVariants as rules
-use Rattle.chill_base.specs.declared.diagnostic.Diagnostic.{Diagnostic}
+use Rattle.diagnostics.specs.declared.rule.Rule.TheVariants as rules
+use Rattle.diagnostics.specs.declared.diagnostic.Diagnostic.{Diagnostic}
 use Rattle.chill_tree.specs.declared.token.Token.{Token}
 use Rattle.chill_tree.specs.ItemTree.{ProgramTree}
 use Rattle.rules_model.specs.TokensCut.{AreTokensOf, IsBadAt, behind_all, first_place}

@@ -3,10 +3,10 @@ use Rattle.std.specs.Prelude.{◌≡◌, ◌⊎◌, ℕ, ◌<◌, List, length, 
 use Rattle.std.specs.declared.option.Option.{Option}
 use Rattle.std.specs.Io.KnownBytes.{Appends, Keeps}
 use Rattle.outside_ports.specs.Faults.{Rose}
-use Rattle.chill_base.specs.declared.ends.Over.{Over}
-use Rattle.chill_base.specs.declared.ends.Over.TheVariants.{AllEnded}
-use Rattle.chill_base.specs.declared.event.Event.{Event}
-use Rattle.chill_base.specs.declared.diagnostic.Diagnostic.{Diagnostic}
+use Rattle.kernel_base.specs.declared.ends.Over.{Over}
+use Rattle.kernel_base.specs.declared.ends.Over.TheVariants.{AllEnded}
+use Rattle.kernel_base.specs.declared.event.Event.{Event}
+use Rattle.diagnostics.specs.declared.diagnostic.Diagnostic.{Diagnostic}
 use Rattle.chill_top.specs.Telling.{Sums, Refuses}
 use Rattle.chill_top.specs.Run.{run_of}
 use Rattle.chill_top.specs.Plan.{IsTextNamed, file_of}

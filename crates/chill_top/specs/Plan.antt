@@ -2,8 +2,8 @@
 use Rattle.std.specs.Prelude.{◌≡◌, ◌⊎◌, ℕ, List, [], ◌∷◌, take, if◌then◌else◌, None, Some, IfSome, MatchOption, codes}
 use Rattle.std.specs.declared.option.Option.{Option}
 use Rattle.std.specs.Str.{bytes_eq}
-use Rattle.chill_base.specs.declared.ends.Over.TheVariants.{AllEnded}
-use Rattle.chill_base.specs.declared.diagnostic.Diagnostic.{Diagnostic}
+use Rattle.kernel_base.specs.declared.ends.Over.TheVariants.{AllEnded}
+use Rattle.diagnostics.specs.declared.diagnostic.Diagnostic.{Diagnostic}
 use Rattle.listing.specs.Diagnostics.{lines_of}
 use Rattle.chill_top.specs.Telling.{Sums, Refuses}
 use Rattle.chill_top.specs.Run.{run_of, output_of}

@@ -1,12 +1,12 @@
 -- The run of a text of sums, and the output of a run.
 use Rattle.std.specs.Prelude.{ℕ, List, [], ◌∷◌, ◌++◌, map, None}
 use Rattle.std.specs.Fmt.{decimal}
-use Rattle.chill_base.specs.declared.ends.How.TheVariants.{Normal}
-use Rattle.chill_base.specs.declared.request.Request.TheVariants.{Put, End}
-use Rattle.chill_base.specs.declared.request.Request.{Request}
-use Rattle.chill_base.specs.declared.answer.Answer.TheVariants.{Done}
-use Rattle.chill_base.specs.declared.event.Event.{Event}
-use Rattle.chill_base.specs.declared.event.Event.TheVariants.{Did, Waits, Goes, Runs}
+use Rattle.kernel_base.specs.declared.ends.How.TheVariants.{Normal}
+use Rattle.kernel_base.specs.declared.request.Request.TheVariants.{Put, End}
+use Rattle.kernel_base.specs.declared.request.Request.{Request}
+use Rattle.kernel_base.specs.declared.answer.Answer.TheVariants.{Done}
+use Rattle.kernel_base.specs.declared.event.Event.{Event}
+use Rattle.kernel_base.specs.declared.event.Event.TheVariants.{Did, Waits, Goes, Runs}
 
 -- a request of instance 1 that was done at once, without ticks before it
 abbrev pub done_event : Request → Event

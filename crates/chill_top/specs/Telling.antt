@@ -1,8 +1,8 @@
 -- What is told of a text: the sums of its tree, or why it isn't run.
 use Rattle.std.specs.Prelude.{◌≡◌, ◌≢◌, ◌⊎◌, ℕ, List, [], ◌∷◌, Some, None}
 use Rattle.chill_base.specs.declared.pos.Pos.{Pos}
-use Rattle.chill_base.specs.declared.diagnostic.Diagnostic.{Diagnostic}
-use Rattle.chill_base.specs.declared.rule.Rule.TheVariants as rules
+use Rattle.diagnostics.specs.declared.diagnostic.Diagnostic.{Diagnostic}
+use Rattle.diagnostics.specs.declared.rule.Rule.TheVariants as rules
 use Rattle.chill_tree.specs.ItemTree.{ProgramTree}
 use Rattle.rules_model.specs.TokensCut.{first_place}
 use Rattle.rules_model.specs.Diagnoses.{HasTree, Diagnoses, plain}

@@ -1,6 +1,6 @@
 // The laws of what is told of a text.
 ghost use Rattle.std.specs.Prelude.{◌≡◌, ◌⊎◌, List, ℕ};
-ghost use Rattle.chill_base.specs.declared.diagnostic.Diagnostic.{Diagnostic};
+ghost use Rattle.diagnostics.specs.declared.diagnostic.Diagnostic.{Diagnostic};
 ghost use Rattle.chill_top.specs.Telling.{Sums, Refuses, SameButForPlace};
 
 /// A text has one list of sums, or one list of diagnostics is told of it but for the place of T2, and never both.

@@ -3,7 +3,8 @@ ghost use Rattle.std.specs.Prelude.{◌≡◌, IfOk};
 ghost use Rattle.std.specs.Fmt.{decimal};
 ghost use Rattle.chill_top.specs.Run.{done_event, run_of, output_of};
 
-use chill_base::{Answer, Event, Events, How, Memory, Request, Text};
+use chill_base::{Memory, Text};
+use kernel_base::{Answer, Event, Events, How, Request};
 use std::alloc::Global;
 
 // The outermost process.

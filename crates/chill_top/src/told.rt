@@ -9,11 +9,12 @@ ghost use Rattle.chill_top.specs.declared.told.Told.TheVariants as tellings;
 
 use crate::read::MAX_BYTES;
 use crate::sums::sums_of;
-use chill_base::{Diagnostic, Diagnostics, Memory, Pos, Rule, Text};
+use chill_base::{Memory, Pos, Text};
 use chill_lexer::{LexRefusal, lex};
 use chill_parser::{ParseRefusal, parse};
 use chill_tree::Token;
 use chill_tree::tree::Tree;
+use diagnostics::{Diagnostic, Diagnostics, Rule};
 use std::alloc::Global;
 use visibility::{Refusal, resolve};
 

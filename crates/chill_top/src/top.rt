@@ -2,7 +2,7 @@
 ghost use Rattle.std.specs.Prelude.{◌≡◌, ◌⊎◌, ℕ, List, [], map, None, string_bytes, IsSome, IsNone, IfSome};
 ghost use Rattle.std.specs.Bool.{OnTrue, OnFalse};
 ghost use Rattle.std.specs.Io.KnownBytes.{Appends, Keeps};
-ghost use Rattle.chill_base.specs.declared.diagnostic.Diagnostic.{Diagnostic};
+ghost use Rattle.diagnostics.specs.declared.diagnostic.Diagnostic.{Diagnostic};
 ghost use Rattle.listing.specs.Diagnostics.{lines_of};
 ghost use Rattle.chill_top.specs.Causes.{IsStatus, IsRunOf, IsRefused, IsReadFault, IsOutBroken, IsErrBroken};
 ghost use Rattle.chill_top.specs.Plan.{IsPlan, file_of, usage_line};
@@ -12,7 +12,7 @@ ghost use Rattle.chill_top.specs.declared.plan.Plan.{Plan};
 use crate::plan::{Plan, make_plan};
 use crate::read::ReadRefusal;
 use crate::write::write_all;
-use chill_base::{Events, Over};
+use kernel_base::{Events, Over};
 use outside_ports::{Library, Sink};
 use std::alloc::Global;
 

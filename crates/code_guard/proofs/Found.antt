@@ -3,7 +3,7 @@ use Rattle.std.proofs.Common.{◌≡◌, ◌≢◌, ℕ, ◌+◌, ◌<◌, ◌�
 use Rattle.std.specs.declared.option.Option.{Option}
 use Rattle.std.proofs.lemmas.Option.{slice_get_within}
 use Rattle.world_model.proofs.Places.{pushed_or_old, pushed_keeps}
-use Rattle.chill_base.proofs.Layers.{slice_get-append_right}
+use Rattle.kernel_base.proofs.Layers.{slice_get-append_right}
 use Rattle.code_types.specs.declared.instr.Instr.{Instr}
 use Rattle.code_types.specs.declared.code.Handler.{Handler}
 use Rattle.code_types.specs.declared.code.BodyRow.{BodyRow}

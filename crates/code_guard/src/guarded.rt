@@ -16,7 +16,7 @@ use std::alloc::Global;
 use std::marker::Model;
 
 /// A code that agrees. Contracts see it as the code.
-#[derive(Debug, Drop)]
+#[derive(Drop)]
 pub struct Guarded {
     code: Code,
 }
@@ -33,7 +33,7 @@ impl Model for Guarded {
 }
 
 /// Why a code isn't guarded.
-#[derive(Debug, Drop)]
+#[derive(Drop)]
 pub enum GuardRefusal {
     /// The code doesn't agree. It is handed back.
     Disagrees(Code),

@@ -1,6 +1,6 @@
 -- Steps of a burst, one after another.
 use Rattle.std.proofs.Common.{◌≡◌, refl, ℕ, ◌+◌, ◌<◌, ◌≤◌, All, [], length, vec_capacity, Vec, Global, subst, ap, sym, arith}
-use Rattle.chill_base.specs.declared.request.Request.{Request}
+use Rattle.kernel_base.specs.declared.request.Request.{Request}
 use Rattle.world_model.specs.Journal.{ticks_of}
 use Rattle.code_types.specs.declared.code.Code.{Code}
 use Rattle.code_types.specs.State.{State}

@@ -4,7 +4,7 @@ use Rattle.std.specs.Prelude.{IsSomeAnd}
 use Rattle.std.proofs.lemmas.List.{length-reverse, length-map}
 use Rattle.std.proofs.lemmas.List.Elements.{All-pop}
 use Rattle.std.proofs.lemmas.Option.{slice_get_within}
-use Rattle.chill_base.specs.declared.ends.Exc.{Exc}
+use Rattle.kernel_base.specs.declared.ends.Exc.{Exc}
 use Rattle.code_guard.proofs.Lists.{all_at, item_or_past}
 use Rattle.code_types.specs.declared.instr.Instr.{Instr}
 use Rattle.code_types.specs.declared.code.BodyRow.{BodyRow}

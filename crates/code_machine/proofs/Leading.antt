@@ -3,8 +3,8 @@ use Rattle.std.proofs.Common.{◌≡◌, ℕ, ◌+◌, Bool, true, false, List, 
 use Rattle.std.specs.Prelude.{if◌then◌else◌}
 use Rattle.std.proofs.lemmas.List.{replicate_more}
 use Rattle.std.specs.declared.option.Option.{Option}
-use Rattle.chill_base.specs.declared.ends.Exc.{Exc}
-use Rattle.chill_base.specs.declared.request.Request.{Request}
+use Rattle.kernel_base.specs.declared.ends.Exc.{Exc}
+use Rattle.kernel_base.specs.declared.request.Request.{Request}
 use Rattle.world_model.specs.Journal.{ticks_of}
 use Rattle.world_model.specs.Session.{Item, Ask, Tick}
 use Rattle.code_types.specs.declared.instr.Instr.{Instr}

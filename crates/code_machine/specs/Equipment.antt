@@ -1,6 +1,6 @@
 -- What a process has for its next step: what the step asks of the frames, and the room that it takes.
 use Rattle.std.specs.Prelude.{◌≡◌, ℕ, ◌+◌, ◌<◌, ◌≤◌, IfSome, IsSomeAnd, length, slice_get, Some, vec_capacity}
-use Rattle.chill_base.specs.declared.ends.Exc.{Exc}
+use Rattle.kernel_base.specs.declared.ends.Exc.{Exc}
 use Rattle.code_types.specs.declared.instr.Instr.{Instr}
 use Rattle.code_types.specs.declared.instr.Instr.TheVariants.{Call}
 use Rattle.code_types.specs.declared.code.Code.{Code}

@@ -1,6 +1,6 @@
 -- Machines that run a code, and what a burst makes of them.
 use Rattle.std.specs.Prelude.{◌≡◌, ℕ, ◌+◌, ◌^◌, ◌<◌, ◌≤◌, All, [], ◌∷◌, ◌++◌, length, vec_capacity}
-use Rattle.chill_base.specs.declared.request.Request.TheVariants.{End}
+use Rattle.kernel_base.specs.declared.request.Request.TheVariants.{End}
 use Rattle.world_model.specs.Session.{Ask}
 use Rattle.world_model.specs.Journal.{ticks_of}
 use Rattle.code_types.specs.declared.code.Code.{Code}

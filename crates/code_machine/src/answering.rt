@@ -7,7 +7,7 @@ ghost use Rattle.machine_steps.specs.Taking.{after_answer};
 ghost use Rattle.machine_steps.specs.Views.{state_of};
 ghost use Rattle.code_machine.specs.Running.{GoesOnBehind, RunsOn, RunsOnSome};
 
-use chill_base::Answer;
+use kernel_base::Answer;
 use machine_steps::Process;
 
 /// Takes an answer that fits the request that waits.

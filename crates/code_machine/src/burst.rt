@@ -4,12 +4,13 @@ ghost use Rattle.machine_steps.specs.Views.{state_of};
 ghost use Rattle.code_machine.specs.Running.{Bursts, IsUnderway, IsUp, RunsOn};
 
 use crate::stepping::step;
-use chill_base::{Memory, Request};
+use chill_base::Memory;
 use code_types::Code;
+use kernel_base::Request;
 use machine_steps::{Process, Room, Stepped, greatest_height};
 
 /// Why a burst is over.
-#[derive(Debug, Drop)]
+#[derive(Drop)]
 pub enum Stop {
     /// A request is asked, after so many ticks.
     Asks { ticks: u32, request: Request },

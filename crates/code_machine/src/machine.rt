@@ -10,14 +10,15 @@ ghost use Rattle.code_machine.specs.Running.{Bursts, GoesOnBehind, IsUp, RunsOn}
 use crate::answering::take_answer;
 use crate::burst::{Stop, burst_of};
 use crate::starting::start_running;
-use chill_base::{Answer, Memory, Scalars};
+use chill_base::{Memory, Scalars};
 use code_guard::Guarded;
+use kernel_base::Answer;
 use machine_steps::{Doing, Process};
 use std::alloc::Global;
 use std::marker::Model;
 
 /// A process of a code that was guarded, with the memory of all its frames. Contracts see it as its process.
-#[derive(Debug, Drop)]
+#[derive(Drop)]
 pub struct Machine {
     process: Process,
 }

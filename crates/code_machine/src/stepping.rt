@@ -6,8 +6,8 @@ ghost use Rattle.machine_steps.specs.Rooms.{StaysRoomy, StaysUnlessAsked};
 ghost use Rattle.machine_steps.specs.Stepping.{IsMade, Steps};
 ghost use Rattle.code_machine.specs.Equipment.{IsEquipped, IsEquippedToEnter, IsEquippedToRaise, IsEquippedToStep};
 
-use chill_base::Exc;
 use code_types::{Code, Instr};
+use kernel_base::Exc;
 use machine_steps::{Doing, Process, Room, Stepped, landing};
 
 // Leaves the innermost frame with the results of its body.

@@ -4,11 +4,11 @@ use Rattle.std.specs.Prelude.{if◌then◌else◌, All}
 use Rattle.std.proofs.lemmas.List.{length-take, length-drop}
 use Rattle.std.proofs.lemmas.List.Elements.{All-cons}
 use Rattle.std.specs.declared.option.Option.{Option}
-use Rattle.chill_base.specs.declared.ends.Exc.{Exc}
-use Rattle.chill_base.specs.declared.ends.Exc.TheVariants.{Rangefail, Empty}
-use Rattle.chill_base.specs.declared.request.Alternative.{Alternative}
-use Rattle.chill_base.specs.declared.request.Request.{Request}
-use Rattle.chill_base.specs.declared.request.Request.TheVariants.{Delay as AsksDelay, Put}
+use Rattle.kernel_base.specs.declared.ends.Exc.{Exc}
+use Rattle.kernel_base.specs.declared.ends.Exc.TheVariants.{Rangefail, Empty}
+use Rattle.kernel_base.specs.declared.request.Alternative.{Alternative}
+use Rattle.kernel_base.specs.declared.request.Request.{Request}
+use Rattle.kernel_base.specs.declared.request.Request.TheVariants.{Delay as AsksDelay, Put}
 use Rattle.code_types.specs.Operands.{part_of, offset_of, number_in, with_triple, slot_in, Triples, triples_of}
 use Rattle.code_types.specs.Actions.{Action, Pushes, Sets, Throws, Requests, Halts, with_one, with_two, with_lowest, result_or, numbers_or, member_or_empty, at_offset, in_frame, set_in_frame, set_at, asks, with_number, receives, delays, puts}
 use Rattle.code_types.specs.State.{Slot}

@@ -1,10 +1,10 @@
 -- What an answer that fits brings to the instruction that waits for it.
 use Rattle.std.proofs.Common.{◌≡◌, ℕ, zero, suc, Bool, List, [], ◌∷◌, length, Option, Some, None, IsTrue, sym, ◌∙◌}
 use Rattle.std.proofs.lemmas.Bool.{eqb-true, and_parts}
-use Rattle.chill_base.specs.declared.request.Alternative.{Alternative}
-use Rattle.chill_base.specs.declared.request.Request.{Request}
-use Rattle.chill_base.specs.declared.answer.Answer.{Answer}
-use Rattle.chill_base.specs.declared.answer.Answer.TheVariants.{Value, Done, Woken, Got, Otherwise, Instance, Fail, Chose, Handed, Stored}
+use Rattle.kernel_base.specs.declared.request.Alternative.{Alternative}
+use Rattle.kernel_base.specs.declared.request.Request.{Request}
+use Rattle.kernel_base.specs.declared.answer.Answer.{Answer}
+use Rattle.kernel_base.specs.declared.answer.Answer.TheVariants.{Value, Done, Woken, Got, Otherwise, Instance, Fail, Chose, Handed, Stored}
 use Rattle.code_types.specs.declared.instr.Instr.{Instr}
 use Rattle.code_types.specs.declared.code.Code.{Code}
 use Rattle.code_types.specs.Places.{pushes}

@@ -2,9 +2,9 @@
 use Rattle.std.proofs.Common.{◌≡◌, refl, ℕ, ◌+◌, ◌-◌, ◌*◌, ◌<◌, ◌≤◌, List, [], ◌∷◌, ℤ, length, Option, Some, None, nat_le, slice_get, subst, sym, ap, ◌∙◌, arith}
 use Rattle.std.proofs.Math.Nat.{mul-le-mul_right}
 use Rattle.std.proofs.lemmas.Option.{slice_get_within}
-use Rattle.chill_base.specs.declared.ends.Exc.{Exc}
-use Rattle.chill_base.specs.declared.ends.How.TheVariants.{Raised}
-use Rattle.chill_base.specs.declared.request.Request.TheVariants.{End}
+use Rattle.kernel_base.specs.declared.ends.Exc.{Exc}
+use Rattle.kernel_base.specs.declared.ends.How.TheVariants.{Raised}
+use Rattle.kernel_base.specs.declared.request.Request.TheVariants.{End}
 use Rattle.code_types.specs.declared.instr.Instr.{Instr}
 use Rattle.code_types.specs.declared.code.Handler.{Handler}
 use Rattle.code_types.specs.declared.code.BodyRow.{BodyRow}

@@ -2,10 +2,10 @@
 use Rattle.std.proofs.Common.{◌≡◌, refl, ℕ, suc, ◌+◌, ◌-◌, ◌<◌, ◌≤◌, ◌⊎◌, inl, inr, List, [], ◌∷◌, ◌++◌, ℤ, length, take, Option, Some, None, nat_le, slice_get, subst, sym, ap, ◌∙◌, arith}
 use Rattle.std.specs.Prelude.{IsFalse}
 use Rattle.std.proofs.lemmas.List.{length-append, length-take, length-take-le, length-drop}
-use Rattle.chill_base.specs.declared.ends.Exc.{Exc}
-use Rattle.chill_base.specs.declared.ends.How.{How}
-use Rattle.chill_base.specs.declared.ends.How.TheVariants.{Normal, Raised}
-use Rattle.chill_base.specs.declared.request.Request.TheVariants.{End}
+use Rattle.kernel_base.specs.declared.ends.Exc.{Exc}
+use Rattle.kernel_base.specs.declared.ends.How.{How}
+use Rattle.kernel_base.specs.declared.ends.How.TheVariants.{Normal, Raised}
+use Rattle.kernel_base.specs.declared.request.Request.TheVariants.{End}
 use Rattle.world_model.specs.Lists.{with_scalars}
 use Rattle.code_guard.proofs.Lists.{item_or_past}
 use Rattle.code_types.specs.declared.instr.Instr.{Instr}

@@ -1,11 +1,11 @@
 -- What a single move leads to, and a single answer.
 use Rattle.std.proofs.Common.{◌≡◌, refl, ◌∙◌, ap, ℕ, Bool, List, [], ◌∷◌, ℤ, length, nat_le, Option, Some, None, IsTrue, slice_get}
 use Rattle.std.specs.Prelude.{if◌then◌else◌}
-use Rattle.chill_base.specs.declared.ends.Exc.{Exc}
-use Rattle.chill_base.specs.declared.ends.How.TheVariants.{Raised}
-use Rattle.chill_base.specs.declared.request.Request.{Request}
-use Rattle.chill_base.specs.declared.request.Request.TheVariants.{End}
-use Rattle.chill_base.specs.declared.answer.Answer.{Answer}
+use Rattle.kernel_base.specs.declared.ends.Exc.{Exc}
+use Rattle.kernel_base.specs.declared.ends.How.TheVariants.{Raised}
+use Rattle.kernel_base.specs.declared.request.Request.{Request}
+use Rattle.kernel_base.specs.declared.request.Request.TheVariants.{End}
+use Rattle.kernel_base.specs.declared.answer.Answer.{Answer}
 use Rattle.world_model.specs.Session.{session_of}
 use Rattle.code_types.specs.declared.instr.Instr.{Instr}
 use Rattle.code_types.specs.declared.instr.Instr.TheVariants.{Call}

@@ -2,8 +2,8 @@
 use Rattle.std.proofs.Common.{◌≡◌, refl, sym, ◌∙◌, ap, subst, ℕ, zero, suc, ◌+◌, ◌-◌, ◌<◌, ◌≤◌, ◌⊎◌, inl, inr, Bool, true, false, List, [], ◌∷◌, ◌++◌, ℤ, Option, Some, None, append_assoc, append-nil, arith}
 use Rattle.std.specs.Prelude.{if◌then◌else◌}
 use Rattle.std.proofs.lemmas.Bool.{cases_lt}
-use Rattle.chill_base.specs.declared.request.Request.{Request}
-use Rattle.chill_base.specs.declared.answer.Answer.{Answer}
+use Rattle.kernel_base.specs.declared.request.Request.{Request}
+use Rattle.kernel_base.specs.declared.answer.Answer.{Answer}
 use Rattle.world_model.specs.Session.{Item, Tick, Ask, Session, first_answer, session_of, tick_of}
 use Rattle.code_types.specs.declared.code.Code.{Code}
 use Rattle.code_types.specs.Answers.{answered, fits_request}

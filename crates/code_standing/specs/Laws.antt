@@ -1,7 +1,7 @@
 -- The laws of guarded code.
 use Rattle.std.specs.Prelude.{◌≡◌, ℕ, IsTrue, List, ℤ, Some}
-use Rattle.chill_base.specs.declared.request.Request.{Request}
-use Rattle.chill_base.specs.declared.answer.Answer.{Answer}
+use Rattle.kernel_base.specs.declared.request.Request.{Request}
+use Rattle.kernel_base.specs.declared.answer.Answer.{Answer}
 use Rattle.world_model.specs.Session.{Item}
 use Rattle.code_types.specs.declared.code.Code.{Code}
 use Rattle.code_types.specs.Agreement.{Agrees}

@@ -1,7 +1,7 @@
 -- What a single move leads to, and a single answer.
 use Rattle.std.specs.Prelude.{◌≡◌, IsTrue, List, [], ◌∷◌}
-use Rattle.chill_base.specs.declared.request.Request.{Request}
-use Rattle.chill_base.specs.declared.answer.Answer.{Answer}
+use Rattle.kernel_base.specs.declared.request.Request.{Request}
+use Rattle.kernel_base.specs.declared.answer.Answer.{Answer}
 use Rattle.world_model.specs.Session.{Tick, Ask}
 use Rattle.code_types.specs.declared.code.Code.{Code}
 use Rattle.code_types.specs.Answers.{answered, fits_request}

@@ -1,6 +1,6 @@
 -- Talks of guarded code.
 use Rattle.std.specs.Prelude.{ℕ, ◌+◌, List, ◌++◌, ℤ}
-use Rattle.chill_base.specs.declared.answer.Answer.{Answer}
+use Rattle.kernel_base.specs.declared.answer.Answer.{Answer}
 use Rattle.world_model.specs.Session.{Item}
 use Rattle.code_types.specs.declared.code.Code.{Code}
 use Rattle.code_types.specs.Agreement.{Agrees}

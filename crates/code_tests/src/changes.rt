@@ -1,5 +1,6 @@
 // What an event does to a world.
-use chill_base::{Answer, Event, Facts, How, List, Request};
+use chill_base::List;
+use kernel_base::{Answer, Event, Facts, How, Request};
 use std::alloc::{AllocError, Global};
 use std::test::Fail;
 use world_model::{Phase, World};

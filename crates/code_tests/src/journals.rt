@@ -1,10 +1,9 @@
 ghost use Rattle.std.specs.Prelude.{All, IfOk};
 ghost use Rattle.world_check.specs.Opening.{HasFewMembersEach};
 
-use chill_base::{
-    Alternative, Alternatives, Answer, Event, Exc, Facts, How, List, Request, Scalars,
-};
+use chill_base::{List, Scalars};
 use journal_check::allowed;
+use kernel_base::{Alternative, Alternatives, Answer, Event, Exc, Facts, How, Request};
 use std::alloc::{AllocError, Global};
 use std::process::Abort;
 use std::test::Fail;

@@ -8,10 +8,11 @@ mod operators;
 mod raising;
 mod requests;
 
-use chill_base::{Alternative, Answer, Exc, How, List, Place, Request, Scalars};
+use chill_base::{List, Scalars};
 use code_guard::{Guarded, guard};
 use code_machine::{Machine, Stop};
 use code_types::{BodyRow, Code, Handler, Instr};
+use kernel_base::{Alternative, Answer, Exc, How, Place, Request};
 use std::alloc::{AllocError, Global};
 use std::process::Abort;
 use std::test::Fail;

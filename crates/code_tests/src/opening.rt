@@ -1,5 +1,6 @@
 // The opening world of small facts.
-use chill_base::{Facts, List};
+use chill_base::List;
+use kernel_base::Facts;
 use std::test::Fail;
 use world_check::{have_few_members, opening_world};
 

@@ -1,7 +1,7 @@
 -- Runs of many steps.
 use Rattle.std.proofs.Common.{◌≡◌, ℕ, zero, suc, ◌+◌, ◌-◌, ◌≤◌, List, refl, sym, ◌∙◌, ap, ◌⊎◌, inl, inr, arith, ℤ, Some, None}
 use Rattle.std.specs.declared.option.Option.{Option}
-use Rattle.chill_base.specs.declared.answer.Answer.{Answer}
+use Rattle.kernel_base.specs.declared.answer.Answer.{Answer}
 use Rattle.world_model.specs.Session.{Item, Session, session_of}
 use Rattle.code_types.specs.declared.code.Code.{Code}
 use Rattle.code_types.specs.State.{State}

@@ -1,8 +1,8 @@
 -- A run with more behind it: an earlier trace, more answers and more ticks change nothing of what it comes to.
 use Rattle.std.proofs.Common.{◌≡◌, ℕ, zero, suc, ◌+◌, Bool, true, false, List, [], ◌∷◌, ◌++◌, refl, sym, ◌∙◌, ap, subst, arith, append_assoc, append-nil}
 use Rattle.std.specs.Prelude.{if◌then◌else◌}
-use Rattle.chill_base.specs.declared.answer.Answer.{Answer}
-use Rattle.chill_base.specs.declared.request.Request.{Request}
+use Rattle.kernel_base.specs.declared.answer.Answer.{Answer}
+use Rattle.kernel_base.specs.declared.request.Request.{Request}
 use Rattle.world_model.specs.Session.{Item, Tick, Ask, Session, first_answer, tick_of, session_of}
 use Rattle.code_types.specs.declared.code.Code.{Code}
 use Rattle.code_types.specs.Answers.{fits_request, answered}

@@ -2,12 +2,12 @@
 use Rattle.std.specs.Prelude.{ℕ, ◌+◌, ◌==◌, nat_le, nat_lt, Bool, true, false, ◌&&◌, not, List, [], ◌∷◌, ◌++◌, ℤ, pos, ◌+ℤ◌, ◌-ℤ◌, ◌*ℤ◌, neg_ℤ, int_le, length, take, drop, if◌then◌else◌, Some, None}
 use Rattle.std.specs.List.{list_any}
 use Rattle.std.specs.declared.option.Option.{Option}
-use Rattle.chill_base.specs.declared.ends.Exc.{Exc}
-use Rattle.chill_base.specs.declared.ends.Exc.TheVariants.{Overflow, Rangefail, Empty, Spacefail}
-use Rattle.chill_base.specs.declared.ends.How.TheVariants.{Normal, Stopped}
-use Rattle.chill_base.specs.declared.request.Alternative.{Alternative}
-use Rattle.chill_base.specs.declared.request.Request.{Request}
-use Rattle.chill_base.specs.declared.request.Request.TheVariants.{Read as AsksRead, Write as AsksWrite, Enter as AsksEnter, Leave as AsksLeave, Delay as AsksDelay, Continue as AsksContinue, SendBuffer, ReceiveBuffer, SendSignal, ReceiveSignal, Start as AsksStart, Put, Get, End}
+use Rattle.kernel_base.specs.declared.ends.Exc.{Exc}
+use Rattle.kernel_base.specs.declared.ends.Exc.TheVariants.{Overflow, Rangefail, Empty, Spacefail}
+use Rattle.kernel_base.specs.declared.ends.How.TheVariants.{Normal, Stopped}
+use Rattle.kernel_base.specs.declared.request.Alternative.{Alternative}
+use Rattle.kernel_base.specs.declared.request.Request.{Request}
+use Rattle.kernel_base.specs.declared.request.Request.TheVariants.{Read as AsksRead, Write as AsksWrite, Enter as AsksEnter, Leave as AsksLeave, Delay as AsksDelay, Continue as AsksContinue, SendBuffer, ReceiveBuffer, SendSignal, ReceiveSignal, Start as AsksStart, Put, Get, End}
 use Rattle.code_types.specs.declared.instr.Instr.{Instr}
 use Rattle.code_types.specs.declared.instr.Instr.TheVariants.{Push, Pop, Copy, Thing, Local, SetLocal, LocalAt, SetLocalAt, Part, PartAt, Index, Check, Add, Sub, Mul, Div, Mod, Rem, Neg, Abs, Succ, Pred, Same, Less, Not, And, Or, Xor, BitNot, BitAnd, BitOr, BitXor, BitMinus, Within, Has, Card, Least, Most, Span, Jump, Unless, Again, Call, Return, Enter, Leave, Raise, This, Read, Write, Delay, Continue, Send, Signal, Take, Hear, Start, PutInt, PutText, PutLine, GetInt, Stop, Finish}
 use Rattle.code_types.specs.Numbers.{is_between, is_scalar, where_true, truth_number, truth_of, int_result, quotient, remainder, modulus, magnitude, same_numbers, comes_before, decimal_text, exception_of}

@@ -1,7 +1,7 @@
 -- The laws of the steps.
 use Rattle.std.specs.Prelude.{◌≡◌, ◌↔◌, IsTrue, ℕ, List, ◌++◌, ℤ}
-use Rattle.chill_base.specs.declared.request.Request.{Request}
-use Rattle.chill_base.specs.declared.answer.Answer.{Answer}
+use Rattle.kernel_base.specs.declared.request.Request.{Request}
+use Rattle.kernel_base.specs.declared.answer.Answer.{Answer}
 use Rattle.world_model.specs.Gives.{Gives}
 use Rattle.world_model.specs.Session.{Item}
 use Rattle.code_types.specs.declared.code.Code.{Code}

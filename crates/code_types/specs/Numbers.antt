@@ -2,8 +2,8 @@
 use Rattle.std.specs.Prelude.{ℕ, zero, suc, ◌+◌, ◌-◌, ◌^◌, Bool, true, false, ◌&&◌, ◌||◌, List, [], ◌∷◌, ℤ, pos, negsuc, neg_ℤ, int_le, int_lt, int_div, int_rem, nat_abs, decimal, if◌then◌else◌, Some, None}
 use Rattle.std.specs.Int.{int_rem_euclid}
 use Rattle.std.specs.declared.option.Option.{Option}
-use Rattle.chill_base.specs.declared.ends.Exc.{Exc}
-use Rattle.chill_base.specs.declared.ends.Exc.TheVariants.{Overflow, Rangefail, Empty, Assertfail, Delayfail, Spacefail, Extinct, User}
+use Rattle.kernel_base.specs.declared.ends.Exc.{Exc}
+use Rattle.kernel_base.specs.declared.ends.Exc.TheVariants.{Overflow, Rangefail, Empty, Assertfail, Delayfail, Spacefail, Extinct, User}
 
 -- from the first bound to the second
 abbrev pub is_between : ℤ → ℤ → ℤ → Bool

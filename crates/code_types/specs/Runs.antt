@@ -1,10 +1,10 @@
 -- Runs of a code, and the facts that a code suits.
 use Rattle.std.specs.Prelude.{◌≡◌, ℕ, suc, List, [], ◌∷◌, ◌++◌, length, slice_get, Some, IsTrue, IsSomeAnd}
-use Rattle.chill_base.specs.declared.facts.Facts.{Facts}
-use Rattle.chill_base.specs.declared.request.Request.{Request}
-use Rattle.chill_base.specs.declared.answer.Answer.{Answer}
-use Rattle.chill_base.specs.declared.event.Event.{Event}
-use Rattle.chill_base.specs.Facts.{FitsRequest}
+use Rattle.kernel_base.specs.declared.facts.Facts.{Facts}
+use Rattle.kernel_base.specs.declared.request.Request.{Request}
+use Rattle.kernel_base.specs.declared.answer.Answer.{Answer}
+use Rattle.kernel_base.specs.declared.event.Event.{Event}
+use Rattle.kernel_base.specs.Facts.{FitsRequest}
 use Rattle.world_model.specs.Session.{Item, Tick, Ask}
 use Rattle.world_model.specs.Journal.{ticks_of, line_of, answers_by, answers_of, Birth, born_of}
 use Rattle.world_model.specs.Waiting.{IsActive}

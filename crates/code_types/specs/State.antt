@@ -1,7 +1,7 @@
 -- How far a process of the code has come.
 use Rattle.std.specs.Prelude.{ℕ, List, ℤ}
-use Rattle.chill_base.specs.declared.ends.Exc.{Exc}
-use Rattle.chill_base.specs.declared.request.Request.{Request}
+use Rattle.kernel_base.specs.declared.ends.Exc.{Exc}
+use Rattle.kernel_base.specs.declared.request.Request.{Request}
 
 -- A frame: its body, the place of the instruction that it comes to or stands at, its stack with the topmost number last,
 -- and its locals.

@@ -1,10 +1,10 @@
 -- The single steps that a process makes of a code.
 use Rattle.std.specs.Prelude.{ℕ, zero, suc, ◌+◌, ◌-◌, nat_le, List, [], ◌∷◌, ◌++◌, ℤ, pos, length, take, replicate, slice_get, if◌then◌else◌, Some, None}
 use Rattle.std.specs.declared.option.Option.{Option}
-use Rattle.chill_base.specs.declared.ends.Exc.{Exc}
-use Rattle.chill_base.specs.declared.ends.How.TheVariants.{Normal, Raised}
-use Rattle.chill_base.specs.declared.request.Request.{Request}
-use Rattle.chill_base.specs.declared.request.Request.TheVariants.{End}
+use Rattle.kernel_base.specs.declared.ends.Exc.{Exc}
+use Rattle.kernel_base.specs.declared.ends.How.TheVariants.{Normal, Raised}
+use Rattle.kernel_base.specs.declared.request.Request.{Request}
+use Rattle.kernel_base.specs.declared.request.Request.TheVariants.{End}
 use Rattle.world_model.specs.Lists.{with_scalars}
 use Rattle.world_model.specs.Session.{Item, Ask, Session, Asked, Answered, Unanswered, first_answer, Ticked, GoesOn, Last, tick}
 use Rattle.code_types.specs.declared.instr.Instr.{Instr}

@@ -4,7 +4,7 @@ use chill_base::{List, Numbers};
 
 /// A handler of the instructions from `from` up to, and without, `until`. It takes the exceptions of these numbers, and
 /// every exception where ELSE is written.
-#[derive(Debug, Drop)]
+#[derive(Drop)]
 pub struct Handler {
     pub from: u32,
     pub until: u32,
@@ -18,7 +18,7 @@ pub struct Handler {
 }
 
 /// A body: the outermost process, a process or a procedure. It reaches to the next body's first instruction.
-#[derive(Debug, Drop)]
+#[derive(Drop)]
 pub struct BodyRow {
     /// The place of its first instruction.
     pub first: u32,
@@ -41,7 +41,7 @@ pub type Handlers = List<Handler>;
 pub type BodyRows = List<BodyRow>;
 
 /// The code of a program.
-#[derive(Debug, Drop)]
+#[derive(Drop)]
 pub struct Code {
     pub instrs: Instrs,
     pub handlers: Handlers,

@@ -3,7 +3,7 @@ use chill_base::List;
 
 /// One instruction. Its operands stand on the stack of its frame, the first of them lowest. Places are counted from
 /// the code's first instruction. A list of several scalars stands with its first scalar lowest.
-#[derive(Clone, Copy, Debug)]
+#[derive(Clone, Copy)]
 pub enum Instr {
     /// Pushes a number.
     Push(i64),

@@ -4,7 +4,7 @@ use Rattle.std.specs.Prelude.{slice_get, if◌then◌else◌, ◌==◌}
 use Rattle.std.specs.declared.option.Option.{Option}
 use Rattle.std.specs.Option.{option_and_then, option_map_or}
 use Rattle.std.proofs.lemmas.Bool.{cases_lt, eqb-true, eq-eqb}
-use Rattle.chill_base.specs.declared.request.Request.TheVariants.{SendBuffer}
+use Rattle.kernel_base.specs.declared.request.Request.TheVariants.{SendBuffer}
 use Rattle.world_model.specs.declared.world.Phase.{Phase}
 use Rattle.world_model.specs.declared.world.Phase.TheVariants.{Waiting}
 use Rattle.world_model.specs.declared.world.StoredValue.{StoredValue}

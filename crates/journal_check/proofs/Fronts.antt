@@ -1,8 +1,8 @@
 -- One event more of a journal.
 use Rattle.std.proofs.Common.{◌≡◌, ℕ, zero, suc, ◌+◌, ◌≤◌, List, [], ◌∷◌, ◌++◌, take, refl, sym, ap, ◌∙◌, subst, arith, Some, add-one}
 use Rattle.std.specs.Prelude.{slice_get}
-use Rattle.chill_base.specs.declared.facts.Facts.{Facts}
-use Rattle.chill_base.specs.declared.event.Event.{Event}
+use Rattle.kernel_base.specs.declared.facts.Facts.{Facts}
+use Rattle.kernel_base.specs.declared.event.Event.{Event}
 use Rattle.world_model.specs.declared.world.World.{World}
 use Rattle.world_model.specs.World.{opening, after, after_all, world_of}
 use Rattle.world_model.specs.Allowed.{IsAllowed, IsRun}

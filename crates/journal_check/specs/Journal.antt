@@ -1,8 +1,8 @@
 -- The first event that isn't allowed.
 use Rattle.std.specs.Prelude.{ℕ, ◌+◌, ◌<◌, List, length, take, Some, None}
 use Rattle.std.specs.declared.option.Option.{Option}
-use Rattle.chill_base.specs.declared.facts.Facts.{Facts}
-use Rattle.chill_base.specs.declared.event.Event.{Event}
+use Rattle.kernel_base.specs.declared.facts.Facts.{Facts}
+use Rattle.kernel_base.specs.declared.event.Event.{Event}
 use Rattle.world_model.specs.Allowed.{IsRun}
 
 -- the events before this place are allowed from the opening, and with the one at it they aren't

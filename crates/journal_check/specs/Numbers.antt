@@ -1,9 +1,9 @@
 -- Numbers of any size, told by numbers that stop rising at a limit.
 use Rattle.std.specs.Prelude.{◌≡◌, ℕ, ◌<◌, ◌≤◌, [], ◌∷◌, ℤ, Some, None}
 use Rattle.std.specs.declared.option.Option.{Option}
-use Rattle.chill_base.specs.declared.answer.Answer.{Answer}
-use Rattle.chill_base.specs.declared.answer.Answer.TheVariants.{Value, Fail}
-use Rattle.chill_base.specs.declared.ends.Exc.TheVariants.{Rangefail}
+use Rattle.kernel_base.specs.declared.answer.Answer.{Answer}
+use Rattle.kernel_base.specs.declared.answer.Answer.TheVariants.{Value, Fail}
+use Rattle.kernel_base.specs.declared.ends.Exc.TheVariants.{Rangefail}
 
 -- above each number that GET_INT may answer, without its sign
 abbrev pub limit : ℕ

@@ -1,8 +1,8 @@
 -- The receipt of a value, told of one buffer, and the priorities of the values that are offered.
 use Rattle.std.specs.Prelude.{◌≡◌, ℕ, ◌==◌, ◌≤◌, List, ℤ, if◌then◌else◌, Some, None}
 use Rattle.std.specs.declared.option.Option.{Option}
-use Rattle.chill_base.specs.declared.facts.Facts.{Facts}
-use Rattle.chill_base.specs.declared.request.Alternative.{Alternative}
+use Rattle.kernel_base.specs.declared.facts.Facts.{Facts}
+use Rattle.kernel_base.specs.declared.request.Alternative.{Alternative}
 use Rattle.world_model.specs.declared.world.StoredValue.{StoredValue}
 use Rattle.world_model.specs.declared.world.World.{World}
 use Rattle.world_model.specs.declared.waiting.Offer.{Offer}

@@ -4,7 +4,8 @@ ghost use Rattle.world_check.specs.Opening.{HasFewMembersEach};
 ghost use Rattle.journal_check.specs.Journal.{TellsFirstRefused};
 
 use crate::asking::is_allowed;
-use chill_base::{Event, Facts, Memory};
+use chill_base::Memory;
+use kernel_base::{Event, Facts};
 use std::alloc::Global;
 use world_check::opening_world;
 

@@ -5,7 +5,7 @@ ghost use Rattle.std.specs.Option.{option_map};
 ghost use Rattle.world_model.specs.Input as inputs;
 ghost use Rattle.journal_check.specs.Numbers as numbers;
 
-use chill_base::{Answer, Exc};
+use kernel_base::{Answer, Exc};
 use world_check::{fails_with, tells_scalars};
 use world_model::{separators_len, word_len};
 

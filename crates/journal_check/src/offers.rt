@@ -5,7 +5,7 @@ ghost use Rattle.world_model.specs.Waiting as waiting;
 ghost use Rattle.world_model.specs.Allowed as events;
 ghost use Rattle.journal_check.specs.Receiving as receiving;
 
-use chill_base::{Facts, Request};
+use kernel_base::{Facts, Request};
 use world_model::{Phase, StoredValue, World, number_at};
 
 /// Whether a buffer has the length 0, so that its values are those of the senders that wait.

@@ -10,7 +10,7 @@ use crate::offers::{
     is_unbuffered, no_candidate, no_candidate_above, no_offer_above, nobody_sends,
     offered_priority, values_in,
 };
-use chill_base::{Alternative, Answer, Facts, Request};
+use kernel_base::{Alternative, Answer, Facts, Request};
 use world_check::{are_equal, is_value};
 use world_model::{Phase, StoredValue, World, number_at, number_for};
 

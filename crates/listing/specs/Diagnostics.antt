@@ -2,8 +2,8 @@
 use Rattle.std.specs.Prelude.{ℕ, List, [], ◌∷◌, ◌++◌, codes}
 use Rattle.std.specs.List.{flat_map}
 use Rattle.std.specs.Fmt.{decimal}
-use Rattle.chill_base.specs.declared.diagnostic.Diagnostic.{Diagnostic}
-use Rattle.chill_base.specs.Rules.{name_of, text_of, filled}
+use Rattle.diagnostics.specs.declared.diagnostic.Diagnostic.{Diagnostic}
+use Rattle.diagnostics.specs.Rules.{name_of, text_of, filled}
 
 -- LINE:COLUMN: RULE TEXT, and a line feed
 abbrev pub line_of : Diagnostic → List ℕ

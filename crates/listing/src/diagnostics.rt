@@ -1,9 +1,10 @@
 // Diagnostics as text, a line each.
 ghost use Rattle.std.specs.Prelude.{◌≡◌, ◌++◌, IfOk, OnOk};
-ghost use Rattle.chill_base.specs.Rules.{filled};
+ghost use Rattle.diagnostics.specs.Rules.{filled};
 ghost use Rattle.listing.specs.Diagnostics.{line_of, lines_of};
 
-use chill_base::{Diagnostic, Diagnostics, Memory, Text};
+use chill_base::{Memory, Text};
+use diagnostics::{Diagnostic, Diagnostics};
 use std::alloc::Global;
 
 /// The diagnostics in order, each as `LINE:COLUMN: RULE TEXT` with a line feed (our own choice).

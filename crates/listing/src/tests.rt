@@ -1,6 +1,7 @@
 // One list of diagnostics, whose lines were written by hand.
 use crate::diagnostics_text;
-use chill_base::{Diagnostic, Diagnostics, Pos, Rule, Text};
+use chill_base::{Pos, Text};
+use diagnostics::{Diagnostic, Diagnostics, Rule};
 use std::test::Fail;
 
 #[test]

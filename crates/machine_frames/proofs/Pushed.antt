@@ -1,7 +1,7 @@
 -- Instructions that push one number, whatever the number is.
 use Rattle.std.proofs.Common.{◌≡◌, ℕ, ◌+◌, List, ◌∷◌, [], ◌++◌, ℤ, pos, Option, Some, None, refl, ap, sym, ◌∙◌}
-use Rattle.chill_base.specs.declared.ends.Exc.{Exc}
-use Rattle.chill_base.specs.declared.ends.Exc.TheVariants.{Empty}
+use Rattle.kernel_base.specs.declared.ends.Exc.{Exc}
+use Rattle.kernel_base.specs.declared.ends.Exc.TheVariants.{Empty}
 use Rattle.code_types.specs.declared.instr.Instr.{Instr}
 use Rattle.code_types.specs.Operands.{topmost, below_topmost}
 use Rattle.code_types.specs.Actions.{Action, Pushes, Sets, GoesTo, TicksTo, Calls, Returns, Throws, Requests, Halts, with_one, with_two, member_or_empty, action_of}

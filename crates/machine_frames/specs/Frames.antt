@@ -1,6 +1,6 @@
 -- The frames that the machine holds, and what an instruction makes of its frame.
 use Rattle.std.specs.Prelude.{◌≡◌, ℕ, ◌+◌, ◌^◌, ◌<◌, ◌≤◌, List, ◌++◌, ℤ, length, vec_capacity, Bool, true, false, IsTrue}
-use Rattle.chill_base.specs.declared.ends.Exc.{Exc}
+use Rattle.kernel_base.specs.declared.ends.Exc.{Exc}
 use Rattle.world_model.specs.Lists.{with_scalars}
 use Rattle.code_types.specs.declared.instr.Instr.{Instr}
 use Rattle.code_types.specs.Operands.{topmost, below_topmost}

@@ -6,10 +6,10 @@ ghost use Rattle.code_types.specs.Steps.{moved};
 ghost use Rattle.world_model.specs.Lists.{with_scalars};
 ghost use Rattle.machine_frames.specs.Frames.{Acts, IsReady, KeepsRoom, frame_of};
 
-use chill_base::Exc;
+use kernel_base::Exc;
 
 /// What came of an instruction.
-#[derive(Clone, Copy, Debug)]
+#[derive(Clone, Copy)]
 pub enum Acted {
     /// The frame goes on.
     GoesOn,
@@ -22,7 +22,7 @@ pub enum Acted {
 }
 
 /// A frame: its body, the place of its instruction, its stack with the topmost number last, and its locals.
-#[derive(Debug, Drop)]
+#[derive(Drop)]
 pub struct Activation {
     pub body: u32,
     pub place: usize,

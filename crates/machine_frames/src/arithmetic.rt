@@ -3,7 +3,7 @@ ghost use Rattle.code_types.specs.declared.instr.Instr.TheVariants.{Abs, Add, Ch
 ghost use Rattle.machine_frames.specs.Frames.{Does, IsReady, KeepsRoom};
 
 use crate::activation::{Acted, Activation};
-use chill_base::Exc;
+use kernel_base::Exc;
 use machine_numbers::{
     difference, index_offset, magnitude_of, modulus_of, negation, predecessor, product,
     quotient_of, remainder_of, successor, sum, within_bounds,

@@ -4,7 +4,7 @@ ghost use Rattle.code_types.specs.declared.instr.Instr.TheVariants.{Copy, Local,
 ghost use Rattle.machine_frames.specs.Frames.{Does, IsReady, KeepsRoom};
 
 use crate::activation::{Acted, Activation};
-use chill_base::Exc;
+use kernel_base::Exc;
 use machine_numbers::offset_from;
 
 /// Pushes a number.

@@ -3,7 +3,7 @@ ghost use Rattle.code_types.specs.declared.instr.Instr.TheVariants.{BitAnd, BitM
 ghost use Rattle.machine_frames.specs.Frames.{Does, IsReady, KeepsRoom};
 
 use crate::activation::{Acted, Activation};
-use chill_base::Exc;
+use kernel_base::Exc;
 use machine_numbers::{
     all_members, common_members, count_members, greatest_member, has_offset_in, includes,
     least_member, members_without, missing_members, offsets_between, single_members, truth_from,

@@ -3,7 +3,7 @@ ghost use Rattle.std.specs.Prelude.{◌≡◌};
 ghost use Rattle.code_types.specs.Numbers.{exception_number, exception_of, truth_number, truth_of};
 ghost use Rattle.code_types.specs.Operands.{number_in, offset_of};
 
-use chill_base::Exc;
+use kernel_base::Exc;
 
 /// Whether the number counts as true.
 pub fn is_true(x: i64) -> bool

@@ -3,7 +3,7 @@ use Rattle.std.proofs.Common.{◌≡◌, ℕ, ◌+◌, ◌<◌, ◌≤◌, List,
 use Rattle.std.specs.Prelude.{nat_lt, nat_le, map}
 use Rattle.std.proofs.lemmas.List.{length-reverse, length-map, map-append}
 use Rattle.std.proofs.lemmas.List.{reverse-append}
-use Rattle.chill_base.specs.declared.ends.Exc.TheVariants.{Spacefail}
+use Rattle.kernel_base.specs.declared.ends.Exc.TheVariants.{Spacefail}
 use Rattle.code_types.specs.declared.instr.Instr.TheVariants.{Call}
 use Rattle.code_types.specs.declared.code.Code.{Code}
 use Rattle.code_types.specs.Places.{params_of}

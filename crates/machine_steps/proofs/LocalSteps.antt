@@ -1,7 +1,7 @@
 -- An instruction that stays in its frame is the step of the definitions.
 use Rattle.std.proofs.Common.{◌≡◌, ℕ, ◌≤◌, List, ◌∷◌, ℤ, true, length, slice_get, Some, refl, ◌∙◌, rules, tests}
 use Rattle.std.specs.Prelude.{nat_le, map}
-use Rattle.chill_base.specs.declared.ends.Exc.{Exc}
+use Rattle.kernel_base.specs.declared.ends.Exc.{Exc}
 use Rattle.code_types.specs.declared.instr.Instr.{Instr}
 use Rattle.code_types.specs.declared.code.Code.{Code}
 use Rattle.code_types.specs.Places.{finds}

@@ -1,7 +1,7 @@
 -- Lists that are read off the stack, one after another.
 use Rattle.std.proofs.Common.{◌≡◌, ℕ, suc, ◌+◌, ◌*◌, ◌<◌, List, [], ◌∷◌, ◌++◌, ℤ, length, drop, get_or, Option, Some, None, refl, ap, sym, ◌∙◌, arith, append_assoc}
 use Rattle.std.proofs.lemmas.List.{drop_more}
-use Rattle.chill_base.specs.declared.request.Alternative.{Alternative}
+use Rattle.kernel_base.specs.declared.request.Alternative.{Alternative}
 use Rattle.code_types.specs.Operands.{Triples, alternative_in, number_in, offset_of, pairs_of, slot_in, triples_of, with_first, with_triple}
 use Rattle.code_types.specs.State.{Slot}
 

@@ -1,7 +1,7 @@
 -- Landings are the steps of the definitions.
 use Rattle.std.proofs.Common.{◌≡◌, ℕ, List, ◌∷◌, take, Some, None, Option, refl, ap, sym, ◌∙◌}
 use Rattle.std.specs.Prelude.{IsSomeAnd, map}
-use Rattle.chill_base.specs.declared.ends.Exc.{Exc}
+use Rattle.kernel_base.specs.declared.ends.Exc.{Exc}
 use Rattle.code_types.specs.declared.code.Code.{Code}
 use Rattle.code_types.specs.declared.code.Handler.{Handler}
 use Rattle.code_types.specs.Places.{taker}

@@ -1,6 +1,6 @@
 -- Receives whose operands don't fit are the steps of the definitions.
 use Rattle.std.proofs.Common.{◌≡◌, ℕ, ◌*◌, ◌≤◌, Bool, length, map, slice_get, Some, None, refl, ◌∙◌}
-use Rattle.chill_base.specs.declared.ends.Exc.TheVariants.{Rangefail}
+use Rattle.kernel_base.specs.declared.ends.Exc.TheVariants.{Rangefail}
 use Rattle.code_types.specs.declared.instr.Instr.TheVariants.{Hear, Take}
 use Rattle.code_types.specs.declared.code.Code.{Code}
 use Rattle.code_types.specs.Operands.{topmost, triples_of}

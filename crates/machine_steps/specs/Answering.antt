@@ -1,6 +1,6 @@
 -- Whether a process takes an answer.
 use Rattle.std.specs.Prelude.{Bool, false}
-use Rattle.chill_base.specs.declared.answer.Answer.{Answer}
+use Rattle.kernel_base.specs.declared.answer.Answer.{Answer}
 use Rattle.code_types.specs.Answers.{fits_request}
 use Rattle.code_types.specs.State.{Mode, Running, Called, Asking, Raising, Ended}
 

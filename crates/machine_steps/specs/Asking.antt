@@ -1,6 +1,6 @@
 -- How a process comes to ask a request.
 use Rattle.std.specs.Prelude.{◌≡◌, ℕ, ◌^◌, ◌<◌, List, ◌∷◌, length, map}
-use Rattle.chill_base.specs.declared.request.Request.{Request}
+use Rattle.kernel_base.specs.declared.request.Request.{Request}
 use Rattle.code_types.specs.Operands.{below_topmost}
 use Rattle.code_types.specs.State.{Slot, Asking}
 use Rattle.code_types.specs.Steps.{moved}

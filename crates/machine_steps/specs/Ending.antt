@@ -1,8 +1,8 @@
 -- How a process comes to its end.
 use Rattle.std.specs.Prelude.{◌≡◌, ℕ, ◌+◌, ◌^◌, ◌<◌, ◌≤◌, List, [], ◌∷◌, ◌++◌, length, vec_capacity}
 use Rattle.machine_frames.specs.declared.activation.Activation.{Activation}
-use Rattle.chill_base.specs.declared.ends.How.{How}
-use Rattle.chill_base.specs.declared.request.Request.TheVariants.{End}
+use Rattle.kernel_base.specs.declared.ends.How.{How}
+use Rattle.kernel_base.specs.declared.request.Request.TheVariants.{End}
 use Rattle.code_types.specs.State.{Asking}
 use Rattle.machine_steps.specs.declared.process.Process.{Process}
 use Rattle.machine_steps.specs.declared.process.Doing.{Doing}

@@ -1,13 +1,13 @@
 // Which answers a waiting process takes.
 ghost use Rattle.std.specs.Prelude.{◌≡◌, map, None, slice_index_or, Some};
-ghost use Rattle.chill_base.specs.declared.answer.Answer.TheVariants.{Value};
+ghost use Rattle.kernel_base.specs.declared.answer.Answer.TheVariants.{Value};
 ghost use Rattle.machine_steps.specs.Answering.{takes_answer};
 ghost use Rattle.machine_steps.specs.Views.{slot_of, state_of};
 ghost use Rattle.code_types.specs.Answers.{fills_slot, gives, gives_continue, gives_delay, gives_get, gives_read, gives_receive, gives_send_buffer, gives_send_signal, gives_start, is_done, is_listed, is_some_number, no_slot};
 ghost use Rattle.world_model.specs.Lists.{number_for};
 
 use crate::process::{Doing, Process, SlotEntry};
-use chill_base::{Alternative, Answer, Exc, Request};
+use kernel_base::{Alternative, Answer, Exc, Request};
 use machine_numbers::int_or_none;
 
 // The number of the first alternative that lists this thing.

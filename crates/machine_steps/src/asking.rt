@@ -9,8 +9,8 @@ ghost use Rattle.machine_steps.specs.Stepping.{IsMade, Steps};
 ghost use Rattle.machine_steps.specs.Views.{slot_of};
 
 use crate::process::{Doing, Process, SlotEntry, Stepped};
-use chill_base::{Exc, How, Place, Request};
 use code_types::Code;
+use kernel_base::{Exc, How, Place, Request};
 use machine_numbers::thing_from;
 
 /// The scalar from which on an access reaches; none where that is no number of 32 bits.

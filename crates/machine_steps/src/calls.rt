@@ -9,8 +9,8 @@ ghost use Rattle.machine_steps.specs.Rooms.{HasRoomFor, IsPushed, KeepsFrames, S
 ghost use Rattle.machine_steps.specs.Stepping.{IsMade, Steps};
 
 use crate::process::{Doing, Process, Stepped};
-use chill_base::Exc;
 use code_types::{BodyRow, Code};
+use kernel_base::Exc;
 use machine_frames::Activation;
 use std::mem::replace;
 

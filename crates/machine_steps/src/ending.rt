@@ -9,8 +9,8 @@ ghost use Rattle.machine_steps.specs.Stepping.{IsMade, Steps};
 
 use crate::process::{Doing, Process, Stepped};
 use crate::raising::is_named;
-use chill_base::{Exc, How, Request};
 use code_types::Code;
+use kernel_base::{Exc, How, Request};
 use std::mem::replace;
 
 impl Process {

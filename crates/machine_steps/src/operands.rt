@@ -4,7 +4,7 @@ ghost use Rattle.code_types.specs.Operands.{alternative_in, bytes_of, number_in,
 ghost use Rattle.machine_steps.specs.Views.{slot_of};
 
 use crate::process::SlotEntry;
-use chill_base::Alternative;
+use kernel_base::Alternative;
 use machine_numbers::{offset_from, thing_from};
 
 // The alternative that a thing and a number tell; none where one of them doesn't fit.

@@ -1,23 +1,23 @@
 // A process of a code, with the memory of its frames.
-use chill_base::{Exc, Request};
+use kernel_base::{Exc, Request};
 use machine_frames::Activation;
 
 /// A region that was entered and not yet left, and the number of the frame that entered it.
-#[derive(Clone, Copy, Debug)]
+#[derive(Clone, Copy)]
 pub struct RegionEntry {
     pub region: u32,
     pub frame: usize,
 }
 
 /// Where the scalars of an alternative go: into so many locals from one on.
-#[derive(Clone, Copy, Debug)]
+#[derive(Clone, Copy)]
 pub struct SlotEntry {
     pub local: usize,
     pub count: usize,
 }
 
 /// What the process is about.
-#[derive(Debug, Drop)]
+#[derive(Drop)]
 pub enum Doing {
     /// It makes the next instruction.
     Running,
@@ -36,7 +36,7 @@ pub enum Doing {
 
 /// A process of a code. The innermost frame is `top`; those below it are held with the innermost last, and frames that
 /// aren't in use keep their memory.
-#[derive(Debug, Drop)]
+#[derive(Drop)]
 pub struct Process {
     pub instance: u32,
     pub top: Activation,
@@ -47,7 +47,7 @@ pub struct Process {
 }
 
 /// What came of a step.
-#[derive(Debug, Drop)]
+#[derive(Drop)]
 pub enum Stepped {
     /// The process goes on.
     GoesOn,

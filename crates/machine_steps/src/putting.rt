@@ -7,9 +7,9 @@ ghost use Rattle.machine_steps.specs.Stepping.{IsMade, Steps};
 
 use crate::process::{Doing, Process, Stepped};
 use crate::room::Room;
-use chill_base::{Exc, Request};
 use code_types::Code;
 use itoa::Buffer;
+use kernel_base::{Exc, Request};
 
 impl Process {
     /// Asks to put a line feed.

@@ -6,8 +6,8 @@ ghost use Rattle.machine_steps.specs.Rooms.{KeepsFrames};
 ghost use Rattle.machine_steps.specs.Stepping.{IsMade, Steps};
 
 use crate::process::{Doing, Process, Stepped};
-use chill_base::Exc;
 use code_types::{Code, Handler};
+use kernel_base::Exc;
 use machine_numbers::number_of;
 
 /// Whether an exception is among these numbers.

@@ -9,8 +9,8 @@ ghost use Rattle.machine_steps.specs.Views.{slot_of};
 
 use crate::process::{Doing, Process, SlotEntry, Stepped};
 use crate::room::Room;
-use chill_base::{Alternatives, Exc, Request};
 use code_types::Code;
+use kernel_base::{Alternatives, Exc, Request};
 
 impl Process {
     /// Asks to wait for one of some events, or RANGEFAIL.

@@ -9,8 +9,8 @@ ghost use Rattle.machine_steps.specs.Stepping.{IsMade, Steps};
 ghost use Rattle.machine_steps.specs.Views.{region_of};
 
 use crate::process::{Doing, Process, RegionEntry, Stepped};
-use chill_base::Request;
 use code_types::Code;
+use kernel_base::Request;
 
 // Whether the region is open.
 fn is_open_in(region: u32, regions: &[RegionEntry]) -> bool

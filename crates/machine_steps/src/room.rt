@@ -6,13 +6,14 @@ ghost use Rattle.machine_steps.specs.Views.{slot_of};
 
 use crate::operands::{put_bytes, put_pairs, put_triples};
 use crate::process::SlotEntry;
-use chill_base::{Alternative, Alternatives, List, Memory, Scalars, Text};
+use chill_base::{List, Memory, Scalars, Text};
+use kernel_base::{Alternative, Alternatives};
 use std::alloc::Global;
 use std::mem::replace;
 
 /// Room for the lists of one request, each twice, since the process keeps its own copy of what it asks, and for the slots of
 /// its alternatives.
-#[derive(Debug, Drop)]
+#[derive(Drop)]
 pub struct Room {
     pub numbers: Vec<i64>,
     pub kept_numbers: Vec<i64>,

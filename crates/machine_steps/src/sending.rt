@@ -8,8 +8,8 @@ ghost use Rattle.machine_steps.specs.Stepping.{IsMade, Steps};
 use crate::asking::first_at;
 use crate::process::{Doing, Process, Stepped};
 use crate::room::Room;
-use chill_base::{Exc, Place, Request};
 use code_types::Code;
+use kernel_base::{Exc, Place, Request};
 use machine_numbers::thing_from;
 
 impl Process {

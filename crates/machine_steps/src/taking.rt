@@ -11,7 +11,7 @@ ghost use Rattle.machine_steps.specs.Taking.{GoesOnBehind, HasAnswerRoom, HoldsA
 ghost use Rattle.machine_steps.specs.Views.{region_of, slot_of, state_of};
 
 use crate::process::{Doing, Process, RegionEntry, SlotEntry};
-use chill_base::{Answer, Request};
+use kernel_base::{Answer, Request};
 use machine_frames::Activation;
 use std::mem::replace;
 

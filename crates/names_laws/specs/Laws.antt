@@ -1,8 +1,8 @@
 -- The laws of what is seen.
 use Rattle.std.specs.Prelude.{◌≡◌, ◌↔◌, ◌≤◌, ◌⊎◌, ℕ, suc, ◌+◌, Bool, List, [], ◌∷◌, length}
 use Rattle.std.specs.List.{Contains}
-use Rattle.chill_base.specs.declared.rule.Rule.TheVariants as rules
-use Rattle.chill_base.specs.declared.diagnostic.Diagnostic.{Diagnostic}
+use Rattle.diagnostics.specs.declared.rule.Rule.TheVariants as rules
+use Rattle.diagnostics.specs.declared.diagnostic.Diagnostic.{Diagnostic}
 use Rattle.names_model.specs.declared.identifier.Identifier.{Identifier}
 use Rattle.names_model.specs.declared.definition.Definition.{Definition}
 use Rattle.names_model.specs.Parts.{PartTree, PartNodes, define, mention, seize, seize_all, grant, grant_all, stray, modulion, routine, block, no_parts, more_parts}

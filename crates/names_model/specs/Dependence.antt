@@ -1,8 +1,8 @@
 -- Which definitions depend on which, and what is told of those that depend on themselves.
 use Rattle.std.specs.Prelude.{ℕ, suc, ◌+◌, Bool, ◌&&◌, ◌||◌, List, [], ◌∷◌, map, flat_map, length, slice_get, Option, Some, None, if◌then◌else◌}
 use Rattle.std.specs.List.{filter}
-use Rattle.chill_base.specs.declared.rule.Rule.TheVariants as rules
-use Rattle.chill_base.specs.declared.diagnostic.Diagnostic.{Diagnostic}
+use Rattle.diagnostics.specs.declared.rule.Rule.TheVariants as rules
+use Rattle.diagnostics.specs.declared.diagnostic.Diagnostic.{Diagnostic}
 use Rattle.group_dependence.specs.declared.group.Group.{Group}
 use Rattle.group_dependence.specs.Groups.{edges_of}
 use Rattle.group_dependence.specs.Testing.{depends_on}

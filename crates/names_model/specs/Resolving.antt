@@ -1,9 +1,9 @@
 -- What the phase of names gives of a program: the names, or the list of the rules that are broken.
 use Rattle.std.specs.Prelude.{ℕ, List, [], ◌∷◌, ◌++◌, flat_map, slice_index_or}
-use Rattle.chill_base.specs.declared.diagnostic.Diagnostic.{Diagnostic}
+use Rattle.diagnostics.specs.declared.diagnostic.Diagnostic.{Diagnostic}
 use Rattle.chill_tree.specs.ItemTree.{ProgramTree}
-use Rattle.rule_lists.specs.Listing.{listed}
-use Rattle.rule_lists.specs.Order.{diagnostic_cmp}
+use Rattle.diagnostics.specs.Listing.{listed}
+use Rattle.diagnostics.specs.Order.{diagnostic_cmp}
 use Rattle.names_model.specs.declared.definition.Definition.{Definition}
 use Rattle.names_model.specs.declared.names.Resolved.{Resolved}
 use Rattle.names_model.specs.declared.names.Names.{Names}

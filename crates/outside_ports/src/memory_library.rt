@@ -10,7 +10,7 @@ use chill_base::{List, Numbers, Text};
 use std::marker::Model;
 
 /// A file in memory.
-#[derive(Debug, Drop)]
+#[derive(Drop)]
 pub struct File {
     pub name: Text,
     pub bytes: Text,

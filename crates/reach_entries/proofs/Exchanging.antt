@@ -6,7 +6,7 @@ use Rattle.std.proofs.lemmas.List.Folds.{list_any-append}
 use Rattle.std.proofs.lemmas.Bool.{eqb-true}
 use Rattle.std.proofs.lemmas.Slice.Eq.{bytes_eq-Decides}
 use Rattle.chill_base.specs.declared.pos.Pos.{Pos}
-use Rattle.rule_lists.specs.Listing.{IsIn, SameMembers}
+use Rattle.diagnostics.specs.Listing.{IsIn, SameMembers}
 use Rattle.names_model.specs.declared.definition.Definition.{Definition}
 use Rattle.names_model.specs.declared.entry.Entry.{Entry}
 use Rattle.names_model.specs.Definitions.{spelling_at, under}

@@ -1,6 +1,6 @@
 -- Lists that have the same members.
 use Rattle.std.proofs.Common.{◌≡◌, List, [], ◌∷◌, ◌++◌, ◌⊎◌, inl, inr, subst}
-use Rattle.rule_lists.specs.Listing.{IsIn, SameMembers}
+use Rattle.diagnostics.specs.Listing.{IsIn, SameMembers}
 
 pub in-left : {X : Type 0} (x : X) (xs ys : List X) → IsIn x xs → IsIn x (xs ++ ys)
 in-left x [] ys h = absurd h

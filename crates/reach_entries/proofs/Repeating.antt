@@ -5,9 +5,9 @@ use Rattle.std.specs.List.{list_any}
 use Rattle.std.specs.Str.{bytes_eq}
 use Rattle.std.proofs.lemmas.Slice.Eq.{bytes_eq-Decides}
 use Rattle.chill_base.specs.declared.pos.Pos.{Pos}
-use Rattle.chill_base.specs.declared.rule.Rule.TheVariants as rules
-use Rattle.chill_base.specs.declared.diagnostic.Diagnostic.{Diagnostic}
-use Rattle.rule_lists.specs.Listing.{IsIn, SameMembers}
+use Rattle.diagnostics.specs.declared.rule.Rule.TheVariants as rules
+use Rattle.diagnostics.specs.declared.diagnostic.Diagnostic.{Diagnostic}
+use Rattle.diagnostics.specs.Listing.{IsIn, SameMembers}
 use Rattle.names_model.specs.declared.definition.Definition.{Definition}
 use Rattle.names_model.specs.declared.entry.Entry.{Entry}
 use Rattle.names_model.specs.Definitions.{spelling_at, under}

@@ -1,6 +1,6 @@
 -- What is known of a reach that is being opened.
 use Rattle.std.specs.Prelude.{◌≡◌, List, [], ◌++◌}
-use Rattle.rule_lists.specs.Listing.{SameMembers}
+use Rattle.diagnostics.specs.Listing.{SameMembers}
 use Rattle.names_model.specs.declared.entry.Entry.{Entry}
 use Rattle.names_model.specs.Entries.{passed}
 use Rattle.names_model.specs.NameRules.{told_behind}

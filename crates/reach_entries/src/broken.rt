@@ -2,7 +2,8 @@
 ghost use Rattle.std.specs.Prelude.{◌≡◌, ◌++◌, ◌∷◌, [], OnOk};
 ghost use Rattle.names_model.specs.NameRules.{tell};
 
-use chill_base::{Diagnostic, Memory, Pos, Rule, Text};
+use chill_base::{Memory, Pos, Text};
+use diagnostics::{Diagnostic, Rule};
 use names_model::Spelling;
 use std::alloc::Global;
 

@@ -1,7 +1,8 @@
 // A reach that is being opened: its table, and N1 of it, entry by entry.
 use crate::passages::Passages;
 use crate::twice::{tell_crowded, tell_groups, tell_numbers, tell_seized};
-use chill_base::{Diagnostic, Memory, Pos};
+use chill_base::{Memory, Pos};
+use diagnostics::Diagnostic;
 use names_model::Identifier;
 use reach_tables::{Book, Entered, Names, Scope, Shared, Table};
 use std::alloc::Global;

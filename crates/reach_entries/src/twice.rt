@@ -1,6 +1,6 @@
 // Second entries of a name in one reach, for another definition.
 ghost use Rattle.std.specs.Prelude.{◌≡◌, ◌++◌, ◌||◌, ◌&&◌, ℕ, not, List, Some, IfOk, OnOk, flat_map, slice_get};
-ghost use Rattle.rule_lists.specs.Listing.{SameMembers};
+ghost use Rattle.diagnostics.specs.Listing.{SameMembers};
 ghost use Rattle.names_model.specs.declared.definition.Definition.{Definition};
 ghost use Rattle.names_model.specs.declared.entry.Entry.{Entry};
 ghost use Rattle.names_model.specs.Entries.{numbers_of};
@@ -12,7 +12,8 @@ ghost use Rattle.reach_tables.specs.Scopes.{Kept, Opened, Sound, shown};
 ghost use Rattle.reach_tables.specs.Tellings.{IsTold, Tells, clashes_any, is_last, told_of};
 
 use crate::broken::push_told;
-use chill_base::{Diagnostic, Memory, Pos, Rule};
+use chill_base::{Memory, Pos};
+use diagnostics::{Diagnostic, Rule};
 use names_model::Spelling;
 use reach_tables::{
     Asked, Book, Group, Names, Scope, Shared, Table, any_meets, first_shown, is_another_under,

@@ -1,7 +1,7 @@
 -- What is found behind what was found before.
 use Rattle.std.specs.Prelude.{◌≡◌, ℕ, List, ◌++◌, flat_map}
-use Rattle.chill_base.specs.declared.diagnostic.Diagnostic.{Diagnostic}
-use Rattle.rule_lists.specs.Listing.{SameMembers}
+use Rattle.diagnostics.specs.declared.diagnostic.Diagnostic.{Diagnostic}
+use Rattle.diagnostics.specs.Listing.{SameMembers}
 use Rattle.group_dependence.specs.declared.group.Group.{Group}
 use Rattle.group_dependence.specs.Targets.{SameEdges, groups_with}
 use Rattle.names_model.specs.declared.definition.Definition.{Definition}

@@ -8,7 +8,8 @@ ghost use Rattle.names_model.specs.NameRules.{any_kind, fits_argument, told_here
 ghost use Rattle.reach_tables.specs.Scopes.{Shows};
 
 use crate::seen::{none_around, sees_any, sees_none};
-use chill_base::{Diagnostic, Memory, Rule};
+use chill_base::Memory;
+use diagnostics::{Diagnostic, Rule};
 use names_model::{Clause, Identifier, Mention, Need, Part, Spelling};
 use reach_entries::push_told;
 use reach_tables::{Asked, Book, Scope};

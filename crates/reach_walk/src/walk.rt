@@ -1,6 +1,6 @@
 // The walk over all parts, with the tables of the reaches around.
 ghost use Rattle.std.specs.Prelude.{◌≡◌, ◌++◌, ◌+◌, ◌<◌, ◌^◌, [], List, OnOk, IfOk};
-ghost use Rattle.rule_lists.specs.Listing.{SameMembers};
+ghost use Rattle.diagnostics.specs.Listing.{SameMembers};
 ghost use Rattle.names_model.specs.declared.definition.Definition.{Definition};
 ghost use Rattle.names_model.specs.Parts.{part_tree};
 ghost use Rattle.names_model.specs.Sizes.{clauses_size, size_of};
@@ -17,7 +17,8 @@ ghost use Rattle.reach_tables.specs.declared.scope.Scope.{Outside};
 
 use crate::findings::{Findings, note_here};
 use crate::lists::list_own;
-use chill_base::{Diagnostic, List, Memory};
+use chill_base::{List, Memory};
+use diagnostics::Diagnostic;
 use names_model::{Clause, Part};
 use reach_entries::{
     Given, Opening, Place, enter_params, enter_parts, enter_places, givens_of, lent_inner,

@@ -1,7 +1,7 @@
 // Units of events, requests that fit, and copies, with ample memory.
-use chill_base::{
-    Alternative, Alternatives, Answer, Bits, Event, Facts, Item, List, Place, Request, Scalars,
-    Text, Value, event_units, fits,
+use chill_base::{Bits, Item, List, Scalars, Text};
+use kernel_base::{
+    Alternative, Alternatives, Answer, Event, Facts, Place, Request, Value, event_units, fits,
 };
 use std::alloc::{AllocError, Global};
 use std::test::Fail;

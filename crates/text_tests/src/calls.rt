@@ -1,6 +1,7 @@
 // Calls over ports in memory, with ample memory: what they answer, and what was written.
-use chill_base::{Answer, Event, Events, How, Item, Memory, Numbers, Over, Request, Text};
+use chill_base::{Item, Memory, Numbers, Text};
 use chill_top::chill;
+use kernel_base::{Answer, Event, Events, How, Over, Request};
 use outside_ports::{File, Files, MemoryLibrary, MemorySink};
 use std::alloc::{AllocError, Global};
 use std::process::Abort;

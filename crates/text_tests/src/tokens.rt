@@ -1,7 +1,7 @@
 // Texts and their tokens, written down from the rules of the language by hand.
-use chill_base::{Diagnostic, Rule};
 use chill_lexer::{LexRefusal, lex};
 use chill_tree::{Sign, Token, TokenKind, Word};
+use diagnostics::{Diagnostic, Rule};
 use std::alloc::{AllocError, Global};
 use std::test::Fail;
 

@@ -1,5 +1,6 @@
 // One program of two modulions: what is found of it was written by hand.
-use chill_base::{Item, List, Memory, Pos, Rule, Text};
+use chill_base::{Item, List, Memory, Pos, Text};
+use diagnostics::Rule;
 use group_dependence::Target;
 use names_model::{Clause, Identifier, Kind, Mention, Need, Part, Spelling};
 use reach_walk::{Findings, book_of, find_in_program};

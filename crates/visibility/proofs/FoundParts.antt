@@ -1,8 +1,8 @@
 -- What is found of a program's parts is found of its tree.
 use Rattle.std.proofs.Common.{◌≡◌, ℕ, ◌+◌, ◌<◌, ◌^◌, List, [], ◌++◌, min, length, length-append, arith, refl, sym, ap, ◌∙◌, subst}
-use Rattle.chill_base.specs.declared.diagnostic.Diagnostic.{Diagnostic}
+use Rattle.diagnostics.specs.declared.diagnostic.Diagnostic.{Diagnostic}
 use Rattle.chill_tree.specs.ItemTree.{ProgramTree}
-use Rattle.rule_lists.specs.Listing.{SameMembers}
+use Rattle.diagnostics.specs.Listing.{SameMembers}
 use Rattle.group_dependence.specs.declared.target.TargetGroup.{TargetGroup}
 use Rattle.group_dependence.specs.Targets.{SameEdges, groups_with}
 use Rattle.names_model.specs.declared.definition.Definition.{Definition}

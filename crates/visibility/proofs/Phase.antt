@@ -1,10 +1,10 @@
 -- The list of the phase and the names, by what is found of a program.
 use Rattle.std.proofs.Common.{◌≡◌, ◌∙◌, List, ◌++◌, ap}
-use Rattle.chill_base.specs.declared.diagnostic.Diagnostic.{Diagnostic}
+use Rattle.diagnostics.specs.declared.diagnostic.Diagnostic.{Diagnostic}
 use Rattle.chill_tree.specs.ItemTree.{ProgramTree}
 use Rattle.group_dependence.specs.Targets.{groups_with}
-use Rattle.rule_lists.specs.Listing.{SameMembers, listed}
-use Rattle.rule_lists.specs.Order.{diagnostic_cmp}
+use Rattle.diagnostics.specs.Listing.{SameMembers, listed}
+use Rattle.diagnostics.specs.Order.{diagnostic_cmp}
 use Rattle.names_model.specs.declared.definition.Definition.{Definition}
 use Rattle.names_model.specs.declared.names.Resolved.{Resolved}
 use Rattle.names_model.specs.declared.names.Names.{Names}

@@ -1,7 +1,7 @@
 -- What is found of the names of a program.
 use Rattle.std.specs.Prelude.{◌≡◌, length}
 use Rattle.chill_tree.specs.ItemTree.{ProgramTree}
-use Rattle.rule_lists.specs.Listing.{SameMembers}
+use Rattle.diagnostics.specs.Listing.{SameMembers}
 use Rattle.group_dependence.specs.Targets.{SameEdges, groups_with}
 use Rattle.names_model.specs.Definitions.{text_definitions}
 use Rattle.names_model.specs.Dependence.{groups_in}

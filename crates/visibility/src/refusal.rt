@@ -1,8 +1,9 @@
 // Why the names of a program aren't resolved.
-use chill_base::{Diagnostics, Memory};
+use chill_base::Memory;
+use diagnostics::Diagnostics;
 
 /// Why the names of a program aren't resolved.
-#[derive(Debug, Drop)]
+#[derive(Drop)]
 pub enum Refusal {
     /// Rules are broken: the list of the phase.
     Broken(Diagnostics),

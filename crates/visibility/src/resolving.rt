@@ -6,11 +6,11 @@ use crate::finding::{Found, find};
 use crate::refusal::Refusal;
 use crate::selves::tell_selves;
 use crate::surplus::tell_surplus;
-use chill_base::{Diagnostics, List};
+use chill_base::List;
 use chill_tree::tree::Tree;
+use diagnostics::{Diagnostics, list_once, same_list_law};
 use names_model::Names;
 use reach_walk::Findings;
-use rule_lists::{list_once, same_list_law};
 use std::alloc::Global;
 
 /// What the names of a program stand for, or the rules N1 to N6 and L3 that it breaks.

@@ -10,7 +10,8 @@ ghost use Rattle.reach_tables.specs.Books.{Keeps};
 ghost use Rattle.visibility.specs.Tested.{Tests};
 
 use crate::locations::{among_locations, location_lists};
-use chill_base::{Diagnostic, Memory, Numbers, Rule};
+use chill_base::{Memory, Numbers};
+use diagnostics::{Diagnostic, Rule};
 use group_dependence::{TargetGroup, selves};
 use names_model::{Definition, Kind};
 use reach_entries::push_told;

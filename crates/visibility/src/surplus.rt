@@ -4,7 +4,8 @@ ghost use Rattle.names_model.specs.declared.definition.Definition.{Definition};
 ghost use Rattle.names_model.specs.NameRules.{told_surplus};
 ghost use Rattle.reach_tables.specs.Books.{Keeps};
 
-use chill_base::{Diagnostic, Memory, Rule, Text};
+use chill_base::{Memory, Text};
+use diagnostics::{Diagnostic, Rule};
 use reach_tables::Book;
 use std::alloc::Global;
 

@@ -5,11 +5,11 @@ use Rattle.std.specs.List.{flat_map}
 use Rattle.std.proofs.lemmas.Grind.{common_steps}
 use Rattle.std.proofs.lemmas.List.Elements.{All-nil, All-cons, All-head, All-tail}
 use Rattle.std.proofs.lemmas.List.Folds.{flat_map-map}
-use Rattle.chill_base.specs.declared.value.Value.{Value, fold-Value, fold-roll-Value}
-use Rattle.chill_base.specs.declared.value.Value.TheOpen as layer
-use Rattle.chill_base.specs.declared.value.Value.TheVariants as made
-use Rattle.chill_base.specs.Value.{scalars_of, powersets_in, powersets_of, numbers_from, number_of, count_of_numbers}
-use Rattle.chill_base.proofs.Layers.{scalars_of-Number, scalars_of-Members, scalars_of-Parts}
+use Rattle.kernel_base.specs.declared.value.Value.{Value, fold-Value, fold-roll-Value}
+use Rattle.kernel_base.specs.declared.value.Value.TheOpen as layer
+use Rattle.kernel_base.specs.declared.value.Value.TheVariants as made
+use Rattle.kernel_base.specs.Value.{scalars_of, powersets_in, powersets_of, numbers_from, number_of, count_of_numbers}
+use Rattle.kernel_base.proofs.Layers.{scalars_of-Number, scalars_of-Members, scalars_of-Parts}
 use Rattle.world_check.specs.Opening.{HasFewMembers, HasFewMembersEach}
 
 powersets_of-Members : (size : ℕ) (offsets : List ℕ) → powersets_of (made.Members size offsets) ≡ (size, offsets) ∷ []

@@ -4,10 +4,10 @@ use Rattle.std.specs.Prelude.{All}
 use Rattle.std.specs.List.Sorted.{IsStrictlyIncreasing}
 use Rattle.std.proofs.lemmas.List.Elements.{All-nil, All-cons, All-head, All-tail, All-get_or, All-from_get_or}
 use Rattle.std.proofs.lemmas.Option.{slice_get-get_or}
-use Rattle.chill_base.specs.declared.facts.Bits.{Bits}
-use Rattle.chill_base.specs.declared.value.Value.TheVariants as made
-use Rattle.chill_base.specs.Value.{powersets_of}
-use Rattle.chill_base.specs.Facts.{IsPowerset, IsLaidOut}
+use Rattle.chill_base.specs.declared.layout.Bits.{Bits}
+use Rattle.kernel_base.specs.declared.value.Value.TheVariants as made
+use Rattle.kernel_base.specs.Value.{powersets_of}
+use Rattle.kernel_base.specs.Facts.{IsPowerset, IsLaidOut}
 use Rattle.world_check.specs.Opening.{HasFewMembers, HasFewMembersEach, SoundFactsLaw}
 
 -- the number at place k of numbers that rise is at least k

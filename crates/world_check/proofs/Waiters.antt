@@ -3,10 +3,10 @@ use Rattle.std.proofs.Common.{◌≡◌, ℕ, zero, suc, ◌≤◌, ◌<◌, Lis
 use Rattle.std.specs.Prelude.{IsTrue, ◌↔◌, slice_get, if◌then◌else◌, Bool, true, false}
 use Rattle.std.specs.Option.{option_and_then}
 use Rattle.std.proofs.lemmas.Bool.{cases_lt}
-use Rattle.chill_base.specs.declared.facts.Facts.{Facts}
+use Rattle.kernel_base.specs.declared.facts.Facts.{Facts}
 use Rattle.world_model.specs.declared.world.World.{World}
 use Rattle.world_model.specs.declared.waiting.Waiter.{Waiter}
-use Rattle.chill_base.specs.declared.ends.Exc.TheVariants.{Extinct}
+use Rattle.kernel_base.specs.declared.ends.Exc.TheVariants.{Extinct}
 use Rattle.world_model.specs.World.{refusal}
 use Rattle.world_model.specs.Waiting.{is_live, sleeper, sleeper_in, buffer_receiver, buffer_receiver_in, signal_receiver, signal_receiver_in, may_receive, offer, offer_in}
 

@@ -1,9 +1,9 @@
 -- Values whose scalars are numbers of 64 bits, and that those of sound facts are such.
 use Rattle.std.specs.Prelude.{ℕ, ◌≤◌, List, length, All}
-use Rattle.chill_base.specs.declared.facts.Facts.{Facts}
-use Rattle.chill_base.specs.declared.value.Value.{Value}
-use Rattle.chill_base.specs.Value.{powersets_of}
-use Rattle.chill_base.specs.Facts.{IsSound}
+use Rattle.kernel_base.specs.declared.facts.Facts.{Facts}
+use Rattle.kernel_base.specs.declared.value.Value.{Value}
+use Rattle.kernel_base.specs.Value.{powersets_of}
+use Rattle.kernel_base.specs.Facts.{IsSound}
 
 -- no more members than the member mode has values
 abbrev pub HasFewMembers : ℕ × List ℕ → Type 0

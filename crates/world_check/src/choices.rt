@@ -6,7 +6,7 @@ ghost use Rattle.world_model.specs.World as worlds;
 ghost use Rattle.world_model.specs.Allowed as events;
 
 use crate::requests::{fails_with, refusal};
-use chill_base::{Answer, Facts};
+use kernel_base::{Answer, Facts};
 use world_model::{Waiter, World, buffer_receiver, number_at, signal_receiver, sleeper};
 
 fn is_there(found: Option<Waiter>) -> bool

@@ -1,9 +1,10 @@
 // The flat scalars of a value (Z.200, chapter on modes).
 ghost use Rattle.std.specs.Prelude.{◌≡◌, ◌^◌, ◌<◌, ◌≤◌, ◌/◌, ◌%◌, ◌==◌, ◌↔◌, if◌then◌else◌, pos, length, IfOk, IsTrue};
-ghost use Rattle.chill_base.specs.Value as values;
+ghost use Rattle.kernel_base.specs.Value as values;
 ghost use Rattle.world_check.specs.Opening.{HasFewMembersEach};
 
-use chill_base::{List, Memory, Scalars, Value};
+use chill_base::{List, Memory, Scalars};
+use kernel_base::Value;
 use std::alloc::Global;
 
 // The part of number j that a member tells.

@@ -4,7 +4,8 @@ ghost use Rattle.world_model.specs.Waiting as waiting;
 ghost use Rattle.world_model.specs.Allowed as events;
 
 use crate::requests::is_free;
-use chill_base::{Answer, Facts, Item, Request, fits};
+use chill_base::Item;
+use kernel_base::{Answer, Facts, Request, fits};
 use world_model::{Phase, World};
 
 /// Whether an instance is active.

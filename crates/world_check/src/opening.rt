@@ -1,11 +1,12 @@
 // The world in which a run begins.
 ghost use Rattle.std.specs.Prelude.{◌≡◌, ◌↔◌, IfOk, IsTrue, All, map, replicate, None, []};
-ghost use Rattle.chill_base.specs.Value as values;
+ghost use Rattle.kernel_base.specs.Value as values;
 ghost use Rattle.world_model.specs.World as worlds;
 ghost use Rattle.world_check.specs.Opening.{HasFewMembersEach};
 
 use crate::flat::{has_few_members, scalars_of};
-use chill_base::{Facts, How, Item, List, Memory, Scalars, Value};
+use chill_base::{Item, List, Memory, Scalars};
+use kernel_base::{Facts, How, Value};
 use std::alloc::Global;
 use world_model::{Phase, World};
 

@@ -4,7 +4,7 @@ ghost use Rattle.world_model.specs.Allowed as events;
 ghost use Rattle.world_check.specs.Pending as pending;
 
 use crate::requests::are_equal;
-use chill_base::{Alternative, Answer, Facts};
+use kernel_base::{Alternative, Answer, Facts};
 use world_model::{PendingSignal, StoredValue, World, may_receive, number_for};
 
 // The alternative through which an instance may receive a pending signal.

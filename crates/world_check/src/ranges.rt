@@ -2,7 +2,7 @@
 ghost use Rattle.world_model.specs.Ranges.{IsNumber, AreScalars, AreAlternatives, IsPlaceInRange, IsExcInRange, IsHowInRange, IsRequestInRange, IsAnswerInRange, IsInRange};
 ghost use Rattle.std.specs.Prelude.{◌<◌, ◌↔◌, IsTrue, IfSome, All};
 
-use chill_base::{Alternative, Answer, Event, Exc, How, Place, Request};
+use kernel_base::{Alternative, Answer, Event, Exc, How, Place, Request};
 
 fn is_number(number: u32) -> bool
     ensures { IsTrue result ↔ IsNumber number }

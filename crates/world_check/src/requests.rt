@@ -1,13 +1,14 @@
 // The answers to requests that leave no choice.
 ghost use Rattle.std.specs.Prelude.{◌≡◌, ◌⊎◌, ◌↔◌, IsTrue, IsFalse, slice_index_or, take, drop, [], Some};
 ghost use Rattle.std.specs.List.{count_by};
-ghost use Rattle.chill_base.specs.declared.answer.Answer.TheVariants as answers;
+ghost use Rattle.kernel_base.specs.declared.answer.Answer.TheVariants as answers;
 ghost use Rattle.world_model.specs.Lists.{scalars_at};
 ghost use Rattle.world_model.specs.Waiting as waiting;
 ghost use Rattle.world_model.specs.World as worlds;
 ghost use Rattle.world_model.specs.Allowed as events;
 
-use chill_base::{Alternative, Answer, Exc, Facts, Item, Place};
+use chill_base::Item;
+use kernel_base::{Alternative, Answer, Exc, Facts, Place};
 use world_model::{Phase, World, number_at, sleeper_in};
 
 fn front(scalars: &[i64], count: usize) -> &[i64]

@@ -1,11 +1,11 @@
 -- What was chosen by priority had the highest.
 use Rattle.std.proofs.Common.{◌≡◌, ℕ, zero, suc, List, ℤ, refl, ap, Option, Some, None}
-use Rattle.chill_base.specs.declared.facts.Facts.{Facts}
-use Rattle.chill_base.specs.declared.request.Alternative.{Alternative}
-use Rattle.chill_base.specs.declared.request.Request.TheVariants.{Continue, ReceiveBuffer, ReceiveSignal}
-use Rattle.chill_base.specs.declared.answer.Answer.TheVariants.{Got, Chose}
-use Rattle.chill_base.specs.declared.event.Event.{Event}
-use Rattle.chill_base.specs.declared.event.Event.TheVariants.{Did}
+use Rattle.kernel_base.specs.declared.facts.Facts.{Facts}
+use Rattle.kernel_base.specs.declared.request.Alternative.{Alternative}
+use Rattle.kernel_base.specs.declared.request.Request.TheVariants.{Continue, ReceiveBuffer, ReceiveSignal}
+use Rattle.kernel_base.specs.declared.answer.Answer.TheVariants.{Got, Chose}
+use Rattle.kernel_base.specs.declared.event.Event.{Event}
+use Rattle.kernel_base.specs.declared.event.Event.TheVariants.{Did}
 use Rattle.world_model.specs.declared.world.StoredValue.{StoredValue}
 use Rattle.world_model.specs.declared.world.World.{World}
 use Rattle.world_model.specs.World.{world_of, buffer_length}

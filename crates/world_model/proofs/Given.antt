@@ -6,18 +6,18 @@ use Rattle.std.specs.List.{take_while}
 use Rattle.std.proofs.lemmas.Bool.{cases_Bool, eqb-true}
 use Rattle.std.proofs.lemmas.Option.{slice_get_within}
 use Rattle.std.proofs.lemmas.Int.{ints}
-use Rattle.chill_base.specs.declared.facts.Facts.{Facts}
-use Rattle.chill_base.specs.declared.facts.Bits.{Bits}
-use Rattle.chill_base.specs.declared.ends.Exc.TheVariants.{Spacefail, Extinct}
-use Rattle.chill_base.specs.declared.ends.How.TheVariants.{Normal}
-use Rattle.chill_base.specs.declared.request.Alternative.{Alternative}
-use Rattle.chill_base.specs.declared.request.Place.{Place}
-use Rattle.chill_base.specs.declared.request.Request.{Request}
-use Rattle.chill_base.specs.declared.request.Request.TheVariants.{Read, Write, Enter, Leave, Delay, Continue, SendBuffer, ReceiveBuffer, SendSignal, ReceiveSignal, Start, Put, Get, End}
-use Rattle.chill_base.specs.declared.answer.Answer.{Answer}
-use Rattle.chill_base.specs.declared.answer.Answer.TheVariants.{Got, Otherwise, Instance, Fail, Chose, Handed, Stored}
-use Rattle.chill_base.specs.declared.event.Event.TheVariants.{Did}
-use Rattle.chill_base.specs.Facts.{LiesInLocation}
+use Rattle.kernel_base.specs.declared.facts.Facts.{Facts}
+use Rattle.chill_base.specs.declared.layout.Bits.{Bits}
+use Rattle.kernel_base.specs.declared.ends.Exc.TheVariants.{Spacefail, Extinct}
+use Rattle.kernel_base.specs.declared.ends.How.TheVariants.{Normal}
+use Rattle.kernel_base.specs.declared.request.Alternative.{Alternative}
+use Rattle.kernel_base.specs.declared.request.Place.{Place}
+use Rattle.kernel_base.specs.declared.request.Request.{Request}
+use Rattle.kernel_base.specs.declared.request.Request.TheVariants.{Read, Write, Enter, Leave, Delay, Continue, SendBuffer, ReceiveBuffer, SendSignal, ReceiveSignal, Start, Put, Get, End}
+use Rattle.kernel_base.specs.declared.answer.Answer.{Answer}
+use Rattle.kernel_base.specs.declared.answer.Answer.TheVariants.{Got, Otherwise, Instance, Fail, Chose, Handed, Stored}
+use Rattle.kernel_base.specs.declared.event.Event.TheVariants.{Did}
+use Rattle.kernel_base.specs.Facts.{LiesInLocation}
 use Rattle.world_model.specs.declared.world.Phase.{Phase}
 use Rattle.world_model.specs.declared.world.Phase.TheVariants.{Ended}
 use Rattle.world_model.specs.declared.world.StoredValue.{StoredValue}

@@ -1,7 +1,7 @@
 -- Parts of a run.
 use Rattle.std.proofs.Common.{List, [], ◌∷◌, ◌++◌}
-use Rattle.chill_base.specs.declared.facts.Facts.{Facts}
-use Rattle.chill_base.specs.declared.event.Event.{Event}
+use Rattle.kernel_base.specs.declared.facts.Facts.{Facts}
+use Rattle.kernel_base.specs.declared.event.Event.{Event}
 use Rattle.world_model.specs.declared.world.World.{World}
 use Rattle.world_model.specs.World.{opening, after, after_all}
 use Rattle.world_model.specs.Allowed.{IsAllowed, IsRunFrom, IsRun}

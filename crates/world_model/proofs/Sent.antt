@@ -3,14 +3,14 @@ use Rattle.std.proofs.Common.{◌≡◌, ◌+◌, ℕ, zero, suc, Bool, not, Lis
 use Rattle.std.specs.Prelude.{◌==◌, slice_index_or}
 use Rattle.std.specs.Option.{option_and_then}
 use Rattle.std.proofs.lemmas.Bool.{cases_eq}
-use Rattle.chill_base.specs.declared.facts.Facts.{Facts}
-use Rattle.chill_base.specs.declared.ends.How.TheVariants.{Normal}
-use Rattle.chill_base.specs.declared.request.Request.{Request}
-use Rattle.chill_base.specs.declared.request.Request.TheVariants.{Read, Write, Enter, Leave, Delay, Continue, SendBuffer, ReceiveBuffer, SendSignal, ReceiveSignal, Start, Put, Get, End}
-use Rattle.chill_base.specs.declared.answer.Answer.{Answer}
-use Rattle.chill_base.specs.declared.answer.Answer.TheVariants.{Done, Woken, Got, Otherwise, Instance, Fail, Chose, Handed, Stored}
-use Rattle.chill_base.specs.declared.event.Event.{Event}
-use Rattle.chill_base.specs.declared.event.Event.TheVariants.{Did, Waits, Goes, Runs}
+use Rattle.kernel_base.specs.declared.facts.Facts.{Facts}
+use Rattle.kernel_base.specs.declared.ends.How.TheVariants.{Normal}
+use Rattle.kernel_base.specs.declared.request.Request.{Request}
+use Rattle.kernel_base.specs.declared.request.Request.TheVariants.{Read, Write, Enter, Leave, Delay, Continue, SendBuffer, ReceiveBuffer, SendSignal, ReceiveSignal, Start, Put, Get, End}
+use Rattle.kernel_base.specs.declared.answer.Answer.{Answer}
+use Rattle.kernel_base.specs.declared.answer.Answer.TheVariants.{Done, Woken, Got, Otherwise, Instance, Fail, Chose, Handed, Stored}
+use Rattle.kernel_base.specs.declared.event.Event.{Event}
+use Rattle.kernel_base.specs.declared.event.Event.TheVariants.{Did, Waits, Goes, Runs}
 use Rattle.world_model.specs.declared.world.Phase.{Phase}
 use Rattle.world_model.specs.declared.world.Phase.TheVariants.{Active, Waiting, Chosen, Ended}
 use Rattle.world_model.specs.declared.world.StoredValue.{StoredValue}
@@ -29,7 +29,7 @@ use Rattle.world_model.proofs.Freeing.{freeing_kept, back_kept}
 use Rattle.world_model.proofs.Stores.{KeepsStores, in_filter, read_mapped, entered_stores, left_stores}
 use Rattle.world_model.proofs.Moves.{entered_phases, left_phases}
 use Rattle.world_model.proofs.Well.{freeing_stores, back_stores}
-use Rattle.chill_base.specs.declared.ends.Exc.TheVariants.{Delayfail}
+use Rattle.kernel_base.specs.declared.ends.Exc.TheVariants.{Delayfail}
 use Rattle.std.proofs.Common.{append-nil}
 use Rattle.world_model.specs.World.{refusal}
 use Rattle.world_model.specs.Input.{get_answer, behind_separators}

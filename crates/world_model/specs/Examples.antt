@@ -1,13 +1,13 @@
 -- Two journals by hand, and the worlds and ends that they come to.
 use Rattle.std.specs.Prelude.{◌≡◌, false, List, [], ◌∷◌, pos, Some, None}
-use Rattle.chill_base.specs.declared.facts.Facts.{Facts}
-use Rattle.chill_base.specs.declared.ends.How.TheVariants.{Normal}
-use Rattle.chill_base.specs.declared.ends.Over.TheVariants.{AllEnded, Still}
-use Rattle.chill_base.specs.declared.request.Request.TheVariants.{SendBuffer, ReceiveBuffer, Start, End, Continue, Delay}
-use Rattle.chill_base.specs.declared.request.Alternative.{Alternative}
-use Rattle.chill_base.specs.declared.answer.Answer.TheVariants.{Done, Got, Instance, Stored, Chose}
-use Rattle.chill_base.specs.declared.event.Event.{Event}
-use Rattle.chill_base.specs.declared.event.Event.TheVariants.{Did, Waits, Goes}
+use Rattle.kernel_base.specs.declared.facts.Facts.{Facts}
+use Rattle.kernel_base.specs.declared.ends.How.TheVariants.{Normal}
+use Rattle.kernel_base.specs.declared.ends.Over.TheVariants.{AllEnded, Still}
+use Rattle.kernel_base.specs.declared.request.Request.TheVariants.{SendBuffer, ReceiveBuffer, Start, End, Continue, Delay}
+use Rattle.kernel_base.specs.declared.request.Alternative.{Alternative}
+use Rattle.kernel_base.specs.declared.answer.Answer.TheVariants.{Done, Got, Instance, Stored, Chose}
+use Rattle.kernel_base.specs.declared.event.Event.{Event}
+use Rattle.kernel_base.specs.declared.event.Event.TheVariants.{Did, Waits, Goes}
 use Rattle.world_model.specs.World.{world_of}
 use Rattle.world_model.specs.Over.{over_of}
 use Rattle.world_model.specs.Journal.{answers_of}

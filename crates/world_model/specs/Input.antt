@@ -3,9 +3,9 @@ use Rattle.std.specs.Prelude.{ℕ, ◌+◌, ◌-◌, ◌*◌, ◌==◌, nat_le, 
 use Rattle.std.specs.List.{list_all, take_while, prefix_len}
 use Rattle.std.specs.Option.{option_map}
 use Rattle.std.specs.declared.option.Option.{Option}
-use Rattle.chill_base.specs.declared.answer.Answer.{Answer}
-use Rattle.chill_base.specs.declared.answer.Answer.TheVariants.{Value, Fail}
-use Rattle.chill_base.specs.declared.ends.Exc.TheVariants.{Rangefail, Empty}
+use Rattle.kernel_base.specs.declared.answer.Answer.{Answer}
+use Rattle.kernel_base.specs.declared.answer.Answer.TheVariants.{Value, Fail}
+use Rattle.kernel_base.specs.declared.ends.Exc.TheVariants.{Rangefail, Empty}
 
 -- a blank, a tab, a line feed or a carriage return
 abbrev pub is_separator : ℕ → Bool

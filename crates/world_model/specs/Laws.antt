@@ -1,14 +1,14 @@
 -- The laws of a journal.
 use Rattle.std.specs.Prelude.{◌≡◌, ◌+◌, ◌≢◌, ◌⊎◌, ℕ, suc, ◌≤◌, List, [], ◌∷◌, ◌++◌, ℤ, Some, None, IsSome, slice_get}
 use Rattle.std.specs.declared.option.Option.{Option}
-use Rattle.chill_base.specs.declared.facts.Facts.{Facts}
-use Rattle.chill_base.specs.declared.request.Alternative.{Alternative}
-use Rattle.chill_base.specs.declared.request.Request.{Request}
-use Rattle.chill_base.specs.declared.request.Request.TheVariants.{Enter, Continue, SendBuffer, ReceiveBuffer, SendSignal, ReceiveSignal}
-use Rattle.chill_base.specs.declared.answer.Answer.{Answer}
-use Rattle.chill_base.specs.declared.answer.Answer.TheVariants.{Got, Handed, Stored, Chose}
-use Rattle.chill_base.specs.declared.event.Event.{Event}
-use Rattle.chill_base.specs.declared.event.Event.TheVariants.{Did, Waits, Goes, Runs}
+use Rattle.kernel_base.specs.declared.facts.Facts.{Facts}
+use Rattle.kernel_base.specs.declared.request.Alternative.{Alternative}
+use Rattle.kernel_base.specs.declared.request.Request.{Request}
+use Rattle.kernel_base.specs.declared.request.Request.TheVariants.{Enter, Continue, SendBuffer, ReceiveBuffer, SendSignal, ReceiveSignal}
+use Rattle.kernel_base.specs.declared.answer.Answer.{Answer}
+use Rattle.kernel_base.specs.declared.answer.Answer.TheVariants.{Got, Handed, Stored, Chose}
+use Rattle.kernel_base.specs.declared.event.Event.{Event}
+use Rattle.kernel_base.specs.declared.event.Event.TheVariants.{Did, Waits, Goes, Runs}
 use Rattle.world_model.specs.declared.world.World.{World}
 use Rattle.world_model.specs.declared.world.StoredValue.{StoredValue}
 use Rattle.world_model.specs.declared.world.PendingSignal.{PendingSignal}
@@ -19,7 +19,7 @@ use Rattle.world_model.specs.Allowed.{IsRun, IsAllowed, MayGo, Occupies, IsHighe
 use Rattle.world_model.specs.Over.{over_of}
 use Rattle.world_model.specs.Gives.{Gives}
 use Rattle.world_model.specs.Journal.{answers_of, requests_of}
-use Rattle.chill_base.specs.Facts.{IsSound}
+use Rattle.kernel_base.specs.Facts.{IsSound}
 
 -- Of a journal that is allowed each prefix is one, and each event is allowed in the world that those before it leave.
 pub record PrefixLaw : Type 0 where

@@ -2,12 +2,12 @@
 use Rattle.std.specs.Prelude.{◌≡◌, ℕ, nat_le, Bool, true, false, List, ◌∷◌, ◌++◌, slice_index_or, if◌then◌else◌, Some, None, IsSome, is_none}
 use Rattle.std.specs.List.{list_all}
 use Rattle.std.specs.declared.option.Option.{Option}
-use Rattle.chill_base.specs.declared.ends.Over.{Over}
-use Rattle.chill_base.specs.declared.ends.Over.TheVariants.{AllEnded, Still, Spent}
-use Rattle.chill_base.specs.declared.facts.Facts.{Facts}
-use Rattle.chill_base.specs.declared.event.Event.{Event}
-use Rattle.chill_base.specs.declared.event.Event.TheVariants.{Goes}
-use Rattle.chill_base.specs.Units.{units_of_all}
+use Rattle.kernel_base.specs.declared.ends.Over.{Over}
+use Rattle.kernel_base.specs.declared.ends.Over.TheVariants.{AllEnded, Still, Spent}
+use Rattle.kernel_base.specs.declared.facts.Facts.{Facts}
+use Rattle.kernel_base.specs.declared.event.Event.{Event}
+use Rattle.kernel_base.specs.declared.event.Event.TheVariants.{Goes}
+use Rattle.kernel_base.specs.Units.{units_of_all}
 use Rattle.world_model.specs.declared.world.Phase.{Phase}
 use Rattle.world_model.specs.declared.world.Phase.TheVariants.{Active, Waiting, Chosen, Ended}
 use Rattle.world_model.specs.declared.world.World.{World}

@@ -1,7 +1,7 @@
 -- What a process has done so far, and what it may still do. The meaning of a text and that of a code are told in these words.
 use Rattle.std.specs.Prelude.{ℕ, zero, suc, List, [], ◌∷◌, ◌++◌}
-use Rattle.chill_base.specs.declared.request.Request.{Request}
-use Rattle.chill_base.specs.declared.answer.Answer.{Answer}
+use Rattle.kernel_base.specs.declared.request.Request.{Request}
+use Rattle.kernel_base.specs.declared.answer.Answer.{Answer}
 
 -- an item of a trace
 pub data Item : Type 0 where

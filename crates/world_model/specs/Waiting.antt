@@ -3,9 +3,9 @@ use Rattle.std.specs.Prelude.{◌≡◌, ℕ, ◌==◌, nat_le, Bool, true, fals
 use Rattle.std.specs.Option.{option_map, option_and_then}
 use Rattle.std.specs.List.{count_by, list_any}
 use Rattle.std.specs.declared.option.Option.{Option}
-use Rattle.chill_base.specs.declared.facts.Facts.{Facts}
-use Rattle.chill_base.specs.declared.request.Alternative.{Alternative}
-use Rattle.chill_base.specs.declared.request.Request.TheVariants.{Delay, SendBuffer, ReceiveBuffer, ReceiveSignal}
+use Rattle.kernel_base.specs.declared.facts.Facts.{Facts}
+use Rattle.kernel_base.specs.declared.request.Alternative.{Alternative}
+use Rattle.kernel_base.specs.declared.request.Request.TheVariants.{Delay, SendBuffer, ReceiveBuffer, ReceiveSignal}
 use Rattle.world_model.specs.declared.world.Phase.{Phase}
 use Rattle.world_model.specs.declared.world.Phase.TheVariants.{Active, Waiting, Ended}
 use Rattle.world_model.specs.declared.waiting.Waiter.{Waiter}

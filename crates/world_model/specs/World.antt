@@ -2,19 +2,19 @@
 use Rattle.std.specs.Prelude.{ℕ, zero, suc, ◌+◌, ◌==◌, List, [], ◌∷◌, ◌++◌, ℤ, length, map, not, replicate, slice_set, slice_index_or, if◌then◌else◌, Some, None}
 use Rattle.std.specs.List.{filter}
 use Rattle.std.specs.declared.option.Option.{Option}
-use Rattle.chill_base.specs.declared.ends.How.{How}
-use Rattle.chill_base.specs.declared.ends.How.TheVariants.{Normal}
-use Rattle.chill_base.specs.declared.ends.Exc.{Exc}
-use Rattle.chill_base.specs.declared.ends.Exc.TheVariants.{Empty, Extinct}
-use Rattle.chill_base.specs.declared.facts.Facts.{Facts}
-use Rattle.chill_base.specs.declared.request.Place.{Place}
-use Rattle.chill_base.specs.declared.request.Request.{Request}
-use Rattle.chill_base.specs.declared.request.Request.TheVariants.{Read, Write, Enter, Leave, Delay, Continue, SendBuffer, ReceiveBuffer, SendSignal, ReceiveSignal, Start, Put, Get, End}
-use Rattle.chill_base.specs.declared.answer.Answer.{Answer}
-use Rattle.chill_base.specs.declared.answer.Answer.TheVariants.{Done, Woken, Got, Instance, Chose, Handed, Stored}
-use Rattle.chill_base.specs.declared.event.Event.{Event}
-use Rattle.chill_base.specs.declared.event.Event.TheVariants.{Did, Waits, Goes, Runs}
-use Rattle.chill_base.specs.Value.{scalars_of}
+use Rattle.kernel_base.specs.declared.ends.How.{How}
+use Rattle.kernel_base.specs.declared.ends.How.TheVariants.{Normal}
+use Rattle.kernel_base.specs.declared.ends.Exc.{Exc}
+use Rattle.kernel_base.specs.declared.ends.Exc.TheVariants.{Empty, Extinct}
+use Rattle.kernel_base.specs.declared.facts.Facts.{Facts}
+use Rattle.kernel_base.specs.declared.request.Place.{Place}
+use Rattle.kernel_base.specs.declared.request.Request.{Request}
+use Rattle.kernel_base.specs.declared.request.Request.TheVariants.{Read, Write, Enter, Leave, Delay, Continue, SendBuffer, ReceiveBuffer, SendSignal, ReceiveSignal, Start, Put, Get, End}
+use Rattle.kernel_base.specs.declared.answer.Answer.{Answer}
+use Rattle.kernel_base.specs.declared.answer.Answer.TheVariants.{Done, Woken, Got, Instance, Chose, Handed, Stored}
+use Rattle.kernel_base.specs.declared.event.Event.{Event}
+use Rattle.kernel_base.specs.declared.event.Event.TheVariants.{Did, Waits, Goes, Runs}
+use Rattle.kernel_base.specs.Value.{scalars_of}
 use Rattle.world_model.specs.declared.world.Phase.{Phase}
 use Rattle.world_model.specs.declared.world.Phase.TheVariants.{Active, Waiting, Chosen, Ended}
 use Rattle.world_model.specs.declared.world.StoredValue.{StoredValue}

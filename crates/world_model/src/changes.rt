@@ -4,13 +4,14 @@ ghost use Rattle.world_model.specs.World as worlds;
 ghost use Rattle.world_model.specs.World.{with_phase, locked, freed, ended, entered, left, freed_last, locked_back, occupant, held_by, other_occupant, chosen, with_stored, values_but, signals_but};
 ghost use Rattle.world_model.specs.Lists.{without, last_of};
 ghost use Rattle.world_model.specs.Waiting as waiting;
-ghost use Rattle.chill_base.specs.declared.answer.Answer.{Answer};
-ghost use Rattle.chill_base.specs.declared.answer.Answer.TheVariants.{Woken, Got};
+ghost use Rattle.kernel_base.specs.declared.answer.Answer.{Answer};
+ghost use Rattle.kernel_base.specs.declared.answer.Answer.TheVariants.{Woken, Got};
 ghost use Rattle.world_model.specs.declared.world.Phase.TheVariants.{Active};
 
 use crate::waiting::{buffer_receiver, signal_receiver, sleeper};
 use crate::{PendingSignal, Phase, StoredValue, Waiter, World};
-use chill_base::{Answer, Facts, How, Item, List, Memory, Scalars, Text};
+use chill_base::{Item, List, Memory, Scalars, Text};
+use kernel_base::{Answer, Facts, How};
 use std::mem;
 
 /// Sets the phase of an instance that was made.

@@ -13,7 +13,8 @@ use crate::changes::{
 use crate::input::take_input;
 use crate::waiting::offer_of;
 use crate::{Offer, PendingSignal, Phase, StoredValue, World};
-use chill_base::{Answer, Event, Facts, Item, List, Memory, Place, Request, Scalars};
+use chill_base::{Item, List, Memory, Scalars};
+use kernel_base::{Answer, Event, Facts, Place, Request};
 use std::alloc::Global;
 
 fn after_continue(world: &mut World, who: u32, event: u32, answer: &Answer)

@@ -4,10 +4,11 @@ ghost use Rattle.world_model.specs.Lists as lists;
 ghost use Rattle.world_model.specs.Waiting as waiting;
 
 use crate::{Phase, StoredValue, World};
-use chill_base::{Alternative, Facts, Item, Memory, Request};
+use chill_base::{Item, Memory};
+use kernel_base::{Alternative, Facts, Request};
 
 /// One that waits: the alternative through which it would be chosen, its priority, and the region to lock again.
-#[derive(Clone, Copy, Debug)]
+#[derive(Clone, Copy)]
 pub struct Waiter {
     pub alternative: u32,
     pub priority: u32,
@@ -15,7 +16,7 @@ pub struct Waiter {
 }
 
 /// A value whose sender waits: the buffer, the value, and the region to lock again.
-#[derive(Debug, Drop)]
+#[derive(Drop)]
 pub struct Offer {
     pub buffer: u32,
     pub value: StoredValue,

@@ -1,8 +1,9 @@
 // What a run has come to (Z.200, chapter on concurrent execution).
-use chill_base::{Answer, How, List, Numbers, Request, Scalars, Text};
+use chill_base::{List, Numbers, Scalars, Text};
+use kernel_base::{Answer, How, Request};
 
 /// How far an instance has come.
-#[derive(Debug, Drop)]
+#[derive(Drop)]
 pub enum Phase {
     /// It may ask.
     Active,
@@ -25,7 +26,7 @@ pub enum Phase {
 }
 
 /// A value that was sent and not yet received.
-#[derive(Debug, Drop)]
+#[derive(Drop)]
 pub struct StoredValue {
     pub send: u32,
     pub sender: u32,
@@ -34,7 +35,7 @@ pub struct StoredValue {
 }
 
 /// A signal that was sent and not yet received.
-#[derive(Debug, Drop)]
+#[derive(Drop)]
 pub struct PendingSignal {
     pub signal: u32,
     /// The one instance that may receive it, if it was sent to one.
@@ -43,7 +44,7 @@ pub struct PendingSignal {
 }
 
 /// The world of all processes. Lists by instance have an item for instance 0, which is none and has ended.
-#[derive(Debug, Drop)]
+#[derive(Drop)]
 pub struct World {
     /// The process of each instance, and its arguments.
     pub processes: Numbers,

@@ -1,9 +1,9 @@
 // Which handler takes an exception, and how one leaves a body.
 use super::Turn::{Ends, Puts};
 use super::{Body, OUTERMOST, Range, Scene, Shape};
-use chill_base::Exc::{Overflow, User};
-use chill_base::How::{Normal, Raised};
 use code_types::Instr::{Call, Div, Finish, Push, PutInt, Raise, Return};
+use kernel_base::Exc::{Overflow, User};
+use kernel_base::How::{Normal, Raised};
 
 const ONE: &[Body] = &[OUTERMOST];
 

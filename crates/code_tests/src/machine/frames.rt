@@ -2,12 +2,12 @@
 use super::Given::Done;
 use super::Turn::{Asks, Ends, Pauses, Puts, Takes};
 use super::{Asked, Body, OUTERMOST, Scene, Shape};
-use chill_base::Exc::Spacefail;
-use chill_base::How::{Normal, Raised};
 use code_types::Instr;
 use code_types::Instr::{
     Again, Call, Enter, Finish, Leave, Local, Push, PutInt, PutLine, Return, SetLocal, Sub, Unless,
 };
+use kernel_base::Exc::Spacefail;
+use kernel_base::How::{Normal, Raised};
 
 /// Its second body has two parameters, and puts its four locals.
 pub const TAKES_TWO: Shape = Shape(

@@ -1,12 +1,12 @@
 // The exception that each instruction can raise by itself.
 use super::Row;
 use super::Row::Raises;
-use chill_base::Exc::{
-    Assertfail, Delayfail, Empty, Extinct, Overflow, Rangefail, Spacefail, User,
-};
 use code_types::Instr::{
     Abs, Add, Check, Delay, Div, Finish, Hear, Index, Least, LocalAt, Mod, Most, Mul, Neg, PartAt,
     Pred, Push, PutText, Raise, Read, Rem, SetLocalAt, Signal, Sub, Succ, Take, Write,
+};
+use kernel_base::Exc::{
+    Assertfail, Delayfail, Empty, Extinct, Overflow, Rangefail, Spacefail, User,
 };
 
 pub const OVERFLOWS: &[Row] = &[

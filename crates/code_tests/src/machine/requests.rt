@@ -2,13 +2,13 @@
 use super::Given::{Chose, Done, Fail, Got, Handed, Instance, Otherwise, Stored, Value, Woken};
 use super::Turn::{Asks, Ends, Puts, Refuses, Takes};
 use super::{Asked, Body, OUTERMOST, Range, Scene, Shape};
-use chill_base::Exc::{Delayfail, Empty, Extinct, Overflow, Rangefail, Spacefail};
-use chill_base::How::{Normal, Raised, Stopped};
-use chill_base::{Alternative, Place};
 use code_types::Instr::{
     Continue, Delay, Enter, Finish, GetInt, Hear, Leave, Local, Pop, Push, PutInt, Read, Send,
     Signal, Start, Stop, Take, Write,
 };
+use kernel_base::Exc::{Delayfail, Empty, Extinct, Overflow, Rangefail, Spacefail};
+use kernel_base::How::{Normal, Raised, Stopped};
+use kernel_base::{Alternative, Place};
 
 const ONE: &[Body] = &[OUTERMOST];
 

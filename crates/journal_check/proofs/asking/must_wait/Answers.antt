@@ -1,7 +1,7 @@
 use Rattle.std.proofs.Common.{sym, subst, List}
 use Rattle.std.specs.Prelude.{◌↔◌, IsTrue, IsFalse}
-use Rattle.chill_base.specs.declared.request.Alternative.{Alternative}
-use Rattle.chill_base.specs.declared.request.Request.{Request}
+use Rattle.kernel_base.specs.declared.request.Alternative.{Alternative}
+use Rattle.kernel_base.specs.declared.request.Request.{Request}
 use Rattle.world_model.specs.Allowed.{MustWait, NoSignalPends}
 use Rattle.journal_check.proofs.asking.must_wait.Goals as goal
 

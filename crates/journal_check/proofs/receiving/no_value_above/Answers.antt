@@ -1,6 +1,6 @@
 use Rattle.std.proofs.Common.{arith, get_or}
 use Rattle.std.proofs.lemmas.Option.{slice_get-get_or}
-use Rattle.chill_base.specs.declared.request.Alternative.{Alternative}
+use Rattle.kernel_base.specs.declared.request.Alternative.{Alternative}
 use Rattle.world_check.proofs.Waiters.{refuted, granted}
 use Rattle.journal_check.specs.Receiving.{NoCandidateAbove}
 use Rattle.journal_check.proofs.Listed.{one_place_more, none_listed_above, none_above_at}

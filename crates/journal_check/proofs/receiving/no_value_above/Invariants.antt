@@ -1,6 +1,6 @@
 use Rattle.std.proofs.Common.{◌≡◌, ◌<◌, ℕ, Some}
 use Rattle.std.specs.Prelude.{slice_get}
-use Rattle.chill_base.specs.declared.request.Alternative.{Alternative}
+use Rattle.kernel_base.specs.declared.request.Alternative.{Alternative}
 use Rattle.journal_check.specs.Receiving.{NoCandidateAbove}
 use Rattle.journal_check.proofs.receiving.no_value_above.Given as goal
 

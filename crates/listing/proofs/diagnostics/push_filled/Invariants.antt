@@ -1,5 +1,5 @@
 use Rattle.std.proofs.Common.{◌≡◌, ◌++◌, length}
-use Rattle.chill_base.specs.Rules.{filled}
+use Rattle.diagnostics.specs.Rules.{filled}
 use Rattle.listing.proofs.diagnostics.push_filled.Given as goal
 
 -- the text so far goes on with what is left of the rule's text

@@ -2,7 +2,7 @@ use Rattle.std.proofs.Common.{◌≡◌, ◌+◌, ◌*◌, [], ◌∷◌, ◌++�
 use mir.Val.{SFits}
 use Rattle.std.proofs.lemmas.Int.{to_z-of_z}
 use Rattle.std.proofs.lemmas.List.{map-append}
-use Rattle.chill_base.specs.declared.request.Alternative.{Alternative}
+use Rattle.kernel_base.specs.declared.request.Alternative.{Alternative}
 use Rattle.machine_steps.specs.Views.{slot_of}
 use Rattle.machine_steps.proofs.OperandLists.{triple_more}
 use Rattle.machine_steps.proofs.operands.put_triples.Goals as goal

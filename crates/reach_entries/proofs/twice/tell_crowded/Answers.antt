@@ -1,6 +1,6 @@
 use Rattle.std.proofs.Common.{◌++◌, sym, subst}
 use Rattle.std.specs.Prelude.{flat_map}
-use Rattle.rule_lists.specs.Listing.{SameMembers}
+use Rattle.diagnostics.specs.Listing.{SameMembers}
 use Rattle.reach_tables.specs.Tellings.{told_of}
 use Rattle.reach_entries.proofs.Members.{same-append, same-refl}
 use Rattle.reach_entries.proofs.Repeating.{shared-same}

@@ -1,7 +1,7 @@
 use Rattle.std.proofs.Common.{◌≡◌, ◌++◌, ◌∷◌, [], ◌∙◌, Some, append-nil, ap, if◌then◌else◌, sym}
 use Rattle.std.specs.Prelude.{slice_get}
 use Rattle.std.specs.Str.{bytes_eq}
-use Rattle.chill_base.specs.declared.rule.Rule.TheVariants as rules
+use Rattle.diagnostics.specs.declared.rule.Rule.TheVariants as rules
 use Rattle.names_model.specs.Definitions.{spelling_at}
 use Rattle.names_model.specs.Entries.{numbers_of}
 use Rattle.names_model.specs.NameRules.{tell}

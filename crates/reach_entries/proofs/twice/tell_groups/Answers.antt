@@ -1,6 +1,6 @@
 use Rattle.std.proofs.Common.{◌++◌, [], append-nil, refl, sym, subst, take}
 use Rattle.std.specs.Prelude.{flat_map}
-use Rattle.rule_lists.specs.Listing.{SameMembers}
+use Rattle.diagnostics.specs.Listing.{SameMembers}
 use Rattle.names_model.specs.Entries.{numbers_of}
 use Rattle.names_model.specs.NameRules.{told_number}
 use Rattle.reach_tables.specs.Lends.{IsGroup, in_groups}

@@ -1,5 +1,5 @@
 use Rattle.std.proofs.Common.{◌++◌, ◌∷◌, [], ◌∙◌, append-nil, ap, if◌then◌else◌, sym}
-use Rattle.chill_base.specs.declared.rule.Rule.TheVariants as rules
+use Rattle.diagnostics.specs.declared.rule.Rule.TheVariants as rules
 use Rattle.names_model.specs.Entries.{numbers_of}
 use Rattle.names_model.specs.NameRules.{tell}
 use Rattle.reach_tables.specs.Held.{held}

@@ -1,6 +1,6 @@
 use Rattle.std.proofs.Common.{◌≡◌, ℕ, List, ◌++◌, drop}
 use Rattle.std.specs.Prelude.{flat_map}
-use Rattle.rule_lists.specs.Listing.{SameMembers}
+use Rattle.diagnostics.specs.Listing.{SameMembers}
 use Rattle.group_dependence.specs.Targets.{SameEdges, groups_with}
 use Rattle.names_model.specs.declared.definition.Definition.{Definition}
 use Rattle.names_model.specs.Seeing.{Reach}

@@ -1,6 +1,6 @@
 use Rattle.std.proofs.Common.{◌≡◌, List, [], ◌++◌, subst, sym}
-use Rattle.chill_base.specs.declared.diagnostic.Diagnostic.{Diagnostic}
-use Rattle.rule_lists.specs.Listing.{SameMembers}
+use Rattle.diagnostics.specs.declared.diagnostic.Diagnostic.{Diagnostic}
+use Rattle.diagnostics.specs.Listing.{SameMembers}
 use Rattle.names_model.specs.Seeing.{entries_in}
 use Rattle.reach_tables.specs.Held.{Holdings}
 use Rattle.reach_tables.specs.Offsets.{nodes_of}

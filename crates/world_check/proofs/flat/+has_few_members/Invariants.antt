@@ -1,5 +1,5 @@
 use Rattle.std.proofs.Common.{◌<◌, ℕ, get_or}
-use Rattle.chill_base.specs.declared.value.Value.{Value}
+use Rattle.kernel_base.specs.declared.value.Value.{Value}
 use Rattle.world_check.specs.Opening.{HasFewMembersEach}
 use Rattle.world_check.proofs.flat.+has_few_members.Given as goal
 

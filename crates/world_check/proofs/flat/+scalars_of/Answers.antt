@@ -1,8 +1,8 @@
 use Rattle.std.proofs.Common.{◌≡◌, ◌∙◌, ap, take, take_all, List, ◌++◌, arith}
 use Rattle.std.proofs.lemmas.Grind.{common_steps}
 use Rattle.std.specs.List.{flat_map}
-use Rattle.chill_base.specs.declared.value.Value.{Value}
-use Rattle.chill_base.specs.Value.{scalars_of}
+use Rattle.kernel_base.specs.declared.value.Value.{Value}
+use Rattle.kernel_base.specs.Value.{scalars_of}
 use Rattle.world_check.proofs.Members.{few_here, parts_here, parts_more, no_such_members}
 use Rattle.world_check.proofs.flat.+scalars_of.Goals as goal
 

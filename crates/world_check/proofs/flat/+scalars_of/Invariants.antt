@@ -1,6 +1,6 @@
 use Rattle.std.proofs.Common.{◌≡◌, take}
 use Rattle.std.specs.List.{flat_map}
-use Rattle.chill_base.specs.Value.{scalars_of}
+use Rattle.kernel_base.specs.Value.{scalars_of}
 use Rattle.world_check.specs.Opening.{HasFewMembersEach}
 use Rattle.world_check.proofs.flat.+scalars_of.Given as goal
 

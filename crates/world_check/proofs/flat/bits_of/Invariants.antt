@@ -1,5 +1,5 @@
 use Rattle.std.proofs.Common.{◌≡◌, ◌≤◌, ◌*◌, ◌^◌, take}
-use Rattle.chill_base.specs.Value as values
+use Rattle.kernel_base.specs.Value as values
 use Rattle.world_check.proofs.flat.bits_of.Given as goal
 
 abbrev pub invariant-loop-offset : goal.invariant-loop-offset

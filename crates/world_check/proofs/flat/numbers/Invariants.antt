@@ -1,5 +1,5 @@
 use Rattle.std.proofs.Common.{◌≡◌, ◌-◌, ◌++◌}
-use Rattle.chill_base.specs.Value.{numbers_from, count_of_numbers}
+use Rattle.kernel_base.specs.Value.{numbers_from, count_of_numbers}
 use Rattle.world_check.proofs.flat.numbers.Given as goal
 
 abbrev pub invariant-loop-j : goal.invariant-loop-j

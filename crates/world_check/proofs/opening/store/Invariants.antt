@@ -1,5 +1,5 @@
 use Rattle.std.proofs.Common.{◌≡◌, take, map}
-use Rattle.chill_base.specs.Value.{scalars_of}
+use Rattle.kernel_base.specs.Value.{scalars_of}
 use Rattle.world_check.proofs.opening.store.Given as goal
 
 abbrev pub invariant-loop-value : goal.invariant-loop-value

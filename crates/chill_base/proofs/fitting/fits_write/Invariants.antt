@@ -1,7 +1,0 @@
-use Rattle.std.proofs.Common.{ℕ, ◌+◌, ◌<◌, pos}
-use Rattle.std.specs.Prelude.{slice_index_or}
-use Rattle.chill_base.specs.Facts.{FitsScalar}
-use Rattle.chill_base.proofs.fitting.fits_write.Given as goal
-
-abbrev pub invariant-loop-i : goal.invariant-loop-i
-invariant-loop-i l = (k : ℕ) → k < l.i → FitsScalar l.facts l.place.location (l.place.first + k) (slice_index_or l.scalars k (pos 0))

@@ -1,0 +1,4 @@
+pub mod Value
+pub mod Facts
+pub mod Units
+pub mod Reached
