@@ -15,9 +15,7 @@ use crate::param::{read_formals, read_params};
 use chill_base::{List, Pos};
 use chill_tree::tree::{BodyPart, Handler, Mode, Name, Param, Procedure, Process};
 use chill_tree::{Sign, Token, Word};
-use expr_parser::{
-    ParseRefusal, boxed, read_name, read_names, read_sign, read_word, starts_with,
-};
+use expr_parser::{ParseRefusal, boxed, read_name, read_names, read_sign, read_word, starts_with};
 use mode_parser::read_mode;
 use statement_parser::{read_body, read_closing, read_handler};
 use std::alloc::Global;

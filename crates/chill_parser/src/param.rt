@@ -33,6 +33,7 @@ pub(crate) fn read_params(
 }
 
 // Parameters of a procedure, by the levels that are left.
+#[derive(Drop)]
 struct Params {
     inner: usize,
 }
@@ -103,6 +104,7 @@ pub(crate) fn read_formals(
 }
 
 // Parameters of a process, by the levels that are left.
+#[derive(Drop)]
 struct Formals {
     inner: usize,
 }

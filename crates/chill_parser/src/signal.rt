@@ -20,6 +20,7 @@ use mode_parser::read_modes;
 use std::alloc::Global;
 
 // Signals, by the levels that are left.
+#[derive(Drop)]
 struct Signals {
     inner: usize,
 }

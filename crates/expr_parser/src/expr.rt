@@ -176,7 +176,11 @@ fn rank_of(operator: Operator) -> usize
 // Reads an operand, with an operator before it or none.
 #[cycle(expr)]
 #[tactic(auto, unfolding(rules_model::specs::ExprReading::prefixed_at))]
-fn prefixed(alloc: Global, tokens: &[Token], inner: usize) -> Result<(Box<Expr>, &[Token]), ParseRefusal>
+fn prefixed(
+    alloc: Global,
+    tokens: &[Token],
+    inner: usize,
+) -> Result<(Box<Expr>, &[Token]), ParseRefusal>
     ensures { Gives (λ x. (boxed_expr x.0, x.1.now)) result (prefixed_at inner (expr_at inner) tokens.now) }
 {
     if starts(tokens, Sign::Minus) {
@@ -195,7 +199,11 @@ fn prefixed(alloc: Global, tokens: &[Token], inner: usize) -> Result<(Box<Expr>,
 // Reads a literal, an expression in parentheses, a tuple, or a name with its parts.
 #[cycle(expr)]
 #[tactic(auto, unfolding(rules_model::specs::ExprReading::operand_at))]
-fn operand(alloc: Global, tokens: &[Token], inner: usize) -> Result<(Box<Expr>, &[Token]), ParseRefusal>
+fn operand(
+    alloc: Global,
+    tokens: &[Token],
+    inner: usize,
+) -> Result<(Box<Expr>, &[Token]), ParseRefusal>
     ensures { Gives (λ x. (boxed_expr x.0, x.1.now)) result (operand_at inner (expr_at inner) tokens.now) }
 {
     match tokens {
@@ -231,7 +239,11 @@ fn operand(alloc: Global, tokens: &[Token], inner: usize) -> Result<(Box<Expr>, 
 // Reads an expression in parentheses.
 #[cycle(expr)]
 #[tactic(auto, unfolding(rules_model::specs::ExprReading::paren_at))]
-fn paren(alloc: Global, tokens: &[Token], inner: usize) -> Result<(Box<Expr>, &[Token]), ParseRefusal>
+fn paren(
+    alloc: Global,
+    tokens: &[Token],
+    inner: usize,
+) -> Result<(Box<Expr>, &[Token]), ParseRefusal>
     ensures { Gives (λ x. (boxed_expr x.0, x.1.now)) result (paren_at (expr_at inner) tokens.now) }
 {
     let (at, rest) = read_sign(tokens, Sign::Open)?;
@@ -377,6 +389,7 @@ pub fn read_args(
 }
 
 // Expressions in what opened at a place, where so many levels of nesting are left.
+#[derive(Drop)]
 struct Exprs {
     room: usize,
     opened: Pos,
@@ -404,12 +417,17 @@ pub fn read_exprs(
 ) -> Result<(List<Expr>, &[Token]), ParseRefusal>
     ensures { Gives (λ x. (expr_trees x.0, x.1.now)) result (listed_at (expr_at room opened) tokens.now) }
 {
-    read_list(alloc, tokens, &Exprs { room, opened }, |item|
-        ensures { Gives (λ x. (expr_tree x.0, x.1.now)) result (expr_at room opened item.now) }
-    {
-        let (found, rest) = read_expr(alloc, item, room, opened)?;
-        Ok((Box::into_inner(found), rest))
-    })
+    read_list(
+        alloc,
+        tokens,
+        &Exprs { room, opened },
+        |item|
+            ensures { Gives (λ x. (expr_tree x.0, x.1.now)) result (expr_at room opened item.now) }
+        {
+            let (found, rest) = read_expr(alloc, item, room, opened)?;
+            Ok((Box::into_inner(found), rest))
+        },
+    )
 }
 
 // Reads a tuple from its bracket on.
@@ -501,6 +519,7 @@ fn tuple_parts(
 }
 
 // Expressions and ranges in what opened at a place, where so many levels of nesting are left.
+#[derive(Drop)]
 struct Ranges {
     room: usize,
     opened: Pos,
@@ -528,11 +547,14 @@ pub fn read_ranges(
 ) -> Result<(List<ValueRange>, &[Token]), ParseRefusal>
     ensures { Gives (λ x. (range_trees x.0, x.1.now)) result (listed_at (range_at (expr_at room opened)) tokens.now) }
 {
-    read_list(alloc, tokens, &Ranges { room, opened }, |item|
-        ensures { Gives (λ x. (range_tree x.0, x.1.now)) result (range_at (expr_at room opened) item.now) }
-    {
-        read_range(alloc, item, room, opened)
-    })
+    read_list(
+        alloc,
+        tokens,
+        &Ranges { room, opened },
+        |item|
+            ensures { Gives (λ x. (range_tree x.0, x.1.now)) result (range_at (expr_at room opened) item.now) }
+        { read_range(alloc, item, room, opened) },
+    )
 }
 
 /// Reads an expression, or two with a colon between them, each as `read_expr` does.

@@ -12,6 +12,7 @@ use chill_tree::tree::Name;
 use std::alloc::Global;
 
 // Names.
+#[derive(Drop)]
 struct Names;
 
 impl Listed for Names {

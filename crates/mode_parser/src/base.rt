@@ -127,7 +127,11 @@ fn plain_base(
 }
 
 // Reads the sets of values of a discrete mode.
-fn powerset(alloc: Global, tokens: &[Token], inner: usize) -> Result<(Box<Base>, &[Token]), ParseRefusal>
+fn powerset(
+    alloc: Global,
+    tokens: &[Token],
+    inner: usize,
+) -> Result<(Box<Base>, &[Token]), ParseRefusal>
     ensures { Gives (λ x. (boxed_base x.0, x.1.now)) result (powerset_at inner tokens.now) }
 {
     let (at, rest) = read_word(tokens, Word::Powerset)?;
@@ -136,7 +140,11 @@ fn powerset(alloc: Global, tokens: &[Token], inner: usize) -> Result<(Box<Base>,
 }
 
 // Reads texts of a length.
-fn chars(alloc: Global, tokens: &[Token], inner: usize) -> Result<(Box<Base>, &[Token]), ParseRefusal>
+fn chars(
+    alloc: Global,
+    tokens: &[Token],
+    inner: usize,
+) -> Result<(Box<Base>, &[Token]), ParseRefusal>
     ensures { Gives (λ x. (boxed_base x.0, x.1.now)) result (chars_at inner tokens.now) }
 {
     let (at, rest) = read_word(tokens, Word::Chars)?;
@@ -181,6 +189,7 @@ fn fields(
 }
 
 // Fields of a structure, where so many levels of nesting are left behind their opening tokens.
+#[derive(Drop)]
 struct StructureFields {
     inner: usize,
 }
@@ -206,11 +215,14 @@ fn some_fields(
 ) -> Result<(List<Field>, &[Token]), ParseRefusal>
     ensures { Gives (λ x. (field_trees x.0, x.1.now)) result (listed_at (one_field_at inner (arrays_at inner (fields_at inner) 8)) tokens.now) }
 {
-    read_list(alloc, tokens, &StructureFields { inner }, |item|
-        ensures { Gives (λ x. (field_tree x.0, x.1.now)) result (one_field_at inner (arrays_at inner (fields_at inner) 8) item.now) }
-    {
-        one_field(alloc, item, inner)
-    })
+    read_list(
+        alloc,
+        tokens,
+        &StructureFields { inner },
+        |item|
+            ensures { Gives (λ x. (field_tree x.0, x.1.now)) result (one_field_at inner (arrays_at inner (fields_at inner) 8) item.now) }
+        { one_field(alloc, item, inner) },
+    )
 }
 
 // Reads fields of one mode, and their place where one is written.

@@ -17,6 +17,7 @@ use expr_parser::{
 use std::alloc::Global;
 
 // Declarations, where so many levels of nesting are left behind their opening tokens.
+#[derive(Drop)]
 struct Declarations {
     inner: usize,
 }

@@ -74,6 +74,7 @@ fn buffer(alloc: Global, tokens: &[Token], inner: usize) -> Result<(Mode, &[Toke
 }
 
 // Modes, where so many levels of nesting are left behind their opening tokens.
+#[derive(Drop)]
 struct Modes {
     inner: usize,
 }

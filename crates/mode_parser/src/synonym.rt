@@ -16,6 +16,7 @@ use expr_parser::{
 use std::alloc::Global;
 
 // Names for values, where so many levels of nesting are left behind their opening tokens.
+#[derive(Drop)]
 struct Synonyms {
     inner: usize,
 }
@@ -78,6 +79,7 @@ fn written_mode(
 }
 
 // Names for modes, where so many levels of nesting are left behind their opening tokens.
+#[derive(Drop)]
 struct ModeDefinitions {
     inner: usize,
 }
