@@ -10,12 +10,13 @@ ghost use Rattle.expr_parser.specs.Giving.{Gives};
 ghost use Rattle.rules_model.specs.ItemReading.{block_at, exceptions_at, procedure_at, procedure_rest_at, process_at, process_rest_at, result_at};
 ghost use Rattle.rules_model.specs.SimpleReading.{clause_at};
 
-use crate::heading::less;
 use crate::param::{read_formals, read_params};
 use chill_base::{List, Pos};
 use chill_tree::tree::{BodyPart, Handler, Mode, Name, Param, Procedure, Process};
 use chill_tree::{Sign, Token, Word};
-use expr_parser::{ParseRefusal, boxed, read_name, read_names, read_sign, read_word, starts_with};
+use expr_parser::{
+    ParseRefusal, boxed, less, read_name, read_names, read_sign, read_word, starts_with,
+};
 use mode_parser::read_mode;
 use statement_parser::{read_body, read_closing, read_handler};
 use std::alloc::Global;

@@ -9,12 +9,11 @@ ghost use Rattle.rules_model.specs.ItemReading.{signal_at, signal_parts_at};
 ghost use Rattle.rules_model.specs.Reading.{listed_at, name_at};
 ghost use Rattle.rules_model.specs.SimpleReading.{clause_at};
 
-use crate::heading::less;
 use chill_base::List;
 use chill_tree::tree::{Mode, Name, Signal};
 use chill_tree::{Sign, Token, Word};
 use expr_parser::{
-    Listed, ParseRefusal, read_list, read_name, read_sign, read_word, starts, starts_with,
+    Listed, ParseRefusal, less, read_list, read_name, read_sign, read_word, starts, starts_with,
 };
 use mode_parser::read_modes;
 use std::alloc::Global;

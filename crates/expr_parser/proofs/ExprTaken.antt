@@ -49,7 +49,7 @@ pub data IsPart : NamePart → Toks → Toks → Type 0 where
   args_part : {es : List ExprTree} {t u : Toks} → InBrackets es t u → IsPart (Args es) t u
   field_part : {x : Name} {p : Pos} {u : Toks} → IsPart (Field x) (sign p signs.Dot ∷ name_token x ∷ u) u
 
-named_part : (j : ℕ) (e : ExprTree) (x : NamePart) (t u v : Toks) → j < 32 → IsNamed j e t u → IsPart x u v → IsNamed (suc j) (with_part e x) t v
+pub named_part : (j : ℕ) (e : ExprTree) (x : NamePart) (t u v : Toks) → j < 32 → IsNamed j e t u → IsPart x u v → IsNamed (suc j) (with_part e x) t v
 named_part j e (Args es) t u v lt d (args_part (bracketed a)) = with_args d a lt
 named_part j e (Field x) t u v lt d field_part = with_field d lt
 
@@ -90,7 +90,7 @@ args_told m inner p toks = go (begins signs.Close toks)
 close_args : (p : Pos) → Finish (Led (sign p signs.Open) InBrackets)
 close_args p = record { more = sign p signs.Close ∷ []; tree = []; any = λ z. bracketed no_args }
 
-told_args : (n : ℕ) → Inner n → (toks : Toks) → Told (suc n) (suc n) InBrackets toks (args_at n (expr_at n) toks)
+pub told_args : (n : ℕ) → Inner n → (toks : Toks) → Told (suc n) (suc n) InBrackets toks (args_at n (expr_at n) toks)
 unfolding args_at
 told_args zero inner toks = told_full signs.Open refl InBrackets _ close_args (λ p rest. refl) toks
 told_args (suc m) inner toks =

@@ -16,6 +16,7 @@ pub use list::{Listed, read_list};
 pub use names::read_names;
 pub use parse::parse_expr;
 pub use reader::{
-    boxed, operator_of, place, read_name, read_sign, read_word, starts, starts_expr, starts_with,
+    behind, boxed, less, operator_of, place, read_name, read_sign, read_word, starts, starts_expr,
+    starts_with,
 };
 pub use refusal::ParseRefusal;

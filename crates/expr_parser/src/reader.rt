@@ -2,6 +2,7 @@
 ghost use Rattle.std.specs.Prelude.{◌≡◌, IfOk};
 ghost use Rattle.expr_parser.specs.Giving.{Gives};
 ghost use Rattle.rules_model.specs.Marks as marks;
+ghost use Rattle.rules_model.specs.Nesting as nesting;
 ghost use Rattle.rules_model.specs.Reading.{sign_at, word_at, name_at};
 
 use crate::ParseRefusal;
@@ -48,6 +49,23 @@ pub fn place(tokens: &[Token]) -> Option<Pos>
         Some(token) => Some(token.at),
         None => None,
     }
+}
+
+/// The tokens behind the first.
+pub fn behind(tokens: &[Token]) -> &[Token]
+    ensures { result.now ≡ marks.behind tokens.now }
+{
+    match tokens {
+        [_, rest @ ..] => rest,
+        [] => tokens,
+    }
+}
+
+/// The levels of nesting that are left behind one more opening token.
+pub fn less(levels: usize) -> usize
+    ensures { result ≡ nesting.less levels }
+{
+    if levels == 0 { 0 } else { levels - 1 }
 }
 
 /// The operator between two operands that a token is.

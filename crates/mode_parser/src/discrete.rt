@@ -83,7 +83,6 @@ pub fn read_index(
 }
 
 // The indices that are one expression, which has to be a name.
-#[tactic(auto, using(crate::proofs::Indexes::index_by_name))]
 fn index_of_name(single: Box<Expr>, rest: &[Token]) -> Result<(Index, &[Token]), ParseRefusal>
     ensures { Gives (λ x. (index_tree x.0, x.1.now)) result (index_of (boxed_expr single) rest.now) }
 {

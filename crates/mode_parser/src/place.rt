@@ -4,13 +4,12 @@ ghost use Rattle.chill_tree.specs.ExprTree.{boxed_expr};
 ghost use Rattle.chill_tree.specs.ModeTree.{place_tree, step_tree, spread_tree};
 ghost use Rattle.expr_parser.specs.Giving.{Gives};
 ghost use Rattle.mode_parser.specs.PlaceParts.{bound_at};
-ghost use Rattle.rules_model.specs.Nesting as nesting;
 ghost use Rattle.rules_model.specs.ModeReading.{length_at, place_end_at, place_at, field_place_at, step_at, packing_at, spread_at};
 
 use chill_base::Pos;
 use chill_tree::tree::{Expr, Packing, Place, PlaceForm, Spread, Step};
 use chill_tree::{Sign, Token, Word};
-use expr_parser::{ParseRefusal, read_expr, read_sign, read_word, starts, starts_with};
+use expr_parser::{ParseRefusal, less, read_expr, read_sign, read_word, starts, starts_with};
 use std::alloc::Global;
 
 /// Reads a length in its brackets, if the bracket is there.
@@ -147,16 +146,6 @@ fn step(alloc: Global, tokens: &[Token], inner: usize) -> Result<(Step, &[Token]
         distance,
     };
     Ok((step, rest))
-}
-
-// The levels that are left behind one more opening token.
-fn less(levels: usize) -> usize
-    ensures { result ≡ nesting.less levels }
-{
-    if levels == 0 {
-        return 0;
-    }
-    levels - 1
 }
 
 /// Reads whether the parts of a structure are packed, if it is said.

@@ -11,12 +11,11 @@ use crate::alternative::{
 };
 use crate::control::read_control;
 use crate::head::{DelayHead, read_delay_head, read_receive_head};
-use crate::level::less;
 use crate::statement::{read_actions, read_body};
 use chill_base::{List, Pos};
 use chill_tree::tree::{Bracketed, CaseAlternative, Expr, Statement};
 use chill_tree::{Sign, Token, Word};
-use expr_parser::{ParseRefusal, place, read_sign, read_value, read_word, starts_with};
+use expr_parser::{ParseRefusal, less, place, read_sign, read_value, read_word, starts_with};
 use std::alloc::Global;
 
 /// Reads an action that holds others; `inner` levels of nesting are left in it.

@@ -11,7 +11,9 @@ use crate::location::{call_in, is_location};
 use chill_base::Pos;
 use chill_tree::tree::{Expr, Operator, Simple};
 use chill_tree::{Sign, Token};
-use expr_parser::{ParseRefusal, operator_of, place, read_named, read_sign, read_value, starts};
+use expr_parser::{
+    ParseRefusal, behind, operator_of, place, read_named, read_sign, read_value, starts,
+};
 use std::alloc::Global;
 
 /// Reads an action that begins with a name; `inner` levels of nesting are left behind an opening token.
@@ -142,15 +144,5 @@ fn may_update(operator: Operator) -> bool
         Operator::OrIf | Operator::AndIf | Operator::In => false,
         Operator::Equal | Operator::NotEqual | Operator::Less | Operator::LessOrEqual => false,
         Operator::Greater | Operator::GreaterOrEqual => false,
-    }
-}
-
-// The tokens behind the first.
-fn behind(tokens: &[Token]) -> &[Token]
-    ensures { result.now ≡ marks.behind tokens.now }
-{
-    match tokens {
-        [_, rest @ ..] => rest,
-        [] => tokens,
     }
 }
