@@ -95,7 +95,7 @@ fn is_guarded(alloc: Global, code: Code) -> Result<bool, Fail> {
     match guard(alloc, code) {
         Ok(_) => Ok(true),
         Err(GuardRefusal::Disagrees(_)) => Ok(false),
-        Err(GuardRefusal::Memory) => Err(Fail::from(GuardRefusal::Memory)),
+        Err(GuardRefusal::Memory) => Err(Fail::from("no memory")),
     }
 }
 
@@ -170,17 +170,17 @@ fn code_around(alloc: Global, count: u8, instr: Instr, height: u8) -> Result<Cod
 #[test]
 fn instructions_find_their_operands(rt: HostRuntime) -> Result<(), Fail> {
     let alloc = rt.alloc();
-    for (instr, found, left) in effects::EFFECTS {
+    for (i, (instr, found, left)) in effects::EFFECTS.iter().enumerate() {
         let (instr, found, height) = (*instr, *found, *found.max(left));
         let enough = is_guarded(alloc, code_around(alloc, found, instr, height)?)?;
-        assert!(rt; enough, "{instr:?}");
+        assert!(rt; enough, "row {i}");
         if found > 0 {
             let fewer = is_guarded(alloc, code_around(alloc, found - 1, instr, height)?)?;
-            assert!(rt; !fewer, "{instr:?} with an operand missing");
+            assert!(rt; !fewer, "row {i} with an operand missing");
         }
         if height > 0 {
             let lower = is_guarded(alloc, code_around(alloc, found, instr, height - 1)?)?;
-            assert!(rt; !lower, "{instr:?} with a stack that is too low");
+            assert!(rt; !lower, "row {i} with a stack that is too low");
         }
     }
     Ok(())

@@ -155,7 +155,10 @@ fn guarded_of(alloc: Global, shape: &Shape) -> Result<Guarded, Fail> {
         handlers: List::from_vec(handlers_of(alloc, shape.1)?),
         bodies: List::from_vec(rows_of(alloc, shape.2)?),
     };
-    Ok(guard(alloc, code)?)
+    match guard(alloc, code) {
+        Ok(guarded) => Ok(guarded),
+        Err(_) => Err(Fail::from("a code that isn't guarded")),
+    }
 }
 
 fn scalars_of(alloc: Global, numbers: &[i64]) -> Result<Scalars, AllocError> {

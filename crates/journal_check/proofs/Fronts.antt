@@ -6,8 +6,8 @@ use Rattle.kernel_base.specs.declared.event.Event.{Event}
 use Rattle.world_model.specs.declared.world.World.{World}
 use Rattle.world_model.specs.World.{opening, after, after_all, world_of}
 use Rattle.world_model.specs.Allowed.{IsAllowed, IsRun}
-use Rattle.world_model.proofs.Runs.{one_more, next_allowed}
-use Rattle.world_model.proofs.Once.{sends_rise}
+use Rattle.world_model.proofs.RunParts.{one_more, next_allowed}
+use Rattle.world_model.proofs.NumbersGotOnce.{sends_rise}
 
 take_suc : {X : Type 0} (xs : List X) (k : ℕ) (x : X) → slice_get xs k ≡ Some x → take (suc k) xs ≡ take k xs ++ x ∷ []
 take_suc [] k x at = absurd (let f : ⊥ = cc in f)

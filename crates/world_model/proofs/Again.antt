@@ -15,9 +15,9 @@ use Rattle.world_model.specs.Waiting.{phase_of, IsActive}
 use Rattle.world_model.specs.World.{held_by, with_phase, locked_back, freed_last, drawn, with_drawn, after_waits, back_in, after, after_all, opening}
 use Rattle.world_model.specs.Allowed.{IsPossible, IsRunFrom, MayGo, MayLockBack, IsFree, Occupies}
 use Rattle.world_model.specs.Laws.{IsEnter, IsDoneBy, Locks, Frees, SomeLocksAgain, FreedRegionLaw}
-use Rattle.world_model.proofs.Runs.{front_runs, rest_runs}
-use Rattle.world_model.proofs.Places.{written_here, last_is_in}
-use Rattle.world_model.proofs.Holding.{HoldsOccupied, journal_holds}
+use Rattle.world_model.proofs.RunParts.{front_runs, rest_runs}
+use Rattle.world_model.proofs.ChangedLists.{written_here, last_is_in}
+use Rattle.world_model.proofs.HeldIsOccupied.{HoldsOccupied, journal_holds}
 use Rattle.world_model.proofs.Freeing.{BackIs, HasBack, step_kept, freeing_kept}
 
 -- a list that isn't the default stands there, so a write is read back

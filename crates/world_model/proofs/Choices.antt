@@ -11,7 +11,7 @@ use Rattle.world_model.specs.declared.world.World.{World}
 use Rattle.world_model.specs.World.{world_of, buffer_length}
 use Rattle.world_model.specs.Allowed.{IsPossible, TakesValue, TakesSignal, IsRefill, IsCandidateOf}
 use Rattle.world_model.specs.Laws.{PriorityLaw, ChoseHighest, IsRefilledByHighest, GotHighestValue, GotHighestSignal}
-use Rattle.world_model.proofs.Runs.{next_allowed}
+use Rattle.world_model.proofs.RunParts.{next_allowed}
 
 -- the refill, by the length of the buffer
 refilled : (facts : Facts) (w : World) (length : Option ℕ) (buffer : ℕ) (value : StoredValue) (refill : Option ℕ) → buffer_length facts buffer ≡ length → IsCandidateOf length w buffer value → IsRefill length w buffer value.sender refill → IsRefilledByHighest facts w refill

@@ -20,7 +20,7 @@ use Rattle.world_model.specs.Waiting.{phase_of, waiter_for, sleeper_in, sleeper,
 use Rattle.world_model.specs.World.{occupant, held_by, entered, left, locked_back, freed_last, freed, chosen, with_next_send, refilled, refilled_by, refilled_buffer, buffer_length, after_continue, after_send_buffer, after_receive_buffer, after_send_signal, after_receive_signal, after_start, after_request, drawn, with_drawn, after_waits, back_in, after}
 use Rattle.world_model.specs.Allowed.{IsPossible}
 use Rattle.world_model.specs.Laws.{IsDoneBy}
-use Rattle.world_model.proofs.Places.{written_elsewhere, written_here, pushed_keeps}
+use Rattle.world_model.proofs.ChangedLists.{written_elsewhere, written_here, pushed_keeps}
 
 -- the phase has this region to lock again
 abbrev pub BackIs : ℕ → Phase → Type 0

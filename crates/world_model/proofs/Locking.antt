@@ -18,8 +18,8 @@ use Rattle.world_model.specs.Waiting.{phase_of, sleeper, buffer_receiver, signal
 use Rattle.world_model.specs.World.{occupant, held_by, locked, freed, entered, left, locked_back, freed_last, other_occupant, chosen, with_next_send, refilled, refilled_by, refilled_buffer, buffer_length, after_continue, after_send_buffer, after_receive_buffer, after_send_signal, after_receive_signal, after_start, after_request, drawn, with_drawn, after_waits, back_in, after, after_all, opening}
 use Rattle.world_model.specs.Allowed.{IsFree, Occupies, IsPossible, MayLockBack}
 use Rattle.world_model.specs.Laws.{OneOccupantLaw, SomeFrees}
-use Rattle.world_model.proofs.Runs.{rest_runs}
-use Rattle.world_model.proofs.Places.{written_or_old, read_is}
+use Rattle.world_model.proofs.RunParts.{rest_runs}
+use Rattle.world_model.proofs.ChangedLists.{written_or_old, read_is}
 
 -- a request that leaves all as it is of who holds and occupies which region
 abbrev pub IsQuiet : Request → Type 0

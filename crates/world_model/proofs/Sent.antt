@@ -23,17 +23,17 @@ use Rattle.world_model.specs.Waiting.{phase_of, sleeper, buffer_receiver, signal
 use Rattle.world_model.specs.World.{opening, after_all, with_phase, occupant, held_by, locked_back, back_in, freed_last, with_drawn, chosen, with_next_send, next_value, stored_in, with_stored, values_but, refilled, refilled_by, refilled_buffer, buffer_length, after_continue, after_send_buffer, after_receive_buffer, after_send_signal, after_receive_signal, after_start, after_request, after_waits, after}
 use Rattle.world_model.specs.Allowed.{IsPossible, IsCandidateOf, ReceivesFromBuffer, ReceivesSignal}
 use Rattle.world_model.specs.Laws.{Message, message_got, got_in, next_message, sent_at_once, sent_later, sent_in, if_sent, WasSent, EachValueOnceLaw}
-use Rattle.world_model.proofs.Runs.{rest_runs}
-use Rattle.world_model.proofs.Places.{read_elsewhere, read_here, pushed_or_old, written_or_old}
+use Rattle.world_model.proofs.RunParts.{rest_runs}
+use Rattle.world_model.proofs.ChangedLists.{read_elsewhere, read_here, pushed_or_old, written_or_old}
 use Rattle.world_model.proofs.Freeing.{freeing_kept, back_kept}
 use Rattle.world_model.proofs.Stores.{KeepsStores, in_filter, read_mapped, entered_stores, left_stores}
-use Rattle.world_model.proofs.Moves.{entered_phases, left_phases}
+use Rattle.world_model.proofs.PhaseMoves.{entered_phases, left_phases}
 use Rattle.world_model.proofs.Well.{freeing_stores, back_stores}
 use Rattle.kernel_base.specs.declared.ends.Exc.TheVariants.{Delayfail}
 use Rattle.std.proofs.Common.{append-nil}
 use Rattle.world_model.specs.World.{refusal}
 use Rattle.world_model.specs.Input.{get_answer, behind_separators}
-use Rattle.world_model.proofs.Once.{got_once}
+use Rattle.world_model.proofs.NumbersGotOnce.{got_once}
 use Rattle.world_model.proofs.Counting.{continue_none, send_none, signal_none, start_none, get_none}
 
 abbrev message_of : StoredValue → Message

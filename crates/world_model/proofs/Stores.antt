@@ -15,7 +15,7 @@ use Rattle.world_model.specs.declared.waiting.Waiter.{Waiter}
 use Rattle.world_model.specs.declared.waiting.Offer.{Offer}
 use Rattle.world_model.specs.Waiting.{sleeper, buffer_receiver, signal_receiver, offer}
 use Rattle.world_model.specs.World.{occupant, entered, left, freed, chosen, with_next_send, next_value, stored_in, with_stored, values_but, refilled, refilled_by, refilled_buffer, buffer_length, after_continue, after_send_buffer, after_receive_buffer, after_send_signal, after_receive_signal, after_start, after_request}
-use Rattle.world_model.proofs.Places.{read_elsewhere, read_here, pushed_or_old}
+use Rattle.world_model.proofs.ChangedLists.{read_elsewhere, read_here, pushed_or_old}
 
 -- the store, the stored values and the pending signals are as before
 abbrev pub KeepsStores : World → World → Type 0

@@ -25,9 +25,9 @@ use Rattle.world_model.specs.Lists.{last_of, with_scalars}
 use Rattle.world_model.specs.Waiting.{phase_of, offer_in, offer}
 use Rattle.world_model.specs.World.{opening, held_by, freed_last, locked_back, back_in, drawn, with_drawn, after_waits, after_request, after, after_all, written}
 use Rattle.world_model.specs.Allowed.{IsPossible, IsRunFrom}
-use Rattle.world_model.proofs.Places.{written_elsewhere, written_here, written_or_old, read_elsewhere}
+use Rattle.world_model.proofs.ChangedLists.{written_elsewhere, written_here, written_or_old, read_elsewhere}
 use Rattle.world_model.proofs.Freeing.{freeing_kept, back_kept}
-use Rattle.world_model.proofs.Moves.{Moves, Stays, IsChosenNow, Begins, did_moves}
+use Rattle.world_model.proofs.PhaseMoves.{Moves, Stays, IsChosenNow, Begins, did_moves}
 use Rattle.world_model.proofs.Stores.{AreSent, OfferSent, KeepsStores, did_sent, did_store}
 
 -- Instance 0 is none, instance 1 was made, and who waits to send has drawn a number from 1 on.

@@ -232,24 +232,12 @@ pub fn hand_over(
 }
 
 /// Hands a signal to one that waits for it and may receive it.
-pub fn hand_signal(
-    facts: &Facts,
-    world: &mut World,
-    p: u32,
-    signal: u32,
-    to: Option<u32>,
-    send: u32,
-    scalars: &Scalars,
-    by: u32,
-) -> Result<(), Memory>
-    ensures { OnOk result (world.new ≡ chosen world.old p (waiting.signal_receiver facts.now world.old signal to p) (λ alternative. Got alternative send scalars.now by)) }
+pub fn hand_signal(facts: &Facts, world: &mut World, p: u32, signal: PendingSignal)
+    ensures { world.new ≡ chosen world.old p (waiting.signal_receiver facts.now world.old signal.signal signal.to p) (λ alternative. Got alternative signal.value.send signal.value.scalars signal.value.sender) }
 {
-    match signal_receiver(facts, world, signal, to, p as usize) {
-        Some(waiter) => {
-            choose_receiver(world, p, waiter, send, scalars.copy()?, by);
-            Ok(())
-        }
-        None => Ok(()),
+    let PendingSignal { signal, to, value } = signal;
+    if let Some(waiter) = signal_receiver(facts, world, signal, to, p as usize) {
+        choose_receiver(world, p, waiter, value.send, value.scalars, value.sender);
     }
 }
 

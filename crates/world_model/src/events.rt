@@ -1,7 +1,7 @@
 // What an event makes of a world.
 ghost use Rattle.std.specs.Prelude.{◌≡◌, ◌+◌, ◌^◌, ◌<◌, OnOk, slice_index_or, None, Some, IfOk, take, drop};
 ghost use Rattle.world_model.specs.World as worlds;
-ghost use Rattle.world_model.specs.World.{with_phase, locked_back, freed_last, held_by};
+ghost use Rattle.world_model.specs.World.{with_phase, locked_back, freed_last, held_by, with_next_send, next_value};
 ghost use Rattle.world_model.specs.Lists.{last_of, with_scalars};
 ghost use Rattle.world_model.specs.Waiting.{phase_of};
 ghost use Rattle.world_model.specs.declared.world.Phase.TheVariants.{Active, Waiting};
@@ -234,34 +234,53 @@ fn after_waits(world: &mut World, who: u32, request: &Request) -> Result<(), Mem
     }
 }
 
+// A signal that a process sends: to one instance, or to whoever may receive it.
+#[derive(Drop)]
+struct SentSignal<'a> {
+    signal: u32,
+    scalars: &'a Scalars,
+    to: Option<u32>,
+    priority: u32,
+}
+
+// The signal under the next send number.
+fn numbered(world: &mut World, who: u32, sent: SentSignal) -> Result<PendingSignal, Memory>
+    requires { world.old.sends + 1 < 2 ^ 32 }
+    ensures world { world.new ≡ with_next_send world.old }
+    ensures signal { IfOk result (λ signal. signal ≡ let s = sent.entry in record { signal = s.signal; to = s.to; value = next_value world.old who s.scalars.now s.priority }) }
+{
+    world.sends += 1;
+    Ok(PendingSignal {
+        signal: sent.signal,
+        to: sent.to,
+        value: StoredValue {
+            send: world.sends,
+            sender: who,
+            scalars: sent.scalars.copy()?,
+            priority: sent.priority,
+        },
+    })
+}
+
 fn after_send_signal(
     facts: &Facts,
     world: &mut World,
     who: u32,
-    signal: u32,
-    scalars: &Scalars,
-    to: Option<u32>,
-    priority: u32,
+    sent: SentSignal,
     answer: &Answer,
 ) -> Result<(), Memory>
     requires { world.old.sends + 1 < 2 ^ 32 }
-    ensures { OnOk result (world.new ≡ worlds.after_send_signal facts.now world.old who signal scalars.now to priority answer.now) }
+    ensures { OnOk result (let s = sent.entry in world.new ≡ worlds.after_send_signal facts.now world.old who s.signal s.scalars.now s.to s.priority answer.now) }
 {
     match answer {
         Answer::Handed(p) => {
-            world.sends += 1;
-            let send = world.sends;
-            hand_signal(facts, world, *p, signal, to, send, scalars, who)
+            let signal = numbered(world, who, sent)?;
+            hand_signal(facts, world, *p, signal);
+            Ok(())
         }
         Answer::Stored => {
-            world.sends += 1;
-            let value = StoredValue {
-                send: world.sends,
-                sender: who,
-                scalars: scalars.copy()?,
-                priority,
-            };
-            pend(world, PendingSignal { signal, to, value })
+            let signal = numbered(world, who, sent)?;
+            pend(world, signal)
         }
         _ => Ok(()),
     }
@@ -345,7 +364,15 @@ fn after_request(
             scalars,
             to,
             priority,
-        } => after_send_signal(facts, world, who, *signal, scalars, *to, *priority, answer),
+        } => {
+            let sent = SentSignal {
+                signal: *signal,
+                scalars,
+                to: *to,
+                priority: *priority,
+            };
+            after_send_signal(facts, world, who, sent, answer)
+        }
         Request::ReceiveSignal { .. } => after_receive_signal(world, answer),
         Request::Start { process, scalars } => after_start(world, *process, scalars, answer),
         Request::Put { bytes } => put(world, bytes),

@@ -1,7 +1,7 @@
 //! The world of all processes: which events are allowed in it and what they do, when a run is over, and the laws of a
 //! journal.
 //!
-//! It stands on `chill_base` alone. The meaning of a text, the code and the kernel all stand on it.
+//! It stands on `chill_base` and `kernel_base` alone. The meaning of a text, the code and the kernel all stand on it.
 #![tactic(auto)]
 
 mod changes;

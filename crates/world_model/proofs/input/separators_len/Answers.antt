@@ -1,6 +1,6 @@
 use Rattle.std.proofs.Common.{◌∙◌, sym, arith, length}
 use Rattle.world_model.specs.Input.{is_separator}
-use Rattle.world_model.proofs.Prefixes.{prefix_stops, prefix_all}
+use Rattle.world_model.proofs.PassingFronts.{prefix_stops, prefix_all}
 use Rattle.world_model.proofs.input.separators_len.Goals as goal
 
 pub returns-then-not-is_separator : goal.returns-then-not-is_separator

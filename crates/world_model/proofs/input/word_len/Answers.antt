@@ -1,6 +1,6 @@
 use Rattle.std.proofs.Common.{◌∙◌, sym, ap, arith, length, not}
 use Rattle.world_model.specs.Input.{is_separator}
-use Rattle.world_model.proofs.Prefixes.{prefix_stops, prefix_all}
+use Rattle.world_model.proofs.PassingFronts.{prefix_stops, prefix_all}
 use Rattle.world_model.proofs.input.word_len.Goals as goal
 
 pub returns-then-is_separator : goal.returns-then-is_separator

@@ -1,4 +1,4 @@
-use Rattle.world_model.proofs.Talks.{given_answers_law}
+use Rattle.world_model.proofs.RequestsAnswered.{given_answers_law}
 use Rattle.world_model.proofs.laws.given_answers_law.Goals as goal
 
 pub returns : goal.returns
