@@ -1,4 +1,4 @@
-use Rattle.std.proofs.Common.{◌≡◌, ◌-◌, map}
+use Rattle.std.proofs.Common.{◌≡◌, map}
 use Rattle.std.proofs.lemmas.List.{map_push}
 use Rattle.rules_model.specs.Reading.{push, another_at}
 use Rattle.expr_parser.proofs.Repeats.{goes_on_by}

@@ -1,4 +1,4 @@
-use Rattle.std.proofs.Common.{◌≡◌, ◌∙◌, ◌-◌, sym, ap, arith, length, take, drop, Ok, Err}
+use Rattle.std.proofs.Common.{◌∙◌, sym, ap, arith, drop}
 use Rattle.chill_tree.specs.ExprTree.{boxed_expr}
 use Rattle.expr_parser.specs.Giving.{Fails}
 use Rattle.expr_parser.proofs.Expressing.{Value, expressed, to_end, refused, handed_on}
