@@ -8,7 +8,7 @@ use Rattle.chill_tree.specs.declared.token.Token.{Token}
 use Rattle.chill_tree.specs.declared.token.TokenKind.{TokenKind}
 use Rattle.chill_tree.specs.declared.tree.name.Name.{Name}
 use Rattle.chill_tree.specs.declared.tree.expr.Operator.{Operator}
-use Rattle.chill_tree.specs.ExprTree.{ExprTree, exprs_in, expr_nodes, place_of}
+use Rattle.chill_tree.specs.ExprTree.{ExprTree, place_of}
 use Rattle.chill_tree.specs.SimpleTree.{SimpleTree, assign, update, call_of, exit, return_with, result_of, assert_that, cause, stop, start_of, delay, continue_event, send, ControlTree, while_holds, for_ever, for_members, for_steps}
 use Rattle.rules_model.specs.Marks.{Toks, tok, word, name_token, begins, begins_with, begins_expr, behind, front, operator_of, may_update}
 use Rattle.rules_model.specs.ExprGrammar.{IsExpr, IsNamed, a_name, with_args, with_field, AreExprs, one_expr, and_expr, is_location, is_loc}
