@@ -2,12 +2,13 @@
 ghost use Rattle.std.specs.Prelude.{◌≡◌, ◌==◌, ◌&&◌, ◌+◌, ◌<◌, ◌≤◌, ◌++◌, ◌∷◌, [], None, Some, IfOk, IfSome, IfNone, OnOk, IsTrue, IsFalse, length, slice_get, slice_index_or};
 ghost use Rattle.std.specs.List.{find};
 ghost use Rattle.kernel_lists.specs.Best.{IsBest, NoneRanked};
+ghost use Rattle.kernel_lists.specs.First.{IsFirst};
 ghost use Rattle.kernel_lists.specs.Once.{entry_of, AreOnce};
 ghost use Rattle.buffers_signals.specs.Lists.{receiver_of};
 ghost use Rattle.buffers_signals.specs.Ranks.{signal_rank};
 ghost use Rattle.buffers_signals.specs.Signals.{IsSend, IsReceive, Sends, SendsTo, Receives, ReceivesFrom, may_receive, is_receiver};
 
-use crate::taking::{answer_with, rank};
+use crate::taking::{answer_with, rank, take_receiver};
 use crate::{Received, Receiver, Sent};
 use chill_base::{Item, Lengths, Memory};
 use kernel_base::{Alternative, Alternatives, Facts, Request};
@@ -111,11 +112,10 @@ impl Signals {
     {
         let wanted = self.wanted.as_slice();
         if let Some(place) = first_receiver(wanted, &self.receivers, signal.signal, signal.to) {
-            let receiver = self.receivers.remove(place);
-            let alternative = number_for(receiver.things.as_slice(), signal.signal).unwrap();
+            let receiver = take_receiver(&mut self.receivers, place, signal.signal);
             return Sent::Handed {
-                to: receiver.who,
-                answer: answer_with(alternative, signal.value),
+                to: receiver.thing,
+                answer: answer_with(receiver.number, signal.value),
             };
         }
         self.pending.push_reserved(signal);
@@ -208,7 +208,7 @@ fn first_receiver(
     signal: u32,
     to: Option<u32>,
 ) -> Option<usize>
-    ensures some { IfSome result (λ place. slice_get receivers.now place ≡ find (is_receiver wanted.now signal to) receivers.now) }
+    ensures some { IfSome result (IsFirst (is_receiver wanted.now signal to) receivers.now) }
     ensures none { IfNone result (find (is_receiver wanted.now signal to) receivers.now ≡ None) }
 {
     for place in 0..receivers.len() {

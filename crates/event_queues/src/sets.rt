@@ -102,7 +102,7 @@ impl EventSets {
     {
         let best = best_on(&self.delayed, event)?;
         let woken = self.delayed.remove(best.place);
-        let number = number_for(woken.events.as_slice(), event)?;
+        let number = number_for(woken.events.as_slice(), event).unwrap();
         Some(Alternative {
             thing: woken.who,
             number,
