@@ -2,6 +2,8 @@
 use Rattle.std.proofs.Common.{◌≡◌, ℕ, ◌+◌, ◌<◌, ◌≤◌, List, [], ◌∷◌, ◌++◌, length, drop, get_or, Option, Some, None, refl, sym, ap, ◌∙◌, append_assoc}
 use Rattle.std.specs.Prelude.{option_map, is_none}
 use Rattle.std.proofs.lemmas.List.{append-nil, drop_more, drop_all}
+use Rattle.std.specs.declared.alloc.Global.{Global}
+use Rattle.std.specs.declared.boxed.Box.{Box}
 use Rattle.chill_base.specs.declared.pos.Pos.{Pos}
 use Rattle.chill_tree.specs.declared.tree.statement.Handler.{Handler}
 use Rattle.chill_tree.specs.declared.tree.statement.Simple.{Simple}
@@ -9,29 +11,29 @@ use Rattle.chill_tree.specs.declared.tree.statement.Statement.{Statement}
 use Rattle.chill_tree.specs.declared.tree.statement.Statement.TheVariants as made_statement
 use Rattle.chill_tree.specs.declared.tree.item.Item.{Item}
 use Rattle.chill_tree.specs.declared.tree.item.Modulion.{Modulion, out-Modulion, fold_out-Modulion}
-use Rattle.chill_tree.specs.SimpleTree.{simple_tree}
-use Rattle.chill_tree.specs.StatementTree.{statement_tree, handler_tree}
+use Rattle.chill_tree.specs.SimpleTree.{boxed_simple}
+use Rattle.chill_tree.specs.StatementTree.{statement_tree, boxed_handler}
 use Rattle.chill_tree.specs.ItemTree.{ItemTree, ModulionTree, item_layer, modulion_layer, item_tree, modulion_tree, item_trees}
 use Rattle.chill_tree.proofs.StatementViews.{tree-simple}
 use Rattle.chill_top.specs.Sums.{with_first, sum_of_simple, sum_of_statement, sum_of_item, sums_of_items}
 
 -- the tree of a modulion by its fields
-pub tree-modulion_out : (m : Modulion) → modulion_tree m ≡ record { name = (out-Modulion m).name; kind = (out-Modulion m).kind; items = item_trees (out-Modulion m).items; handler = option_map handler_tree (out-Modulion m).handler; closing = (out-Modulion m).closing }
+pub tree-modulion_out : (m : Modulion) → modulion_tree m ≡ record { name = (out-Modulion m).name; kind = (out-Modulion m).kind; items = item_trees (out-Modulion m).items; handler = option_map boxed_handler (out-Modulion m).handler; closing = (out-Modulion m).closing }
 unfolding item_tree modulion_tree
 tree-modulion_out m = fold_out-Modulion ItemTree ModulionTree item_layer modulion_layer m
 
-pub is_none-handler : (h : Option Handler) → is_none (option_map handler_tree h) ≡ is_none h
+pub is_none-handler : (h : Option (Box Handler Global)) → is_none (option_map boxed_handler h) ≡ is_none h
 is_none-handler None = refl
 is_none-handler (Some h) = refl
 
 pub ruleset modulion_views = (tree-modulion_out, is_none-handler)
 
 -- a simple action without a handler, and one with
-pub sum_without_handler : (s : Statement) (at : Pos) (a : Simple) (h : Option Handler) → s ≡ made_statement.Simple at a h → h ≡ None → sum_of_simple (simple_tree a) ≡ sum_of_statement (statement_tree s)
+pub sum_without_handler : (s : Statement) (at : Pos) (a : Box Simple Global) (h : Option (Box Handler Global)) → s ≡ made_statement.Simple at a h → h ≡ None → sum_of_simple (boxed_simple a) ≡ sum_of_statement (statement_tree s)
 sum_without_handler s at a h is none =
     sym (ap (λ (x : Statement). sum_of_statement (statement_tree x)) (is ∙ ap (made_statement.Simple at a) none) ∙ ap sum_of_statement (tree-simple at a None))
 
-pub sum_with_handler : (s : Statement) (at : Pos) (a : Simple) (h : Option Handler) (some : Handler) → s ≡ made_statement.Simple at a h → h ≡ Some some → None ≡ sum_of_statement (statement_tree s)
+pub sum_with_handler : (s : Statement) (at : Pos) (a : Box Simple Global) (h : Option (Box Handler Global)) (some : Box Handler Global) → s ≡ made_statement.Simple at a h → h ≡ Some some → None ≡ sum_of_statement (statement_tree s)
 sum_with_handler s at a h some is has =
     sym (ap (λ (x : Statement). sum_of_statement (statement_tree x)) (is ∙ ap (made_statement.Simple at a) has) ∙ ap sum_of_statement (tree-simple at a (Some some)))
 

@@ -1,6 +1,8 @@
 -- The trees of items that are built.
 use Rattle.std.proofs.Common.{◌≡◌, List, Option, ap, sym, ◌∙◌}
 use Rattle.std.specs.Prelude.{map, option_map}
+use Rattle.std.specs.declared.alloc.Global.{Global}
+use Rattle.std.specs.declared.boxed.Box.{Box}
 use Rattle.chill_base.specs.declared.pos.Pos.{Pos}
 use Rattle.chill_tree.specs.declared.tree.name.Name.{Name}
 use Rattle.chill_tree.specs.declared.tree.local.Local.{Local}
@@ -16,8 +18,8 @@ use Rattle.chill_tree.specs.declared.tree.item.Item.TheOpen as opens
 use Rattle.chill_tree.specs.declared.tree.item.Item.TheVariants as made_item
 use Rattle.chill_tree.specs.declared.tree.item.Modulion.{Modulion, fold-roll-Modulion, roll-Modulion}
 use Rattle.chill_tree.specs.LocalTree.{local_tree}
-use Rattle.chill_tree.specs.StatementTree.{statement_tree, handler_tree}
-use Rattle.chill_tree.specs.ItemTree.{ItemTree, ModulionTree, seize, grant, local_item, signals, procedure, process, action, modulion_item, signal_tree, procedure_tree, process_tree, item_layer, modulion_layer, item_tree, modulion_tree, item_trees}
+use Rattle.chill_tree.specs.StatementTree.{statement_tree, boxed_handler}
+use Rattle.chill_tree.specs.ItemTree.{ItemTree, ModulionTree, seize, grant, local_item, signals, procedure, process, action, modulion_item, signal_tree, boxed_procedure, boxed_process, item_layer, modulion_layer, item_tree, modulion_tree, boxed_modulion, item_trees}
 
 pub tree-seize : (at : Pos) (p : Passed) → item_tree (made_item.Seize at p) ≡ seize at p
 unfolding item_tree modulion_tree
@@ -35,15 +37,15 @@ pub tree-signals : (at : Pos) (ss : List Signal) → item_tree (made_item.Signal
 unfolding item_tree modulion_tree
 tree-signals at ss = ap (fold-Item ItemTree ModulionTree item_layer modulion_layer) (sym (made_item.rolls-Signals at ss)) ∙ fold-roll-Item ItemTree ModulionTree item_layer modulion_layer (opens.Signals at ss)
 
-pub tree-procedure : (p : Procedure) → item_tree (made_item.Procedure p) ≡ procedure (procedure_tree p)
+pub tree-procedure : (p : Box Procedure Global) → item_tree (made_item.Procedure p) ≡ procedure (boxed_procedure p)
 unfolding item_tree modulion_tree
 tree-procedure p = ap (fold-Item ItemTree ModulionTree item_layer modulion_layer) (sym (made_item.rolls-Procedure p)) ∙ fold-roll-Item ItemTree ModulionTree item_layer modulion_layer (opens.Procedure p)
 
-pub tree-process : (p : Process) → item_tree (made_item.Process p) ≡ process (process_tree p)
+pub tree-process : (p : Box Process Global) → item_tree (made_item.Process p) ≡ process (boxed_process p)
 unfolding item_tree modulion_tree
 tree-process p = ap (fold-Item ItemTree ModulionTree item_layer modulion_layer) (sym (made_item.rolls-Process p)) ∙ fold-roll-Item ItemTree ModulionTree item_layer modulion_layer (opens.Process p)
 
-pub tree-modulion_item : (m : Modulion) → item_tree (made_item.Modulion m) ≡ modulion_item (modulion_tree m)
+pub tree-modulion_item : (m : Box Modulion Global) → item_tree (made_item.Modulion m) ≡ modulion_item (boxed_modulion m)
 unfolding item_tree modulion_tree
 tree-modulion_item m = ap (fold-Item ItemTree ModulionTree item_layer modulion_layer) (sym (made_item.rolls-Modulion m)) ∙ fold-roll-Item ItemTree ModulionTree item_layer modulion_layer (opens.Modulion m)
 
@@ -51,7 +53,7 @@ pub tree-action : (s : Statement) → item_tree (made_item.Statement s) ≡ acti
 unfolding item_tree modulion_tree
 tree-action s = ap (fold-Item ItemTree ModulionTree item_layer modulion_layer) (sym (made_item.rolls-Statement s)) ∙ fold-roll-Item ItemTree ModulionTree item_layer modulion_layer (opens.Statement s)
 
-pub tree-modulion : (n : Name) (k : ModulionKind) (is : List Item) (h : Option Handler) (c : Option Name) → modulion_tree (roll-Modulion (record { name = n; kind = k; items = is; handler = h; closing = c })) ≡ record { name = n; kind = k; items = item_trees is; handler = option_map handler_tree h; closing = c }
+pub tree-modulion : (n : Name) (k : ModulionKind) (is : List Item) (h : Option (Box Handler Global)) (c : Option Name) → modulion_tree (roll-Modulion (record { name = n; kind = k; items = is; handler = h; closing = c })) ≡ record { name = n; kind = k; items = item_trees is; handler = option_map boxed_handler h; closing = c }
 unfolding item_tree modulion_tree
 tree-modulion n k is h c = fold-roll-Modulion ItemTree ModulionTree item_layer modulion_layer (record { name = n; kind = k; items = is; handler = h; closing = c })
 

@@ -1,6 +1,8 @@
 -- The trees of statements that are built.
 use Rattle.std.proofs.Common.{◌≡◌, List, Option, Some, None, ap, sym, ◌∙◌}
 use Rattle.std.specs.Prelude.{map, option_map}
+use Rattle.std.specs.declared.alloc.Global.{Global}
+use Rattle.std.specs.declared.boxed.Box.{Box}
 use Rattle.chill_base.specs.declared.pos.Pos.{Pos}
 use Rattle.chill_tree.specs.declared.tree.name.Name.{Name}
 use Rattle.chill_tree.specs.declared.tree.expr.Expr.{Expr}
@@ -20,31 +22,31 @@ use Rattle.chill_tree.specs.declared.tree.statement.CaseAlternative.{CaseAlterna
 use Rattle.chill_tree.specs.declared.tree.statement.NamedAlternative.{NamedAlternative, fold-roll-NamedAlternative, roll-NamedAlternative}
 use Rattle.chill_tree.specs.declared.tree.statement.ReceiveAlternative.{ReceiveAlternative, fold-roll-ReceiveAlternative, roll-ReceiveAlternative}
 use Rattle.chill_tree.specs.declared.tree.statement.Handler.{Handler, fold-roll-Handler, roll-Handler}
-use Rattle.chill_tree.specs.ExprTree.{expr_tree, range_trees}
+use Rattle.chill_tree.specs.ExprTree.{boxed_expr, range_trees}
 use Rattle.chill_tree.specs.LocalTree.{local_tree}
-use Rattle.chill_tree.specs.SimpleTree.{simple_tree, control_tree}
-use Rattle.chill_tree.specs.StatementTree.{BodyTree, BracketedTree, StatementTree, CaseTree, ElsIfTree, HandlerTree, NamedTree, ReceiveTree, empty, simple, bracketed, if_then, case_of, do_loop, begin_end, delay_case, receive_case, local_part, action_part, statement_nodes, branch_nodes, case_nodes, named_nodes, receive_nodes, otherwise_node, handler_node, body_nodes, body_layer, bracketed_layer, statement_layer, case_layer, branch_layer, handler_layer, named_layer, receive_layer, statement_tree, bracketed_tree, branch_tree, case_tree, named_tree, receive_tree, handler_tree, body_tree, statement_trees, body_trees}
+use Rattle.chill_tree.specs.SimpleTree.{boxed_simple, control_tree}
+use Rattle.chill_tree.specs.StatementTree.{BodyTree, BracketedTree, StatementTree, CaseTree, ElsIfTree, HandlerTree, NamedTree, ReceiveTree, empty, simple, bracketed, if_then, case_of, do_loop, begin_end, delay_case, receive_case, local_part, action_part, statement_nodes, branch_nodes, case_nodes, named_nodes, receive_nodes, otherwise_node, handler_node, body_nodes, body_layer, bracketed_layer, statement_layer, case_layer, branch_layer, handler_layer, named_layer, receive_layer, statement_tree, bracketed_tree, boxed_bracketed, branch_tree, case_tree, named_tree, receive_tree, handler_tree, boxed_handler, body_tree, statement_trees, body_trees}
 
 pub tree-empty : (at : Pos) → statement_tree (made_statement.Empty at) ≡ empty at
 unfolding statement_tree bracketed_tree branch_tree case_tree named_tree receive_tree handler_tree body_tree
 tree-empty at = ap (fold-Statement BodyTree BracketedTree StatementTree CaseTree ElsIfTree HandlerTree NamedTree ReceiveTree body_layer bracketed_layer statement_layer case_layer branch_layer handler_layer named_layer receive_layer) (sym (made_statement.rolls-Empty at)) ∙ fold-roll-Statement BodyTree BracketedTree StatementTree CaseTree ElsIfTree HandlerTree NamedTree ReceiveTree body_layer bracketed_layer statement_layer case_layer branch_layer handler_layer named_layer receive_layer (opens.Empty at)
 
-pub tree-simple : (at : Pos) (a : Simple) (h : Option Handler) → statement_tree (made_statement.Simple at a h) ≡ simple at (simple_tree a) (handler_node (option_map handler_tree h))
+pub tree-simple : (at : Pos) (a : Box Simple Global) (h : Option (Box Handler Global)) → statement_tree (made_statement.Simple at a h) ≡ simple at (boxed_simple a) (handler_node (option_map boxed_handler h))
 unfolding statement_tree bracketed_tree branch_tree case_tree named_tree receive_tree handler_tree body_tree
 tree-simple at a None = ap (fold-Statement BodyTree BracketedTree StatementTree CaseTree ElsIfTree HandlerTree NamedTree ReceiveTree body_layer bracketed_layer statement_layer case_layer branch_layer handler_layer named_layer receive_layer) (sym (made_statement.rolls-Simple at a None)) ∙ fold-roll-Statement BodyTree BracketedTree StatementTree CaseTree ElsIfTree HandlerTree NamedTree ReceiveTree body_layer bracketed_layer statement_layer case_layer branch_layer handler_layer named_layer receive_layer (opens.Simple at a None)
 tree-simple at a (Some h) = ap (fold-Statement BodyTree BracketedTree StatementTree CaseTree ElsIfTree HandlerTree NamedTree ReceiveTree body_layer bracketed_layer statement_layer case_layer branch_layer handler_layer named_layer receive_layer) (sym (made_statement.rolls-Simple at a (Some h))) ∙ fold-roll-Statement BodyTree BracketedTree StatementTree CaseTree ElsIfTree HandlerTree NamedTree ReceiveTree body_layer bracketed_layer statement_layer case_layer branch_layer handler_layer named_layer receive_layer (opens.Simple at a (Some h))
 
-pub tree-bracketed : (at : Pos) (l : Option Name) (a : Bracketed) (h : Option Handler) (c : Option Name) → statement_tree (made_statement.Bracketed at l a h c) ≡ bracketed at l (bracketed_tree a) (handler_node (option_map handler_tree h)) c
+pub tree-bracketed : (at : Pos) (l : Option Name) (a : Box Bracketed Global) (h : Option (Box Handler Global)) (c : Option Name) → statement_tree (made_statement.Bracketed at l a h c) ≡ bracketed at l (boxed_bracketed a) (handler_node (option_map boxed_handler h)) c
 unfolding statement_tree bracketed_tree branch_tree case_tree named_tree receive_tree handler_tree body_tree
 tree-bracketed at l a None c = ap (fold-Statement BodyTree BracketedTree StatementTree CaseTree ElsIfTree HandlerTree NamedTree ReceiveTree body_layer bracketed_layer statement_layer case_layer branch_layer handler_layer named_layer receive_layer) (sym (made_statement.rolls-Bracketed at l a None c)) ∙ fold-roll-Statement BodyTree BracketedTree StatementTree CaseTree ElsIfTree HandlerTree NamedTree ReceiveTree body_layer bracketed_layer statement_layer case_layer branch_layer handler_layer named_layer receive_layer (opens.Bracketed at l a None c)
 tree-bracketed at l a (Some h) c = ap (fold-Statement BodyTree BracketedTree StatementTree CaseTree ElsIfTree HandlerTree NamedTree ReceiveTree body_layer bracketed_layer statement_layer case_layer branch_layer handler_layer named_layer receive_layer) (sym (made_statement.rolls-Bracketed at l a (Some h) c)) ∙ fold-roll-Statement BodyTree BracketedTree StatementTree CaseTree ElsIfTree HandlerTree NamedTree ReceiveTree body_layer bracketed_layer statement_layer case_layer branch_layer handler_layer named_layer receive_layer (opens.Bracketed at l a (Some h) c)
 
-pub tree-if_then : (at : Pos) (c : Expr) (ss : List Statement) (bs : List ElsIf) (o : Option (List Statement)) → bracketed_tree (made_bracketed.If at c ss bs o) ≡ if_then at (expr_tree c) (statement_nodes (statement_trees ss)) (branch_nodes (map branch_tree bs)) (otherwise_node (option_map statement_trees o))
+pub tree-if_then : (at : Pos) (c : Box Expr Global) (ss : List Statement) (bs : List ElsIf) (o : Option (List Statement)) → bracketed_tree (made_bracketed.If at c ss bs o) ≡ if_then at (boxed_expr c) (statement_nodes (statement_trees ss)) (branch_nodes (map branch_tree bs)) (otherwise_node (option_map statement_trees o))
 unfolding statement_tree bracketed_tree branch_tree case_tree named_tree receive_tree handler_tree body_tree
 tree-if_then at c ss bs None = ap (fold-Bracketed BodyTree BracketedTree StatementTree CaseTree ElsIfTree HandlerTree NamedTree ReceiveTree body_layer bracketed_layer statement_layer case_layer branch_layer handler_layer named_layer receive_layer) (sym (made_bracketed.rolls-If at c ss bs None)) ∙ fold-roll-Bracketed BodyTree BracketedTree StatementTree CaseTree ElsIfTree HandlerTree NamedTree ReceiveTree body_layer bracketed_layer statement_layer case_layer branch_layer handler_layer named_layer receive_layer (opens.If at c ss bs None)
 tree-if_then at c ss bs (Some o) = ap (fold-Bracketed BodyTree BracketedTree StatementTree CaseTree ElsIfTree HandlerTree NamedTree ReceiveTree body_layer bracketed_layer statement_layer case_layer branch_layer handler_layer named_layer receive_layer) (sym (made_bracketed.rolls-If at c ss bs (Some o))) ∙ fold-roll-Bracketed BodyTree BracketedTree StatementTree CaseTree ElsIfTree HandlerTree NamedTree ReceiveTree body_layer bracketed_layer statement_layer case_layer branch_layer handler_layer named_layer receive_layer (opens.If at c ss bs (Some o))
 
-pub tree-case_of : (at : Pos) (e : Expr) (cs : List CaseAlternative) (o : Option (List Statement)) → bracketed_tree (made_bracketed.Case at e cs o) ≡ case_of at (expr_tree e) (case_nodes (map case_tree cs)) (otherwise_node (option_map statement_trees o))
+pub tree-case_of : (at : Pos) (e : Box Expr Global) (cs : List CaseAlternative) (o : Option (List Statement)) → bracketed_tree (made_bracketed.Case at e cs o) ≡ case_of at (boxed_expr e) (case_nodes (map case_tree cs)) (otherwise_node (option_map statement_trees o))
 unfolding statement_tree bracketed_tree branch_tree case_tree named_tree receive_tree handler_tree body_tree
 tree-case_of at e cs None = ap (fold-Bracketed BodyTree BracketedTree StatementTree CaseTree ElsIfTree HandlerTree NamedTree ReceiveTree body_layer bracketed_layer statement_layer case_layer branch_layer handler_layer named_layer receive_layer) (sym (made_bracketed.rolls-Case at e cs None)) ∙ fold-roll-Bracketed BodyTree BracketedTree StatementTree CaseTree ElsIfTree HandlerTree NamedTree ReceiveTree body_layer bracketed_layer statement_layer case_layer branch_layer handler_layer named_layer receive_layer (opens.Case at e cs None)
 tree-case_of at e cs (Some o) = ap (fold-Bracketed BodyTree BracketedTree StatementTree CaseTree ElsIfTree HandlerTree NamedTree ReceiveTree body_layer bracketed_layer statement_layer case_layer branch_layer handler_layer named_layer receive_layer) (sym (made_bracketed.rolls-Case at e cs (Some o))) ∙ fold-roll-Bracketed BodyTree BracketedTree StatementTree CaseTree ElsIfTree HandlerTree NamedTree ReceiveTree body_layer bracketed_layer statement_layer case_layer branch_layer handler_layer named_layer receive_layer (opens.Case at e cs (Some o))
@@ -57,11 +59,11 @@ pub tree-begin_end : (at : Pos) (ps : List BodyPart) → bracketed_tree (made_br
 unfolding statement_tree bracketed_tree branch_tree case_tree named_tree receive_tree handler_tree body_tree
 tree-begin_end at ps = ap (fold-Bracketed BodyTree BracketedTree StatementTree CaseTree ElsIfTree HandlerTree NamedTree ReceiveTree body_layer bracketed_layer statement_layer case_layer branch_layer handler_layer named_layer receive_layer) (sym (made_bracketed.rolls-Begin at ps)) ∙ fold-roll-Bracketed BodyTree BracketedTree StatementTree CaseTree ElsIfTree HandlerTree NamedTree ReceiveTree body_layer bracketed_layer statement_layer case_layer branch_layer handler_layer named_layer receive_layer (opens.Begin at ps)
 
-pub tree-delay_case : (at : Pos) (s : Option Expr) (p : Option Expr) (ns : List NamedAlternative) → bracketed_tree (made_bracketed.DelayCase at s p ns) ≡ delay_case at (option_map expr_tree s) (option_map expr_tree p) (named_nodes (map named_tree ns))
+pub tree-delay_case : (at : Pos) (s : Option (Box Expr Global)) (p : Option (Box Expr Global)) (ns : List NamedAlternative) → bracketed_tree (made_bracketed.DelayCase at s p ns) ≡ delay_case at (option_map boxed_expr s) (option_map boxed_expr p) (named_nodes (map named_tree ns))
 unfolding statement_tree bracketed_tree branch_tree case_tree named_tree receive_tree handler_tree body_tree
 tree-delay_case at s p ns = ap (fold-Bracketed BodyTree BracketedTree StatementTree CaseTree ElsIfTree HandlerTree NamedTree ReceiveTree body_layer bracketed_layer statement_layer case_layer branch_layer handler_layer named_layer receive_layer) (sym (made_bracketed.rolls-DelayCase at s p ns)) ∙ fold-roll-Bracketed BodyTree BracketedTree StatementTree CaseTree ElsIfTree HandlerTree NamedTree ReceiveTree body_layer bracketed_layer statement_layer case_layer branch_layer handler_layer named_layer receive_layer (opens.DelayCase at s p ns)
 
-pub tree-receive_case : (at : Pos) (s : Option Expr) (rs : List ReceiveAlternative) (o : Option (List Statement)) → bracketed_tree (made_bracketed.ReceiveCase at s rs o) ≡ receive_case at (option_map expr_tree s) (receive_nodes (map receive_tree rs)) (otherwise_node (option_map statement_trees o))
+pub tree-receive_case : (at : Pos) (s : Option (Box Expr Global)) (rs : List ReceiveAlternative) (o : Option (List Statement)) → bracketed_tree (made_bracketed.ReceiveCase at s rs o) ≡ receive_case at (option_map boxed_expr s) (receive_nodes (map receive_tree rs)) (otherwise_node (option_map statement_trees o))
 unfolding statement_tree bracketed_tree branch_tree case_tree named_tree receive_tree handler_tree body_tree
 tree-receive_case at s rs None = ap (fold-Bracketed BodyTree BracketedTree StatementTree CaseTree ElsIfTree HandlerTree NamedTree ReceiveTree body_layer bracketed_layer statement_layer case_layer branch_layer handler_layer named_layer receive_layer) (sym (made_bracketed.rolls-ReceiveCase at s rs None)) ∙ fold-roll-Bracketed BodyTree BracketedTree StatementTree CaseTree ElsIfTree HandlerTree NamedTree ReceiveTree body_layer bracketed_layer statement_layer case_layer branch_layer handler_layer named_layer receive_layer (opens.ReceiveCase at s rs None)
 tree-receive_case at s rs (Some o) = ap (fold-Bracketed BodyTree BracketedTree StatementTree CaseTree ElsIfTree HandlerTree NamedTree ReceiveTree body_layer bracketed_layer statement_layer case_layer branch_layer handler_layer named_layer receive_layer) (sym (made_bracketed.rolls-ReceiveCase at s rs (Some o))) ∙ fold-roll-Bracketed BodyTree BracketedTree StatementTree CaseTree ElsIfTree HandlerTree NamedTree ReceiveTree body_layer bracketed_layer statement_layer case_layer branch_layer handler_layer named_layer receive_layer (opens.ReceiveCase at s rs (Some o))
@@ -74,7 +76,7 @@ pub tree-action_part : (s : Statement) → body_tree (made_bodypart.Statement s)
 unfolding statement_tree bracketed_tree branch_tree case_tree named_tree receive_tree handler_tree body_tree
 tree-action_part s = ap (fold-BodyPart BodyTree BracketedTree StatementTree CaseTree ElsIfTree HandlerTree NamedTree ReceiveTree body_layer bracketed_layer statement_layer case_layer branch_layer handler_layer named_layer receive_layer) (sym (made_bodypart.rolls-Statement s)) ∙ fold-roll-BodyPart BodyTree BracketedTree StatementTree CaseTree ElsIfTree HandlerTree NamedTree ReceiveTree body_layer bracketed_layer statement_layer case_layer branch_layer handler_layer named_layer receive_layer (opens.Statement s)
 
-pub tree-branch : (at : Pos) (c : Expr) (ss : List Statement) → branch_tree (roll-ElsIf (record { at = at; condition = c; actions = ss })) ≡ record { at = at; condition = expr_tree c; actions = statement_trees ss }
+pub tree-branch : (at : Pos) (c : Box Expr Global) (ss : List Statement) → branch_tree (roll-ElsIf (record { at = at; condition = c; actions = ss })) ≡ record { at = at; condition = boxed_expr c; actions = statement_trees ss }
 unfolding statement_tree bracketed_tree branch_tree case_tree named_tree receive_tree handler_tree body_tree
 tree-branch at c ss = fold-roll-ElsIf BodyTree BracketedTree StatementTree CaseTree ElsIfTree HandlerTree NamedTree ReceiveTree body_layer bracketed_layer statement_layer case_layer branch_layer handler_layer named_layer receive_layer (record { at = at; condition = c; actions = ss })
 

@@ -1,5 +1,7 @@
 -- Expressions as they are written, without where they lie in memory.
 use Rattle.std.specs.Prelude.{ℕ, List, [], ◌∷◌, map, Option, Some, None, option_map}
+use Rattle.std.specs.declared.alloc.Global.{Global}
+use Rattle.std.specs.declared.boxed.Box.{Box}
 use Rattle.chill_base.specs.declared.pos.Pos.{Pos}
 use Rattle.chill_tree.specs.declared.tree.name.Name.{Name}
 use Rattle.chill_tree.specs.declared.tree.expr.Operator.{Operator}
@@ -117,11 +119,15 @@ expr_layer (opens.Prefixed at o e) = prefixed at o e.value
 expr_layer (opens.Binary at l o p r) = binary at l.value o p r.value
 
 abbrev pub range_layer : ValueRange-F ExprTree RangeTree → RangeTree
-range_layer r = range_of r.first r.last
+range_layer r = range_of r.first.value (option_map (λ e. e.value) r.last)
 
 -- the tree of an expression
 unfoldable pub expr_tree : Expr → ExprTree
 expr_tree = fold-Expr ExprTree RangeTree expr_layer range_layer
+
+-- the tree of an expression in a box
+abbrev pub boxed_expr : Box Expr Global → ExprTree
+boxed_expr b = expr_tree b.value
 
 -- the tree of a range
 unfoldable pub range_tree : ValueRange → RangeTree

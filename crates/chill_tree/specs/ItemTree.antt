@@ -1,5 +1,7 @@
 -- Modulions and what stands in them, as they are written, without where they lie in memory.
 use Rattle.std.specs.Prelude.{List, [], ◌∷◌, map, Option, option_map}
+use Rattle.std.specs.declared.alloc.Global.{Global}
+use Rattle.std.specs.declared.boxed.Box.{Box}
 use Rattle.chill_base.specs.declared.pos.Pos.{Pos}
 use Rattle.chill_tree.specs.declared.tree.name.Name.{Name}
 use Rattle.chill_tree.specs.declared.tree.item.ModulionKind.{ModulionKind}
@@ -16,7 +18,7 @@ use Rattle.chill_tree.specs.declared.tree.item.Item.TheOpen as opens
 use Rattle.chill_tree.specs.declared.tree.item.Modulion.{Modulion, Modulion-F, fold-Modulion}
 use Rattle.chill_tree.specs.ModeTree.{ModeTree, mode_tree}
 use Rattle.chill_tree.specs.LocalTree.{LocalTree, local_tree}
-use Rattle.chill_tree.specs.StatementTree.{StatementTree, statement_tree, HandlerTree, handler_tree, BodyTree, body_trees}
+use Rattle.chill_tree.specs.StatementTree.{StatementTree, statement_tree, HandlerTree, boxed_handler, BodyTree, body_trees}
 
 -- a signal
 pub record SignalTree : Type 0 where
@@ -107,23 +109,29 @@ abbrev pub formal_tree : Formal → FormalTree
 formal_tree p = record { names = p.names; mode = mode_tree p.mode }
 
 abbrev pub procedure_tree : Procedure → ProcedureTree
-procedure_tree p = record { name = p.name; params = map param_tree p.params; returns = option_map mode_tree p.returns; exceptions = p.exceptions; body = body_trees p.body; handler = option_map handler_tree p.handler; closing = p.closing }
+procedure_tree p = record { name = p.name; params = map param_tree p.params; returns = option_map mode_tree p.returns; exceptions = p.exceptions; body = body_trees p.body; handler = option_map boxed_handler p.handler; closing = p.closing }
+
+abbrev pub boxed_procedure : Box Procedure Global → ProcedureTree
+boxed_procedure b = procedure_tree b.value
 
 abbrev pub process_tree : Process → ProcessTree
-process_tree p = record { name = p.name; formals = map formal_tree p.formals; body = body_trees p.body; handler = option_map handler_tree p.handler; closing = p.closing }
+process_tree p = record { name = p.name; formals = map formal_tree p.formals; body = body_trees p.body; handler = option_map boxed_handler p.handler; closing = p.closing }
+
+abbrev pub boxed_process : Box Process Global → ProcessTree
+boxed_process b = process_tree b.value
 
 abbrev pub item_layer : Item-F ItemTree ModulionTree → ItemTree
 item_layer (opens.Seize at p) = seize at p
 item_layer (opens.Grant at p) = grant at p
 item_layer (opens.Local l) = local_item (local_tree l)
 item_layer (opens.Signals at ss) = signals at (map signal_tree ss)
-item_layer (opens.Procedure p) = procedure (procedure_tree p)
-item_layer (opens.Process p) = process (process_tree p)
-item_layer (opens.Modulion m) = modulion_item m
+item_layer (opens.Procedure p) = procedure (boxed_procedure p)
+item_layer (opens.Process p) = process (boxed_process p)
+item_layer (opens.Modulion m) = modulion_item m.value
 item_layer (opens.Statement s) = action (statement_tree s)
 
 abbrev pub modulion_layer : Modulion-F ItemTree ModulionTree → ModulionTree
-modulion_layer m = record { name = m.name; kind = m.kind; items = m.items; handler = option_map handler_tree m.handler; closing = m.closing }
+modulion_layer m = record { name = m.name; kind = m.kind; items = m.items; handler = option_map boxed_handler m.handler; closing = m.closing }
 
 -- the tree of an item
 unfoldable pub item_tree : Item → ItemTree
@@ -132,6 +140,9 @@ item_tree = fold-Item ItemTree ModulionTree item_layer modulion_layer
 -- the tree of a modulion
 unfoldable pub modulion_tree : Modulion → ModulionTree
 modulion_tree = fold-Modulion ItemTree ModulionTree item_layer modulion_layer
+
+abbrev pub boxed_modulion : Box Modulion Global → ModulionTree
+boxed_modulion b = modulion_tree b.value
 
 abbrev pub item_trees : List Item → List ItemTree
 item_trees is = map item_tree is

@@ -8,7 +8,7 @@ use Rattle.chill_tree.specs.declared.tree.local.Initial.{Initial}
 use Rattle.chill_tree.specs.declared.tree.local.Declaration.{Declaration}
 use Rattle.chill_tree.specs.declared.tree.local.Local.{Local}
 use Rattle.chill_tree.specs.declared.tree.local.Local.TheVariants as locals
-use Rattle.chill_tree.specs.ExprTree.{ExprTree, expr_tree}
+use Rattle.chill_tree.specs.ExprTree.{ExprTree, boxed_expr}
 use Rattle.chill_tree.specs.ModeTree.{ModeTree, mode_tree}
 
 -- names for the value of a constant
@@ -44,13 +44,13 @@ pub data LocalTree : Type 0 where
 -- ---- the trees of values
 
 abbrev pub synonym_tree : Synonym → SynonymTree
-synonym_tree s = record { names = s.names; mode = option_map mode_tree s.mode; value = expr_tree s.value }
+synonym_tree s = record { names = s.names; mode = option_map mode_tree s.mode; value = boxed_expr s.value }
 
 abbrev pub mode_definition_tree : ModeDefinition → ModeDefinitionTree
 mode_definition_tree d = record { name = d.name; mode = mode_tree d.mode }
 
 abbrev pub initial_tree : Initial → InitialTree
-initial_tree i = record { at = i.at; init = i.init; value = expr_tree i.value }
+initial_tree i = record { at = i.at; init = i.init; value = boxed_expr i.value }
 
 abbrev pub declaration_tree : Declaration → DeclarationTree
 declaration_tree d = record { names = d.names; mode = mode_tree d.mode; initial = option_map initial_tree d.initial }

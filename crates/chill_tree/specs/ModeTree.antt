@@ -1,5 +1,7 @@
 -- Modes as they are written, without where they lie in memory.
 use Rattle.std.specs.Prelude.{List, [], ◌∷◌, map, Option, option_map}
+use Rattle.std.specs.declared.alloc.Global.{Global}
+use Rattle.std.specs.declared.boxed.Box.{Box}
 use Rattle.chill_base.specs.declared.pos.Pos.{Pos}
 use Rattle.chill_tree.specs.declared.tree.name.Name.{Name}
 use Rattle.chill_tree.specs.declared.tree.mode.Packing.{Packing}
@@ -17,7 +19,7 @@ use Rattle.chill_tree.specs.declared.tree.mode.Base.TheOpen as opens
 use Rattle.chill_tree.specs.declared.tree.mode.Field.{Field, Field-F, fold-Field}
 use Rattle.chill_tree.specs.declared.tree.mode.Mode.{Mode}
 use Rattle.chill_tree.specs.declared.tree.mode.Mode.TheVariants as modes
-use Rattle.chill_tree.specs.ExprTree.{ExprTree, expr_tree}
+use Rattle.chill_tree.specs.ExprTree.{ExprTree, boxed_expr}
 
 -- a mode's name, a part of that mode between two bounds, or a set of elements
 pub data DiscreteTree : Type 0 where
@@ -90,18 +92,18 @@ pub data ModeTree : Type 0 where
 
 abbrev pub discrete_tree : Discrete → DiscreteTree
 discrete_tree (discretes.Named n) = named n
-discrete_tree (discretes.Range n l h) = bounded n (expr_tree l) (expr_tree h)
+discrete_tree (discretes.Range n l h) = bounded n (boxed_expr l) (boxed_expr h)
 discrete_tree (discretes.Set at ns) = set_of at ns
 
 abbrev pub index_tree : Index → IndexTree
 index_tree (indices.Named n) = index_named n
-index_tree (indices.Range l h) = index_bounded (expr_tree l) (expr_tree h)
+index_tree (indices.Range l h) = index_bounded (boxed_expr l) (boxed_expr h)
 
 abbrev pub place_tree : Place → PlaceTree
-place_tree p = record { at = p.at; word = expr_tree p.word; start = expr_tree p.start; form = p.form; bound = expr_tree p.bound }
+place_tree p = record { at = p.at; word = boxed_expr p.word; start = boxed_expr p.start; form = p.form; bound = boxed_expr p.bound }
 
 abbrev pub step_tree : Step → StepTree
-step_tree s = record { at = s.at; place = place_tree s.place; distance = expr_tree s.distance }
+step_tree s = record { at = s.at; place = place_tree s.place; distance = boxed_expr s.distance }
 
 abbrev pub spread_tree : Spread → SpreadTree
 spread_tree (spreads.Packing p) = by_packing p
@@ -110,16 +112,20 @@ spread_tree (spreads.Step s) = by_step (step_tree s)
 abbrev pub base_layer : Base-F BaseTree FieldTree → BaseTree
 base_layer (opens.Discrete d) = discrete (discrete_tree d)
 base_layer (opens.Powerset at d) = powerset at (discrete_tree d)
-base_layer (opens.Chars at e) = chars at (expr_tree e)
+base_layer (opens.Chars at e) = chars at (boxed_expr e)
 base_layer (opens.Struct at fs p) = structure at (field_nodes fs) p
 base_layer (opens.Array at i b s) = array at (index_tree i) b.value (option_map spread_tree s)
 
 abbrev pub field_layer : Field-F BaseTree FieldTree → FieldTree
-field_layer f = record { names = f.names; base = f.base; place = option_map place_tree f.place }
+field_layer f = record { names = f.names; base = f.base.value; place = option_map place_tree f.place }
 
 -- the tree of a mode of values
 unfoldable pub base_tree : Base → BaseTree
 base_tree = fold-Base BaseTree FieldTree base_layer field_layer
+
+-- the tree of a mode of values in a box
+abbrev pub boxed_base : Box Base Global → BaseTree
+boxed_base b = base_tree b.value
 
 -- the tree of fields
 unfoldable pub field_tree : Field → FieldTree
@@ -130,7 +136,7 @@ field_trees fs = map field_tree fs
 
 -- the tree of a mode
 abbrev pub mode_tree : Mode → ModeTree
-mode_tree (modes.Base b) = base_mode (base_tree b)
-mode_tree (modes.Read at b) = read_mode at (base_tree b)
-mode_tree (modes.Event at l) = event_mode at (option_map expr_tree l)
-mode_tree (modes.Buffer at l b) = buffer_mode at (option_map expr_tree l) (base_tree b)
+mode_tree (modes.Base b) = base_mode (boxed_base b)
+mode_tree (modes.Read at b) = read_mode at (boxed_base b)
+mode_tree (modes.Event at l) = event_mode at (option_map boxed_expr l)
+mode_tree (modes.Buffer at l b) = buffer_mode at (option_map boxed_expr l) (boxed_base b)

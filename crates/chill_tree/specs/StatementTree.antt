@@ -1,5 +1,7 @@
 -- Statements, handlers and bodies as they are written, without where they lie in memory.
 use Rattle.std.specs.Prelude.{List, [], ◌∷◌, map, Option, Some, None, option_map}
+use Rattle.std.specs.declared.alloc.Global.{Global}
+use Rattle.std.specs.declared.boxed.Box.{Box}
 use Rattle.chill_base.specs.declared.pos.Pos.{Pos}
 use Rattle.chill_tree.specs.declared.tree.name.Name.{Name}
 use Rattle.chill_tree.specs.declared.tree.statement.Statement.{Statement, Statement-F, fold-Statement}
@@ -11,9 +13,9 @@ use Rattle.chill_tree.specs.declared.tree.statement.NamedAlternative.{NamedAlter
 use Rattle.chill_tree.specs.declared.tree.statement.ReceiveAlternative.{ReceiveAlternative, ReceiveAlternative-F, fold-ReceiveAlternative}
 use Rattle.chill_tree.specs.declared.tree.statement.Handler.{Handler, Handler-F, fold-Handler}
 use Rattle.chill_tree.specs.declared.tree.statement.BodyPart.{BodyPart, BodyPart-F, fold-BodyPart}
-use Rattle.chill_tree.specs.ExprTree.{ExprTree, expr_tree, RangeTree, range_trees}
+use Rattle.chill_tree.specs.ExprTree.{ExprTree, boxed_expr, RangeTree, range_trees}
 use Rattle.chill_tree.specs.LocalTree.{LocalTree, local_tree}
-use Rattle.chill_tree.specs.SimpleTree.{SimpleTree, simple_tree, ControlTree, control_tree}
+use Rattle.chill_tree.specs.SimpleTree.{SimpleTree, boxed_simple, ControlTree, control_tree}
 
 mutual
   -- a statement
@@ -172,19 +174,19 @@ body_in (more_actions s ps) = action_part s ∷ body_in ps
 
 abbrev pub statement_layer : Statement-F BodyTree BracketedTree StatementTree CaseTree ElsIfTree HandlerTree NamedTree ReceiveTree → StatementTree
 statement_layer (opens.Empty at) = empty at
-statement_layer (opens.Simple at a h) = simple at (simple_tree a) (handler_node h)
-statement_layer (opens.Bracketed at l a h c) = bracketed at l a (handler_node h) c
+statement_layer (opens.Simple at a h) = simple at (boxed_simple a) (handler_node (option_map (λ b. b.value) h))
+statement_layer (opens.Bracketed at l a h c) = bracketed at l a.value (handler_node (option_map (λ b. b.value) h)) c
 
 abbrev pub bracketed_layer : Bracketed-F BodyTree BracketedTree StatementTree CaseTree ElsIfTree HandlerTree NamedTree ReceiveTree → BracketedTree
-bracketed_layer (opens.If at c ss bs o) = if_then at (expr_tree c) (statement_nodes ss) (branch_nodes bs) (otherwise_node o)
-bracketed_layer (opens.Case at e as' o) = case_of at (expr_tree e) (case_nodes as') (otherwise_node o)
+bracketed_layer (opens.If at c ss bs o) = if_then at (boxed_expr c) (statement_nodes ss) (branch_nodes bs) (otherwise_node o)
+bracketed_layer (opens.Case at e as' o) = case_of at (boxed_expr e) (case_nodes as') (otherwise_node o)
 bracketed_layer (opens.Do at c ss) = do_loop at (control_tree c) (statement_nodes ss)
 bracketed_layer (opens.Begin at ps) = begin_end at (body_nodes ps)
-bracketed_layer (opens.DelayCase at s p as') = delay_case at (option_map expr_tree s) (option_map expr_tree p) (named_nodes as')
-bracketed_layer (opens.ReceiveCase at s as' o) = receive_case at (option_map expr_tree s) (receive_nodes as') (otherwise_node o)
+bracketed_layer (opens.DelayCase at s p as') = delay_case at (option_map boxed_expr s) (option_map boxed_expr p) (named_nodes as')
+bracketed_layer (opens.ReceiveCase at s as' o) = receive_case at (option_map boxed_expr s) (receive_nodes as') (otherwise_node o)
 
 abbrev pub branch_layer : ElsIf-F BodyTree BracketedTree StatementTree CaseTree ElsIfTree HandlerTree NamedTree ReceiveTree → ElsIfTree
-branch_layer b = record { at = b.at; condition = expr_tree b.condition; actions = b.actions }
+branch_layer b = record { at = b.at; condition = boxed_expr b.condition; actions = b.actions }
 
 abbrev pub case_layer : CaseAlternative-F BodyTree BracketedTree StatementTree CaseTree ElsIfTree HandlerTree NamedTree ReceiveTree → CaseTree
 case_layer a = record { at = a.at; labels = range_trees a.labels; actions = a.actions }
@@ -210,6 +212,9 @@ statement_tree = fold-Statement BodyTree BracketedTree StatementTree CaseTree El
 unfoldable pub bracketed_tree : Bracketed → BracketedTree
 bracketed_tree = fold-Bracketed BodyTree BracketedTree StatementTree CaseTree ElsIfTree HandlerTree NamedTree ReceiveTree body_layer bracketed_layer statement_layer case_layer branch_layer handler_layer named_layer receive_layer
 
+abbrev pub boxed_bracketed : Box Bracketed Global → BracketedTree
+boxed_bracketed b = bracketed_tree b.value
+
 -- the trees of the parts of those
 unfoldable pub branch_tree : ElsIf → ElsIfTree
 branch_tree = fold-ElsIf BodyTree BracketedTree StatementTree CaseTree ElsIfTree HandlerTree NamedTree ReceiveTree body_layer bracketed_layer statement_layer case_layer branch_layer handler_layer named_layer receive_layer
@@ -225,6 +230,9 @@ receive_tree = fold-ReceiveAlternative BodyTree BracketedTree StatementTree Case
 
 unfoldable pub handler_tree : Handler → HandlerTree
 handler_tree = fold-Handler BodyTree BracketedTree StatementTree CaseTree ElsIfTree HandlerTree NamedTree ReceiveTree body_layer bracketed_layer statement_layer case_layer branch_layer handler_layer named_layer receive_layer
+
+abbrev pub boxed_handler : Box Handler Global → HandlerTree
+boxed_handler b = handler_tree b.value
 
 unfoldable pub body_tree : BodyPart → BodyTree
 body_tree = fold-BodyPart BodyTree BracketedTree StatementTree CaseTree ElsIfTree HandlerTree NamedTree ReceiveTree body_layer bracketed_layer statement_layer case_layer branch_layer handler_layer named_layer receive_layer

@@ -10,13 +10,12 @@ use std::marker::Model;
 const INLINE_BYTES: usize = 14;
 
 /// The bytes of a name as it is spelled, which contracts see as a list. Up to 14 take no memory of their own.
-#[derive(Debug)]
 pub struct NameText {
     held: Held,
 }
 
 // Where the bytes lie.
-#[derive(Debug, Drop)]
+#[derive(Drop)]
 enum Held {
     // The first bytes of the array. Nothing is said of the others, which nobody sees.
     Inline {

@@ -7,7 +7,6 @@ use std::marker::Model;
 
 /// The bytes that a text literal stands for, which contracts see as a list. They lie in memory of their own, so that
 /// tokens are small.
-#[derive(Debug)]
 pub struct TextLiteral {
     value: Box<Text>,
 }

@@ -3,7 +3,7 @@ use crate::{NameText, TextLiteral};
 use chill_base::{List, Pos};
 
 /// A reserved word, spelled in a text all in upper or all in lower case.
-#[derive(Clone, Copy, Debug, PartialEq, Eq)]
+#[derive(Clone, Copy, PartialEq, Eq)]
 pub enum Word {
     All,
     And,
@@ -79,7 +79,7 @@ pub enum Word {
 }
 
 /// A sign.
-#[derive(Clone, Copy, Debug, PartialEq, Eq)]
+#[derive(Clone, Copy, PartialEq, Eq)]
 pub enum Sign {
     /// `(`
     Open,
@@ -122,7 +122,7 @@ pub enum Sign {
 }
 
 /// What a token is.
-#[derive(Debug, Drop)]
+#[derive(Drop)]
 pub enum TokenKind {
     Word(Word),
     /// Any other name, as it is spelled.
@@ -137,7 +137,7 @@ pub enum TokenKind {
 }
 
 /// A token, and the place of its first byte.
-#[derive(Debug, Drop)]
+#[derive(Drop)]
 pub struct Token {
     pub at: Pos,
     pub kind: TokenKind,

@@ -9,7 +9,7 @@ use Rattle.code_types.specs.declared.instr.Instr.{Instr}
 use Rattle.code_types.specs.declared.code.Handler.{Handler}
 use Rattle.code_guard.specs.Owners.{Owns, IsOwned}
 use Rattle.code_guard.specs.Fitting.{IsOrdered}
-use Rattle.code_guard.proofs.Lists.{all_at, item_or_past}
+use Rattle.code_guard.proofs.EachItem.{all_at, item_or_past}
 
 -- the place behind a body that has a next one, and behind the last
 pub end_next : (code : Code) (body : ℕ) (next : BodyRow) → slice_get code.bodies (body + 1) ≡ Some next → end_of code body ≡ next.first

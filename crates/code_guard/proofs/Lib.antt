@@ -1,5 +1,5 @@
-pub mod Lists
+pub mod EachItem
 pub mod Belonging
-pub mod Known
-pub mod Found
+pub mod KnownHeights
+pub mod FoundHeights
 pub mod Keeping

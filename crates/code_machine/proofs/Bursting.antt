@@ -5,9 +5,9 @@ use Rattle.world_model.specs.Journal.{ticks_of}
 use Rattle.code_types.specs.declared.code.Code.{Code}
 use Rattle.code_types.specs.State.{State}
 use Rattle.code_types.specs.Talk.{Leads}
-use Rattle.code_standing.specs.Standing.{StandsOn}
-use Rattle.code_standing.proofs.Moving.{no_move_leads}
-use Rattle.code_standing.proofs.StandingOn.{stands_after_going, stands_after_tick, stands_after_asking}
+use Rattle.code_safety.specs.Standing.{StandsOn}
+use Rattle.code_safety.proofs.SingleMoves.{no_move_leads}
+use Rattle.code_safety.proofs.StandingOn.{stands_after_going, stands_after_tick, stands_after_asking}
 use Rattle.machine_steps.specs.declared.process.Doing.{Doing}
 use Rattle.machine_steps.specs.declared.process.Doing.TheVariants.{Running, Called, Asking, Raising, Ended}
 use Rattle.machine_steps.specs.declared.process.Process.{Process}
@@ -22,7 +22,7 @@ use Rattle.code_machine.specs.Equipment.{IsEquippedToStep}
 use Rattle.code_machine.specs.Running.{Bursts, HasRoomIn, IsUnderway, IsUp, RunsOn}
 use Rattle.code_machine.specs.declared.burst.Stop.TheVariants.{Asks as StopsAsking, Paused}
 use Rattle.code_machine.proofs.Equipping.{equipped_to_step}
-use Rattle.code_machine.proofs.Leading.{goes_more, makes_more, asks_more, move_up, GoesUp}
+use Rattle.code_machine.proofs.StepsLead.{goes_more, makes_more, asks_more, move_up, GoesUp}
 
 -- what is underway can make a step
 pub can_step : (code : Code) (most : ℕ) (from : State) (ticks : ℕ) (p : Process) (room : Room) → IsUnderway code most from ticks p room → IsEquippedToStep code p room

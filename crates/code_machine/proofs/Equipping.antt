@@ -5,14 +5,14 @@ use Rattle.std.proofs.lemmas.List.{length-reverse, length-map}
 use Rattle.std.proofs.lemmas.List.Elements.{All-pop}
 use Rattle.std.proofs.lemmas.Option.{slice_get_within}
 use Rattle.kernel_base.specs.declared.ends.Exc.{Exc}
-use Rattle.code_guard.proofs.Lists.{all_at, item_or_past}
+use Rattle.code_guard.proofs.EachItem.{all_at, item_or_past}
 use Rattle.code_types.specs.declared.instr.Instr.{Instr}
 use Rattle.code_types.specs.declared.code.BodyRow.{BodyRow}
 use Rattle.code_types.specs.declared.code.Code.{Code}
 use Rattle.code_types.specs.Places.{finds}
 use Rattle.code_types.specs.State.{Frame, Running as RunningMode, Called as CalledMode}
-use Rattle.code_standing.specs.Standing.{StandsOn}
-use Rattle.code_standing.proofs.Needing.{placed, can_make, can_enter, can_take}
+use Rattle.code_safety.specs.Standing.{StandsOn}
+use Rattle.code_safety.proofs.Needing.{placed, can_make, can_enter, can_take}
 use Rattle.machine_frames.specs.declared.activation.Activation.{Activation}
 use Rattle.machine_frames.specs.Frames.{frame_of}
 use Rattle.machine_steps.specs.declared.process.Doing.{Doing}

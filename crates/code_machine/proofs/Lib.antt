@@ -1,5 +1,5 @@
 pub mod Equipping
-pub mod Leading
+pub mod StepsLead
 pub mod Weighing
 pub mod Bursting
-pub mod Holding
+pub mod AnswerRoom

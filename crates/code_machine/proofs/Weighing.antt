@@ -3,10 +3,10 @@ use Rattle.std.proofs.Common.{◌≡◌, ℕ, ◌+◌, ◌*◌, ◌<◌, subst, 
 use Rattle.code_types.specs.declared.code.Code.{Code}
 use Rattle.code_types.specs.State.{State}
 use Rattle.code_types.specs.Steps.{Goes, move}
-use Rattle.code_standing.specs.Standing.{StandsOn}
-use Rattle.code_standing.specs.Weights.{most_weight, weight}
-use Rattle.code_standing.proofs.Falling.{weighs}
-use Rattle.code_standing.proofs.StandingOn.{falls_going}
+use Rattle.code_safety.specs.Standing.{StandsOn}
+use Rattle.code_safety.specs.Weights.{most_weight, weight}
+use Rattle.code_safety.proofs.Falling.{weighs}
+use Rattle.code_safety.proofs.StandingOn.{falls_going}
 
 -- each tick that is left weighs more than any process
 abbrev pub burst_weight : Code → ℕ → State → ℕ

@@ -7,8 +7,8 @@ use Rattle.code_types.specs.declared.code.Code.{Code}
 use Rattle.code_types.specs.State.{State, Mode}
 use Rattle.code_types.specs.State.{Running as RunningMode, Called as CalledMode, Asking as AskingMode, Raising as RaisingMode, Ended as EndedMode}
 use Rattle.code_types.specs.Talk.{Leads}
-use Rattle.code_standing.specs.Leading.{WaitsWith}
-use Rattle.code_standing.specs.Standing.{StandsOn}
+use Rattle.code_safety.specs.Leading.{WaitsWith}
+use Rattle.code_safety.specs.Standing.{StandsOn}
 use Rattle.machine_steps.specs.declared.process.Doing.{Doing}
 use Rattle.machine_steps.specs.declared.process.Doing.TheVariants.{Running, Called, Asking, Raising, Ended}
 use Rattle.machine_steps.specs.declared.process.Process.{Process}

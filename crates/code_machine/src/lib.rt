@@ -1,7 +1,7 @@
 //! Guarded code runs, burst by burst.
 //!
 //! A machine is a process of a code that was guarded. A burst is the code's own steps, up to a request or a number of ticks;
-//! an answer lets it go on. It stands on the steps of `machine_steps`, and on the laws of `code_standing`, by which guarded
+//! an answer lets it go on. It stands on the steps of `machine_steps`, and on the laws of `code_safety`, by which guarded
 //! code never finds itself without what a step asks.
 #![tactic(auto)]
 

@@ -1,3 +1,3 @@
-pub mod Runs
-pub mod Giving
+pub mod ManySteps
+pub mod AnswerTest
 pub mod Shifts

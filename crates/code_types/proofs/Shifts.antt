@@ -9,7 +9,7 @@ use Rattle.code_types.specs.Answers.{fits_request, answered}
 use Rattle.code_types.specs.State.{Slot, State}
 use Rattle.code_types.specs.Steps.{Move, Goes, Makes, Asks, Awaits, Stays, move, Run, At, Over, run_behind, run_with, run_after, steps}
 use Rattle.code_types.specs.Talk.{Leads}
-use Rattle.code_types.proofs.Runs.{steps-+, steps-over}
+use Rattle.code_types.proofs.ManySteps.{steps-+, steps-over}
 
 -- a session with an earlier trace, more answers and more ticks
 abbrev pub more_session : List Item → List Answer → ℕ → Session → Session

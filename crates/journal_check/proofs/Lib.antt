@@ -1,4 +1,4 @@
 pub mod Buffers
-pub mod Listed
+pub mod ListedThings
 pub mod Digits
 pub mod Fronts

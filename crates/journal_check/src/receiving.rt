@@ -11,7 +11,7 @@ use crate::offers::{
     offered_priority, values_in,
 };
 use kernel_base::{Alternative, Answer, Facts, Request};
-use world_check::{are_equal, is_value};
+use world_check::{Receipt, are_equal, is_value};
 use world_model::{Phase, StoredValue, World, number_at, number_for};
 
 /// Whether no listed buffer has a value to take.
@@ -78,13 +78,11 @@ fn has_offered(
     world: &World,
     buffers: &[Alternative],
     buffer: u32,
-    send: u32,
-    scalars: &[i64],
-    by: u32,
+    receipt: &Receipt,
 ) -> bool
-    ensures { IsTrue result ↔ receiving.HasHighestOffered facts.now world.now buffers.now buffer send scalars.now by }
+    ensures { IsTrue result ↔ receiving.HasHighestOffered facts.now world.now buffers.now buffer receipt.now.send receipt.now.scalars.now receipt.now.by }
 {
-    match offered_as(world, buffer, send, scalars, by) {
+    match offered_as(world, buffer, receipt.send, receipt.scalars, receipt.by) {
         Some(priority) => no_value_above(facts, world, buffers, priority),
         None => false,
     }
@@ -96,13 +94,12 @@ fn may_take(
     world: &World,
     buffers: &[Alternative],
     value: &StoredValue,
-    send: u32,
-    scalars: &[i64],
-    by: u32,
+    receipt: &Receipt,
 ) -> bool
-    ensures { IsTrue result ↔ receiving.MayTake facts.now world.now buffers.now send scalars.now by value.now }
+    ensures { IsTrue result ↔ receiving.MayTake facts.now world.now buffers.now receipt.now.send receipt.now.scalars.now receipt.now.by value.now }
 {
-    is_value(value, send, scalars, by) && no_value_above(facts, world, buffers, value.priority)
+    is_value(value, receipt.send, receipt.scalars, receipt.by)
+        && no_value_above(facts, world, buffers, value.priority)
 }
 
 fn has_stored(
@@ -110,16 +107,14 @@ fn has_stored(
     world: &World,
     buffers: &[Alternative],
     buffer: u32,
-    send: u32,
-    scalars: &[i64],
-    by: u32,
+    receipt: &Receipt,
 ) -> bool
-    ensures { IsTrue result ↔ receiving.HasHighestStored facts.now world.now buffers.now buffer send scalars.now by }
+    ensures { IsTrue result ↔ receiving.HasHighestStored facts.now world.now buffers.now buffer receipt.now.send receipt.now.scalars.now receipt.now.by }
 {
     let values = values_in(world, buffer);
     for place in 0..values.len() {
         let value = &values[place];
-        if may_take(facts, world, buffers, value, send, scalars, by) {
+        if may_take(facts, world, buffers, value, receipt) {
             return true;
         }
     }
@@ -131,16 +126,14 @@ fn has_highest(
     world: &World,
     buffers: &[Alternative],
     buffer: u32,
-    send: u32,
-    scalars: &[i64],
-    by: u32,
+    receipt: &Receipt,
 ) -> bool
-    ensures { IsTrue result ↔ receiving.HasHighest facts.now world.now buffers.now buffer send scalars.now by }
+    ensures { IsTrue result ↔ receiving.HasHighest facts.now world.now buffers.now buffer receipt.now.send receipt.now.scalars.now receipt.now.by }
 {
     if is_unbuffered(facts, buffer) {
-        has_offered(facts, world, buffers, buffer, send, scalars, by)
+        has_offered(facts, world, buffers, buffer, receipt)
     } else {
-        has_stored(facts, world, buffers, buffer, send, scalars, by)
+        has_stored(facts, world, buffers, buffer, receipt)
     }
 }
 
@@ -194,49 +187,33 @@ fn takes_from(
     facts: &Facts,
     world: &World,
     buffers: &[Alternative],
-    alternative: u32,
-    send: u32,
-    scalars: &[i64],
-    by: u32,
+    receipt: &Receipt,
     refill: Option<u32>,
     buffer: u32,
 ) -> bool
-    ensures { IsTrue result ↔ receiving.TakesFrom facts.now world.now buffers.now alternative send scalars.now by refill buffer }
+    ensures { IsTrue result ↔ receiving.TakesFrom facts.now world.now buffers.now receipt.now.alternative receipt.now.send receipt.now.scalars.now receipt.now.by refill buffer }
 {
-    if !is_listed_as(buffers, buffer, alternative) {
+    if !is_listed_as(buffers, buffer, receipt.alternative) {
         return false;
     }
-    if !has_highest(facts, world, buffers, buffer, send, scalars, by) {
+    if !has_highest(facts, world, buffers, buffer, receipt) {
         return false;
     }
-    refills(facts, world, buffer, by, refill)
+    refills(facts, world, buffer, receipt.by, refill)
 }
 
 fn takes_value(
     facts: &Facts,
     world: &World,
     buffers: &[Alternative],
-    alternative: u32,
-    send: u32,
-    scalars: &[i64],
-    by: u32,
+    receipt: &Receipt,
     refill: Option<u32>,
 ) -> bool
-    ensures { IsTrue result ↔ ((priority : ℕ) × events.TakesValue facts.now world.now buffers.now alternative (receiving.value_of send scalars.now by priority) refill) }
+    ensures { IsTrue result ↔ ((priority : ℕ) × events.TakesValue facts.now world.now buffers.now receipt.now.alternative (receiving.value_of receipt.now.send receipt.now.scalars.now receipt.now.by priority) refill) }
 {
     for place in 0..buffers.len() {
         let listed = &buffers[place];
-        if takes_from(
-            facts,
-            world,
-            buffers,
-            alternative,
-            send,
-            scalars,
-            by,
-            refill,
-            listed.thing,
-        ) {
+        if takes_from(facts, world, buffers, receipt, refill, listed.thing) {
             return true;
         }
     }
@@ -273,16 +250,15 @@ pub fn receives_from_buffer(
             send,
             scalars,
             by,
-        } => takes_value(
-            facts,
-            world,
-            buffers,
-            *alternative,
-            *send,
-            scalars.as_slice(),
-            *by,
-            refill,
-        ),
+        } => {
+            let receipt = Receipt {
+                alternative: *alternative,
+                send: *send,
+                scalars: scalars.as_slice(),
+                by: *by,
+            };
+            takes_value(facts, world, buffers, &receipt, refill)
+        }
         Answer::Otherwise => may_take_none(facts, world, buffers, otherwise, refill),
         _ => false,
     }

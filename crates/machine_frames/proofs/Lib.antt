@@ -1,2 +1,4 @@
-pub mod Parts
+pub mod PowersetWords
+pub mod PowersetMembers
+pub mod TopmostParts
 pub mod Pushed

@@ -3,11 +3,11 @@ ghost use Rattle.code_types.specs.declared.instr.Instr.TheVariants.{Abs, Add, Ch
 ghost use Rattle.machine_frames.specs.Frames.{Does, IsReady, KeepsRoom};
 
 use crate::activation::{Acted, Activation};
-use kernel_base::Exc;
-use machine_numbers::{
+use crate::numbers::{
     difference, index_offset, magnitude_of, modulus_of, negation, predecessor, product,
     quotient_of, remainder_of, successor, sum, within_bounds,
 };
+use kernel_base::Exc;
 
 /// The sum, or OVERFLOW.
 pub fn add(top: &mut Activation) -> Acted

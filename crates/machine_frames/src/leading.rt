@@ -3,7 +3,7 @@ ghost use Rattle.code_types.specs.declared.instr.Instr.TheVariants.{Again, Jump,
 ghost use Rattle.machine_frames.specs.Frames.{Does, IsReady, KeepsRoom};
 
 use crate::activation::{Acted, Activation};
-use machine_numbers::{exception_with, is_true};
+use crate::numbers::{exception_with, is_true};
 
 /// Goes to a later place.
 pub fn jump(top: &mut Activation, to: u32) -> Acted

@@ -4,8 +4,8 @@ ghost use Rattle.code_types.specs.declared.instr.Instr.TheVariants.{Copy, Local,
 ghost use Rattle.machine_frames.specs.Frames.{Does, IsReady, KeepsRoom};
 
 use crate::activation::{Acted, Activation};
+use crate::numbers::offset_from;
 use kernel_base::Exc;
-use machine_numbers::offset_from;
 
 /// Pushes a number.
 pub fn push(top: &mut Activation, number: i64) -> Acted

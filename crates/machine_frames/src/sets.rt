@@ -3,11 +3,11 @@ ghost use Rattle.code_types.specs.declared.instr.Instr.TheVariants.{BitAnd, BitM
 ghost use Rattle.machine_frames.specs.Frames.{Does, IsReady, KeepsRoom};
 
 use crate::activation::{Acted, Activation};
-use kernel_base::Exc;
-use machine_numbers::{
+use crate::numbers::{
     all_members, common_members, count_members, greatest_member, has_offset_in, includes,
     least_member, members_without, missing_members, offsets_between, single_members, truth_from,
 };
+use kernel_base::Exc;
 
 /// The members that a powerset of so many hasn't.
 pub fn bit_not(top: &mut Activation, count: u32) -> Acted

@@ -4,7 +4,7 @@ ghost use Rattle.code_types.specs.declared.instr.Instr.TheVariants.{And, Less, N
 ghost use Rattle.machine_frames.specs.Frames.{Does, IsReady, KeepsRoom};
 
 use crate::activation::{Acted, Activation};
-use machine_numbers::{are_same, comes_first, is_true, truth_from};
+use crate::numbers::{are_same, comes_first, is_true, truth_from};
 
 /// Whether the number counts as false.
 pub fn not(top: &mut Activation) -> Acted

@@ -8,7 +8,7 @@ ghost use Rattle.world_model.specs.Lists.{number_for};
 
 use crate::process::{Doing, Process, SlotEntry};
 use kernel_base::{Alternative, Answer, Exc, Request};
-use machine_numbers::int_or_none;
+use machine_frames::numbers::int_or_none;
 
 // The number of the first alternative that lists this thing.
 fn first_number(alternatives: &[Alternative], thing: u32) -> Option<u32>

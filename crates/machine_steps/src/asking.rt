@@ -11,7 +11,7 @@ ghost use Rattle.machine_steps.specs.Views.{slot_of};
 use crate::process::{Doing, Process, SlotEntry, Stepped};
 use code_types::Code;
 use kernel_base::{Exc, How, Place, Request};
-use machine_numbers::thing_from;
+use machine_frames::numbers::thing_from;
 
 /// The scalar from which on an access reaches; none where that is no number of 32 bits.
 pub fn first_at(first: u32, offset: i64) -> Option<u32>

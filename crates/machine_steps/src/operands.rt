@@ -5,7 +5,7 @@ ghost use Rattle.machine_steps.specs.Views.{slot_of};
 
 use crate::process::SlotEntry;
 use kernel_base::Alternative;
-use machine_numbers::{offset_from, thing_from};
+use machine_frames::numbers::{offset_from, thing_from};
 
 // The alternative that a thing and a number tell; none where one of them doesn't fit.
 fn alternative_from(thing: i64, number: i64) -> Option<Alternative>

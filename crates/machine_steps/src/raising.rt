@@ -8,7 +8,7 @@ ghost use Rattle.machine_steps.specs.Stepping.{IsMade, Steps};
 use crate::process::{Doing, Process, Stepped};
 use code_types::{Code, Handler};
 use kernel_base::Exc;
-use machine_numbers::number_of;
+use machine_frames::numbers::number_of;
 
 /// Whether an exception is among these numbers.
 pub fn is_named(names: &[u32], exception: Exc) -> bool

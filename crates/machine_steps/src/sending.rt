@@ -10,7 +10,7 @@ use crate::process::{Doing, Process, Stepped};
 use crate::room::Room;
 use code_types::Code;
 use kernel_base::{Exc, Place, Request};
-use machine_numbers::thing_from;
+use machine_frames::numbers::thing_from;
 
 impl Process {
     /// Asks to put scalars into a buffer.

@@ -6,7 +6,7 @@ ghost use Rattle.outside_ports.specs.Faults.{HasCause};
 ghost use Rattle.outside_ports.specs.Library.{Gives};
 
 /// A reading or a writing failed. The port has counted it.
-#[derive(Clone, Copy, PartialEq, Eq)]
+#[derive(Clone, Copy, Debug, PartialEq, Eq)]
 pub struct PortFault;
 
 /// Files by their names.

@@ -11,7 +11,7 @@ use Rattle.chill_tree.specs.declared.tree.statement.NamedAlternative.{NamedAlter
 use Rattle.chill_tree.specs.declared.tree.statement.ReceiveAlternative.{ReceiveAlternative, out-ReceiveAlternative, fold_out-ReceiveAlternative}
 use Rattle.chill_tree.specs.declared.tree.statement.Handler.{Handler, out-Handler, fold_out-Handler, map-Handler}
 use Rattle.chill_base.specs.declared.pos.Pos.{Pos}
-use Rattle.chill_tree.specs.ExprTree.{expr_tree, range_trees}
+use Rattle.chill_tree.specs.ExprTree.{boxed_expr, range_trees}
 use Rattle.chill_tree.specs.StatementTree.{BodyTree, BracketedTree, StatementTree, CaseTree, ElsIfTree, HandlerTree, NamedTree, ReceiveTree, if_then, case_of, do_loop, begin_end, delay_case, receive_case, local_part, action_part, body_layer, bracketed_layer, statement_layer, case_layer, branch_layer, handler_layer, named_layer, receive_layer, body_tree, bracketed_tree, statement_tree, case_tree, branch_tree, handler_tree, named_tree, receive_tree, statement_trees, body_nodes}
 use Rattle.chill_tree.proofs.StatementViews.{statement_built}
 use Rattle.names_model.specs.Sizes.{block_of}
@@ -19,7 +19,7 @@ use Rattle.names_model.specs.ExprMentions.{mentions_of, mentions_of_some}
 use Rattle.names_model.specs.StatementParts.{mentioned, control_parts, turn_parts, local_parts, statement_parts, bracketed_parts, action_parts, branch_parts, event_parts, otherwise_parts, body_parts}
 use Rattle.reach_parts.specs.BracketedParts.{evaluated_parts, held_parts, else_parts}
 
-pub tree-branch_out : (b : ElsIf) → branch_tree b ≡ record { at = (out-ElsIf b).at; condition = expr_tree (out-ElsIf b).condition; actions = statement_trees (out-ElsIf b).actions }
+pub tree-branch_out : (b : ElsIf) → branch_tree b ≡ record { at = (out-ElsIf b).at; condition = boxed_expr (out-ElsIf b).condition; actions = statement_trees (out-ElsIf b).actions }
 unfolding statement_tree bracketed_tree branch_tree case_tree named_tree receive_tree handler_tree body_tree
 tree-branch_out b = fold_out-ElsIf BodyTree BracketedTree StatementTree CaseTree ElsIfTree HandlerTree NamedTree ReceiveTree body_layer bracketed_layer statement_layer case_layer branch_layer handler_layer named_layer receive_layer b
 

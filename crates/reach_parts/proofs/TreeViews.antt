@@ -1,20 +1,22 @@
 -- Trees by their fields.
 use Rattle.std.proofs.Common.{◌≡◌, ◌++◌, Option, Some, None, refl, sym, ap, ◌∙◌, append-nil, append_assoc}
+use Rattle.std.specs.declared.alloc.Global.{Global}
+use Rattle.std.specs.declared.boxed.Box.{Box}
 use Rattle.chill_tree.proofs.ExprViews.{expr_built}
 use Rattle.std.specs.Prelude.{option_map}
 use Rattle.chill_tree.specs.declared.tree.expr.Expr.{Expr}
 use Rattle.chill_tree.specs.declared.tree.expr.ValueRange.{ValueRange, out-ValueRange, fold_out-ValueRange, map-ValueRange}
-use Rattle.chill_tree.specs.ExprTree.{ExprTree, RangeTree, range_of, expr_layer, range_layer, expr_tree, range_tree}
+use Rattle.chill_tree.specs.ExprTree.{ExprTree, RangeTree, range_of, expr_layer, range_layer, expr_tree, boxed_expr, range_tree}
 use Rattle.chill_tree.specs.declared.tree.mode.Field.{Field, out-Field, fold_out-Field}
-use Rattle.chill_tree.specs.ModeTree.{BaseTree, FieldTree, base_layer, field_layer, base_tree, field_tree, place_tree}
+use Rattle.chill_tree.specs.ModeTree.{BaseTree, FieldTree, base_layer, field_layer, base_tree, boxed_base, field_tree, place_tree}
 use Rattle.chill_tree.proofs.ModeViews.{base_built}
 use Rattle.names_model.specs.ExprMentions.{mentions_of, mentions_of_some, mentions_in_range}
 
-range-fields : (e : Expr) (o : Option Expr) → range_layer (map-ValueRange Expr ValueRange ExprTree RangeTree expr_tree range_tree (record { first = e; last = o })) ≡ range_of (expr_tree e) (option_map expr_tree o)
+range-fields : (e : Box Expr Global) (o : Option (Box Expr Global)) → range_layer (map-ValueRange Expr ValueRange ExprTree RangeTree expr_tree range_tree (record { first = e; last = o })) ≡ range_of (boxed_expr e) (option_map boxed_expr o)
 range-fields e None = refl
 range-fields e (Some f) = refl
 
-pub tree-range_out : (r : ValueRange) → range_tree r ≡ range_of (expr_tree (out-ValueRange r).first) (option_map expr_tree (out-ValueRange r).last)
+pub tree-range_out : (r : ValueRange) → range_tree r ≡ range_of (boxed_expr (out-ValueRange r).first) (option_map boxed_expr (out-ValueRange r).last)
 unfolding expr_tree range_tree
 tree-range_out r = fold_out-ValueRange ExprTree RangeTree expr_layer range_layer r ∙ range-fields (out-ValueRange r).first (out-ValueRange r).last
 
@@ -23,12 +25,12 @@ mentions-range_of e None = sym (append-nil (mentions_of e))
 mentions-range_of e (Some f) = refl
 
 -- the names in a range, by its first value and its last
-pub mentions-range : (r : ValueRange) → mentions_in_range (range_tree r) ≡ mentions_of (expr_tree (out-ValueRange r).first) ++ mentions_of_some (option_map expr_tree (out-ValueRange r).last)
-mentions-range r = ap mentions_in_range (tree-range_out r) ∙ mentions-range_of (expr_tree (out-ValueRange r).first) (option_map expr_tree (out-ValueRange r).last)
+pub mentions-range : (r : ValueRange) → mentions_in_range (range_tree r) ≡ mentions_of (boxed_expr (out-ValueRange r).first) ++ mentions_of_some (option_map boxed_expr (out-ValueRange r).last)
+mentions-range r = ap mentions_in_range (tree-range_out r) ∙ mentions-range_of (boxed_expr (out-ValueRange r).first) (option_map boxed_expr (out-ValueRange r).last)
 
 pub ruleset expr_views = (expr_built, mentions-range, append-nil, append_assoc)
 
-pub tree-field_out : (f : Field) → field_tree f ≡ record { names = (out-Field f).names; base = base_tree (out-Field f).base; place = option_map place_tree (out-Field f).place }
+pub tree-field_out : (f : Field) → field_tree f ≡ record { names = (out-Field f).names; base = boxed_base (out-Field f).base; place = option_map place_tree (out-Field f).place }
 unfolding base_tree field_tree
 tree-field_out f = fold_out-Field BaseTree FieldTree base_layer field_layer f
 

@@ -1,6 +1,6 @@
 // The parts that what controls a loop is of the reach around it, and of the block of the loop.
 ghost use Rattle.std.specs.Prelude.{◌≡◌, ◌++◌, ◌∷◌, OnOk, option_map};
-ghost use Rattle.chill_tree.specs.ExprTree.{expr_tree};
+ghost use Rattle.chill_tree.specs.ExprTree.{expr_tree, boxed_expr};
 ghost use Rattle.chill_tree.specs.SimpleTree.{control_tree};
 ghost use Rattle.names_model.specs.Parts.{part_trees};
 ghost use Rattle.names_model.specs.ExprMentions.{mentions_of, mentions_of_some};
@@ -18,11 +18,11 @@ use std::alloc::Global;
 fn add_steps(
     alloc: Global,
     start: &Expr,
-    step: &Option<Expr>,
+    step: &Option<Box<Expr>>,
     end: &Expr,
     out: &mut List<Part>,
 ) -> Result<(), Memory>
-    ensures { OnOk result (part_trees out.new ≡ part_trees out.old ++ mentioned (mentions_of (expr_tree start.now) ++ mentions_of_some (option_map expr_tree step.now) ++ mentions_of (expr_tree end.now))) }
+    ensures { OnOk result (part_trees out.new ≡ part_trees out.old ++ mentioned (mentions_of (expr_tree start.now) ++ mentions_of_some (option_map boxed_expr step.now) ++ mentions_of (expr_tree end.now))) }
 {
     let mut mentions = List::new(alloc);
     add_expr(alloc, start, &mut mentions)?;
@@ -55,10 +55,10 @@ pub(crate) fn add_control(
 fn add_counter(
     alloc: Global,
     counter: &Name,
-    condition: &Option<Expr>,
+    condition: &Option<Box<Expr>>,
     out: &mut List<Part>,
 ) -> Result<(), Memory>
-    ensures { OnOk result (part_trees out.new ≡ part_trees out.old ++ counter_part counter.now ∷ mentioned (mentions_of_some (option_map expr_tree condition.now))) }
+    ensures { OnOk result (part_trees out.new ≡ part_trees out.old ++ counter_part counter.now ∷ mentioned (mentions_of_some (option_map boxed_expr condition.now))) }
 {
     let clause = clause_of_one(alloc, Kind::Counter, counter, List::new(alloc))?;
     add_part(Part::define(clause), out)?;

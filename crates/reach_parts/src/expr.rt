@@ -2,7 +2,7 @@
 ghost use Rattle.std.specs.Prelude.{◌≡◌, ◌++◌, None, Some, OnOk, option_map};
 ghost use Rattle.std.specs.Option.{option_copied};
 ghost use Rattle.names_model.specs.declared.kind.Need.TheVariants as needs;
-ghost use Rattle.chill_tree.specs.ExprTree.{expr_tree, expr_trees, range_tree, range_trees};
+ghost use Rattle.chill_tree.specs.ExprTree.{expr_tree, boxed_expr, expr_trees, range_tree, range_trees};
 ghost use Rattle.names_model.specs.ExprMentions.{used, tuple_mode, begun, callee_of, mentions_as, mentions_in_range, mentions_of, mentions_of_some, mentions_of_args, mentions_of_ranges};
 
 use chill_base::{List, Memory};
@@ -108,10 +108,10 @@ pub(crate) fn add_exprs(
 /// Adds the names in an expression that may be written.
 pub(crate) fn add_some_expr(
     alloc: Global,
-    expr: &Option<Expr>,
+    expr: &Option<Box<Expr>>,
     out: &mut List<Mention>,
 ) -> Result<(), Memory>
-    ensures { OnOk result (out.new ≡ out.old ++ mentions_of_some (option_map expr_tree expr.now)) }
+    ensures { OnOk result (out.new ≡ out.old ++ mentions_of_some (option_map boxed_expr expr.now)) }
 {
     match expr {
         None => Ok(()),

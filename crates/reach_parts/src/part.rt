@@ -1,6 +1,6 @@
 // Parts that are added: one, a block, and mentions.
 ghost use Rattle.std.specs.Prelude.{◌≡◌, ◌++◌, [], ◌∷◌, OnOk, option_map};
-ghost use Rattle.chill_tree.specs.ExprTree.{expr_tree, range_trees};
+ghost use Rattle.chill_tree.specs.ExprTree.{expr_tree, boxed_expr, range_trees};
 ghost use Rattle.names_model.specs.Parts.{part_tree, part_trees};
 ghost use Rattle.names_model.specs.Sizes.{block_of};
 ghost use Rattle.names_model.specs.ExprMentions.{used, mentions_of, mentions_of_some, mentions_of_ranges};
@@ -63,10 +63,10 @@ pub(crate) fn mention_expr(alloc: Global, expr: &Expr, out: &mut List<Part>) -> 
 /// Adds the names in an expression that may be written, as parts.
 pub(crate) fn mention_some_expr(
     alloc: Global,
-    expr: &Option<Expr>,
+    expr: &Option<Box<Expr>>,
     out: &mut List<Part>,
 ) -> Result<(), Memory>
-    ensures { OnOk result (part_trees out.new ≡ part_trees out.old ++ mentioned (mentions_of_some (option_map expr_tree expr.now))) }
+    ensures { OnOk result (part_trees out.new ≡ part_trees out.old ++ mentioned (mentions_of_some (option_map boxed_expr expr.now))) }
 {
     let mut mentions = List::new(alloc);
     add_some_expr(alloc, expr, &mut mentions)?;

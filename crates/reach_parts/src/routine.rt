@@ -1,7 +1,7 @@
 // The parts that procedures and processes are of their reach.
 ghost use Rattle.std.specs.Prelude.{◌≡◌, ◌++◌, [], ◌∷◌, IfOk, OnOk, map, option_map};
 ghost use Rattle.chill_tree.specs.ModeTree.{mode_tree};
-ghost use Rattle.chill_tree.specs.StatementTree.{handler_tree, body_trees};
+ghost use Rattle.chill_tree.specs.StatementTree.{boxed_handler, body_trees};
 ghost use Rattle.chill_tree.specs.ItemTree.{param_tree, formal_tree, procedure_tree, process_tree};
 ghost use Rattle.names_model.specs.Parts.{part_trees};
 ghost use Rattle.names_model.specs.ModeMentions.{mentions_of_some_mode};
@@ -54,9 +54,9 @@ fn returned_mentions(alloc: Global, returns: &Option<Mode>) -> Result<List<Menti
 fn body_parts(
     alloc: Global,
     body: &[BodyPart],
-    handler: &Option<Handler>,
+    handler: &Option<Box<Handler>>,
 ) -> Result<List<Part>, Memory>
-    ensures { IfOk result (λ l. part_trees l ≡ whole_body (body_trees body.now) (option_map handler_tree handler.now)) }
+    ensures { IfOk result (λ l. part_trees l ≡ whole_body (body_trees body.now) (option_map boxed_handler handler.now)) }
 {
     let mut parts = List::new(alloc);
     add_body(alloc, body, &Labels::Empty, &mut parts)?;

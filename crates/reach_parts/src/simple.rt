@@ -1,6 +1,6 @@
 // The parts that actions are of their reach which hold no other.
 ghost use Rattle.std.specs.Prelude.{◌≡◌, ◌++◌, None, Some, OnOk, option_map};
-ghost use Rattle.chill_tree.specs.ExprTree.{expr_tree, expr_trees};
+ghost use Rattle.chill_tree.specs.ExprTree.{boxed_expr, expr_trees};
 ghost use Rattle.chill_tree.specs.SimpleTree.{simple_tree};
 ghost use Rattle.names_model.specs.declared.kind.Need.TheVariants as needs;
 ghost use Rattle.names_model.specs.Parts.{part_trees};
@@ -63,10 +63,10 @@ fn add_start(
 fn add_delay(
     alloc: Global,
     event: &Name,
-    priority: &Option<Expr>,
+    priority: &Option<Box<Expr>>,
     out: &mut List<Part>,
 ) -> Result<(), Memory>
-    ensures { OnOk result (part_trees out.new ≡ part_trees out.old ++ mentioned (used needs.Location event.now ++ mentions_of_some (option_map expr_tree priority.now))) }
+    ensures { OnOk result (part_trees out.new ≡ part_trees out.old ++ mentioned (used needs.Location event.now ++ mentions_of_some (option_map boxed_expr priority.now))) }
 {
     let mut mentions = List::new(alloc);
     add_used(alloc, Need::Location, event, &mut mentions)?;
@@ -93,11 +93,11 @@ fn add_send(
     alloc: Global,
     target: &Name,
     args: &Option<List<Expr>>,
-    receiver: &Option<Expr>,
-    priority: &Option<Expr>,
+    receiver: &Option<Box<Expr>>,
+    priority: &Option<Box<Expr>>,
     out: &mut List<Part>,
 ) -> Result<(), Memory>
-    ensures { OnOk result (part_trees out.new ≡ part_trees out.old ++ mentioned (used needs.Message target.now ++ mentions_of_some_args (option_map expr_trees args.now) ++ mentions_of_some (option_map expr_tree receiver.now) ++ mentions_of_some (option_map expr_tree priority.now))) }
+    ensures { OnOk result (part_trees out.new ≡ part_trees out.old ++ mentioned (used needs.Message target.now ++ mentions_of_some_args (option_map expr_trees args.now) ++ mentions_of_some (option_map boxed_expr receiver.now) ++ mentions_of_some (option_map boxed_expr priority.now))) }
 {
     let mut mentions = List::new(alloc);
     add_used(alloc, Need::Message, target, &mut mentions)?;

@@ -1,8 +1,8 @@
 // The parts that actions are of their reach, with what they hold.
 ghost use Rattle.std.specs.Prelude.{◌≡◌, ◌++◌, [], ◌∷◌, Some, OnOk, map, flat_map, option_map};
-ghost use Rattle.chill_tree.specs.ExprTree.{expr_tree};
+ghost use Rattle.chill_tree.specs.ExprTree.{boxed_expr};
 ghost use Rattle.chill_tree.specs.SimpleTree.{control_tree};
-ghost use Rattle.chill_tree.specs.StatementTree.{statement_tree, bracketed_tree, branch_tree, case_tree, named_tree, receive_tree, handler_tree, body_tree, statement_trees, body_trees, statement_nodes, branch_nodes, case_nodes, named_nodes, receive_nodes, handler_node, body_nodes};
+ghost use Rattle.chill_tree.specs.StatementTree.{statement_tree, bracketed_tree, branch_tree, case_tree, named_tree, receive_tree, handler_tree, boxed_handler, body_tree, statement_trees, body_trees, statement_nodes, branch_nodes, case_nodes, named_nodes, receive_nodes, handler_node, body_nodes};
 ghost use Rattle.names_model.specs.declared.kind.Need.TheVariants as needs;
 ghost use Rattle.names_model.specs.Parts.{part_trees};
 ghost use Rattle.names_model.specs.Sizes.{block_of};
@@ -32,11 +32,11 @@ use std::alloc::Global;
 // Adds the names in two expressions that may be written.
 fn mention_set_and_priority(
     alloc: Global,
-    set: &Option<Expr>,
-    priority: &Option<Expr>,
+    set: &Option<Box<Expr>>,
+    priority: &Option<Box<Expr>>,
     out: &mut List<Part>,
 ) -> Result<(), Memory>
-    ensures { OnOk result (part_trees out.new ≡ part_trees out.old ++ mentioned (mentions_of_some (option_map expr_tree set.now) ++ mentions_of_some (option_map expr_tree priority.now))) }
+    ensures { OnOk result (part_trees out.new ≡ part_trees out.old ++ mentioned (mentions_of_some (option_map boxed_expr set.now) ++ mentions_of_some (option_map boxed_expr priority.now))) }
 {
     let mut mentions = List::new(alloc);
     add_some_expr(alloc, set, &mut mentions)?;
@@ -398,11 +398,11 @@ fn add_receipt(
 #[cycle(statement)]
 pub(crate) fn add_some_handler(
     alloc: Global,
-    handler: &Option<Handler>,
+    handler: &Option<Box<Handler>>,
     labels: &Labels,
     out: &mut List<Part>,
 ) -> Result<(), Memory>
-    ensures { OnOk result (part_trees out.new ≡ part_trees out.old ++ handler_parts (labels_in labels.now) (handler_node (option_map handler_tree handler.now))) }
+    ensures { OnOk result (part_trees out.new ≡ part_trees out.old ++ handler_parts (labels_in labels.now) (handler_node (option_map boxed_handler handler.now))) }
 {
     match handler {
         None => Ok(()),

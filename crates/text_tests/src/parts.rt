@@ -1,5 +1,5 @@
 // The parts of one small tree, which were written by hand.
-use chill_base::{List, Pos};
+use chill_base::{List, Memory, Pos};
 use chill_tree::NameText;
 use chill_tree::tree::{
     Base, Discrete, Item, Local, Mode, ModeDefinition, Modulion, ModulionKind, Name, Simple,
@@ -7,21 +7,19 @@ use chill_tree::tree::{
 };
 use names_model::Part;
 use reach_parts::program_parts;
-use std::alloc::{AllocError, Global};
+use std::alloc::Global;
 use std::process::Abort;
 use std::test::Fail;
 
 const AT: Pos = Pos { line: 1, column: 1 };
 
-fn name(alloc: Global, text: &str) -> Result<Name, AllocError> {
-    match NameText::from_bytes(alloc, text.as_bytes()) {
-        Ok(text) => Ok(Name { at: AT, text }),
-        Err(_) => Err(AllocError),
-    }
+fn name(alloc: Global, text: &str) -> Result<Name, Memory> {
+    let text = NameText::from_bytes(alloc, text.as_bytes())?;
+    Ok(Name { at: AT, text })
 }
 
 // SYNMODE c = SET (a, b);
-fn colours(alloc: Global) -> Result<Item, AllocError> {
+fn colours(alloc: Global) -> Result<Item, Memory> {
     let elements = vec![in alloc; name(alloc, "a")?, name(alloc, "b")?]?;
     let set = Discrete::Set {
         at: AT,
@@ -29,7 +27,7 @@ fn colours(alloc: Global) -> Result<Item, AllocError> {
     };
     let definition = ModeDefinition {
         name: name(alloc, "c")?,
-        mode: Mode::Base(Base::discrete(set)),
+        mode: Mode::Base(Base::discrete(alloc, set)?),
     };
     Ok(Item::local(Local::SynModes {
         at: AT,
@@ -38,16 +36,17 @@ fn colours(alloc: Global) -> Result<Item, AllocError> {
 }
 
 // EXIT l;
-fn exit(alloc: Global) -> Result<Item, AllocError> {
+fn exit(alloc: Global) -> Result<Item, Memory> {
     let action = Simple::Exit {
         at: AT,
         label: name(alloc, "l")?,
     };
+    let action = Box::new(alloc, action)?;
     Ok(Item::action(Statement::simple(AT, action, None)))
 }
 
 // A region r of these two.
-fn program(alloc: Global) -> Result<Tree, AllocError> {
+fn program(alloc: Global) -> Result<Tree, Memory> {
     let items = List::from_vec(vec![in alloc; colours(alloc)?, exit(alloc)?]?);
     let region = Modulion::new(name(alloc, "r")?, ModulionKind::Region, items, None, None);
     Ok(Tree {

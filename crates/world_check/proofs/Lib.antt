@@ -1,4 +1,4 @@
-pub mod Members
+pub mod PowersetsInValues
 pub mod Waiters
 pub mod Signals
 pub mod Sound

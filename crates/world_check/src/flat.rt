@@ -44,7 +44,7 @@ fn count_of_numbers(size: u32) -> u32
     size.div_ceil(32)
 }
 
-#[tactic(auto, using(crate::proofs::Members::next_number))]
+#[tactic(auto, using(crate::proofs::PowersetsInValues::next_number))]
 fn numbers(alloc: Global, size: u32, offsets: &[u32]) -> Result<Scalars, Memory>
     requires { length offsets.now < 2 ^ 32 }
     ensures { IfOk result (λ numbers. numbers ≡ values.numbers_from offsets.now 0 (values.count_of_numbers size)) }
@@ -59,7 +59,7 @@ fn numbers(alloc: Global, size: u32, offsets: &[u32]) -> Result<Scalars, Memory>
 }
 
 /// The flat scalars of a value, in order. A powerset of more members than its member mode has values counts for none.
-#[tactic(auto, using(crate::proofs::Members::one_scalar, crate::proofs::Members::numbers_here, crate::proofs::Members::no_such_members))]
+#[tactic(auto, using(crate::proofs::PowersetsInValues::one_scalar, crate::proofs::PowersetsInValues::numbers_here, crate::proofs::PowersetsInValues::no_such_members))]
 pub fn scalars_of(alloc: Global, value: &Value) -> Result<Scalars, Memory>
     ensures { IfOk result (λ scalars. HasFewMembersEach value.now → scalars ≡ values.scalars_of value.now) }
 {

@@ -17,7 +17,7 @@ pub use choices::{continues, has_room, nobody_receives, sends_signal, sends_to_b
 pub use going::{is_active, may_ask, may_go};
 pub use laws::sound_facts_law;
 pub use opening::{have_few_members, opening_world};
-pub use pending::{is_value, no_signal_pends, receives_signal};
+pub use pending::{Receipt, is_value, no_signal_pends, receives_signal};
 pub use ranges::event_in_range;
 pub use requests::{
     are_equal, fails_with, is_done, is_full, is_taken, may_enter, reads, starts, tells_scalars,

@@ -7,6 +7,15 @@ use crate::requests::are_equal;
 use kernel_base::{Alternative, Answer, Facts};
 use world_model::{PendingSignal, StoredValue, World, may_receive, number_for};
 
+/// What is received: the alternative, and the send number, the scalars and the sender of the value.
+#[derive(Drop)]
+pub struct Receipt<'a> {
+    pub alternative: u32,
+    pub send: u32,
+    pub scalars: &'a [i64],
+    pub by: u32,
+}
+
 // The alternative through which an instance may receive a pending signal.
 fn alternative_for(
     facts: &Facts,
@@ -85,18 +94,15 @@ fn may_take(
     world: &World,
     who: u32,
     signals: &[Alternative],
-    alternative: u32,
-    send: u32,
-    scalars: &[i64],
-    by: u32,
+    receipt: &Receipt,
     signal: &PendingSignal,
 ) -> bool
-    ensures { IsTrue result ↔ pending.MayTake facts.now world.now who signals.now alternative send scalars.now by signal.now }
+    ensures { IsTrue result ↔ pending.MayTake facts.now world.now who signals.now receipt.now.alternative receipt.now.send receipt.now.scalars.now receipt.now.by signal.now }
 {
-    if !is_listed_as(facts, world, who, signals, alternative, signal) {
+    if !is_listed_as(facts, world, who, signals, receipt.alternative, signal) {
         return false;
     }
-    if !is_value(&signal.value, send, scalars, by) {
+    if !is_value(&signal.value, receipt.send, receipt.scalars, receipt.by) {
         return false;
     }
     no_signal_above(facts, world, who, signals, signal.value.priority)
@@ -107,26 +113,13 @@ fn takes_signal(
     world: &World,
     who: u32,
     signals: &[Alternative],
-    alternative: u32,
-    send: u32,
-    scalars: &[i64],
-    by: u32,
+    receipt: &Receipt,
 ) -> bool
-    ensures { IsTrue result ↔ events.TakesSignal facts.now world.now who signals.now alternative send scalars.now by }
+    ensures { IsTrue result ↔ events.TakesSignal facts.now world.now who signals.now receipt.now.alternative receipt.now.send receipt.now.scalars.now receipt.now.by }
 {
     for place in 0..world.pending.len() {
         let signal = world.pending.at(place);
-        if may_take(
-            facts,
-            world,
-            who,
-            signals,
-            alternative,
-            send,
-            scalars,
-            by,
-            signal,
-        ) {
+        if may_take(facts, world, who, signals, receipt, signal) {
             return true;
         }
     }
@@ -162,16 +155,15 @@ pub fn receives_signal(
             send,
             scalars,
             by,
-        } => takes_signal(
-            facts,
-            world,
-            who,
-            signals,
-            *alternative,
-            *send,
-            scalars.as_slice(),
-            *by,
-        ),
+        } => {
+            let receipt = Receipt {
+                alternative: *alternative,
+                send: *send,
+                scalars: scalars.as_slice(),
+                by: *by,
+            };
+            takes_signal(facts, world, who, signals, &receipt)
+        }
         Answer::Otherwise => may_take_none(facts, world, who, signals, otherwise),
         _ => false,
     }

@@ -6,7 +6,7 @@ use chill_base::{List, Memory, Pos, Text};
 use std::alloc::Global;
 
 /// An operator between two operands.
-#[derive(Clone, Copy, Debug, PartialEq, Eq)]
+#[derive(Clone, Copy, PartialEq, Eq)]
 pub enum Operator {
     Or,
     Xor,
@@ -29,14 +29,14 @@ pub enum Operator {
 }
 
 /// An operator before its operand.
-#[derive(Clone, Copy, Debug, PartialEq, Eq)]
+#[derive(Clone, Copy, PartialEq, Eq)]
 pub enum Prefix {
     Minus,
     Not,
 }
 
 /// An expression or a location.
-#[derive(Debug)]
+#[derive(Drop)]
 #[cycle(expression)]
 pub enum Expr {
     Whole {
@@ -113,16 +113,16 @@ pub enum Expr {
 }
 
 /// An expression, or a range of values between two: a part of a tuple, or a label of a CASE.
-#[derive(Debug)]
+#[derive(Drop)]
 #[cycle(expression)]
 pub struct ValueRange {
-    pub first: Expr,
-    pub last: Option<Expr>,
+    pub first: Box<Expr>,
+    pub last: Option<Box<Expr>>,
 }
 
 impl Expr {
     ghost use Rattle.std.specs.Prelude.{IfOk, option_map};
-    ghost use Rattle.chill_tree.specs.ExprTree.{name_in, applied_in, whole, character, text, this_instance, paren, receive, start, tuple, uniform, name, apply, field, prefixed, binary, expr_nodes, range_nodes, place_of, expr_tree, expr_trees, range_trees};
+    ghost use Rattle.chill_tree.specs.ExprTree.{name_in, applied_in, whole, character, text, this_instance, paren, receive, start, tuple, uniform, name, apply, field, prefixed, binary, expr_nodes, range_nodes, place_of, expr_tree, boxed_expr, expr_trees, range_trees};
 
     /// The place of the first token.
     #[tactic(auto, using(crate::proofs::ExprViews::expr_built))]
@@ -149,10 +149,10 @@ impl Expr {
 
     /// The name, where the expression is one.
     #[tactic(auto, using(crate::proofs::ExprViews::expr_built))]
-    pub fn into_name(self) -> Option<Name>
-        ensures { result ≡ name_in (expr_tree self) }
+    pub fn into_name(own: Box<Expr>) -> Option<Name>
+        ensures { result ≡ name_in (boxed_expr own) }
     {
-        match self {
+        match Box::into_inner(own) {
             Expr::Name(name) => Some(name),
             Expr::Whole { .. }
             | Expr::Char { .. }
@@ -172,11 +172,11 @@ impl Expr {
 
     /// The name and the expressions in its brackets, where the expression is a name with brackets behind it.
     #[tactic(auto, using(crate::proofs::ExprViews::expr_built))]
-    pub fn into_applied(self) -> Option<(Name, List<Expr>)>
-        ensures { option_map (λ a. (a.0, expr_nodes (expr_trees a.1))) result ≡ applied_in (expr_tree self) }
+    pub fn into_applied(own: Box<Expr>) -> Option<(Name, List<Expr>)>
+        ensures { option_map (λ a. (a.0, expr_nodes (expr_trees a.1))) result ≡ applied_in (boxed_expr own) }
     {
-        match self {
-            Expr::Apply { at: _, of, args } => { Some((Box::into_inner(of).into_name()?, args)) }
+        match Box::into_inner(own) {
+            Expr::Apply { at: _, of, args } => Some((Expr::into_name(of)?, args)),
             Expr::Whole { .. }
             | Expr::Char { .. }
             | Expr::Text { .. }
@@ -195,72 +195,83 @@ impl Expr {
 
     /// A whole literal.
     #[tactic(auto, using(crate::proofs::ExprViews::expr_built))]
-    pub fn whole(at: Pos, value: u64) -> Expr
-        ensures { expr_tree result ≡ whole at value }
+    pub fn whole(alloc: Global, at: Pos, value: u64) -> Result<Box<Expr>, Memory>
+        ensures { IfOk result (λ e. boxed_expr e ≡ whole at value) }
     {
-        Expr::Whole { at, value }
+        Ok(Box::new(alloc, Expr::Whole { at, value })?)
     }
 
     /// A character literal.
     #[tactic(auto, using(crate::proofs::ExprViews::expr_built))]
-    pub fn character(at: Pos, value: u8) -> Expr
-        ensures { expr_tree result ≡ character at value }
+    pub fn character(alloc: Global, at: Pos, value: u8) -> Result<Box<Expr>, Memory>
+        ensures { IfOk result (λ e. boxed_expr e ≡ character at value) }
     {
-        Expr::Char { at, value }
+        Ok(Box::new(alloc, Expr::Char { at, value })?)
     }
 
     /// A text literal.
     #[tactic(auto, using(crate::proofs::ExprViews::expr_built))]
-    pub fn text(at: Pos, value: Text) -> Expr
-        ensures { expr_tree result ≡ text at value }
+    pub fn text(alloc: Global, at: Pos, value: Text) -> Result<Box<Expr>, Memory>
+        ensures { IfOk result (λ e. boxed_expr e ≡ text at value) }
     {
-        Expr::Text { at, value }
+        Ok(Box::new(alloc, Expr::Text { at, value })?)
     }
 
     /// The own instance.
     #[tactic(auto, using(crate::proofs::ExprViews::expr_built))]
-    pub fn this_instance(at: Pos) -> Expr
-        ensures { expr_tree result ≡ this_instance at }
+    pub fn this_instance(alloc: Global, at: Pos) -> Result<Box<Expr>, Memory>
+        ensures { IfOk result (λ e. boxed_expr e ≡ this_instance at) }
     {
-        Expr::This { at }
+        Ok(Box::new(alloc, Expr::This { at })?)
     }
 
     /// An expression in parentheses.
     #[tactic(auto, using(crate::proofs::ExprViews::expr_built))]
-    pub fn paren(alloc: Global, at: Pos, inner: Expr) -> Result<Expr, Memory>
-        ensures { IfOk result (λ e. expr_tree e ≡ paren at (expr_tree inner)) }
+    pub fn paren(alloc: Global, at: Pos, inner: Box<Expr>) -> Result<Box<Expr>, Memory>
+        ensures { IfOk result (λ e. boxed_expr e ≡ paren at (boxed_expr inner)) }
     {
-        let inner = Box::new(alloc, inner)?;
-        Ok(Expr::Paren { at, inner })
+        Ok(Box::new(alloc, Expr::Paren { at, inner })?)
     }
 
     /// What is received from a buffer.
     #[tactic(auto, using(crate::proofs::ExprViews::expr_built))]
-    pub fn receive(at: Pos, buffer: Name) -> Expr
-        ensures { expr_tree result ≡ receive at buffer }
+    pub fn receive(alloc: Global, at: Pos, buffer: Name) -> Result<Box<Expr>, Memory>
+        ensures { IfOk result (λ e. boxed_expr e ≡ receive at buffer) }
     {
-        Expr::Receive { at, buffer }
+        Ok(Box::new(alloc, Expr::Receive { at, buffer })?)
     }
 
     /// A process that is started.
     #[tactic(auto, using(crate::proofs::ExprViews::expr_built))]
-    pub fn start(at: Pos, process: Name, args: List<Expr>) -> Expr
-        ensures { expr_tree result ≡ start at process (expr_nodes (expr_trees args)) }
+    pub fn start(
+        alloc: Global,
+        at: Pos,
+        process: Name,
+        args: List<Expr>,
+    ) -> Result<Box<Expr>, Memory>
+        ensures { IfOk result (λ e. boxed_expr e ≡ start at process (expr_nodes (expr_trees args))) }
     {
-        Expr::Start { at, process, args }
+        Ok(Box::new(alloc, Expr::Start { at, process, args })?)
     }
 
     /// A tuple of parts.
     #[tactic(auto, using(crate::proofs::ExprViews::expr_built))]
-    pub fn tuple(at: Pos, mode: Option<Name>, bracket: Pos, parts: List<ValueRange>) -> Expr
-        ensures { expr_tree result ≡ tuple at mode bracket (range_nodes (range_trees parts)) }
+    pub fn tuple(
+        alloc: Global,
+        at: Pos,
+        mode: Option<Name>,
+        bracket: Pos,
+        parts: List<ValueRange>,
+    ) -> Result<Box<Expr>, Memory>
+        ensures { IfOk result (λ e. boxed_expr e ≡ tuple at mode bracket (range_nodes (range_trees parts))) }
     {
-        Expr::Tuple {
+        let tuple = Expr::Tuple {
             at,
             mode,
             bracket,
             parts,
-        }
+        };
+        Ok(Box::new(alloc, tuple)?)
     }
 
     /// A tuple whose elements all have one value.
@@ -270,167 +281,97 @@ impl Expr {
         at: Pos,
         mode: Option<Name>,
         bracket: Pos,
-        value: Expr,
-    ) -> Result<Expr, Memory>
-        ensures { IfOk result (λ e. expr_tree e ≡ uniform at mode bracket (expr_tree value)) }
+        value: Box<Expr>,
+    ) -> Result<Box<Expr>, Memory>
+        ensures { IfOk result (λ e. boxed_expr e ≡ uniform at mode bracket (boxed_expr value)) }
     {
-        let value = Box::new(alloc, value)?;
-        Ok(Expr::Uniform {
+        let tuple = Expr::Uniform {
             at,
             mode,
             bracket,
             value,
-        })
+        };
+        Ok(Box::new(alloc, tuple)?)
     }
 
     /// A name alone.
     #[tactic(auto, using(crate::proofs::ExprViews::expr_built))]
-    pub fn name(own: Name) -> Expr
-        ensures { expr_tree result ≡ name own }
+    pub fn name(alloc: Global, own: Name) -> Result<Box<Expr>, Memory>
+        ensures { IfOk result (λ e. boxed_expr e ≡ name own) }
     {
-        Expr::Name(own)
+        Ok(Box::new(alloc, Expr::Name(own))?)
     }
 
     /// What stands before brackets, with the expressions in them.
     #[tactic(auto, using(crate::proofs::ExprViews::expr_built))]
-    pub fn apply(alloc: Global, of: Expr, args: List<Expr>) -> Result<Expr, Memory>
-        ensures { IfOk result (λ e. expr_tree e ≡ apply (place_of (expr_tree of)) (expr_tree of) (expr_nodes (expr_trees args))) }
+    pub fn apply(alloc: Global, of: Box<Expr>, args: List<Expr>) -> Result<Box<Expr>, Memory>
+        ensures { IfOk result (λ e. boxed_expr e ≡ apply (place_of (boxed_expr of)) (boxed_expr of) (expr_nodes (expr_trees args))) }
     {
         let at = of.at();
-        let of = Box::new(alloc, of)?;
-        Ok(Expr::Apply { at, of, args })
+        Ok(Box::new(alloc, Expr::Apply { at, of, args })?)
     }
 
     /// A field.
     #[tactic(auto, using(crate::proofs::ExprViews::expr_built))]
-    pub fn field(alloc: Global, of: Expr, own: Name) -> Result<Expr, Memory>
-        ensures { IfOk result (λ e. expr_tree e ≡ field (place_of (expr_tree of)) (expr_tree of) own) }
+    pub fn field(alloc: Global, of: Box<Expr>, own: Name) -> Result<Box<Expr>, Memory>
+        ensures { IfOk result (λ e. boxed_expr e ≡ field (place_of (boxed_expr of)) (boxed_expr of) own) }
     {
         let at = of.at();
-        let of = Box::new(alloc, of)?;
-        Ok(Expr::Field { at, of, field: own })
+        Ok(Box::new(alloc, Expr::Field { at, of, field: own })?)
     }
 
     /// An operand behind its operator.
     #[tactic(auto, using(crate::proofs::ExprViews::expr_built))]
-    pub fn prefixed(alloc: Global, at: Pos, operator: Prefix, operand: Expr) -> Result<Expr, Memory>
-        ensures { IfOk result (λ e. expr_tree e ≡ prefixed at operator (expr_tree operand)) }
+    pub fn prefixed(
+        alloc: Global,
+        at: Pos,
+        operator: Prefix,
+        operand: Box<Expr>,
+    ) -> Result<Box<Expr>, Memory>
+        ensures { IfOk result (λ e. boxed_expr e ≡ prefixed at operator (boxed_expr operand)) }
     {
-        let operand = Box::new(alloc, operand)?;
-        Ok(Expr::Prefixed {
-            at,
-            operator,
-            operand,
-        })
+        Ok(Box::new(
+            alloc,
+            Expr::Prefixed {
+                at,
+                operator,
+                operand,
+            },
+        )?)
     }
 
     /// Two operands with an operator between them.
     #[tactic(auto, using(crate::proofs::ExprViews::expr_built))]
     pub fn binary(
         alloc: Global,
-        left: Expr,
+        left: Box<Expr>,
         operator: Operator,
         sign: Pos,
-        right: Expr,
-    ) -> Result<Expr, Memory>
-        ensures { IfOk result (λ e. expr_tree e ≡ binary (place_of (expr_tree left)) (expr_tree left) operator sign (expr_tree right)) }
+        right: Box<Expr>,
+    ) -> Result<Box<Expr>, Memory>
+        ensures { IfOk result (λ e. boxed_expr e ≡ binary (place_of (boxed_expr left)) (boxed_expr left) operator sign (boxed_expr right)) }
     {
         let at = left.at();
-        let left = Box::new(alloc, left)?;
-        let right = Box::new(alloc, right)?;
-        Ok(Expr::Binary {
+        let binary = Expr::Binary {
             at,
             left,
             operator,
             sign,
             right,
-        })
+        };
+        Ok(Box::new(alloc, binary)?)
     }
 }
 
 impl ValueRange {
     ghost use Rattle.std.specs.Prelude.{option_map};
-    ghost use Rattle.chill_tree.specs.ExprTree.{range_of, expr_tree, range_tree};
+    ghost use Rattle.chill_tree.specs.ExprTree.{range_of, boxed_expr, range_tree};
 
     /// An expression, up to another one or alone.
     #[tactic(auto, using(crate::proofs::ExprViews::expr_built))]
-    pub fn new(first: Expr, last: Option<Expr>) -> ValueRange
-        ensures { range_tree result ≡ range_of (expr_tree first) (option_map expr_tree last) }
+    pub fn new(first: Box<Expr>, last: Option<Box<Expr>>) -> ValueRange
+        ensures { range_tree result ≡ range_of (boxed_expr first) (option_map boxed_expr last) }
     {
         ValueRange { first, last }
-    }
-}
-
-// Dropped by hand, so that whoever drops one makes one call, and has none of its cases.
-impl Drop for Expr {
-    #[cycle(dropping_expression)]
-    fn drop(self) {
-        match self {
-            Expr::Whole { at: _, value: _ } => {}
-            Expr::Char { at: _, value: _ } => {}
-            Expr::Text { at: _, value } => drop(value),
-            Expr::This { at: _ } => {}
-            Expr::Paren { at: _, inner } => drop(Box::into_inner(inner)),
-            Expr::Receive { at: _, buffer } => drop(buffer),
-            Expr::Start {
-                at: _,
-                process,
-                args,
-            } => {
-                drop(process);
-                drop(args);
-            }
-            Expr::Tuple {
-                at: _,
-                mode,
-                bracket: _,
-                parts,
-            } => {
-                drop(mode);
-                drop(parts);
-            }
-            Expr::Uniform {
-                at: _,
-                mode,
-                bracket: _,
-                value,
-            } => {
-                drop(mode);
-                drop(Box::into_inner(value));
-            }
-            Expr::Name(own) => drop(own),
-            Expr::Apply { at: _, of, args } => {
-                drop(Box::into_inner(of));
-                drop(args);
-            }
-            Expr::Field { at: _, of, field } => {
-                drop(Box::into_inner(of));
-                drop(field);
-            }
-            Expr::Prefixed {
-                at: _,
-                operator: _,
-                operand,
-            } => drop(Box::into_inner(operand)),
-            Expr::Binary {
-                at: _,
-                left,
-                operator: _,
-                sign: _,
-                right,
-            } => {
-                drop(Box::into_inner(left));
-                drop(Box::into_inner(right));
-            }
-        }
-    }
-}
-
-impl Drop for ValueRange {
-    #[cycle(dropping_expression)]
-    fn drop(self) {
-        let ValueRange { first, last } = self;
-        drop(first);
-        drop(last);
     }
 }

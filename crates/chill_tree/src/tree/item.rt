@@ -6,52 +6,52 @@ use crate::tree::{BodyPart, Handler, Local, Mode, Name, Statement};
 use chill_base::{List, Pos};
 
 /// A program: its modules and regions.
-#[derive(Debug)]
+#[derive(Drop)]
 pub struct Tree {
     pub modulions: List<Modulion>,
 }
 
 /// Whether processes run through a modulion side by side or one at a time.
-#[derive(Clone, Copy, Debug, PartialEq, Eq)]
+#[derive(Clone, Copy, PartialEq, Eq)]
 pub enum ModulionKind {
     Module,
     Region,
 }
 
 /// A module or a region.
-#[derive(Debug)]
+#[derive(Drop)]
 #[cycle(item)]
 pub struct Modulion {
     pub name: Name,
     pub kind: ModulionKind,
     pub items: List<Item>,
-    pub handler: Option<Handler>,
+    pub handler: Option<Box<Handler>>,
     pub closing: Option<Name>,
 }
 
 /// What stands in a modulion.
-#[derive(Debug)]
+#[derive(Drop)]
 #[cycle(item)]
 pub enum Item {
     Seize { at: Pos, passed: Passed },
     Grant { at: Pos, passed: Passed },
     Local(Local),
     Signals { at: Pos, signals: List<Signal> },
-    Procedure(Procedure),
-    Process(Process),
-    Modulion(Modulion),
+    Procedure(Box<Procedure>),
+    Process(Box<Process>),
+    Modulion(Box<Modulion>),
     Statement(Statement),
 }
 
 /// The names that pass a modulion's border, or the place of the word ALL.
-#[derive(Debug)]
+#[derive(Drop)]
 pub enum Passed {
     Names(List<Name>),
     All(Pos),
 }
 
 /// A signal, the modes of its parts, and the process that it is for.
-#[derive(Debug)]
+#[derive(Drop)]
 pub struct Signal {
     pub name: Name,
     pub parts: Option<List<Mode>>,
@@ -59,19 +59,19 @@ pub struct Signal {
 }
 
 /// A procedure.
-#[derive(Debug)]
+#[derive(Drop)]
 pub struct Procedure {
     pub name: Name,
     pub params: List<Param>,
     pub returns: Option<Mode>,
     pub exceptions: Option<List<Name>>,
     pub body: List<BodyPart>,
-    pub handler: Option<Handler>,
+    pub handler: Option<Box<Handler>>,
     pub closing: Option<Name>,
 }
 
 /// Parameters of a procedure that have one mode.
-#[derive(Debug)]
+#[derive(Drop)]
 pub struct Param {
     pub names: List<Name>,
     pub mode: Mode,
@@ -79,7 +79,7 @@ pub struct Param {
 }
 
 /// Which way a parameter passes its value.
-#[derive(Clone, Copy, Debug, PartialEq, Eq)]
+#[derive(Clone, Copy, PartialEq, Eq)]
 pub enum Passing {
     In,
     Out,
@@ -87,17 +87,17 @@ pub enum Passing {
 }
 
 /// A process.
-#[derive(Debug)]
+#[derive(Drop)]
 pub struct Process {
     pub name: Name,
     pub formals: List<Formal>,
     pub body: List<BodyPart>,
-    pub handler: Option<Handler>,
+    pub handler: Option<Box<Handler>>,
     pub closing: Option<Name>,
 }
 
 /// Parameters of a process that have one mode.
-#[derive(Debug)]
+#[derive(Drop)]
 pub struct Formal {
     pub names: List<Name>,
     pub mode: Mode,
@@ -107,7 +107,7 @@ impl Item {
     ghost use Rattle.std.specs.Prelude.{map};
     ghost use Rattle.chill_tree.specs.LocalTree.{local_tree};
     ghost use Rattle.chill_tree.specs.StatementTree.{statement_tree};
-    ghost use Rattle.chill_tree.specs.ItemTree.{seize, grant, local_item, signals, procedure, process, modulion_item, action, signal_tree, procedure_tree, process_tree, item_tree, modulion_tree};
+    ghost use Rattle.chill_tree.specs.ItemTree.{seize, grant, local_item, signals, procedure, process, modulion_item, action, signal_tree, boxed_procedure, boxed_process, item_tree, boxed_modulion};
 
     /// Names that are taken from outside.
     #[tactic(auto, using(crate::proofs::ItemViews::item_built))]
@@ -143,24 +143,24 @@ impl Item {
 
     /// A procedure.
     #[tactic(auto, using(crate::proofs::ItemViews::item_built))]
-    pub fn procedure(own: Procedure) -> Item
-        ensures { item_tree result ≡ procedure (procedure_tree own) }
+    pub fn procedure(own: Box<Procedure>) -> Item
+        ensures { item_tree result ≡ procedure (boxed_procedure own) }
     {
         Item::Procedure(own)
     }
 
     /// A process.
     #[tactic(auto, using(crate::proofs::ItemViews::item_built))]
-    pub fn process(own: Process) -> Item
-        ensures { item_tree result ≡ process (process_tree own) }
+    pub fn process(own: Box<Process>) -> Item
+        ensures { item_tree result ≡ process (boxed_process own) }
     {
         Item::Process(own)
     }
 
     /// A modulion in another.
     #[tactic(auto, using(crate::proofs::ItemViews::item_built))]
-    pub fn modulion(own: Modulion) -> Item
-        ensures { item_tree result ≡ modulion_item (modulion_tree own) }
+    pub fn modulion(own: Box<Modulion>) -> Item
+        ensures { item_tree result ≡ modulion_item (boxed_modulion own) }
     {
         Item::Modulion(own)
     }
@@ -176,7 +176,7 @@ impl Item {
 
 impl Modulion {
     ghost use Rattle.std.specs.Prelude.{option_map};
-    ghost use Rattle.chill_tree.specs.StatementTree.{handler_tree};
+    ghost use Rattle.chill_tree.specs.StatementTree.{boxed_handler};
     ghost use Rattle.chill_tree.specs.ItemTree.{item_trees, modulion_tree};
 
     /// A module or a region.
@@ -185,10 +185,10 @@ impl Modulion {
         name: Name,
         kind: ModulionKind,
         items: List<Item>,
-        handler: Option<Handler>,
+        handler: Option<Box<Handler>>,
         closing: Option<Name>,
     ) -> Modulion
-        ensures { modulion_tree result ≡ record { name = name; kind = kind; items = item_trees items; handler = option_map handler_tree handler; closing = closing } }
+        ensures { modulion_tree result ≡ record { name = name; kind = kind; items = item_trees items; handler = option_map boxed_handler handler; closing = closing } }
     {
         Modulion {
             name,
@@ -197,126 +197,5 @@ impl Modulion {
             handler,
             closing,
         }
-    }
-}
-
-// Dropped by hand, so that whoever drops one makes one call, and has none of its cases.
-impl Drop for Tree {
-    fn drop(self) {
-        let Tree { modulions } = self;
-        drop(modulions);
-    }
-}
-
-impl Drop for Modulion {
-    #[cycle(dropping_item)]
-    fn drop(self) {
-        let Modulion {
-            name,
-            kind: _,
-            items,
-            handler,
-            closing,
-        } = self;
-        drop(name);
-        drop(items);
-        drop(handler);
-        drop(closing);
-    }
-}
-
-impl Drop for Item {
-    #[cycle(dropping_item)]
-    fn drop(self) {
-        match self {
-            Item::Seize { at: _, passed } => drop(passed),
-            Item::Grant { at: _, passed } => drop(passed),
-            Item::Local(own) => drop(own),
-            Item::Signals { at: _, signals } => drop(signals),
-            Item::Procedure(own) => drop(own),
-            Item::Process(own) => drop(own),
-            Item::Modulion(own) => drop(own),
-            Item::Statement(own) => drop(own),
-        }
-    }
-}
-
-impl Drop for Passed {
-    fn drop(self) {
-        match self {
-            Passed::Names(own) => drop(own),
-            Passed::All(_) => {}
-        }
-    }
-}
-
-impl Drop for Signal {
-    fn drop(self) {
-        let Signal {
-            name,
-            parts,
-            process,
-        } = self;
-        drop(name);
-        drop(parts);
-        drop(process);
-    }
-}
-
-impl Drop for Procedure {
-    fn drop(self) {
-        let Procedure {
-            name,
-            params,
-            returns,
-            exceptions,
-            body,
-            handler,
-            closing,
-        } = self;
-        drop(name);
-        drop(params);
-        drop(returns);
-        drop(exceptions);
-        drop(body);
-        drop(handler);
-        drop(closing);
-    }
-}
-
-impl Drop for Param {
-    fn drop(self) {
-        let Param {
-            names,
-            mode,
-            passing: _,
-        } = self;
-        drop(names);
-        drop(mode);
-    }
-}
-
-impl Drop for Process {
-    fn drop(self) {
-        let Process {
-            name,
-            formals,
-            body,
-            handler,
-            closing,
-        } = self;
-        drop(name);
-        drop(formals);
-        drop(body);
-        drop(handler);
-        drop(closing);
-    }
-}
-
-impl Drop for Formal {
-    fn drop(self) {
-        let Formal { names, mode } = self;
-        drop(names);
-        drop(mode);
     }
 }

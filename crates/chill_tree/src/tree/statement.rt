@@ -3,10 +3,11 @@
 ghost use Rattle.std.specs.Prelude.{◌≡◌};
 
 use crate::tree::{Expr, Local, Name, Operator, ValueRange};
-use chill_base::{List, Pos};
+use chill_base::{List, Memory, Pos};
+use std::alloc::Global;
 
 /// An action with its label, its handler and the name at its end.
-#[derive(Debug)]
+#[derive(Drop)]
 #[cycle(statement)]
 pub enum Statement {
     /// A semicolon alone.
@@ -15,32 +16,32 @@ pub enum Statement {
     },
     Simple {
         at: Pos,
-        action: Simple,
-        handler: Option<Handler>,
+        action: Box<Simple>,
+        handler: Option<Box<Handler>>,
     },
     Bracketed {
         at: Pos,
         label: Option<Name>,
-        action: Bracketed,
-        handler: Option<Handler>,
+        action: Box<Bracketed>,
+        handler: Option<Box<Handler>>,
         closing: Option<Name>,
     },
 }
 
 /// An action that holds other actions.
-#[derive(Debug)]
+#[derive(Drop)]
 #[cycle(statement)]
 pub enum Bracketed {
     If {
         at: Pos,
-        condition: Expr,
+        condition: Box<Expr>,
         actions: List<Statement>,
         branches: List<ElsIf>,
         otherwise: Option<List<Statement>>,
     },
     Case {
         at: Pos,
-        selector: Expr,
+        selector: Box<Expr>,
         alternatives: List<CaseAlternative>,
         otherwise: Option<List<Statement>>,
     },
@@ -55,29 +56,29 @@ pub enum Bracketed {
     },
     DelayCase {
         at: Pos,
-        set: Option<Expr>,
-        priority: Option<Expr>,
+        set: Option<Box<Expr>>,
+        priority: Option<Box<Expr>>,
         alternatives: List<NamedAlternative>,
     },
     ReceiveCase {
         at: Pos,
-        set: Option<Expr>,
+        set: Option<Box<Expr>>,
         alternatives: List<ReceiveAlternative>,
         otherwise: Option<List<Statement>>,
     },
 }
 
 /// A further condition of an IF, and what is done where it holds.
-#[derive(Debug)]
+#[derive(Drop)]
 #[cycle(statement)]
 pub struct ElsIf {
     pub at: Pos,
-    pub condition: Expr,
+    pub condition: Box<Expr>,
     pub actions: List<Statement>,
 }
 
 /// What a CASE does for the values of its labels.
-#[derive(Debug)]
+#[derive(Drop)]
 #[cycle(statement)]
 pub struct CaseAlternative {
     pub at: Pos,
@@ -86,7 +87,7 @@ pub struct CaseAlternative {
 }
 
 /// What a DELAY CASE does after one of its events, or a handler after one of its exceptions.
-#[derive(Debug)]
+#[derive(Drop)]
 #[cycle(statement)]
 pub struct NamedAlternative {
     pub at: Pos,
@@ -95,7 +96,7 @@ pub struct NamedAlternative {
 }
 
 /// What a RECEIVE CASE does with what comes from a buffer or by a signal, and the names that this gets.
-#[derive(Debug)]
+#[derive(Drop)]
 #[cycle(statement)]
 pub struct ReceiveAlternative {
     pub at: Pos,
@@ -105,7 +106,7 @@ pub struct ReceiveAlternative {
 }
 
 /// What is done after an exception.
-#[derive(Debug)]
+#[derive(Drop)]
 #[cycle(statement)]
 pub struct Handler {
     pub at: Pos,
@@ -114,7 +115,7 @@ pub struct Handler {
 }
 
 /// What a body is made of.
-#[derive(Debug)]
+#[derive(Drop)]
 #[cycle(statement)]
 pub enum BodyPart {
     Local(Local),
@@ -122,11 +123,11 @@ pub enum BodyPart {
 }
 
 /// How often a DO does its actions.
-#[derive(Debug)]
+#[derive(Drop)]
 pub enum Control {
     While {
         at: Pos,
-        condition: Expr,
+        condition: Box<Expr>,
     },
     Forever {
         at: Pos,
@@ -135,36 +136,36 @@ pub enum Control {
     Members {
         at: Pos,
         counter: Name,
-        set: Expr,
-        condition: Option<Expr>,
+        set: Box<Expr>,
+        condition: Option<Box<Expr>>,
     },
     /// From a start up or down to an end.
     Steps {
         at: Pos,
         counter: Name,
-        start: Expr,
-        step: Option<Expr>,
+        start: Box<Expr>,
+        step: Option<Box<Expr>>,
         down: bool,
-        end: Expr,
-        condition: Option<Expr>,
+        end: Box<Expr>,
+        condition: Option<Box<Expr>>,
     },
 }
 
 /// An action that holds no other.
-#[derive(Debug)]
+#[derive(Drop)]
 pub enum Simple {
     Assign {
         at: Pos,
-        target: Expr,
-        value: Expr,
+        target: Box<Expr>,
+        value: Box<Expr>,
     },
     /// An assignment with an operator, which has its own place.
     Update {
         at: Pos,
-        target: Expr,
+        target: Box<Expr>,
         operator: Operator,
         sign: Pos,
-        value: Expr,
+        value: Box<Expr>,
     },
     /// A call, with the word CALL before it or without.
     Call {
@@ -179,15 +180,15 @@ pub enum Simple {
     },
     Return {
         at: Pos,
-        value: Option<Expr>,
+        value: Option<Box<Expr>>,
     },
     Result {
         at: Pos,
-        value: Expr,
+        value: Box<Expr>,
     },
     Assert {
         at: Pos,
-        condition: Expr,
+        condition: Box<Expr>,
     },
     Cause {
         at: Pos,
@@ -204,7 +205,7 @@ pub enum Simple {
     Delay {
         at: Pos,
         event: Name,
-        priority: Option<Expr>,
+        priority: Option<Box<Expr>>,
     },
     Continue {
         at: Pos,
@@ -214,15 +215,15 @@ pub enum Simple {
         at: Pos,
         target: Name,
         args: Option<List<Expr>>,
-        receiver: Option<Expr>,
-        priority: Option<Expr>,
+        receiver: Option<Box<Expr>>,
+        priority: Option<Box<Expr>>,
     },
 }
 
 impl Statement {
     ghost use Rattle.std.specs.Prelude.{option_map};
-    ghost use Rattle.chill_tree.specs.SimpleTree.{simple_tree};
-    ghost use Rattle.chill_tree.specs.StatementTree.{empty, simple, bracketed, handler_node, statement_tree, bracketed_tree, handler_tree};
+    ghost use Rattle.chill_tree.specs.SimpleTree.{boxed_simple};
+    ghost use Rattle.chill_tree.specs.StatementTree.{empty, simple, bracketed, handler_node, statement_tree, boxed_bracketed, boxed_handler};
 
     /// A semicolon alone.
     #[tactic(auto, using(crate::proofs::StatementViews::statement_built))]
@@ -234,8 +235,8 @@ impl Statement {
 
     /// An action that holds no other.
     #[tactic(auto, using(crate::proofs::StatementViews::statement_built))]
-    pub fn simple(at: Pos, action: Simple, handler: Option<Handler>) -> Statement
-        ensures { statement_tree result ≡ simple at (simple_tree action) (handler_node (option_map handler_tree handler)) }
+    pub fn simple(at: Pos, action: Box<Simple>, handler: Option<Box<Handler>>) -> Statement
+        ensures { statement_tree result ≡ simple at (boxed_simple action) (handler_node (option_map boxed_handler handler)) }
     {
         Statement::Simple {
             at,
@@ -249,11 +250,11 @@ impl Statement {
     pub fn bracketed(
         at: Pos,
         label: Option<Name>,
-        action: Bracketed,
-        handler: Option<Handler>,
+        action: Box<Bracketed>,
+        handler: Option<Box<Handler>>,
         closing: Option<Name>,
     ) -> Statement
-        ensures { statement_tree result ≡ bracketed at label (bracketed_tree action) (handler_node (option_map handler_tree handler)) closing }
+        ensures { statement_tree result ≡ bracketed at label (boxed_bracketed action) (handler_node (option_map boxed_handler handler)) closing }
     {
         Statement::Bracketed {
             at,
@@ -266,114 +267,129 @@ impl Statement {
 }
 
 impl Bracketed {
-    ghost use Rattle.std.specs.Prelude.{map, option_map};
-    ghost use Rattle.chill_tree.specs.ExprTree.{expr_tree};
+    ghost use Rattle.std.specs.Prelude.{IfOk, map, option_map};
+    ghost use Rattle.chill_tree.specs.ExprTree.{boxed_expr};
     ghost use Rattle.chill_tree.specs.SimpleTree.{control_tree};
-    ghost use Rattle.chill_tree.specs.StatementTree.{if_then, case_of, do_loop, begin_end, delay_case, receive_case, statement_nodes, branch_nodes, case_nodes, named_nodes, receive_nodes, otherwise_node, body_nodes, bracketed_tree, branch_tree, case_tree, named_tree, receive_tree, statement_trees, body_trees};
+    ghost use Rattle.chill_tree.specs.StatementTree.{if_then, case_of, do_loop, begin_end, delay_case, receive_case, statement_nodes, branch_nodes, case_nodes, named_nodes, receive_nodes, otherwise_node, body_nodes, boxed_bracketed, branch_tree, case_tree, named_tree, receive_tree, statement_trees, body_trees};
 
     /// A choice by conditions.
     #[tactic(auto, using(crate::proofs::StatementViews::statement_built))]
     pub fn if_then(
+        alloc: Global,
         at: Pos,
-        condition: Expr,
+        condition: Box<Expr>,
         actions: List<Statement>,
         branches: List<ElsIf>,
         otherwise: Option<List<Statement>>,
-    ) -> Bracketed
-        ensures { bracketed_tree result ≡ if_then at (expr_tree condition) (statement_nodes (statement_trees actions)) (branch_nodes (map branch_tree branches)) (otherwise_node (option_map statement_trees otherwise)) }
+    ) -> Result<Box<Bracketed>, Memory>
+        ensures { IfOk result (λ b. boxed_bracketed b ≡ if_then at (boxed_expr condition) (statement_nodes (statement_trees actions)) (branch_nodes (map branch_tree branches)) (otherwise_node (option_map statement_trees otherwise))) }
     {
-        Bracketed::If {
+        let action = Bracketed::If {
             at,
             condition,
             actions,
             branches,
             otherwise,
-        }
+        };
+        Ok(Box::new(alloc, action)?)
     }
 
     /// A choice by a value.
     #[tactic(auto, using(crate::proofs::StatementViews::statement_built))]
     pub fn case_of(
+        alloc: Global,
         at: Pos,
-        selector: Expr,
+        selector: Box<Expr>,
         alternatives: List<CaseAlternative>,
         otherwise: Option<List<Statement>>,
-    ) -> Bracketed
-        ensures { bracketed_tree result ≡ case_of at (expr_tree selector) (case_nodes (map case_tree alternatives)) (otherwise_node (option_map statement_trees otherwise)) }
+    ) -> Result<Box<Bracketed>, Memory>
+        ensures { IfOk result (λ b. boxed_bracketed b ≡ case_of at (boxed_expr selector) (case_nodes (map case_tree alternatives)) (otherwise_node (option_map statement_trees otherwise))) }
     {
-        Bracketed::Case {
+        let action = Bracketed::Case {
             at,
             selector,
             alternatives,
             otherwise,
-        }
+        };
+        Ok(Box::new(alloc, action)?)
     }
 
     /// A loop.
     #[tactic(auto, using(crate::proofs::StatementViews::statement_built))]
-    pub fn do_loop(at: Pos, control: Control, actions: List<Statement>) -> Bracketed
-        ensures { bracketed_tree result ≡ do_loop at (control_tree control) (statement_nodes (statement_trees actions)) }
+    pub fn do_loop(
+        alloc: Global,
+        at: Pos,
+        control: Control,
+        actions: List<Statement>,
+    ) -> Result<Box<Bracketed>, Memory>
+        ensures { IfOk result (λ b. boxed_bracketed b ≡ do_loop at (control_tree control) (statement_nodes (statement_trees actions))) }
     {
-        Bracketed::Do {
+        let action = Bracketed::Do {
             at,
             control,
             actions,
-        }
+        };
+        Ok(Box::new(alloc, action)?)
     }
 
     /// A block.
     #[tactic(auto, using(crate::proofs::StatementViews::statement_built))]
-    pub fn begin_end(at: Pos, body: List<BodyPart>) -> Bracketed
-        ensures { bracketed_tree result ≡ begin_end at (body_nodes (body_trees body)) }
+    pub fn begin_end(alloc: Global, at: Pos, body: List<BodyPart>) -> Result<Box<Bracketed>, Memory>
+        ensures { IfOk result (λ b. boxed_bracketed b ≡ begin_end at (body_nodes (body_trees body))) }
     {
-        Bracketed::Begin { at, body }
+        let action = Bracketed::Begin { at, body };
+        Ok(Box::new(alloc, action)?)
     }
 
     /// A delay for the first of some events.
     #[tactic(auto, using(crate::proofs::StatementViews::statement_built))]
     pub fn delay_case(
+        alloc: Global,
         at: Pos,
-        set: Option<Expr>,
-        priority: Option<Expr>,
+        set: Option<Box<Expr>>,
+        priority: Option<Box<Expr>>,
         alternatives: List<NamedAlternative>,
-    ) -> Bracketed
-        ensures { bracketed_tree result ≡ delay_case at (option_map expr_tree set) (option_map expr_tree priority) (named_nodes (map named_tree alternatives)) }
+    ) -> Result<Box<Bracketed>, Memory>
+        ensures { IfOk result (λ b. boxed_bracketed b ≡ delay_case at (option_map boxed_expr set) (option_map boxed_expr priority) (named_nodes (map named_tree alternatives))) }
     {
-        Bracketed::DelayCase {
+        let action = Bracketed::DelayCase {
             at,
             set,
             priority,
             alternatives,
-        }
+        };
+        Ok(Box::new(alloc, action)?)
     }
 
     /// A receipt from the first of some buffers or by the first of some signals.
     #[tactic(auto, using(crate::proofs::StatementViews::statement_built))]
     pub fn receive_case(
+        alloc: Global,
         at: Pos,
-        set: Option<Expr>,
+        set: Option<Box<Expr>>,
         alternatives: List<ReceiveAlternative>,
         otherwise: Option<List<Statement>>,
-    ) -> Bracketed
-        ensures { bracketed_tree result ≡ receive_case at (option_map expr_tree set) (receive_nodes (map receive_tree alternatives)) (otherwise_node (option_map statement_trees otherwise)) }
+    ) -> Result<Box<Bracketed>, Memory>
+        ensures { IfOk result (λ b. boxed_bracketed b ≡ receive_case at (option_map boxed_expr set) (receive_nodes (map receive_tree alternatives)) (otherwise_node (option_map statement_trees otherwise))) }
     {
-        Bracketed::ReceiveCase {
+        let action = Bracketed::ReceiveCase {
             at,
             set,
             alternatives,
             otherwise,
-        }
+        };
+        Ok(Box::new(alloc, action)?)
     }
 }
 
 impl ElsIf {
-    ghost use Rattle.chill_tree.specs.ExprTree.{expr_tree};
+    ghost use Rattle.chill_tree.specs.ExprTree.{boxed_expr};
     ghost use Rattle.chill_tree.specs.StatementTree.{branch_tree, statement_trees};
 
     /// A further condition.
     #[tactic(auto, using(crate::proofs::StatementViews::statement_built))]
-    pub fn new(at: Pos, condition: Expr, actions: List<Statement>) -> ElsIf
-        ensures { branch_tree result ≡ record { at = at; condition = expr_tree condition; actions = statement_trees actions } }
+    pub fn new(at: Pos, condition: Box<Expr>, actions: List<Statement>) -> ElsIf
+        ensures { branch_tree result ≡ record { at = at; condition = boxed_expr condition; actions = statement_trees actions } }
     {
         ElsIf {
             at,
@@ -435,23 +451,25 @@ impl ReceiveAlternative {
 }
 
 impl Handler {
-    ghost use Rattle.std.specs.Prelude.{map, option_map};
-    ghost use Rattle.chill_tree.specs.StatementTree.{named_tree, handler_tree, statement_trees};
+    ghost use Rattle.std.specs.Prelude.{IfOk, map, option_map};
+    ghost use Rattle.chill_tree.specs.StatementTree.{named_tree, boxed_handler, statement_trees};
 
     /// A handler.
     #[tactic(auto, using(crate::proofs::StatementViews::statement_built))]
     pub fn new(
+        alloc: Global,
         at: Pos,
         alternatives: List<NamedAlternative>,
         otherwise: Option<List<Statement>>,
-    ) -> Handler
-        ensures { handler_tree result ≡ record { at = at; alternatives = map named_tree alternatives; otherwise_part = option_map statement_trees otherwise } }
+    ) -> Result<Box<Handler>, Memory>
+        ensures { IfOk result (λ h. boxed_handler h ≡ record { at = at; alternatives = map named_tree alternatives; otherwise_part = option_map statement_trees otherwise }) }
     {
-        Handler {
+        let handler = Handler {
             at,
             alternatives,
             otherwise,
-        }
+        };
+        Ok(Box::new(alloc, handler)?)
     }
 }
 
@@ -473,274 +491,5 @@ impl BodyPart {
         ensures { body_tree result ≡ action_part (statement_tree own) }
     {
         BodyPart::Statement(own)
-    }
-}
-
-// Dropped by hand, so that whoever drops one makes one call, and has none of its cases.
-impl Drop for Statement {
-    #[cycle(dropping_statement)]
-    fn drop(self) {
-        match self {
-            Statement::Empty { at: _ } => {}
-            Statement::Simple {
-                at: _,
-                action,
-                handler,
-            } => {
-                drop(action);
-                drop(handler);
-            }
-            Statement::Bracketed {
-                at: _,
-                label,
-                action,
-                handler,
-                closing,
-            } => {
-                drop(label);
-                drop(action);
-                drop(handler);
-                drop(closing);
-            }
-        }
-    }
-}
-
-impl Drop for Bracketed {
-    #[cycle(dropping_statement)]
-    fn drop(self) {
-        match self {
-            Bracketed::If {
-                at: _,
-                condition,
-                actions,
-                branches,
-                otherwise,
-            } => {
-                drop(condition);
-                drop(actions);
-                drop(branches);
-                drop(otherwise);
-            }
-            Bracketed::Case {
-                at: _,
-                selector,
-                alternatives,
-                otherwise,
-            } => {
-                drop(selector);
-                drop(alternatives);
-                drop(otherwise);
-            }
-            Bracketed::Do {
-                at: _,
-                control,
-                actions,
-            } => {
-                drop(control);
-                drop(actions);
-            }
-            Bracketed::Begin { at: _, body } => drop(body),
-            Bracketed::DelayCase {
-                at: _,
-                set,
-                priority,
-                alternatives,
-            } => {
-                drop(set);
-                drop(priority);
-                drop(alternatives);
-            }
-            Bracketed::ReceiveCase {
-                at: _,
-                set,
-                alternatives,
-                otherwise,
-            } => {
-                drop(set);
-                drop(alternatives);
-                drop(otherwise);
-            }
-        }
-    }
-}
-
-impl Drop for ElsIf {
-    #[cycle(dropping_statement)]
-    fn drop(self) {
-        let ElsIf {
-            at: _,
-            condition,
-            actions,
-        } = self;
-        drop(condition);
-        drop(actions);
-    }
-}
-
-impl Drop for CaseAlternative {
-    #[cycle(dropping_statement)]
-    fn drop(self) {
-        let CaseAlternative {
-            at: _,
-            labels,
-            actions,
-        } = self;
-        drop(labels);
-        drop(actions);
-    }
-}
-
-impl Drop for NamedAlternative {
-    #[cycle(dropping_statement)]
-    fn drop(self) {
-        let NamedAlternative {
-            at: _,
-            names,
-            actions,
-        } = self;
-        drop(names);
-        drop(actions);
-    }
-}
-
-impl Drop for ReceiveAlternative {
-    #[cycle(dropping_statement)]
-    fn drop(self) {
-        let ReceiveAlternative {
-            at: _,
-            source,
-            received,
-            actions,
-        } = self;
-        drop(source);
-        drop(received);
-        drop(actions);
-    }
-}
-
-impl Drop for Handler {
-    #[cycle(dropping_statement)]
-    fn drop(self) {
-        let Handler {
-            at: _,
-            alternatives,
-            otherwise,
-        } = self;
-        drop(alternatives);
-        drop(otherwise);
-    }
-}
-
-impl Drop for BodyPart {
-    #[cycle(dropping_statement)]
-    fn drop(self) {
-        match self {
-            BodyPart::Local(own) => drop(own),
-            BodyPart::Statement(own) => drop(own),
-        }
-    }
-}
-
-impl Drop for Control {
-    fn drop(self) {
-        match self {
-            Control::While { at: _, condition } => drop(condition),
-            Control::Forever { at: _ } => {}
-            Control::Members {
-                at: _,
-                counter,
-                set,
-                condition,
-            } => {
-                drop(counter);
-                drop(set);
-                drop(condition);
-            }
-            Control::Steps {
-                at: _,
-                counter,
-                start,
-                step,
-                down: _,
-                end,
-                condition,
-            } => {
-                drop(counter);
-                drop(start);
-                drop(step);
-                drop(end);
-                drop(condition);
-            }
-        }
-    }
-}
-
-impl Drop for Simple {
-    fn drop(self) {
-        match self {
-            Simple::Assign {
-                at: _,
-                target,
-                value,
-            } => {
-                drop(target);
-                drop(value);
-            }
-            Simple::Update {
-                at: _,
-                target,
-                operator: _,
-                sign: _,
-                value,
-            } => {
-                drop(target);
-                drop(value);
-            }
-            Simple::Call {
-                at: _,
-                call: _,
-                name,
-                args,
-            } => {
-                drop(name);
-                drop(args);
-            }
-            Simple::Exit { at: _, label } => drop(label),
-            Simple::Return { at: _, value } => drop(value),
-            Simple::Result { at: _, value } => drop(value),
-            Simple::Assert { at: _, condition } => drop(condition),
-            Simple::Cause { at: _, exception } => drop(exception),
-            Simple::Stop { at: _ } => {}
-            Simple::Start {
-                at: _,
-                process,
-                args,
-            } => {
-                drop(process);
-                drop(args);
-            }
-            Simple::Delay {
-                at: _,
-                event,
-                priority,
-            } => {
-                drop(event);
-                drop(priority);
-            }
-            Simple::Continue { at: _, event } => drop(event),
-            Simple::Send {
-                at: _,
-                target,
-                args,
-                receiver,
-                priority,
-            } => {
-                drop(target);
-                drop(args);
-                drop(receiver);
-                drop(priority);
-            }
-        }
     }
 }

@@ -1,4 +1,4 @@
-use Rattle.code_guard.proofs.Found.{agrees_from, fit_from}
+use Rattle.code_guard.proofs.FoundHeights.{agrees_from, fit_from}
 use Rattle.code_guard.proofs.guarded.agrees.Goals as goal
 
 pub returns-then-not-bodies_rise : goal.returns-then-not-bodies_rise

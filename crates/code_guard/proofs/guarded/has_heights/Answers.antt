@@ -1,6 +1,6 @@
 use Rattle.std.proofs.Common.{◌≡◌, ℕ, List, length, subst, sym}
 use Rattle.code_guard.specs.Heights.{AreOnly, AllHoldOperands}
-use Rattle.code_guard.proofs.Found.{heights_from, rest_of}
+use Rattle.code_guard.proofs.FoundHeights.{heights_from, rest_of}
 use Rattle.code_guard.proofs.guarded.has_heights.Goals as goal
 
 pub returns-in-Some : goal.returns-in-Some

@@ -1,7 +1,7 @@
 use Rattle.code_guard.specs.Heights.{AreOnly, AllHoldOperands}
 use Rattle.std.proofs.Common.{arith, subst, ℕ, ◌≡◌, ◌<◌, length}
 use Rattle.std.proofs.lemmas.Option.{slice_get-get_or, slice_get_within}
-use Rattle.code_guard.proofs.Found.{found_more, none_here, on_inside, jump_requires, row_at}
+use Rattle.code_guard.proofs.FoundHeights.{found_more, none_here, on_inside, jump_requires, row_at}
 use Rattle.code_guard.proofs.heights.heights_from.Goals as goal
 
 pub holds_operands-requires : goal.holds_operands-requires

@@ -2,8 +2,8 @@ use Rattle.std.proofs.Common.{◌<◌, length}
 use Rattle.code_types.specs.declared.code.BodyRow.{BodyRow}
 use Rattle.code_types.specs.Agreement.{HasHeight}
 use Rattle.code_guard.specs.Heights.{IsTold}
-use Rattle.code_guard.proofs.Lists.{all_at}
-use Rattle.code_guard.proofs.Known.{known_set, tells_beginning}
+use Rattle.code_guard.proofs.EachItem.{all_at}
+use Rattle.code_guard.proofs.KnownHeights.{known_set, tells_beginning}
 use Rattle.code_guard.proofs.heights.tell_beginnings.Goals as goal
 
 pub loop-body-preserved : goal.loop-body-preserved

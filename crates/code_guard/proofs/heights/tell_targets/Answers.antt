@@ -2,9 +2,9 @@ use Rattle.std.proofs.Common.{arith, length, ◌+◌}
 use Rattle.code_types.specs.declared.code.Handler.{Handler}
 use Rattle.code_types.specs.Agreement.{HasHeight, HandlesInOneBody}
 use Rattle.code_guard.specs.Heights.{IsTold}
-use Rattle.code_guard.proofs.Lists.{all_at}
+use Rattle.code_guard.proofs.EachItem.{all_at}
 use Rattle.code_guard.proofs.Belonging.{target_inside}
-use Rattle.code_guard.proofs.Known.{known_set, tells_target}
+use Rattle.code_guard.proofs.KnownHeights.{known_set, tells_target}
 use Rattle.code_guard.proofs.heights.tell_targets.Goals as goal
 
 pub loop-i-preserved : goal.loop-i-preserved

@@ -1,7 +1,7 @@
 use Rattle.std.proofs.Common.{arith, refl}
 use Rattle.std.proofs.lemmas.Option.{slice_get_within}
 use Rattle.code_types.specs.Agreement.{HandlesInOneBody}
-use Rattle.code_guard.proofs.Lists.{all_at, all_of}
+use Rattle.code_guard.proofs.EachItem.{all_at, all_of}
 use Rattle.code_guard.proofs.instructions.handlers_fit.Goals as goal
 
 pub returns-then-not-handles_in_one_body : goal.returns-then-not-handles_in_one_body

@@ -3,7 +3,7 @@ use Rattle.std.proofs.lemmas.Option.{slice_get_within}
 use Rattle.code_types.specs.Agreement.{Everywhere}
 use Rattle.code_guard.specs.Heights.{KeepsHeight}
 use Rattle.code_types.specs.declared.code.Handler.{Handler}
-use Rattle.code_guard.proofs.Lists.{all_at, all_of, each_item}
+use Rattle.code_guard.proofs.EachItem.{all_at, all_of, each_item}
 use Rattle.code_guard.proofs.meeting.all_keep.Goals as goal
 
 pub returns-then-not-keep_in_range : goal.returns-then-not-keep_in_range

@@ -1,4 +1,4 @@
-use Rattle.code_machine.proofs.Holding.{answer_leads, answer_room, answer_runs, goes_behind}
+use Rattle.code_machine.proofs.AnswerRoom.{answer_leads, answer_room, answer_runs, goes_behind}
 use Rattle.code_machine.proofs.answering.take_answer.Goals as goal
 
 pub answer-requires-clause-room : goal.answer-requires-clause-room

@@ -1,6 +1,6 @@
 use Rattle.std.proofs.Common.{◌+◌, ◌-◌, ◌<◌, arith}
 use Rattle.machine_steps.specs.Views.{state_of}
-use Rattle.code_standing.proofs.StandingOn.{stands_after_tick}
+use Rattle.code_safety.proofs.StandingOn.{stands_after_tick}
 use Rattle.code_machine.proofs.Bursting.{can_step, goes_on, ticks_on, asks_runs, pauses_runs, asks_bursts, pauses_bursts}
 use Rattle.code_machine.proofs.Weighing.{goes_falls, makes_falls}
 use Rattle.code_machine.proofs.burst.make_steps.Goals as goal

@@ -2,7 +2,7 @@ use Rattle.std.proofs.Common.{rules, subst, sym}
 use Rattle.machine_steps.specs.declared.process.Doing.{Doing}
 use Rattle.machine_steps.specs.Asking.{HasFewSlots}
 use Rattle.machine_steps.specs.Views.{state_of}
-use Rattle.code_standing.proofs.StandingOn.{stands_at_start}
+use Rattle.code_safety.proofs.StandingOn.{stands_at_start}
 use Rattle.code_machine.specs.Running.{HasRoomIn}
 use Rattle.code_machine.proofs.starting.start_running.Goals as goal
 

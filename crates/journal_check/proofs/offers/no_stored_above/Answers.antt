@@ -2,7 +2,7 @@ use Rattle.std.proofs.Common.{◌≤◌, arith, length, refl}
 use Rattle.std.proofs.lemmas.Option.{slice_get_read}
 use Rattle.world_model.specs.declared.world.StoredValue.{StoredValue}
 use Rattle.world_check.proofs.Waiters.{refuted, granted}
-use Rattle.journal_check.proofs.Listed.{one_place_more}
+use Rattle.journal_check.proofs.ListedThings.{one_place_more}
 use Rattle.journal_check.proofs.Buffers.{higher_stored, no_higher_stored}
 use Rattle.journal_check.proofs.offers.no_stored_above.Goals as goal
 

@@ -3,7 +3,7 @@ use Rattle.std.proofs.lemmas.Option.{slice_get-get_or}
 use Rattle.kernel_base.specs.declared.request.Alternative.{Alternative}
 use Rattle.world_check.proofs.Waiters.{refuted, granted}
 use Rattle.journal_check.specs.Receiving.{NoCandidateAbove}
-use Rattle.journal_check.proofs.Listed.{one_place_more, none_listed_above, none_above_at}
+use Rattle.journal_check.proofs.ListedThings.{one_place_more, none_listed_above, none_above_at}
 use Rattle.journal_check.proofs.receiving.no_value_above.Goals as goal
 
 pub returns-then-not-no_candidate_above : goal.returns-then-not-no_candidate_above

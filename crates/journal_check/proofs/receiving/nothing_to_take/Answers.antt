@@ -2,7 +2,7 @@ use Rattle.std.proofs.Common.{arith, get_or}
 use Rattle.std.proofs.lemmas.Option.{slice_get-get_or}
 use Rattle.kernel_base.specs.declared.request.Alternative.{Alternative}
 use Rattle.world_check.proofs.Waiters.{refuted, granted}
-use Rattle.journal_check.proofs.Listed.{nothing_listed, no_candidate_at}
+use Rattle.journal_check.proofs.ListedThings.{nothing_listed, no_candidate_at}
 use Rattle.journal_check.proofs.receiving.nothing_to_take.Goals as goal
 
 pub returns-then-not-no_candidate : goal.returns-then-not-no_candidate

@@ -5,4 +5,4 @@ use Rattle.journal_check.specs.Receiving.{TakesFrom}
 use Rattle.journal_check.proofs.receiving.takes_value.Given as goal
 
 abbrev pub invariant-loop-place : goal.invariant-loop-place
-invariant-loop-place l = (k : ℕ) (a : Alternative) → k < l.place → slice_get l.buffers k ≡ Some a → TakesFrom l.facts l.world l.buffers l.alternative l.send l.scalars l.by l.refill a.thing → ⊥
+invariant-loop-place l = (k : ℕ) (a : Alternative) → k < l.place → slice_get l.buffers k ≡ Some a → TakesFrom l.facts l.world l.buffers l.receipt.alternative l.receipt.send l.receipt.scalars.now l.receipt.by l.refill a.thing → ⊥

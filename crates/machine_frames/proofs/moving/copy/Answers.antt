@@ -1,6 +1,6 @@
 use Rattle.std.proofs.Common.{◌≡◌, refl, ap, sym, arith}
 use Rattle.std.proofs.lemmas.Grind.{common_steps}
-use Rattle.machine_frames.proofs.Parts.{topmost_again}
+use Rattle.machine_frames.proofs.TopmostParts.{topmost_again}
 use Rattle.machine_frames.proofs.moving.copy.Goals as goal
 
 pub returns-clause-does : goal.returns-clause-does

@@ -1,7 +1,7 @@
 use Rattle.std.proofs.Common.{◌≡◌, refl, ap, sym, arith, ◌+◌, take, drop}
 use Rattle.std.proofs.lemmas.Grind.{common_steps}
 use Rattle.code_types.specs.Operands.{topmost}
-use Rattle.machine_frames.proofs.Parts.{topmost_of_topmost, part_within}
+use Rattle.machine_frames.proofs.TopmostParts.{topmost_of_topmost, part_within}
 use Rattle.machine_frames.proofs.moving.part_at.Goals as goal
 
 pub returns-then-k-count-clause-does : goal.returns-then-k-count-clause-does

@@ -2,7 +2,7 @@ use Rattle.std.proofs.Common.{◌≤◌, length, sym, subst, arith}
 use Rattle.std.proofs.lemmas.Bool.{leb-true, le-leb}
 use Rattle.world_check.specs.Opening.{HasFewMembersEach}
 use Rattle.world_check.proofs.Waiters.{refuted, granted}
-use Rattle.world_check.proofs.Members.{few_here, few_members, few_of_number, few_of_members, few_of_parts}
+use Rattle.world_check.proofs.PowersetsInValues.{few_here, few_members, few_of_number, few_of_members, few_of_parts}
 use Rattle.world_check.proofs.flat.+has_few_members.Goals as goal
 
 pub returns-then-not-has_few_members : goal.returns-then-not-has_few_members

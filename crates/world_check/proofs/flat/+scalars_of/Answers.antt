@@ -3,7 +3,7 @@ use Rattle.std.proofs.lemmas.Grind.{common_steps}
 use Rattle.std.specs.List.{flat_map}
 use Rattle.kernel_base.specs.declared.value.Value.{Value}
 use Rattle.kernel_base.specs.Value.{scalars_of}
-use Rattle.world_check.proofs.Members.{few_here, parts_here, parts_more, no_such_members}
+use Rattle.world_check.proofs.PowersetsInValues.{few_here, parts_here, parts_more, no_such_members}
 use Rattle.world_check.proofs.flat.+scalars_of.Goals as goal
 
 pub loop-part-preserved : goal.loop-part-preserved

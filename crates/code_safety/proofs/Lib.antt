@@ -1,0 +1,15 @@
+pub mod BodyPlaces
+pub mod ActionOutcomes
+pub mod AnswersBrought
+pub mod Acts
+pub mod Starting
+pub mod Handling
+pub mod MovePreservation
+pub mod Falling
+pub mod Answered
+pub mod ReachedIsSafe
+pub mod Needing
+pub mod Talking
+pub mod TalkPrefixes
+pub mod SingleMoves
+pub mod StandingOn

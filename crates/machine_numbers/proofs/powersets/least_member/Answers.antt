@@ -1,5 +1,0 @@
-use Rattle.std.proofs.lemmas.Int.{to_z-of_z}
-use Rattle.machine_numbers.proofs.powersets.least_member.Goals as goal
-
-pub returns : goal.returns
-returns c = let fits = c.ranges.set in simp to_z-of_z at c.least_below.ensures
