@@ -3,7 +3,7 @@ use Rattle.std.proofs.Common.{◌≡◌, ℕ, zero, suc, ◌+◌, ◌<◌, List,
 use Rattle.std.specs.Prelude.{IsTrue, IsFalse, ◌==◌, ◌&&◌, if◌then◌else◌, slice_index_or}
 use Rattle.std.proofs.lemmas.Bool.Decides.{nat_tests}
 use Rattle.std.proofs.lemmas.Bool.{eqb-true, ne_eqb}
-use Rattle.std.specs.List.{remove}
+use Rattle.std.specs.List.{remove, filter}
 use Rattle.std.proofs.lemmas.List.{take_more, length-append}
 use Rattle.std.proofs.lemmas.List.Elements.{filter_map-append}
 use Rattle.std.proofs.lemmas.Option.{same_Some, get_or_from_slice_get}
@@ -196,9 +196,9 @@ not_refilled (Some (suc n)) v buffer by apart none = (nobody_sends v.senders buf
 
 -- the best of those that wait to send stores its value
 pub refilled : (stored senders stored' senders' : List Held) (buffer : ℕ) (best : Best) (offer : Held) → AreOnce sender_of senders → IsBest (sender_rank buffer) senders best
-    → offer ≡ get_or senders best.place offer → stored' ≡ stored ++ offer ∷ [] → senders' ≡ remove senders best.place → IsRefilled (values stored senders) (values stored' senders') buffer offer.value.sender
+    → slice_get senders best.place ≡ Some offer → stored' ≡ stored ++ offer ∷ [] → senders' ≡ others sender_of senders offer.value.sender → IsRefilled (values stored senders) (values stored' senders') buffer offer.value.sender
 refilled stored senders stored' senders' buffer best offer once is at pushed removed =
-    let same : offer ≡ is.item = at ∙ get_or_from_slice_get senders best.place is.item offer is.at in
+    let same : offer ≡ is.item = same_Some offer is.item (sym at ∙ is.at) in
     let holds = rank_holds _ is.item best.rank is.ranked in
     record {
       offer = is.item;
@@ -207,7 +207,7 @@ refilled stored senders stored' senders' buffer best offer once is at pushed rem
       sender_is = ap sender_of (sym same);
       best = λ other there by. subst (λ (r : Rank). IsFalse (precedes_in (rank_of other.value) r)) holds.1 (is.highest there.0 other (rank_of other.value) there.1 (rank_there _ other (eq-eqb other.buffer buffer by)));
       stored = pushed ∙ ap (λ (h : Held). stored ++ h ∷ []) same;
-      senders = removed ∙ once_remove sender_of senders best.place is.item once is.at ∙ ap (λ (p : ℕ). others sender_of senders p) (ap sender_of (sym same));
+      senders = removed;
     }
 
 pub refills_some : (length : Option ℕ) (n : ℕ) (old new : Values) (buffer by sender : ℕ) → length ≡ Some n → is_zero length ≡ false → IsRefilled old new buffer sender → Refills length old new buffer by (Some sender)
@@ -235,3 +235,27 @@ pub count_elsewhere : (held : List Held) (buffer i : ℕ) (h : Held) → i < len
 count_elsewhere held buffer i h low is apart =
     let none : length (values_in (h ∷ []) buffer) ≡ 0 = rw (ne_eqb h.buffer buffer apart) refl in
     omega (arith, ap length (values_more held buffer i h low is), length-append (values_in (take i held) buffer) (values_in (h ∷ []) buffer), none)
+
+-- what a filter leaves out it leaves out of the rest as well
+remove_by : {X : Type 0} (p : X → Bool) (y : X) (ys zs : List X) (t : Bool) → p y ≡ t → filter p zs ≡ filter p ys → filter p (y ∷ zs) ≡ (if t then y ∷ filter p ys else filter p ys)
+remove_by {X = X} p y ys zs true is e = rw is (ap (λ (ws : List X). y ∷ ws) e)
+remove_by p y ys zs false is e = rw is e
+
+pub filter_remove : {X : Type 0} (p : X → Bool) (xs : List X) (i : ℕ) (x : X) → slice_get xs i ≡ Some x → p x ≡ false → filter p (remove xs i) ≡ filter p xs
+filter_remove p [] i x at fails = cc
+filter_remove p (y ∷ ys) zero x at fails = let none : p y ≡ false = ap p (same_Some y x at) ∙ fails in rw none refl
+filter_remove p (y ∷ ys) (suc i) x at fails = remove_by p y ys (remove ys i) (p y) refl (filter_remove p ys i x at fails)
+
+-- the best stored value and the best that is offered, for lists that are those of the buffers
+pub source_for : (b : SeenBuffers) (buffers : List Alternative) (lengths : List (Option ℕ)) (stored senders : List Held) (s o : Option Best) (source : Source) → lengths ≡ b.lengths → stored ≡ b.stored → senders ≡ b.senders
+    → IfSome s (IsBest (stored_rank lengths buffers) stored) → IfNone s (NoneRanked (stored_rank lengths buffers) stored)
+    → IfSome o (IsBest (offered_rank lengths buffers) senders) → IfNone o (NoneRanked (offered_rank lengths buffers) senders) → source ≡ source_between s o → IsSource b buffers source
+source_for b buffers lengths stored senders s o source el es eo ss sn os on is =
+    let ss' = subst (λ (l : List (Option ℕ)). IfSome s (IsBest (stored_rank l buffers) b.stored)) el (subst (λ (xs : List Held). IfSome s (IsBest (stored_rank lengths buffers) xs)) es ss) in
+    let sn' = subst (λ (l : List (Option ℕ)). IfNone s (NoneRanked (stored_rank l buffers) b.stored)) el (subst (λ (xs : List Held). IfNone s (NoneRanked (stored_rank lengths buffers) xs)) es sn) in
+    let os' = subst (λ (l : List (Option ℕ)). IfSome o (IsBest (offered_rank l buffers) b.senders)) el (subst (λ (xs : List Held). IfSome o (IsBest (offered_rank lengths buffers) xs)) eo os) in
+    let on' = subst (λ (l : List (Option ℕ)). IfNone o (NoneRanked (offered_rank l buffers) b.senders)) el (subst (λ (xs : List Held). IfNone o (NoneRanked (offered_rank lengths buffers) xs)) eo on) in
+    subst (λ (x : Source). IsSource b buffers x) (sym is) (source_is b buffers s o ss' sn' os' on')
+
+pub same_send : (send : ℕ) → not (send == send) ≡ false
+same_send send = let same : (send == send) ≡ true = eq-eqb send send refl in rw same refl

@@ -9,7 +9,9 @@ ghost use Rattle.buffers_signals.specs.Ranks.{IsSource, IsChoiceAt};
 ghost use Rattle.buffers_signals.specs.Steps.{GotFrom};
 
 use crate::receiving::{Source, best_offered, best_stored, better_source};
-use crate::taking::{answer_with, count_in, first_receiver, refill, take_receiver};
+use crate::taking::{
+    answer_with, count_in, first_receiver, forget, refill, take_receiver, take_sender, take_value,
+};
 use crate::{Held, Received, Receiver, Sent};
 use chill_base::{Item, Lengths, Memory};
 use kernel_base::{Alternative, Alternatives, Facts, Request};
@@ -204,9 +206,7 @@ impl Buffers {
         ensures lengths { self.new.lengths ≡ self.old.lengths }
         ensures spare { self.old.spare ≤ self.new.spare }
     {
-        let taken = self.stored.remove(place);
-        let send = taken.value.send;
-        self.stored.retain(move |held| held.value.send != send);
+        let taken = take_value(&mut self.stored, place);
         let alternative = number_for(buffers, taken.buffer).unwrap();
         let refill = refill(
             self.lengths.as_slice(),
@@ -226,9 +226,8 @@ impl Buffers {
         ensures lengths { self.new.lengths ≡ self.old.lengths }
         ensures spare { self.old.spare ≤ self.new.spare }
     {
-        let taken = self.senders.remove(place);
-        let send = taken.value.send;
-        self.stored.retain(move |held| held.value.send != send);
+        let taken = take_sender(&mut self.senders, place);
+        forget(&mut self.stored, taken.value.send);
         let alternative = number_for(buffers, taken.buffer).unwrap();
         let refill = Some(taken.value.sender);
         Received::Got {

@@ -4,6 +4,8 @@ ghost use Rattle.std.specs.List.{find};
 ghost use Rattle.kernel_lists.specs.Best.{IsBest, NoneRanked};
 ghost use Rattle.kernel_lists.specs.First.{IsFirst};
 ghost use Rattle.kernel_lists.specs.Once.{entry_of, AreOnce};
+ghost use Rattle.kernel_lists.specs.Room.{spare};
+ghost use Rattle.world_model.specs.World.{signals_but};
 ghost use Rattle.buffers_signals.specs.Lists.{receiver_of};
 ghost use Rattle.buffers_signals.specs.Ranks.{signal_rank};
 ghost use Rattle.buffers_signals.specs.Signals.{IsSend, IsReceive, Sends, SendsTo, Receives, ReceivesFrom, may_receive, is_receiver};
@@ -29,7 +31,9 @@ impl Model for Signals {
     ghost use Rattle.std.specs.Prelude.{min};
     ghost use Rattle.kernel_lists.specs.Room.{spare};
     ghost use Rattle.kernel_lists.specs.Once.{AreOnce};
-    ghost use Rattle.buffers_signals.specs.Lists.{receiver_of};
+    ghost use Rattle.kernel_lists.specs.Room.{spare};
+ghost use Rattle.world_model.specs.World.{signals_but};
+ghost use Rattle.buffers_signals.specs.Lists.{receiver_of};
     ghost use Rattle.buffers_signals.specs.Signals.{SeenSignals};
 
     ghost Value = { SeenSignals };
@@ -154,9 +158,7 @@ impl Signals {
     {
         let wanted = self.wanted.as_slice();
         if let Some(best) = best_pending(wanted, &self.pending, who, process, signals.as_slice()) {
-            let taken = self.pending.remove(best.place);
-            let send = taken.value.send;
-            self.pending.retain(move |signal| signal.value.send != send);
+            let taken = take_signal(&mut self.pending, best.place);
             let alternative = number_for(signals.as_slice(), taken.signal).unwrap();
             return Received::Got {
                 answer: answer_with(alternative, taken.value),
@@ -217,6 +219,19 @@ fn first_receiver(
         }
     }
     None
+}
+
+// Takes out the signal at a place, and with it all of its send number.
+fn take_signal(pending: &mut Vec<PendingSignal>, place: usize) -> PendingSignal
+    requires { place < length pending.old.items }
+    ensures taken { slice_get pending.old.items place ≡ Some result }
+    ensures rest { pending.new.items ≡ signals_but result.value.send pending.old.items }
+    ensures room { spare pending.old ≤ spare pending.new }
+{
+    let taken = pending.remove(place);
+    let send = taken.value.send;
+    pending.retain(move |signal| signal.value.send != send);
+    taken
 }
 
 fn rank_for(

@@ -6,8 +6,8 @@ ghost use Rattle.std.specs.Prelude.{ℕ, false};
 ghost use Rattle.std.specs.List.{find};
 ghost use Rattle.kernel_lists.specs.First.{IsFirst};
 ghost use Rattle.kernel_lists.specs.Room.{spare};
-ghost use Rattle.kernel_lists.specs.Once.{AreOnce};
-ghost use Rattle.buffers_signals.specs.Lists.{rank_of, lists, values_in, sender_of, receiver_of};
+ghost use Rattle.kernel_lists.specs.Once.{others, AreOnce};
+ghost use Rattle.buffers_signals.specs.Lists.{rank_of, lists, values_in, stored_but, sender_of, receiver_of};
 ghost use Rattle.buffers_signals.specs.Ranks.{sender_rank, is_unbuffered};
 ghost use Rattle.buffers_signals.specs.Buffers.{Refills};
 ghost use Rattle.buffers_signals.specs.Steps.{values, ListsAt, TakesOut};
@@ -110,6 +110,38 @@ pub fn best_sender(senders: &[Held], buffer: u32) -> Option<Best>
     found
 }
 
+/// Takes out every value of a send number.
+pub fn forget(stored: &mut Vec<Held>, send: u32)
+    ensures rest { stored.new.items ≡ stored_but send stored.old.items }
+    ensures room { spare stored.old ≤ spare stored.new }
+{
+    stored.retain(move |held| held.value.send != send);
+}
+
+/// Takes out the value at a place, and with it all of its send number.
+pub fn take_value(stored: &mut Vec<Held>, place: usize) -> Held
+    requires { place < length stored.old.items }
+    ensures taken { slice_get stored.old.items place ≡ Some result }
+    ensures rest { stored.new.items ≡ stored_but result.value.send stored.old.items }
+    ensures room { spare stored.old < spare stored.new }
+{
+    let taken = stored.remove(place);
+    forget(stored, taken.value.send);
+    taken
+}
+
+/// Takes out the one that waits to send at a place.
+pub fn take_sender(senders: &mut Vec<Held>, place: usize) -> Held
+    requires there { place < length senders.old.items }
+    requires once { AreOnce sender_of senders.old.items }
+    ensures taken { slice_get senders.old.items place ≡ Some result }
+    ensures rest { senders.new.items ≡ others sender_of senders.old.items result.value.sender }
+    ensures once { AreOnce sender_of senders.new.items }
+    ensures room { spare senders.old ≤ spare senders.new }
+{
+    senders.remove(place)
+}
+
 /// Stores the value of the best of those that wait to send to a buffer that has a length, and names its sender.
 pub fn refill(
     lengths: &[Option<u32>],
@@ -128,7 +160,7 @@ pub fn refill(
     number_at(lengths, buffer)?;
     match best_sender(senders, buffer) {
         Some(best) => {
-            let offer = senders.remove(best.place);
+            let offer = take_sender(senders, best.place);
             let sender = offer.value.sender;
             stored.push_reserved(offer);
             Some(sender)

@@ -28,7 +28,7 @@ module _ {X : Type 0} (rank : X → Option Rank) (xs : List X) where
     at = h.at;
     ranked = h.ranked;
     highest = below_more (λ k. (other : X) (r : Rank) → slice_get xs k ≡ Some other → rank other ≡ Some r → IsFalse (precedes_in r best.rank)) i h.highest
-      (λ other r e ranked. let clash : None ≡ Some r = sym none ∙ ap rank (same_Some x other (sym at ∙ e)) ∙ ranked in cc);
+        (λ other r e ranked. let clash : None ≡ Some r = sym none ∙ ap rank (same_Some x other (sym at ∙ e)) ∙ ranked in cc);
     first = h.first;
   }
 
@@ -40,8 +40,8 @@ module _ {X : Type 0} (rank : X → Option Rank) (xs : List X) where
     at = at;
     ranked = ranked;
     highest = below_more (λ k. (other : X) (s : Rank) → slice_get xs k ≡ Some other → rank other ≡ Some s → IsFalse (precedes_in s r)) i
-      (λ k low other s e ranked'. let clash : None ≡ Some s = sym (h k low other e) ∙ ranked' in cc)
-      (λ other s e ranked'. let same : r ≡ s = same_Some r s (sym ranked ∙ ap rank (same_Some x other (sym at ∙ e)) ∙ ranked') in rw (← same) (not_itself r));
+        (λ k low other s e ranked'. let clash : None ≡ Some s = sym (h k low other e) ∙ ranked' in cc)
+        (λ other s e ranked'. let same : r ≡ s = same_Some r s (sym ranked ∙ ap rank (same_Some x other (sym at ∙ e)) ∙ ranked') in rw (← same) (not_itself r));
     first = λ k low other s e ranked'. let clash : None ≡ Some s = sym (h k low other e) ∙ ranked' in cc;
   }
 
@@ -53,8 +53,8 @@ module _ {X : Type 0} (rank : X → Option Rank) (xs : List X) where
     at = at;
     ranked = ranked;
     highest = below_more (λ k. (other : X) (s : Rank) → slice_get xs k ≡ Some other → rank other ≡ Some s → IsFalse (precedes_in s r)) i
-      (λ k low other s e ranked'. behind r s (over r best.rank s above (h.highest k low other s e ranked')))
-      (λ other s e ranked'. let same : r ≡ s = same_Some r s (sym ranked ∙ ap rank (same_Some x other (sym at ∙ e)) ∙ ranked') in rw (← same) (not_itself r));
+        (λ k low other s e ranked'. behind r s (over r best.rank s above (h.highest k low other s e ranked')))
+        (λ other s e ranked'. let same : r ≡ s = same_Some r s (sym ranked ∙ ap rank (same_Some x other (sym at ∙ e)) ∙ ranked') in rw (← same) (not_itself r));
     first = λ k low other s e ranked'. over r best.rank s above (h.highest k low other s e ranked');
   }
 
@@ -66,7 +66,7 @@ module _ {X : Type 0} (rank : X → Option Rank) (xs : List X) where
     at = h.at;
     ranked = h.ranked;
     highest = below_more (λ k. (other : X) (s : Rank) → slice_get xs k ≡ Some other → rank other ≡ Some s → IsFalse (precedes_in s best.rank)) i h.highest
-      (λ other s e ranked'. let same : r ≡ s = same_Some r s (sym ranked ∙ ap rank (same_Some x other (sym at ∙ e)) ∙ ranked') in rw (← same) low);
+        (λ other s e ranked'. let same : r ≡ s = same_Some r s (sym ranked ∙ ap rank (same_Some x other (sym at ∙ e)) ∙ ranked') in rw (← same) low);
     first = h.first;
   }
 
