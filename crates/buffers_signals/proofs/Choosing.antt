@@ -37,12 +37,12 @@ rank_fails : (may : Bool) (held : Held) → rank_where may held ≡ None → may
 rank_fails true held e = cc
 rank_fails false held e = refl
 
-both : (a b : Bool) → (a && b) ≡ true → (a ≡ true) × (b ≡ true)
+pub both : (a b : Bool) → (a && b) ≡ true → (a ≡ true) × (b ≡ true)
 both true true e = (refl, refl)
 both true false e = cc
 both false b e = cc
 
-joined : (a b : Bool) → a ≡ true → b ≡ true → (a && b) ≡ true
+pub joined : (a b : Bool) → a ≡ true → b ≡ true → (a && b) ≡ true
 joined a b p q = rw (p, q) refl
 
 flipped : (a : Bool) → not a ≡ true → a ≡ false
@@ -259,3 +259,18 @@ source_for b buffers lengths stored senders s o source el es eo ss sn os on is =
 
 pub same_send : (send : ℕ) → not (send == send) ≡ false
 same_send send = let same : (send == send) ≡ true = eq-eqb send send refl in rw same refl
+
+-- of a buffer of length 0 the sender of the value that was taken is chosen
+pub refills_zero : (length : Option ℕ) (stored senders stored' senders' : List Held) (buffer by : ℕ) (refill : Option ℕ) → is_zero length ≡ true → refill ≡ Some by → stored' ≡ stored → senders' ≡ others sender_of senders by
+    → Refills length (values stored senders) (values stored' senders') buffer by refill
+refills_zero None stored senders stored' senders' buffer by refill empty is es eo = cc
+refills_zero (Some zero) stored senders stored' senders' buffer by refill empty is es eo = (is, ap (λ (xs : List Held). values xs senders') es ∙ ap (λ (xs : List Held). values stored xs) eo)
+refills_zero (Some (suc n)) stored senders stored' senders' buffer by refill empty is es eo = absurd (not_zero n empty)
+
+pub refills_like : (l l' : Option ℕ) (stored stored' senders senders' : List Held) (new : Values) (buffer buffer' by : ℕ) (refill : Option ℕ) → l ≡ l' → stored ≡ stored' → senders ≡ senders' → buffer ≡ buffer'
+    → Refills l (values stored senders) new buffer by refill → Refills l' (values stored' senders') new buffer' by refill
+refills_like l l' stored stored' senders senders' new buffer buffer' by refill el es eo eb h =
+    subst (λ (x : Option ℕ). Refills x (values stored' senders') new buffer' by refill) el
+    (subst (λ (b : ℕ). Refills l (values stored' senders') new b by refill) eb
+    (subst (λ (xs : List Held). Refills l (values stored' xs) new buffer by refill) eo
+    (subst (λ (xs : List Held). Refills l (values xs senders) new buffer by refill) es h)))
