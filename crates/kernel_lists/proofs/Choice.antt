@@ -1,9 +1,8 @@
 -- The best of those so far, with one more.
 use Rattle.std.proofs.Common.{◌≡◌, ℕ, ◌+◌, ◌<◌, ◌≤◌, List, length, get_or, Bool, true, false, IfSome, IfNone, below_more, arith, refl, sym, ap, ◌∙◌, slice_get, Option, Some, None}
-use Rattle.std.specs.Prelude.{IsTrue, IsFalse, if◌then◌else◌}
+use Rattle.std.specs.Prelude.{IsFalse, if◌then◌else◌}
 use Rattle.std.proofs.lemmas.Bool.Decides.{nat_tests}
-use Rattle.std.proofs.lemmas.Bool.{cases_Bool}
-use Rattle.std.proofs.lemmas.Option.{slice_get-get_or, slice_get_within, get_or_from_slice_get, same_Some}
+use Rattle.std.proofs.lemmas.Option.{slice_get-get_or, slice_get_within, same_Some}
 use Rattle.kernel_lists.specs.declared.best.Rank.{Rank}
 use Rattle.kernel_lists.specs.declared.best.Best.{Best}
 use Rattle.kernel_lists.specs.Best.{precedes_in, better_of, IsBest, NoneRanked, IsBestBelow, BestBelow}
