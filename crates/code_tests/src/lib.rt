@@ -14,3 +14,5 @@ mod journals;
 mod machine;
 #[cfg(test)]
 mod opening;
+#[cfg(test)]
+mod tables;
