@@ -1,0 +1,7 @@
+pub mod ModeViews
+pub mod Capped
+pub mod LowestLemmas
+pub mod FieldLemmas
+pub mod SimilarLemmas
+pub mod ClassLemmas
+pub mod SimilarLaws
