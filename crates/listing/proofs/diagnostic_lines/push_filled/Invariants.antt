@@ -1,6 +1,6 @@
 use Rattle.std.proofs.Common.{◌≡◌, ◌++◌, length}
 use Rattle.diagnostics.specs.Rules.{filled}
-use Rattle.listing.proofs.diagnostics.push_filled.Given as goal
+use Rattle.listing.proofs.diagnostic_lines.push_filled.Given as goal
 
 -- the text so far goes on with what is left of the rule's text
 abbrev pub invariant-bytes : goal.invariant-bytes

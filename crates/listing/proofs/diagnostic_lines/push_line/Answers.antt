@@ -1,7 +1,7 @@
 use Rattle.std.proofs.Common.{◌++◌, ◌∙◌, ap, refl}
 use Rattle.std.specs.Fmt.{decimal}
 use Rattle.listing.proofs.Lines.{line-made, head-is}
-use Rattle.listing.proofs.diagnostics.push_line.Goals as goal
+use Rattle.listing.proofs.diagnostic_lines.push_line.Goals as goal
 
 -- the place, the rule and its text, and a line feed
 pub returns : goal.returns
