@@ -3,7 +3,7 @@ use chill_base::Memory;
 use diagnostics::Diagnostics;
 
 /// Why the names of a program aren't resolved.
-#[derive(Debug, Drop)]
+#[derive(Drop)]
 pub enum Refusal {
     /// Rules are broken: the list of the phase.
     Broken(Diagnostics),
