@@ -1,6 +1,5 @@
-use Rattle.std.proofs.Common.{◌≡◌, ◌∙◌, ◌+◌, ◌∷◌, ◌++◌, [], suc, ap, arith}
-use Rattle.names_model.specs.Dependence.{named_in, param_groups}
-use Rattle.names_model.specs.Sizes.{clauses_size, head_size}
+use Rattle.std.proofs.Common.{◌≡◌, ◌∙◌, ◌∷◌, ◌++◌, [], suc, ap, arith}
+use Rattle.names_model.specs.Dependence.{param_groups}
 use Rattle.reach_walk.proofs.Joining.{routine-noted}
 use Rattle.reach_walk.proofs.groups.note_routine.Goals as goal
 

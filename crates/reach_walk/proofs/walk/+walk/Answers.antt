@@ -8,7 +8,7 @@ use Rattle.names_model.specs.NameRules.{told_here, twice_inside}
 use Rattle.names_model.specs.Dependence.{groups_of}
 use Rattle.names_model.specs.Resolving.{resolved_here}
 use Rattle.names_model.proofs.PartViews.{tree-modulion, tree-routine, tree-block}
-use Rattle.reach_walk.specs.Findings.{AddsReach, groups_at, uses_at}
+use Rattle.reach_walk.specs.Findings.{AddsReach, uses_at}
 use Rattle.reach_tables.specs.Givens.{given_trees, givens, inner_lent}
 use Rattle.reach_tables.specs.Offsets.{Fits}
 use Rattle.names_model.specs.Parts.{nodes_of}
