@@ -1,14 +1,13 @@
 -- What the best of the stored values and the best of those that are offered say of all that may be received.
 use Rattle.std.proofs.Common.{◌≡◌, ℕ, zero, suc, ◌+◌, ◌<◌, List, [], ◌∷◌, ◌++◌, Bool, true, false, not, refl, sym, ap, ◌∙◌, slice_get, Option, Some, None, is_some, IsSome, IfSome, IfNone, arith, eq-eqb, subst, get_or, length, take}
-use Rattle.std.specs.Prelude.{IsTrue, IsFalse, ◌==◌, ◌&&◌, if◌then◌else◌, slice_index_or}
+use Rattle.std.specs.Prelude.{IsFalse, ◌==◌, ◌&&◌, if◌then◌else◌, slice_index_or}
 use Rattle.std.proofs.lemmas.Bool.Decides.{nat_tests}
 use Rattle.std.proofs.lemmas.Bool.{eqb-true, ne_eqb}
 use Rattle.std.specs.List.{remove, filter}
 use Rattle.std.proofs.lemmas.List.{take_more, length-append}
 use Rattle.std.proofs.lemmas.List.Elements.{filter_map-append}
-use Rattle.std.proofs.lemmas.Option.{same_Some, get_or_from_slice_get}
+use Rattle.std.proofs.lemmas.Option.{same_Some}
 use Rattle.kernel_lists.specs.Once.{others, AreOnce}
-use Rattle.kernel_lists.proofs.Entries.{once_remove}
 use Rattle.kernel_base.specs.declared.request.Alternative.{Alternative}
 use Rattle.world_model.specs.Lists.{number_for}
 use Rattle.kernel_lists.specs.declared.best.Rank.{Rank}
@@ -18,7 +17,7 @@ use Rattle.buffers_signals.specs.declared.messages.Held.{Held}
 use Rattle.buffers_signals.specs.declared.messages.Received.{Received}
 use Rattle.buffers_signals.specs.declared.messages.Received.TheVariants as receipts
 use Rattle.buffers_signals.specs.declared.receiving.Source.{Source}
-use Rattle.buffers_signals.specs.declared.receiving.Source.TheVariants.{Stored, Offered, Nowhere}
+use Rattle.buffers_signals.specs.declared.receiving.Source.TheVariants.{Stored, Offered}
 use Rattle.buffers_signals.specs.Lists.{rank_of, IsIn, sender_of, values_in, value_for}
 use Rattle.buffers_signals.specs.Buffers.{SeenBuffers, Values, IsCandidateOf, IsCandidate, NoCandidate, NobodySends, IsRefilled, Refills, ReceivesFrom}
 use Rattle.buffers_signals.specs.Steps.{GotFrom, values}

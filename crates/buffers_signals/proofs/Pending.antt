@@ -1,6 +1,6 @@
 -- What the best of the pending signals says of all that may be received.
-use Rattle.std.proofs.Common.{◌≡◌, ℕ, List, Bool, true, false, refl, sym, ap, ◌∙◌, slice_get, Option, Some, None, subst}
-use Rattle.std.specs.Prelude.{IsFalse, ◌&&◌, if◌then◌else◌}
+use Rattle.std.proofs.Common.{◌≡◌, ℕ, List, Bool, true, false, refl, sym, ◌∙◌, slice_get, Option, Some, None, subst}
+use Rattle.std.specs.Prelude.{IsFalse, if◌then◌else◌}
 use Rattle.std.proofs.lemmas.Option.{same_Some}
 use Rattle.kernel_base.specs.declared.request.Alternative.{Alternative}
 use Rattle.world_model.specs.declared.world.PendingSignal.{PendingSignal}
@@ -9,8 +9,8 @@ use Rattle.kernel_lists.specs.declared.best.Rank.{Rank}
 use Rattle.kernel_lists.specs.declared.best.Best.{Best}
 use Rattle.kernel_lists.specs.Best.{precedes_in, IsBest, NoneRanked}
 use Rattle.buffers_signals.specs.Lists.{rank_of}
-use Rattle.buffers_signals.specs.Signals.{SeenSignals, may_receive, IsFor, NoneFor, IsChoice}
-use Rattle.buffers_signals.specs.Ranks.{is_listed, signal_rank}
+use Rattle.buffers_signals.specs.Signals.{SeenSignals, IsFor, NoneFor, IsChoice}
+use Rattle.buffers_signals.specs.Ranks.{signal_rank}
 use Rattle.buffers_signals.proofs.Choosing.{both, joined, numbered}
 
 signal_holds : (may : Bool) (signal : PendingSignal) (r : Rank) → (if may then Some (rank_of signal.value) else None) ≡ Some r → (may ≡ true) × (r ≡ rank_of signal.value)

@@ -1,5 +1,5 @@
 -- What a contract sees of the buffers, and what sending and receiving do.
-use Rattle.std.specs.Prelude.{◌≡◌, ℕ, zero, suc, ◌<◌, Bool, List, [], ◌∷◌, ◌++◌, length, slice_index_or, Some, None, IsTrue, IsFalse, IsSome, All}
+use Rattle.std.specs.Prelude.{◌≡◌, ℕ, zero, suc, ◌<◌, Bool, List, [], ◌∷◌, ◌++◌, length, slice_index_or, Some, None, IsTrue, IsFalse, IsSome}
 use Rattle.std.specs.List.{find}
 use Rattle.std.specs.declared.option.Option.{Option}
 use Rattle.kernel_base.specs.declared.request.Alternative.{Alternative}

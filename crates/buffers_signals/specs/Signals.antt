@@ -8,7 +8,6 @@ use Rattle.kernel_base.specs.declared.request.Request.TheVariants.{SendSignal, R
 use Rattle.kernel_base.specs.declared.answer.Answer.{Answer}
 use Rattle.kernel_base.specs.declared.answer.Answer.TheVariants as answers
 use Rattle.kernel_base.specs.Facts.{NameThings}
-use Rattle.world_model.specs.declared.world.StoredValue.{StoredValue}
 use Rattle.world_model.specs.declared.world.PendingSignal.{PendingSignal}
 use Rattle.world_model.specs.Lists.{number_for}
 use Rattle.world_model.specs.Waiting.{is_process}

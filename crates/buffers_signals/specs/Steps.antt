@@ -6,7 +6,7 @@ use Rattle.world_model.specs.Lists.{number_for}
 use Rattle.kernel_lists.specs.Once.{others}
 use Rattle.buffers_signals.specs.declared.messages.Receiver.{Receiver}
 use Rattle.buffers_signals.specs.declared.messages.Received.{Received}
-use Rattle.buffers_signals.specs.declared.messages.Received.TheVariants.{Got, Otherwise, Delayed}
+use Rattle.buffers_signals.specs.declared.messages.Received.TheVariants.{Got}
 use Rattle.buffers_signals.specs.Lists.{receiver_of, lists}
 use Rattle.buffers_signals.specs.Buffers.{SeenBuffers, Takes, Values}
 

@@ -32,10 +32,7 @@ pub enum Sent {
 #[derive(Drop)]
 pub enum Received {
     /// A value is taken. `refill` is the sender that waited and whose value took its place, or was the one taken.
-    Got {
-        answer: Answer,
-        refill: Option<u32>,
-    },
+    Got { answer: Answer, refill: Option<u32> },
     /// Nothing is there, and ELSE is written.
     Otherwise,
     /// Nothing is there, and the receiver waits.

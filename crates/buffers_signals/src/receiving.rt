@@ -43,8 +43,7 @@ fn rank_stored(lengths: &[Option<u32>], buffers: &[Alternative], held: &Held) ->
 fn rank_offered(lengths: &[Option<u32>], buffers: &[Alternative], held: &Held) -> Option<Rank>
     ensures { result ≡ offered_rank lengths.now buffers.now held.now }
 {
-    let may = number_for(buffers, held.buffer).is_some()
-        && is_without_values(lengths, held.buffer);
+    let may = number_for(buffers, held.buffer).is_some() && is_without_values(lengths, held.buffer);
     rank_if(may, held)
 }
 
@@ -75,7 +74,11 @@ pub fn best_offered(
 {
     let mut found = None;
     for place in 0..senders.len() {
-        found = better(found, place, rank_offered(lengths, buffers, &senders[place]));
+        found = better(
+            found,
+            place,
+            rank_offered(lengths, buffers, &senders[place]),
+        );
     }
     found
 }

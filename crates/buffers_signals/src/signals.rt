@@ -32,8 +32,8 @@ impl Model for Signals {
     ghost use Rattle.kernel_lists.specs.Room.{spare};
     ghost use Rattle.kernel_lists.specs.Once.{AreOnce};
     ghost use Rattle.kernel_lists.specs.Room.{spare};
-ghost use Rattle.world_model.specs.World.{signals_but};
-ghost use Rattle.buffers_signals.specs.Lists.{receiver_of};
+    ghost use Rattle.world_model.specs.World.{signals_but};
+    ghost use Rattle.buffers_signals.specs.Lists.{receiver_of};
     ghost use Rattle.buffers_signals.specs.Signals.{SeenSignals};
 
     ghost Value = { SeenSignals };

@@ -1,7 +1,7 @@
 -- The records under the keys stay as they are, but for the one that is made or whose phase is set.
 use Rattle.std.proofs.Common.{◌≡◌, ◌≢◌, ℕ, zero, suc, ◌+◌, ◌-◌, ◌<◌, ◌≤◌, ◌^◌, Bool, true, false, List, [], ◌∷◌, ◌++◌, length, map, get_or, slice_set, slice_get, refl, ap, sym, ◌∙◌, arith, subst, Option, Some, None}
 use Rattle.std.specs.Prelude.{count_by}
-use Rattle.std.proofs.lemmas.List.{map-append, map-set, length-set}
+use Rattle.std.proofs.lemmas.List.{map-set, length-set}
 use Rattle.std.proofs.Math.Seq.{map-set_same}
 use Rattle.std.proofs.lemmas.Option.{same_Some}
 use Rattle.std.proofs.lemmas.List.Sums.{sum_by-set, count_by-le-length, sum_by-append}
@@ -9,7 +9,7 @@ use lib.ListN.{length-map}
 use Rattle.instance_table.specs.declared.phase.Phase.{Phase}
 use Rattle.instance_table.specs.declared.records.Record.{Record}
 use Rattle.instance_table.specs.Table.{made_at}
-use Rattle.instance_table.specs.Kept.{Slots, under, records_of, process_of, phase_of, processes_of, phases_of, IsNumbered, AreNumbered, one_if, IsKept}
+use Rattle.instance_table.specs.Kept.{Slots, under, records_of, process_of, phase_of, processes_of, phases_of, IsNumbered, AreNumbered, one_if}
 
 -- every other key keeps what it had
 abbrev pub Others : Slots → Slots → ℕ → Type 0

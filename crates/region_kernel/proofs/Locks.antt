@@ -1,19 +1,16 @@
 -- The regions that a process holds, lock by lock.
-use Rattle.std.proofs.Common.{◌≡◌, ◌≢◌, ℕ, ◌+◌, ◌<◌, List, [], ◌∷◌, ◌++◌, length, take, get_or, Bool, true, false, not, refl, sym, ap, ◌∙◌, arith, Option, Some, None}
-use Rattle.std.specs.Prelude.{◌==◌, if◌then◌else◌}
-use Rattle.std.specs.List.{filter, filter_map, cons_option}
-use Rattle.std.proofs.lemmas.Bool.{eqb-true}
-use Rattle.std.proofs.lemmas.Bool.Decides.{nat_tests}
+use Rattle.std.proofs.Common.{◌≡◌, ℕ, ◌+◌, ◌<◌, List, [], ◌∷◌, ◌++◌, length, take, get_or, true, false, refl, sym, ap, ◌∙◌, Some}
+use Rattle.std.specs.Prelude.{◌==◌}
 use Rattle.std.proofs.lemmas.List.{take_more, append-nil}
 use Rattle.std.proofs.lemmas.List.Elements.{filter_map-append}
-use Rattle.world_model.specs.Lists.{last_of, without}
+use Rattle.world_model.specs.Lists.{last_of}
 use Rattle.region_kernel.specs.declared.regions.Lock.{Lock}
 use Rattle.std.specs.List.{remove}
 use Rattle.std.proofs.lemmas.Option.{get_or_from_slice_get}
 use Rattle.kernel_lists.specs.First.{IsFirst}
 use Rattle.kernel_lists.specs.Once.{others, AreOnce}
 use Rattle.kernel_lists.proofs.Entries.{once_remove, once_others}
-use Rattle.region_kernel.specs.Regions.{process_of, region_for, held_by, is_lock, locks_but, is_for, who_in, first_waiting}
+use Rattle.region_kernel.specs.Regions.{process_of, region_for, held_by, is_for, who_in, first_waiting}
 
 last_push : (xs : List ℕ) (x : ℕ) → last_of (xs ++ x ∷ []) ≡ Some x
 last_push [] x = refl

@@ -1,5 +1,5 @@
 -- What a contract sees of the regions.
-use Rattle.std.specs.Prelude.{◌≡◌, ◌≢◌, ℕ, ◌==◌, ◌&&◌, not, Bool, true, List, [], ◌∷◌, ◌++◌, slice_get, slice_set, slice_index_or, if◌then◌else◌, Some, None}
+use Rattle.std.specs.Prelude.{◌≡◌, ℕ, ◌==◌, ◌&&◌, not, Bool, true, List, [], ◌∷◌, ◌++◌, slice_get, slice_set, slice_index_or, if◌then◌else◌, Some, None}
 use Rattle.std.specs.List.{filter, filter_map, find}
 use Rattle.std.specs.declared.option.Option.{Option}
 use Rattle.kernel_lists.specs.Once.{others}
@@ -42,9 +42,9 @@ abbrev pub locks_locked : List Lock → ℕ → ℕ → Option ℕ → List Lock
 locks_locked locks region who None = locks ++ record { region = region; who = who } ∷ []
 locks_locked locks region who (Some other) = locks
 
--- another occupies the region
-abbrev pub IsTaken : SeenRegions → ℕ → ℕ → Type 0
-IsTaken r region who = (other : ℕ) × (slice_get r.occupants region ≡ Some (Some other)) × (other ≢ who)
+-- somebody occupies the region
+abbrev pub IsOccupied : SeenRegions → ℕ → Type 0
+IsOccupied r region = (who : ℕ) × (slice_get r.occupants region ≡ Some (Some who))
 
 abbrev pub is_lock : ℕ → ℕ → Lock → Bool
 is_lock region who lock = lock.region == region && lock.who == who

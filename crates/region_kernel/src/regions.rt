@@ -5,7 +5,7 @@ ghost use Rattle.kernel_lists.specs.First.{IsFirst};
 ghost use Rattle.kernel_lists.specs.Once.{entry_of, AreOnce};
 ghost use Rattle.kernel_lists.specs.Room.{spare};
 ghost use Rattle.world_model.specs.Lists.{last_of};
-ghost use Rattle.region_kernel.specs.Regions.{process_of, occupant_of, held_by, may_lock, occupants_locked, locks_locked, IsTaken, locks_but, with_lock, first_waiting, queue_but, is_for};
+ghost use Rattle.region_kernel.specs.Regions.{process_of, occupant_of, held_by, may_lock, occupants_locked, locks_locked, IsOccupied, locks_but, with_lock, first_waiting, queue_but, is_for};
 
 use chill_base::Memory;
 use std::alloc::Global;
@@ -111,10 +111,10 @@ impl Regions {
         }
     }
 
-    /// A process comes to wait for a region that another occupies. It takes no memory.
+    /// A process comes to wait for a region that is occupied. It takes no memory.
     pub fn wait(&mut self, region: u32, who: u32)
         requires spare { 0 < self.old.spare }
-        requires taken { IsTaken self.old region who }
+        requires occupied { IsOccupied self.old region }
         requires once { entry_of process_of self.old.queue who ≡ None }
         ensures occupants { self.new.occupants ≡ self.old.occupants }
         ensures locks { self.new.locks ≡ self.old.locks }

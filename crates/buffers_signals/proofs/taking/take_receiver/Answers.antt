@@ -1,4 +1,4 @@
-use Rattle.std.proofs.Common.{◌≡◌, ℕ, List, Option, Some, arith, rules, ap, sym, ◌∙◌, is_some}
+use Rattle.std.proofs.Common.{◌≡◌, ℕ, List, arith, ap, sym, ◌∙◌, is_some}
 use Rattle.std.proofs.lemmas.Option.{slice_get_within, get_or_from_slice_get}
 use Rattle.kernel_base.specs.declared.request.Alternative.{Alternative}
 use Rattle.world_model.specs.Lists.{number_for}

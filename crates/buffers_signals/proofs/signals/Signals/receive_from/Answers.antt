@@ -1,4 +1,4 @@
-use Rattle.std.proofs.Common.{◌≡◌, ℕ, List, [], ◌∷◌, ◌++◌, Option, Some, None, slice_get, ap, sym, refl, ◌∙◌}
+use Rattle.std.proofs.Common.{◌≡◌, ℕ, List, [], ◌∷◌, ◌++◌, slice_get, ap, sym, refl, ◌∙◌}
 use Rattle.std.proofs.lemmas.Option.{same_Some}
 use Rattle.kernel_base.specs.declared.request.Alternative.{Alternative}
 use Rattle.kernel_base.specs.declared.answer.Answer.TheVariants.{Got}
@@ -17,13 +17,13 @@ pub returns-in-Some-clause-receives : goal.returns-in-Some-clause-receives
 returns-in-Some-clause-receives c =
     let now = c.args.self.now in
     let there = choice_for c.args.self.now c.args.who c.args.process c.args.signals c.as_slice-wanted.result.now c.deref.result.now c.as_slice.result.now c.in-Some.best
-        (c.as_slice-wanted.ensures ∙ ap (λ (v : SeenSignals). v.wanted) c.self.view_is) (c.deref.ensures.value ∙ ap (λ (v : SeenSignals). v.pending) c.self.view_is) c.as_slice.ensures c.in-Some.ensures.some in
+    (c.as_slice-wanted.ensures ∙ ap (λ (v : SeenSignals). v.wanted) c.self.view_is) (c.deref.ensures.value ∙ ap (λ (v : SeenSignals). v.pending) c.self.view_is) c.as_slice.ensures c.in-Some.ensures.some in
     let taken = c.take_signal-taken.result in
     let held = there.signal in
     let at = ap (λ (v : SeenSignals). slice_get v.pending c.in-Some.best.place) c.self.view_is ∙ there.at in
     let same : c.take_signal-taken.result ≡ there.signal = same_Some c.take_signal-taken.result there.signal (sym c.take_signal-taken.ensures.taken ∙ at) in
     let number : c.unwrap-alternative.result ≡ there.choice.alternative = same_Some c.unwrap-alternative.result there.choice.alternative
-        (sym c.unwrap-alternative.ensures ∙ c.number_for.ensures ∙ ap (λ (xs : List Alternative). number_for xs c.take_signal-taken.result.signal) c.as_slice-in-Some.ensures ∙ ap (λ (s : PendingSignal). number_for c.args.signals s.signal) same ∙ there.choice.listed) in
+    (sym c.unwrap-alternative.ensures ∙ c.number_for.ensures ∙ ap (λ (xs : List Alternative). number_for xs c.take_signal-taken.result.signal) c.as_slice-in-Some.ensures ∙ ap (λ (s : PendingSignal). number_for c.args.signals s.signal) same ∙ there.choice.listed) in
     record {
       taken = held;
       choice = there.choice;

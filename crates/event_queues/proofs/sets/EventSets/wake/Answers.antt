@@ -1,10 +1,9 @@
-use Rattle.std.proofs.Common.{◌≡◌, ℕ, List, Option, Some, ap, sym, subst, ◌∙◌}
-use Rattle.std.specs.List.{remove}
+use Rattle.std.proofs.Common.{◌≡◌, ℕ, List, ap, sym, subst, ◌∙◌}
 use Rattle.std.proofs.lemmas.Option.{get_or_from_slice_get}
 use Rattle.kernel_base.specs.declared.request.Alternative.{Alternative}
 use Rattle.world_model.specs.Lists.{number_for}
 use Rattle.kernel_lists.specs.Best.{IsBest}
-use Rattle.kernel_lists.specs.Once.{others, AreOnce}
+use Rattle.kernel_lists.specs.Once.{others}
 use Rattle.kernel_lists.proofs.Entries.{once_remove, once_others}
 use Rattle.event_queues.specs.declared.sets.Delayed.{Delayed}
 use Rattle.event_queues.specs.Delayed.{Sets, who_of, rank_on, Wakes}

@@ -1,6 +1,5 @@
-use Rattle.std.proofs.Common.{◌-◌, ◌≡◌, ℕ, List, Option, Some, arith, rules, ap, sym, ◌∙◌}
+use Rattle.std.proofs.Common.{◌-◌, Option, Some, arith, rules, ap, sym, ◌∙◌}
 use Rattle.kernel_base.specs.declared.ends.How.TheVariants.{Normal}
-use Rattle.instance_table.specs.declared.phase.Phase.{Phase}
 use Rattle.instance_table.specs.declared.phase.Phase.TheVariants.{Ended}
 use Rattle.instance_table.specs.declared.records.Record.{Record}
 use Rattle.instance_table.specs.Table.{Table, made_at}

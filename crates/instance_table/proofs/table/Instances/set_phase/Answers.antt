@@ -1,13 +1,12 @@
-use Rattle.std.proofs.Common.{◌≡◌, ◌+◌, ◌-◌, ◌<◌, ◌≤◌, ◌^◌, ℕ, List, [], ◌∷◌, length, map, slice_set, Option, Some, arith, rules, ap, sym, refl, ◌∙◌}
+use Rattle.std.proofs.Common.{◌-◌, ◌<◌, ◌^◌, ℕ, List, ◌∷◌, length, slice_set, Some, arith, rules, ap, sym, refl, ◌∙◌}
 use Rattle.slab.specs.Slab.{Updates}
 use Rattle.kernel_base.specs.declared.ends.How.TheVariants.{Normal}
 use Rattle.instance_table.specs.declared.phase.Phase.{Phase}
 use Rattle.instance_table.specs.declared.phase.Phase.TheVariants.{Ended}
-use Rattle.instance_table.specs.declared.records.Record.{Record}
 use Rattle.instance_table.specs.Phase.{is_live_in, is_active_in}
 use Rattle.instance_table.specs.Table.{Table}
 use Rattle.instance_table.specs.Kept.{phases_of, one_if}
-use Rattle.instance_table.proofs.Numbered.{IsKey, numbered_at, length_phases, set_is, before_there, phase_set, PhaseSet, counted_low, counted_high, count_after}
+use Rattle.instance_table.proofs.Numbered.{IsKey, numbered_at, length_phases, set_is, before_there, phase_set, counted_low, counted_high, count_after}
 use Rattle.instance_table.proofs.table.Instances.set_phase.Goals as goal
 
 pub record_at-before-requires : goal.record_at-before-requires

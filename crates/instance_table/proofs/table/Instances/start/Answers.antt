@@ -1,4 +1,4 @@
-use Rattle.std.proofs.Common.{◌≡◌, ◌+◌, ◌<◌, ◌^◌, ℕ, List, [], ◌∷◌, ◌++◌, length, map, Option, Some, arith, ap, sym, refl, ◌∙◌}
+use Rattle.std.proofs.Common.{◌≡◌, ◌+◌, ℕ, List, [], ◌∷◌, ◌++◌, length, map, Some, arith, ap, sym, refl, ◌∙◌}
 use Rattle.std.proofs.lemmas.List.{map-append, length-append}
 use Rattle.kernel_base.specs.declared.ends.How.TheVariants.{Normal}
 use Rattle.instance_table.specs.declared.phase.Phase.{Phase}
@@ -6,7 +6,7 @@ use Rattle.instance_table.specs.declared.phase.Phase.TheVariants.{Active, Ended}
 use Rattle.instance_table.specs.declared.records.Record.{Record}
 use Rattle.instance_table.specs.Phase.{is_live_in, is_active_in}
 use Rattle.instance_table.specs.Table.{Table}
-use Rattle.instance_table.specs.Kept.{under, records_of, process_of, phase_of, processes_of, phases_of, IsKept}
+use Rattle.instance_table.specs.Kept.{under, records_of, process_of, phase_of, processes_of, phases_of}
 use Rattle.instance_table.proofs.Numbered.{same_records, numbered_append, length_records, length_phases, count_push}
 use Rattle.instance_table.proofs.table.Instances.start.Goals as goal
 
