@@ -1,6 +1,6 @@
 // Buffers, with the values in them, and those that wait to send to them and to receive from them (Z.200, chapter on
 // concurrent execution).
-ghost use Rattle.std.specs.Prelude.{◌≡◌, ◌+◌, ◌<◌, ◌≤◌, ◌++◌, ◌∷◌, [], None, Some, IfOk, IfSome, IfNone, OnOk, IsTrue, IsFalse, length, slice_get, slice_index_or};
+ghost use Rattle.std.specs.Prelude.{◌≡◌, ◌+◌, ◌<◌, ◌≤◌, ◌++◌, ◌∷◌, [], None, Some, IfOk, IfSome, IfNone, OnOk, IsTrue, IsFalse, true, false, length, slice_get, slice_index_or};
 ghost use Rattle.std.specs.List.{find};
 ghost use Rattle.kernel_lists.specs.Once.{AreOnce};
 ghost use Rattle.buffers_signals.specs.Lists.{sender_of, receiver_of, values_in, lists};
@@ -9,7 +9,9 @@ ghost use Rattle.buffers_signals.specs.Ranks.{IsSource, IsChoiceAt};
 ghost use Rattle.buffers_signals.specs.Steps.{GotFrom};
 
 use crate::receiving::{Source, best_offered, best_stored, better_source};
-use crate::taking::{answer_with, count_in, first_receiver, refill};
+use crate::taking::{
+    answer_with, count_in, first_receiver, forget, refill, take_receiver, take_sender, take_value,
+};
 use crate::{Held, Received, Receiver, Sent};
 use chill_base::{Item, Lengths, Memory};
 use kernel_base::{Alternative, Alternatives, Facts, Request};
@@ -118,11 +120,10 @@ impl Buffers {
         ensures spare { self.old.spare ≤ self.new.spare + 1 }
     {
         if let Some(place) = first_receiver(&self.receivers, buffer) {
-            let receiver = self.receivers.remove(place);
-            let alternative = number_for(receiver.things.as_slice(), buffer).unwrap();
+            let receiver = take_receiver(&mut self.receivers, place, buffer);
             return Sent::Handed {
-                to: receiver.who,
-                answer: answer_with(alternative, value),
+                to: receiver.thing,
+                answer: answer_with(receiver.number, value),
             };
         }
         if self.takes_one_more(buffer) {
@@ -205,9 +206,7 @@ impl Buffers {
         ensures lengths { self.new.lengths ≡ self.old.lengths }
         ensures spare { self.old.spare ≤ self.new.spare }
     {
-        let taken = self.stored.remove(place);
-        let send = taken.value.send;
-        self.stored.retain(move |held| held.value.send != send);
+        let taken = take_value(&mut self.stored, place);
         let alternative = number_for(buffers, taken.buffer).unwrap();
         let refill = refill(
             self.lengths.as_slice(),
@@ -227,9 +226,8 @@ impl Buffers {
         ensures lengths { self.new.lengths ≡ self.old.lengths }
         ensures spare { self.old.spare ≤ self.new.spare }
     {
-        let taken = self.senders.remove(place);
-        let send = taken.value.send;
-        self.stored.retain(move |held| held.value.send != send);
+        let taken = take_sender(&mut self.senders, place);
+        forget(&mut self.stored, taken.value.send);
         let alternative = number_for(buffers, taken.buffer).unwrap();
         let refill = Some(taken.value.sender);
         Received::Got {

@@ -2,12 +2,15 @@
 ghost use Rattle.std.specs.Prelude.{◌≡◌, ◌==◌, ◌&&◌, ◌+◌, ◌<◌, ◌≤◌, ◌++◌, ◌∷◌, [], None, Some, IfOk, IfSome, IfNone, OnOk, IsTrue, IsFalse, length, slice_get, slice_index_or};
 ghost use Rattle.std.specs.List.{find};
 ghost use Rattle.kernel_lists.specs.Best.{IsBest, NoneRanked};
+ghost use Rattle.kernel_lists.specs.First.{IsFirst};
 ghost use Rattle.kernel_lists.specs.Once.{entry_of, AreOnce};
+ghost use Rattle.kernel_lists.specs.Room.{spare};
+ghost use Rattle.world_model.specs.World.{signals_but};
 ghost use Rattle.buffers_signals.specs.Lists.{receiver_of};
 ghost use Rattle.buffers_signals.specs.Ranks.{signal_rank};
 ghost use Rattle.buffers_signals.specs.Signals.{IsSend, IsReceive, Sends, SendsTo, Receives, ReceivesFrom, may_receive, is_receiver};
 
-use crate::taking::{answer_with, rank};
+use crate::taking::{answer_with, rank, take_receiver};
 use crate::{Received, Receiver, Sent};
 use chill_base::{Item, Lengths, Memory};
 use kernel_base::{Alternative, Alternatives, Facts, Request};
@@ -28,7 +31,9 @@ impl Model for Signals {
     ghost use Rattle.std.specs.Prelude.{min};
     ghost use Rattle.kernel_lists.specs.Room.{spare};
     ghost use Rattle.kernel_lists.specs.Once.{AreOnce};
-    ghost use Rattle.buffers_signals.specs.Lists.{receiver_of};
+    ghost use Rattle.kernel_lists.specs.Room.{spare};
+ghost use Rattle.world_model.specs.World.{signals_but};
+ghost use Rattle.buffers_signals.specs.Lists.{receiver_of};
     ghost use Rattle.buffers_signals.specs.Signals.{SeenSignals};
 
     ghost Value = { SeenSignals };
@@ -111,11 +116,10 @@ impl Signals {
     {
         let wanted = self.wanted.as_slice();
         if let Some(place) = first_receiver(wanted, &self.receivers, signal.signal, signal.to) {
-            let receiver = self.receivers.remove(place);
-            let alternative = number_for(receiver.things.as_slice(), signal.signal).unwrap();
+            let receiver = take_receiver(&mut self.receivers, place, signal.signal);
             return Sent::Handed {
-                to: receiver.who,
-                answer: answer_with(alternative, signal.value),
+                to: receiver.thing,
+                answer: answer_with(receiver.number, signal.value),
             };
         }
         self.pending.push_reserved(signal);
@@ -154,9 +158,7 @@ impl Signals {
     {
         let wanted = self.wanted.as_slice();
         if let Some(best) = best_pending(wanted, &self.pending, who, process, signals.as_slice()) {
-            let taken = self.pending.remove(best.place);
-            let send = taken.value.send;
-            self.pending.retain(move |signal| signal.value.send != send);
+            let taken = take_signal(&mut self.pending, best.place);
             let alternative = number_for(signals.as_slice(), taken.signal).unwrap();
             return Received::Got {
                 answer: answer_with(alternative, taken.value),
@@ -208,7 +210,7 @@ fn first_receiver(
     signal: u32,
     to: Option<u32>,
 ) -> Option<usize>
-    ensures some { IfSome result (λ place. slice_get receivers.now place ≡ find (is_receiver wanted.now signal to) receivers.now) }
+    ensures some { IfSome result (IsFirst (is_receiver wanted.now signal to) receivers.now) }
     ensures none { IfNone result (find (is_receiver wanted.now signal to) receivers.now ≡ None) }
 {
     for place in 0..receivers.len() {
@@ -217,6 +219,19 @@ fn first_receiver(
         }
     }
     None
+}
+
+// Takes out the signal at a place, and with it all of its send number.
+fn take_signal(pending: &mut Vec<PendingSignal>, place: usize) -> PendingSignal
+    requires { place < length pending.old.items }
+    ensures taken { slice_get pending.old.items place ≡ Some result }
+    ensures rest { pending.new.items ≡ signals_but result.value.send pending.old.items }
+    ensures room { spare pending.old ≤ spare pending.new }
+{
+    let taken = pending.remove(place);
+    let send = taken.value.send;
+    pending.retain(move |signal| signal.value.send != send);
+    taken
 }
 
 fn rank_for(

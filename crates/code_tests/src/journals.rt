@@ -6,8 +6,8 @@ use crate::tables::Asked::{
     Continue, Delay, End, Enter, Get, ReceiveBuffer, ReceiveSignal, SendBuffer, SendSignal, Start,
 };
 use crate::tables::Given::{Chose, Done, Fail, Got, Instance, Stored, Value};
-use crate::tables::{Asked, Given, answer_of, request_of};
-use chill_base::List;
+use crate::tables::{Asked, Given, answer_of, few_facts, request_of};
+use chill_base::Memory;
 use journal_check::allowed;
 use kernel_base::Exc::{Empty, Extinct, Rangefail};
 use kernel_base::How::Normal;
@@ -216,24 +216,19 @@ const NUMBERS: &[Journal] = &[Journal(
 )];
 
 // Two regions; an event without a length and one of length 1; buffers of length 2 and 0; a signal that any may receive.
-fn facts(alloc: Global) -> Result<Facts, AllocError>
+fn facts(alloc: Global) -> Result<Facts, Memory>
     ensures { IfOk result (λ facts. All HasFewMembersEach facts.store) }
 {
-    let events = vec![in alloc; None, Some(1)]?;
-    let buffers = vec![in alloc; Some(2), Some(0)]?;
-    let signals = vec![in alloc; None]?;
-    let input = b"-12 99999999999".to_vec(alloc)?;
-    Ok(Facts {
-        store: List::new(alloc),
-        layouts: List::new(alloc),
-        regions: 2,
-        events: List::from_vec(events),
-        buffers: List::from_vec(buffers),
-        processes: 2,
-        signals: List::from_vec(signals),
-        input: List::from_vec(input),
-        units: 1000,
-    })
+    let mut facts = few_facts(alloc);
+    facts.regions = 2;
+    facts.processes = 2;
+    facts.events.push(None)?;
+    facts.events.push(Some(1))?;
+    facts.buffers.push(Some(2))?;
+    facts.buffers.push(Some(0))?;
+    facts.signals.push(None)?;
+    facts.input.room().extend_from_slice(b"-12 99999999999")?;
+    Ok(facts)
 }
 
 fn event_of(alloc: Global, row: &Row) -> Result<Event, AllocError> {

@@ -13,6 +13,4 @@ mod journals;
 #[cfg(test)]
 mod machine;
 #[cfg(test)]
-mod opening;
-#[cfg(test)]
 mod tables;

@@ -1,7 +1,9 @@
 // Codes, requests and answers as tables can hold them, and what they stand for.
+ghost use Rattle.std.specs.Prelude.{◌≡◌, []};
+
 use chill_base::{List, Scalars};
 use code_types::{BodyRow, Code, Handler, Instr};
-use kernel_base::{Alternative, Alternatives, Answer, Exc, How, Place, Request};
+use kernel_base::{Alternative, Alternatives, Answer, Exc, Facts, How, Place, Request};
 use std::alloc::{AllocError, Global};
 
 /// A handler as a table can hold it.
@@ -187,4 +189,21 @@ pub fn request_of(alloc: Global, asked: &Asked) -> Result<Request, AllocError> {
         Asked::Get => Request::Get,
         Asked::End(how) => Request::End { how: *how },
     })
+}
+
+/// Facts of one process and nothing else.
+pub fn few_facts(alloc: Global) -> Facts
+    ensures { result.store ≡ [] }
+{
+    Facts {
+        store: List::new(alloc),
+        layouts: List::new(alloc),
+        regions: 0,
+        events: List::new(alloc),
+        buffers: List::new(alloc),
+        processes: 1,
+        signals: List::new(alloc),
+        input: List::new(alloc),
+        units: 1000,
+    }
 }

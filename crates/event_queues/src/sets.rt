@@ -71,10 +71,11 @@ impl EventSets {
     pub fn full(&self, events: &Alternatives) -> bool
         ensures { result ≡ is_full_for self.now events.now }
     {
-        events
-            .as_slice()
-            .iter()
-            .any(|event| is_full_at(self.lengths.as_slice(), &self.delayed, event.thing))
+        events.as_slice().iter().any(|event| is_full_at(
+            self.lengths.as_slice(),
+            &self.delayed,
+            event.thing,
+        ))
     }
 
     /// A process is delayed that is not delayed already. It takes no memory.
@@ -102,7 +103,7 @@ impl EventSets {
     {
         let best = best_on(&self.delayed, event)?;
         let woken = self.delayed.remove(best.place);
-        let number = number_for(woken.events.as_slice(), event)?;
+        let number = number_for(woken.events.as_slice(), event).unwrap();
         Some(Alternative {
             thing: woken.who,
             number,

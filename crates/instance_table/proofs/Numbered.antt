@@ -1,8 +1,9 @@
 -- The records under the keys stay as they are, but for the one that is made or whose phase is set.
 use Rattle.std.proofs.Common.{◌≡◌, ◌≢◌, ℕ, zero, suc, ◌+◌, ◌-◌, ◌<◌, ◌≤◌, ◌^◌, Bool, true, false, List, [], ◌∷◌, ◌++◌, length, map, get_or, slice_set, slice_get, refl, ap, sym, ◌∙◌, arith, subst, Option, Some, None}
 use Rattle.std.specs.Prelude.{count_by}
-use Rattle.std.proofs.lemmas.List.{map-append, map-set}
+use Rattle.std.proofs.lemmas.List.{map-append, map-set, length-set}
 use Rattle.std.proofs.Math.Seq.{map-set_same}
+use Rattle.std.proofs.lemmas.Option.{same_Some}
 use Rattle.std.proofs.lemmas.List.Sums.{sum_by-set, count_by-le-length, sum_by-append}
 use lib.ListN.{length-map}
 use Rattle.instance_table.specs.declared.phase.Phase.{Phase}
@@ -89,10 +90,65 @@ module _ (s t : Slots) (key : ℕ) (o : Others s t key) where
       omega (arith, a.0.number, there.number) in
       cc (o k apart, set_records (n + 1) ks i r slot (omega arith, is.1) e f a.1)
 
+pub record_there : (s : Slots) (keys : List ℕ) (i key : ℕ) → IsKey keys i key → get_or (records_of s keys) i None ≡ under s key
+record_there s [] i key is = absurd (omega arith)
+record_there s (k ∷ ks) zero key is = ap (under s) (sym is.1)
+record_there s (k ∷ ks) (suc i) key is = record_there s ks i key (omega arith, is.1)
+
+pub length_records : (s : Slots) (keys : List ℕ) → length (records_of s keys) ≡ length keys
+length_records s keys = length-map keys (under s)
+
+pub length_phases : (s : Slots) (keys : List ℕ) → length (phases_of s keys) ≡ length keys
+length_phases s keys = length-map (records_of s keys) phase_of ∙ length_records s keys
+
 -- a count where one more is counted
 pub count_push : {A : Type 0} (p : A → Bool) (xs : List A) (x : A) → p x ≡ true → count_by p (xs ++ x ∷ []) ≡ count_by p xs + 1
-count_push p xs x yes = sum_by-append (λ y. one_if (p y)) xs (x ∷ []) ∙ rw yes refl
+count_push p xs x holds = sum_by-append (λ y. one_if (p y)) xs (x ∷ []) ∙ rw holds refl
 
 -- a count where one is set
 pub count_set : {A : Type 0} (p : A → Bool) (xs : List A) (i : ℕ) (y before : A) → i < length xs → get_or xs i before ≡ before → count_by p (slice_set xs i y) + one_if (p before) ≡ count_by p xs + one_if (p y)
-count_set p xs i y before low is = ap (λ (x : A). count_by p (slice_set xs i y) + one_if (p x)) (sym is) ∙ sum_by-set (λ x. one_if (p x)) xs i y before low
+count_set {A = A} p xs i y before low is = ap (λ (x : A). count_by p (slice_set xs i y) + one_if (p x)) (sym is) ∙ sum_by-set (λ x. one_if (p x)) xs i y before low
+
+-- what stands in a list is counted in it
+pub counted_low : {A : Type 0} (p : A → Bool) (xs : List A) (i : ℕ) (none before : A) → i < length xs → get_or xs i before ≡ before → p none ≡ false → one_if (p before) ≤ count_by p xs
+counted_low p xs i none before low is fails =
+    let set = count_set p xs i none before low is in
+    let zero' : one_if (p none) ≡ 0 = rw fails refl in
+    omega (arith, set, zero')
+
+pub counted_high : {A : Type 0} (p : A → Bool) (xs : List A) (i : ℕ) (y before : A) → i < length xs → get_or xs i before ≡ before → length xs < 2 ^ 32 → count_by p xs + one_if (p y) < 2 ^ 32 + one_if (p before)
+counted_high p xs i y before low is few =
+    let set = count_set p xs i y before low is in
+    omega (arith, set, count_by-le-length p (slice_set xs i y), length-set xs i y)
+
+-- where the phase of one instance is set
+pub before_there : (s : Slots) (keys : List ℕ) (i key : ℕ) (r : Record) → IsKey keys i key → under s key ≡ Some r → (i < length (phases_of s keys)) × (get_or (phases_of s keys) i r.phase ≡ r.phase)
+before_there s keys i key r is found = (omega (arith, is.0, length_phases s keys), index_at phase_of s keys i key r.phase is ∙ ap phase_of found)
+
+pub record PhaseSet (s t : Slots) (keys : List ℕ) (i : ℕ) (phase : Phase) : Type 0 where
+  pub numbered : AreNumbered 1 (records_of t keys)
+  pub phases : phases_of t keys ≡ slice_set (phases_of s keys) i phase
+  pub processes : processes_of t keys ≡ processes_of s keys
+
+pub phase_set : (s t : Slots) (keys : List ℕ) (i key : ℕ) (r : Record) (phase : Phase) → AreNumbered 1 (records_of s keys) → IsKey keys i key → under s key ≡ Some r → Others s t key → under t key ≡ Some (record r { phase = phase })
+    → PhaseSet s t keys i phase
+phase_set s t keys i key r phase a is found o changed =
+    let slot : Option Record = Some (record r { phase = phase }) in
+    let recs = set_records s t key o 1 keys i r slot is found changed a in
+    let there = numbered_at s 1 keys i key a is in
+    let same : there.kept ≡ r = same_Some there.kept r (sym there.found ∙ found) in
+    let number : r.number ≡ 1 + i = sym (ap (λ (x : Record). x.number) same) ∙ there.number in
+    let process : process_of slot ≡ process_of (get_or (records_of s keys) i None) = sym (ap process_of (record_there s keys i key is ∙ found)) in
+    record {
+      numbered = subst (AreNumbered 1) (sym recs) (numbered_set 1 (records_of s keys) i slot a (record { kept = record r { phase = phase }; found = refl; number = number }));
+      phases = ap (map phase_of) recs ∙ map-set phase_of (records_of s keys) i slot;
+      processes = ap (map process_of) recs ∙ map-set_same process_of (records_of s keys) i slot None process;
+    }
+
+-- a count after that
+pub count_after : (p : Phase → Bool) (xs ys : List Phase) (i before after flag flag' : ℕ) (y old : Phase) → ys ≡ slice_set xs i y → i < length xs → get_or xs i old ≡ old
+    → before ≡ count_by p xs → flag ≡ one_if (p old) → flag' ≡ one_if (p y) → after + flag ≡ before + flag' → after ≡ count_by p ys
+count_after p xs ys i before after flag flag' y old set low is count e f sum =
+    let changed = count_set p xs i y old low is in
+    let same = ap (count_by p) set in
+    omega (arith, changed, same, count, e, f, sum)

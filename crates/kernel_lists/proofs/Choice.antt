@@ -1,9 +1,8 @@
 -- The best of those so far, with one more.
 use Rattle.std.proofs.Common.{◌≡◌, ℕ, ◌+◌, ◌<◌, ◌≤◌, List, length, get_or, Bool, true, false, IfSome, IfNone, below_more, arith, refl, sym, ap, ◌∙◌, slice_get, Option, Some, None}
-use Rattle.std.specs.Prelude.{IsTrue, IsFalse, if◌then◌else◌}
+use Rattle.std.specs.Prelude.{IsFalse, if◌then◌else◌}
 use Rattle.std.proofs.lemmas.Bool.Decides.{nat_tests}
-use Rattle.std.proofs.lemmas.Bool.{cases_Bool}
-use Rattle.std.proofs.lemmas.Option.{slice_get-get_or, slice_get_within, get_or_from_slice_get, same_Some}
+use Rattle.std.proofs.lemmas.Option.{slice_get-get_or, slice_get_within, same_Some}
 use Rattle.kernel_lists.specs.declared.best.Rank.{Rank}
 use Rattle.kernel_lists.specs.declared.best.Best.{Best}
 use Rattle.kernel_lists.specs.Best.{precedes_in, better_of, IsBest, NoneRanked, IsBestBelow, BestBelow}
@@ -28,7 +27,7 @@ module _ {X : Type 0} (rank : X → Option Rank) (xs : List X) where
     at = h.at;
     ranked = h.ranked;
     highest = below_more (λ k. (other : X) (r : Rank) → slice_get xs k ≡ Some other → rank other ≡ Some r → IsFalse (precedes_in r best.rank)) i h.highest
-      (λ other r e ranked. let clash : None ≡ Some r = sym none ∙ ap rank (same_Some x other (sym at ∙ e)) ∙ ranked in cc);
+        (λ other r e ranked. let clash : None ≡ Some r = sym none ∙ ap rank (same_Some x other (sym at ∙ e)) ∙ ranked in cc);
     first = h.first;
   }
 
@@ -40,8 +39,8 @@ module _ {X : Type 0} (rank : X → Option Rank) (xs : List X) where
     at = at;
     ranked = ranked;
     highest = below_more (λ k. (other : X) (s : Rank) → slice_get xs k ≡ Some other → rank other ≡ Some s → IsFalse (precedes_in s r)) i
-      (λ k low other s e ranked'. let clash : None ≡ Some s = sym (h k low other e) ∙ ranked' in cc)
-      (λ other s e ranked'. let same : r ≡ s = same_Some r s (sym ranked ∙ ap rank (same_Some x other (sym at ∙ e)) ∙ ranked') in rw (← same) (not_itself r));
+        (λ k low other s e ranked'. let clash : None ≡ Some s = sym (h k low other e) ∙ ranked' in cc)
+        (λ other s e ranked'. let same : r ≡ s = same_Some r s (sym ranked ∙ ap rank (same_Some x other (sym at ∙ e)) ∙ ranked') in rw (← same) (not_itself r));
     first = λ k low other s e ranked'. let clash : None ≡ Some s = sym (h k low other e) ∙ ranked' in cc;
   }
 
@@ -53,8 +52,8 @@ module _ {X : Type 0} (rank : X → Option Rank) (xs : List X) where
     at = at;
     ranked = ranked;
     highest = below_more (λ k. (other : X) (s : Rank) → slice_get xs k ≡ Some other → rank other ≡ Some s → IsFalse (precedes_in s r)) i
-      (λ k low other s e ranked'. behind r s (over r best.rank s above (h.highest k low other s e ranked')))
-      (λ other s e ranked'. let same : r ≡ s = same_Some r s (sym ranked ∙ ap rank (same_Some x other (sym at ∙ e)) ∙ ranked') in rw (← same) (not_itself r));
+        (λ k low other s e ranked'. behind r s (over r best.rank s above (h.highest k low other s e ranked')))
+        (λ other s e ranked'. let same : r ≡ s = same_Some r s (sym ranked ∙ ap rank (same_Some x other (sym at ∙ e)) ∙ ranked') in rw (← same) (not_itself r));
     first = λ k low other s e ranked'. over r best.rank s above (h.highest k low other s e ranked');
   }
 
@@ -66,7 +65,7 @@ module _ {X : Type 0} (rank : X → Option Rank) (xs : List X) where
     at = h.at;
     ranked = h.ranked;
     highest = below_more (λ k. (other : X) (s : Rank) → slice_get xs k ≡ Some other → rank other ≡ Some s → IsFalse (precedes_in s best.rank)) i h.highest
-      (λ other s e ranked'. let same : r ≡ s = same_Some r s (sym ranked ∙ ap rank (same_Some x other (sym at ∙ e)) ∙ ranked') in rw (← same) low);
+        (λ other s e ranked'. let same : r ≡ s = same_Some r s (sym ranked ∙ ap rank (same_Some x other (sym at ∙ e)) ∙ ranked') in rw (← same) low);
     first = h.first;
   }
 

@@ -1,11 +1,12 @@
 -- Lists in which each process has at most one entry: what a push and a removal leave, and how look-ups go on.
-use Rattle.std.proofs.Common.{◌≡◌, ◌≢◌, ℕ, zero, suc, ◌+◌, ◌<◌, ◌≤◌, List, [], ◌∷◌, ◌++◌, length, get_or, drop, add-one, drop-cons, Bool, true, false, not, arith, refl, sym, ap, ◌∙◌, slice_get, Option, Some, None}
-use Rattle.std.specs.Prelude.{◌==◌, if◌then◌else◌, count_by}
+use Rattle.std.proofs.Common.{◌≡◌, ℕ, zero, suc, ◌+◌, ◌<◌, ◌≤◌, List, [], ◌∷◌, ◌++◌, length, get_or, drop, add-one, drop-cons, Bool, true, false, not, arith, refl, sym, ap, ◌∙◌, slice_get, Option, Some, None}
+use Rattle.std.specs.Prelude.{◌==◌, if◌then◌else◌}
 use Rattle.std.specs.List.{remove, filter, find}
 use Rattle.std.proofs.lemmas.Bool.{eqb-true}
 use Rattle.std.proofs.lemmas.Bool.Decides.{nat_tests}
 use Rattle.std.proofs.lemmas.Option.{same_Some, slice_get-get_or}
 use Rattle.std.proofs.lemmas.List.{drop_all}
+use Rattle.kernel_lists.specs.First.{IsFirst}
 use Rattle.kernel_lists.specs.Once.{entry_of, others, AreOnce}
 
 -- what a search finds stands in the list, and passes
@@ -138,6 +139,12 @@ module _ {X : Type 0} (process : X → ℕ) where
   entry_kept [] who other apart = refl
   entry_kept (y ∷ ys) who other apart = kept_in y ys (others process ys who) who other (process y == who) refl apart (entry_kept ys who other apart)
 
+-- within a list an index needs no default
+any_default : {X : Type 0} (xs : List X) (i : ℕ) (d e : X) → i < length xs → get_or xs i d ≡ get_or xs i e
+any_default [] i d e low = absurd (omega arith)
+any_default (x ∷ xs) zero d e low = refl
+any_default (x ∷ xs) (suc i) d e low = any_default xs i d e (omega arith)
+
 -- a loop that looks for the first item that passes
 module _ {X : Type 0} (test : X → Bool) (xs : List X) where
   pub next_unfound : (i : ℕ) (x : X) → i < length xs → x ≡ get_or xs i x → test x ≡ false → find test (drop i xs) ≡ find test xs → find test (drop (i + 1) xs) ≡ find test xs
@@ -146,11 +153,14 @@ module _ {X : Type 0} (test : X → Bool) (xs : List X) where
       let f : find test (get_or xs i x ∷ drop (i + 1) xs) ≡ find test (drop (i + 1) xs) = rw (ap test (sym is) ∙ fails) refl in
       sym f ∙ ap (find test) (sym e) ∙ h
 
-  pub here_found : (i : ℕ) (x : X) → i < length xs → x ≡ get_or xs i x → test x ≡ true → find test (drop i xs) ≡ find test xs → slice_get xs i ≡ find test xs
+  pub here_found : (i : ℕ) (x : X) → i < length xs → x ≡ get_or xs i x → test x ≡ true → find test (drop i xs) ≡ find test xs → IsFirst test xs i
   here_found i x low is passes h =
       let e : drop i xs ≡ get_or xs i x ∷ drop (i + 1) xs = rw add-one (drop-cons xs i x low) in
       let f : find test (get_or xs i x ∷ drop (i + 1) xs) ≡ Some (get_or xs i x) = rw (ap test (sym is) ∙ passes) refl in
-      slice_get-get_or xs i x low ∙ sym f ∙ ap (find test) (sym e) ∙ h
+      record { item = get_or xs i x; at = slice_get-get_or xs i x low; found = sym h ∙ ap (find test) e ∙ f }
+
+  pub here_at : (i : ℕ) (d : X) → i < length xs → test (get_or xs i d) ≡ true → find test (drop i xs) ≡ find test xs → IsFirst test xs i
+  here_at i d low passes h = here_found i (get_or xs i d) low (any_default xs i d (get_or xs i d) low) passes h
 
   pub end_unfound : (i : ℕ) → length xs ≤ i → find test (drop i xs) ≡ find test xs → find test xs ≡ None
   end_unfound i long h = sym h ∙ ap (find test) (drop_all i xs long)

@@ -1,7 +1,9 @@
 // Regions (Z.200, chapter on concurrent execution; who locks a region that becomes free is our own choice).
 ghost use Rattle.std.specs.Prelude.{◌≡◌, ◌+◌, ◌<◌, ◌≤◌, ◌++◌, ◌∷◌, [], None, Some, length, replicate, slice_get, slice_set, IfOk, IfSome, IfNone, OnOk};
 ghost use Rattle.std.specs.List.{find};
+ghost use Rattle.kernel_lists.specs.First.{IsFirst};
 ghost use Rattle.kernel_lists.specs.Once.{entry_of, AreOnce};
+ghost use Rattle.kernel_lists.specs.Room.{spare};
 ghost use Rattle.world_model.specs.Lists.{last_of};
 ghost use Rattle.region_kernel.specs.Regions.{process_of, occupant_of, held_by, may_lock, occupants_locked, locks_locked, IsTaken, locks_but, with_lock, first_waiting, queue_but, is_for};
 
@@ -133,22 +135,13 @@ impl Regions {
         ensures queue { self.new.queue ≡ queue_but self.old.queue result }
         ensures spare { self.old.spare ≤ self.new.spare + 1 }
     {
-        if let Some(who) = self.occupants[region as usize] {
-            self.locks
-                .retain(move |lock| !(lock.region == region && lock.who == who));
+        unlock(&mut self.locks, region, self.occupants[region as usize]);
+        let next = take_first(&mut self.queue, region);
+        self.occupants[region as usize] = next;
+        if let Some(who) = next {
+            self.locks.push_reserved(Lock { region, who });
         }
-        match place_of_first(&self.queue, region) {
-            Some(place) => {
-                let next = self.queue.remove(place);
-                self.occupants[region as usize] = Some(next.who);
-                self.locks.push_reserved(next);
-                Some(next.who)
-            }
-            None => {
-                self.occupants[region as usize] = None;
-                None
-            }
-        }
+        next
     }
 
     /// The region that a process locked last of those that it holds; none exactly where it holds none.
@@ -165,8 +158,33 @@ impl Regions {
     }
 }
 
+// Takes out the lock of a region by its occupant.
+fn unlock(locks: &mut Vec<Lock>, region: u32, occupant: Option<u32>)
+    ensures locks { locks.new.items ≡ locks_but locks.old.items region occupant }
+    ensures room { spare locks.old ≤ spare locks.new }
+{
+    match occupant {
+        Some(who) => locks.retain(move |lock| !(lock.region == region && lock.who == who)),
+        None => {}
+    }
+}
+
+// Takes out the process that waits longest for a region.
+fn take_first(queue: &mut Vec<Lock>, region: u32) -> Option<u32>
+    requires { AreOnce process_of queue.old.items }
+    ensures answer { result ≡ first_waiting queue.old.items region }
+    ensures queue { queue.new.items ≡ queue_but queue.old.items result }
+    ensures once { AreOnce process_of queue.new.items }
+    ensures room { spare queue.old ≤ spare queue.new }
+{
+    match place_of_first(queue, region) {
+        Some(place) => Some(queue.remove(place).who),
+        None => None,
+    }
+}
+
 fn place_of_first(queue: &[Lock], region: u32) -> Option<usize>
-    ensures some { IfSome result (λ place. slice_get queue.now place ≡ find (is_for region) queue.now) }
+    ensures some { IfSome result (IsFirst (is_for region) queue.now) }
     ensures none { IfNone result (find (is_for region) queue.now ≡ None) }
 {
     for place in 0..queue.len() {

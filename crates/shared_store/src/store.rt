@@ -1,5 +1,5 @@
 // The values of shared locations (Z.200, chapter on locations).
-ghost use Rattle.std.specs.Prelude.{◌≡◌, ◌≤◌, ◌++◌, length, IfOk, OnOk};
+ghost use Rattle.std.specs.Prelude.{◌≡◌, ◌+◌, ◌≤◌, ◌++◌, length, IfOk, OnOk};
 ghost use Rattle.kernel_base.specs.Facts.{IsSound};
 ghost use Rattle.kernel_lists.specs.Room.{spare};
 ghost use Rattle.world_model.specs.World.{opening};
@@ -54,9 +54,8 @@ impl Store {
     {
         let scalars = self.locations.at(place.location as usize).as_slice();
         let first = place.first as usize;
-        for scalar in &scalars[first..first + place.count as usize] {
-            into.push_reserved(*scalar);
-        }
+        into.extend_from_slice(&scalars[first..first + place.count as usize])
+            .unwrap();
     }
 
     /// Writes scalars into a place. It takes no memory.
@@ -68,8 +67,6 @@ impl Store {
         let locations = self.locations.room();
         let location = locations[place.location as usize].room();
         let first = place.first as usize;
-        for i in 0..scalars.len() {
-            location[first + i] = *scalars.at(i);
-        }
+        location[first..first + place.count as usize].copy_from_slice(scalars.as_slice());
     }
 }
