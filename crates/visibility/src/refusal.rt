@@ -3,7 +3,7 @@ use chill_base::Memory;
 use diagnostics::Diagnostics;
 
 /// Why the names of a program aren't resolved.
-#[derive(Drop)]
+#[derive(Debug, Drop)]
 pub enum Refusal {
     /// Rules are broken: the list of the phase.
     Broken(Diagnostics),
