@@ -70,14 +70,14 @@ joined-last old popped last own new is from to same =
     let whole : new ≡ group (last.from ++ own.from) last.to = λ i. record { from = from i; to = to i } in
     let behind : (popped ++ group last.from last.to ∷ []) ++ group own.from last.to ∷ [] ≡ old ++ own ∷ [] = λ i. sym is i ++ group own.from (same i) ∷ [] in
     groups-trans (popped ++ new ∷ []) (popped ++ group (last.from ++ own.from) last.to ∷ []) (old ++ own ∷ [])
-      (groups-as _ _ (ap (λ (g : Group). popped ++ g ∷ []) whole))
-      (groups-trans _ ((popped ++ group last.from last.to ∷ []) ++ group own.from last.to ∷ []) (old ++ own ∷ []) (joined popped last.from own.from last.to) (groups-as _ _ behind))
+    (groups-as _ _ (ap (λ (g : Group). popped ++ g ∷ []) whole))
+    (groups-trans _ ((popped ++ group last.from last.to ∷ []) ++ group own.from last.to ∷ []) (old ++ own ∷ []) (joined popped last.from own.from last.to) (groups-as _ _ behind))
 
 -- a group is noted, and those of the parameters behind it
 pub routine-noted : (old mid new : List Group) (own own' : Group) (ps ps' : List Group) → SameGroups mid (old ++ own ∷ []) → own ≡ own' → SameGroups new (mid ++ ps) → ps ≡ ps' → SameGroups new (old ++ own' ∷ ps')
 routine-noted old mid new own own' ps ps' first is second rest = groups-trans new (mid ++ ps) (old ++ own' ∷ ps') second
     (groups-trans (mid ++ ps) ((old ++ own ∷ []) ++ ps) (old ++ own' ∷ ps') (groups-behind mid (old ++ own ∷ []) ps first)
-      (groups-as _ _ (append_assoc old (own ∷ []) ps ∙ (λ i. old ++ is i ∷ rest i))))
+    (groups-as _ _ (append_assoc old (own ∷ []) ps ∙ (λ i. old ++ is i ∷ rest i))))
 
 -- a part that defines nothing has no group
 pub nothing-noted : (text : List Definition) (r : Reach) (from : ℕ) (p t : PartTree) (gs : List Group) → p ≡ t → groups_of text r from t ≡ [] → SameGroups gs (gs ++ groups_of text r from p)

@@ -9,4 +9,4 @@ returns c = λ text r s h.
     let defined : c.push.new.self ≡ c.args.from ∷ [] = c.in_ok-push.ensures.ok ∙ ap (λ xs. xs ++ c.args.from ∷ []) c.new-defined.ensures in
     let named = c.in_ok-named.ensures text r s in
     routine-noted c.args.out.now.items _ _ _ _ _ _ c.in_ok-push_group.ensures (λ i. record { from = defined i; to = named i })
-      (c.in_ok-note_params.ensures text r s (omega (arith, next, h))) (ap (λ k. param_groups text r k c.args.params.now) next)
+    (c.in_ok-note_params.ensures text r s (omega (arith, next, h))) (ap (λ k. param_groups text r k c.args.params.now) next)
