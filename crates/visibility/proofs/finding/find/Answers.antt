@@ -5,7 +5,8 @@ use Rattle.names_model.specs.Parts.{part_nodes}
 use Rattle.names_model.specs.Sizes.{sizes_of}
 use Rattle.names_model.specs.Definitions.{text_definitions, with_predefined}
 use Rattle.reach_tables.specs.Books.{Keeps}
-use Rattle.reach_tables.specs.Offsets.{Fits, nodes_of}
+use Rattle.reach_tables.specs.Offsets.{Fits}
+use Rattle.names_model.specs.Parts.{nodes_of}
 use Rattle.visibility.proofs.FoundParts.{found_by}
 use Rattle.visibility.proofs.finding.find.Goals as goal
 

@@ -1,8 +1,8 @@
-use Rattle.std.proofs.Common.{◌≡◌, ℕ, ◌++◌, List, arith, sym, append-nil, ap, ◌∙◌, subst}
+use Rattle.std.proofs.Common.{◌≡◌, ℕ, ◌++◌, List, arith, sym, append-nil, ap, ◌∙◌}
 use Rattle.std.specs.Prelude.{flat_map, slice_get, length}
 use Rattle.names_model.specs.declared.definition.Definition.{Definition}
 use Rattle.names_model.specs.Definitions.{numbers_on, with_predefined}
-use Rattle.names_model.specs.Dependence.{is_self, told_self, told_selves}
+use Rattle.names_model.specs.Dependence.{is_self, told_self}
 use Rattle.visibility.proofs.SelfSteps.{more_told}
 use Rattle.visibility.proofs.selves.tell_selves.Goals as goal
 
