@@ -115,14 +115,12 @@ fn uses_stand_for_definitions(rt: HostRuntime) -> Result<(), Fail> {
     Ok(())
 }
 
+// Both depend on INT, so they are one group.
 #[test]
 fn locations_depend_on_their_modes(rt: HostRuntime) -> Result<(), Fail> {
     let groups = found(rt.alloc())?.groups;
-    let wanted = [(1, 4), (2, 4)];
-    assert_eq!(rt; groups.len(), wanted.len());
-    for (group, (from, to)) in groups.iter().zip(wanted.iter()) {
-        assert!(rt; group.from.as_slice() == [*from].as_slice());
-        assert!(rt; group.to.as_slice() == [*to].as_slice());
-    }
+    assert_eq!(rt; groups.len(), 1);
+    assert!(rt; groups[0].from.as_slice() == [1, 2].as_slice());
+    assert!(rt; groups[0].to.as_slice() == [4].as_slice());
     Ok(())
 }
