@@ -1,5 +1,5 @@
 -- What passes again under a name adds nothing, and is told of by the first of each name.
-use Rattle.std.proofs.Common.{◌≡◌, ℕ, Bool, true, false, List, [], ◌∷◌, ◌++◌, ◌⊎◌, inl, inr, Option, Some, None, append-nil, append_assoc, refl, ap, sym, ◌∙◌, subst, length, drop, ◌≤◌, if◌then◌else◌}
+use Rattle.std.proofs.Common.{◌≡◌, ℕ, Bool, true, false, List, [], ◌∷◌, ◌++◌, ◌⊎◌, inl, inr, Option, Some, None, append-nil, append_assoc, refl, ap, sym, ◌∙◌, subst, length, drop, ◌≤◌, arith, if◌then◌else◌}
 use Rattle.std.proofs.lemmas.List.{at_drop_all}
 use Rattle.std.specs.Prelude.{◌||◌, ◌&&◌, ◌==◌, not, flat_map, ⊤}
 use Rattle.std.specs.Str.{bytes_eq}
@@ -25,7 +25,7 @@ use Rattle.reach_tables.proofs.Appends.{flat_map-append}
 use Rattle.reach_tables.proofs.Entering.{numbers-more, opens-more}
 use Rattle.reach_tables.proofs.Known.{added-known}
 use Rattle.reach_tables.proofs.Telling.{clash-by}
-use Rattle.reach_tables.proofs.Members.{in-left, in-right, in-either, same-append, same-refl, same-trans}
+use Rattle.reach_tables.proofs.Members.{in-left, in-right, in-either, same-append, same-as, same-refl, same-trans}
 use Rattle.reach_tables.proofs.Within.{any-at, any-had, either, first-among, later-among, same-self}
 
 -- ---- numbers that were entered
@@ -161,6 +161,30 @@ opens-again o o' all es at ds xs p is a table marked told = opens-more o o' all 
   where
     f : ℕ → List Diagnostic
     f = told_number all (numbers_of es) at
+
+-- of one that is alone there is no other
+alone : (xs : List ℕ) (d : ℕ) → length xs ≤ 1 → is_among d xs ≡ true → is_another_among d xs ≡ false
+alone [] d h k = cc
+alone (x ∷ []) d h k = side (x == d) k
+  where
+    side : (b : Bool) → (b || false) ≡ true → (not b || false) ≡ false
+    side true j = refl
+    side false j = cc
+alone (x ∷ y ∷ zs) d h k = absurd (omega (arith, h))
+
+none-told : (t : Holdings) (all : List Definition) (es : List Entry) (at : Pos) → Holds t all es → ((n : List ℕ) → length (held t n) ≤ 1) → (ds : List ℕ) → EachHeld all t ds → flat_map (told_number all (numbers_of es) at) ds ≡ []
+none-told t all es at h one [] e = refl
+none-told t all es at h one (d ∷ ds) e =
+    ap (λ b. (if b then tell at rules.N1 (spelling_at all d) ∷ [] else []) ++ flat_map (told_number all (numbers_of es) at) ds)
+    (clash-by t all es (spelling_at all d) d h refl ∙ alone (held t (spelling_at all d)) d (one (spelling_at all d)) (e.by d (first-among d ds)))
+    ∙ none-told t all es at h one ds (record { by = λ c j. e.by c (later-among c d ds j) })
+
+-- it is told of nothing where no name has two definitions
+pub opens-alone : (o : Opening) (all : List Definition) (es : List Entry) (at : Pos) (ds : List ℕ) → Opens o all es → AreAmong ds (numbers_of es) → ((n : List ℕ) → length (held o.table n) ≤ 1) → Opens o all (es ++ entry at ds ∷ [])
+opens-alone o all es at ds p a one = opens-more o o all es (entry at ds) p
+    (added-known all ds [] ds o.table o.table o.marked (each-held o.table all es ds p.table a) (sym (append-nil ds)) (record { by = λ n. refl; marks = p.marks }))
+    (same-as o.told.items (o.told.items ++ flat_map (told_number all (numbers_of es) at) ds)
+    (sym (append-nil o.told.items) ∙ ap (λ xs. o.told.items ++ xs) (sym (none-told o.table all es at p.table one ds (each-held o.table all es ds p.table a)))))
 
 -- more is entered, and nothing is noted
 pub passes-behind : (o o' : Opening) (m : Holdings) (all : List Definition) (has : List ℕ → List ℕ) (es fs : List Entry) → Passes o m all has es → Opens o' all (es ++ fs) → Passes o' m all has (es ++ fs)

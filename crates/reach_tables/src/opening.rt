@@ -52,7 +52,8 @@ impl Opening {
         Ok(())
     }
 
-    /// Enters again what was entered before, of which the first of each name are given: this adds nothing, and N1 is told.
+    /// Enters again what was entered before, of which the first of each name are given: this adds nothing, and N1 is told, if
+    /// any name has two definitions.
     pub fn enter_again(
         &mut self,
         alloc: Global,
@@ -62,6 +63,9 @@ impl Opening {
     ) -> Result<(), Memory>
         ensures { (es : List Entry) (ds : List ℕ) → Opens self.old book.now.all.items es → numbers.now ≡ firsts book.now.all.items None ds → AreAmong ds (numbers_of es) → OnOk result (Opens self.new book.now.all.items (es ++ entry at ds ∷ [])) }
     {
+        if self.table.is_single() {
+            return Ok(());
+        }
         tell_numbers(alloc, book, &self.table, at, numbers, &mut self.told)?;
         Ok(())
     }

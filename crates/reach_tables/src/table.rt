@@ -1,7 +1,7 @@
 // What is found under each name.
-ghost use Rattle.std.specs.Prelude.{◌≡◌, ℕ, List, [], ◌∷◌, ◌++◌, OnOk, if◌then◌else◌};
+ghost use Rattle.std.specs.Prelude.{◌≡◌, ℕ, List, [], ◌∷◌, ◌++◌, ◌≤◌, length, true, OnOk, if◌then◌else◌};
 ghost use Rattle.std.specs.Str.{bytes_eq};
-ghost use Rattle.reach_tables.specs.Held.{Holdings, held};
+ghost use Rattle.reach_tables.specs.Held.{held};
 
 use chill_base::{Memory, Numbers};
 use indexmap::IndexMap;
@@ -13,12 +13,32 @@ use std::marker::Model;
 #[derive(Drop)]
 pub struct Table {
     map: IndexMap<Spelling, Numbers>,
+    // Whether it is known that no name has two.
+    single: bool,
+    ghost single_is: { single ≡ true → (n : List ℕ) → length (held map.entries n) ≤ 1 },
 }
 
 impl Model for Table {
+    ghost use Rattle.reach_tables.specs.Held.{Holdings};
+
     ghost Value = { Holdings };
 
     ghost view = { λ t. t.map.entries };
+}
+
+// Puts the first definition of a name behind those of other names.
+fn put_first(
+    alloc: Global,
+    map: &mut IndexMap<Spelling, Numbers>,
+    name: &Spelling,
+    number: u32,
+) -> Result<(), Memory>
+    ensures { OnOk result (held map.old.entries name.now ≡ [] → (n : List ℕ) → held map.new.entries n ≡ (if bytes_eq name.now n then number ∷ [] else held map.old.entries n)) }
+{
+    let mut numbers = Numbers::new(alloc);
+    numbers.push(number)?;
+    map.insert(name.copy(alloc)?, numbers)?;
+    Ok(())
 }
 
 impl Table {
@@ -28,6 +48,7 @@ impl Table {
     {
         Table {
             map: IndexMap::new(alloc),
+            single: true,
         }
     }
 
@@ -41,20 +62,26 @@ impl Table {
         }
     }
 
+    /// Whether it is known that no name has two definitions.
+    pub fn is_single(&self) -> bool
+        ensures { result ≡ true → (n : List ℕ) → length (held self.now n) ≤ 1 }
+    {
+        self.single
+    }
+
     /// Puts a definition behind those of a name.
     pub fn append(&mut self, alloc: Global, name: &Spelling, number: u32) -> Result<(), Memory>
         ensures { OnOk result ((n : List ℕ) → held self.new n ≡ (if bytes_eq name.now n then held self.old n ++ number ∷ [] else held self.old n)) }
     {
-        match self.map.get_mut(name) {
-            Some(numbers) => {
-                numbers.push(number)?;
-            }
-            None => {
-                let mut numbers = Numbers::new(alloc);
-                numbers.push(number)?;
-                self.map.insert(name.copy(alloc)?, numbers)?;
-            }
+        if let Some(numbers) = self.map.get_mut(name) {
+            self.single = false;
+            numbers.push(number)?;
+            return Ok(());
         }
+        let single = self.single;
+        self.single = false;
+        put_first(alloc, &mut self.map, name, number)?;
+        self.single = single;
         Ok(())
     }
 }
