@@ -23,7 +23,7 @@ fn an_instance_is_started_and_ends(rt: HostRuntime) -> Result<(), Fail> {
 #[test]
 fn a_region_goes_to_the_one_that_waits(rt: HostRuntime) -> Result<(), Fail> {
     let mut regions = Regions::new(rt.alloc(), 1)?;
-    regions.reserve(3)?;
+    regions.reserve(4)?;
     assert!(rt; regions.lock(0, 1));
     assert!(rt; !regions.lock(0, 2));
     regions.wait(0, 2);
