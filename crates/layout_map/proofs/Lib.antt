@@ -1,0 +1,3 @@
+pub mod PlaceLemmas
+pub mod SpotLemmas
+pub mod OverlapLemmas
