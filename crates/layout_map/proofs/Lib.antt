@@ -1,3 +1,4 @@
 pub mod PlaceLemmas
 pub mod SpotLemmas
 pub mod OverlapLemmas
+pub mod WordLemmas

@@ -12,9 +12,9 @@ turn n k f c h =
     let e : n - k ≡ suc (n - (k + 1)) = omega arith in ap (λ (x : ℕ). times x f c) e
 
 -- with members left, the next number is laid
-pub number_turn : (m : ℕ) (packed : Bool) (c : ℕ) → 0 < m → numbers (numbers_of m) m packed c ≡ follow (one (record { width = min 32 m; signed = false }) packed c) (numbers (numbers_of (m - 32)) (m - 32) packed)
-number_turn m packed c h =
-    let e : numbers_of m ≡ suc (numbers_of (m - 32)) = omega arith in ap (λ (x : ℕ). numbers x m packed c) e
+pub number_turn : (m : ℕ) (dense : Bool) (c : ℕ) → 0 < m → numbers (numbers_of m) m dense c ≡ follow (one (record { width = min 32 m; signed = false }) dense c) (numbers (numbers_of (m - 32)) (m - 32) dense)
+number_turn m dense c h =
+    let e : numbers_of m ≡ suc (numbers_of (m - 32)) = omega arith in ap (λ (x : ℕ). numbers x m dense c) e
 
 -- fields with places end at the cursor or behind it
 pub placed_grows : (fs : FieldNodes) (c : ℕ) → c ≤ placed_end fs c

@@ -31,27 +31,27 @@ up c = held ((c + 31) / 32 * 32)
 
 -- Packed scalars follow each other, but one that would cross a word's end begins at the next word. Others begin at a word.
 abbrev pub begin : ℕ → Bool → ℕ → ℕ
-begin width packed c = if packed && nat_le (c % 32 + width) 32 then c else up c
+begin width dense c = if dense && nat_le (c % 32 + width) 32 then c else up c
 
 -- a scalar that isn't packed has its word alone
 abbrev pub after : ℕ → Bool → ℕ → ℕ
-after width packed c = held (if packed then c + width else c + 32)
+after width dense c = held (if dense then c + width else c + 32)
 
 abbrev pub bits_at : Scalar → ℕ → Bits
-bits_at s c = record { word = c / 32; start = c % 32; end = c % 32 + s.width - 1; signed = s.signed }
+bits_at s c = record { word = c / 32; start = c % 32; end = min (c % 32 + s.width - 1) 4294967295; signed = s.signed }
 
 abbrev pub one : Scalar → Bool → ℕ → Laid
-one s packed c = (bits_at s (begin s.width packed c) ∷ [], after s.width packed (begin s.width packed c))
+one s dense c = (bits_at s (begin s.width dense c) ∷ [], after s.width dense (begin s.width dense c))
 
 abbrev pub one_of : Option Scalar → Bool → ℕ → Laid
-one_of None packed c = ([], c)
-one_of (Some s) packed c = one s packed c
+one_of None dense c = ([], c)
+one_of (Some s) dense c = one s dense c
 
 -- the numbers of a powerset, 32 members each
 abbrev pub numbers : ℕ → ℕ → Bool → ℕ → Laid
-numbers zero members packed c = ([], c)
-numbers (suc n) members packed c =
-    follow (one (record { width = min 32 members; signed = false }) packed c) (numbers n (members - 32) packed)
+numbers zero members dense c = ([], c)
+numbers (suc n) members dense c =
+    follow (one (record { width = min 32 members; signed = false }) dense c) (numbers n (members - 32) dense)
 
 abbrev pub character : Scalar
 character = record { width = 8; signed = false }
@@ -62,7 +62,7 @@ place_bit p c = held (c + 32 * p.word + p.start)
 
 -- an element at this bit, and the bit of the next
 abbrev pub step_one : ℕ → Bool → ℕ → ℕ → Laid
-step_one length signed d c = (record { word = c / 32; start = c % 32; end = c % 32 + length; signed = signed } ∷ [], held (c + d))
+step_one length signed d c = (record { word = c / 32; start = c % 32; end = min (c % 32 + length) 4294967295; signed = signed } ∷ [], held (c + d))
 
 -- behind the first bit of the last element
 abbrev pub step_end : ℕ → ℕ → ℕ → ℕ
@@ -116,25 +116,25 @@ abbrev mutual
   -- The scalars of a mode from a cursor on, packed or not as the array or the structure around it says. An array or a structure
   -- begins at a new word, and so does what follows it.
   pub laid : ModeTree → Bool → ℕ → Laid
-  laid int packed c = one_of (scalar_of int) packed c
-  laid boolean packed c = one_of (scalar_of boolean) packed c
-  laid char packed c = one_of (scalar_of char) packed c
-  laid instance packed c = one_of (scalar_of instance) packed c
-  laid (set_of d n) packed c = one_of (scalar_of (set_of d n)) packed c
-  laid (range p l h) packed c = one_of (scalar_of (range p l h)) packed c
-  laid (powerset m) packed c = numbers (numbers_of (values_of m)) (values_of m) packed c
-  laid (chars n) packed c = times n (one character packed) c
-  laid (array i e how) packed c = closed (elements how (values_of i) (scalar_of e) (laid e) (up c))
-  laid (structure fs p) packed c =
+  laid int dense c = one_of (scalar_of int) dense c
+  laid boolean dense c = one_of (scalar_of boolean) dense c
+  laid char dense c = one_of (scalar_of char) dense c
+  laid instance dense c = one_of (scalar_of instance) dense c
+  laid (set_of d n) dense c = one_of (scalar_of (set_of d n)) dense c
+  laid (range p l h) dense c = one_of (scalar_of (range p l h)) dense c
+  laid (powerset m) dense c = numbers (numbers_of (values_of m)) (values_of m) dense c
+  laid (chars n) dense c = times n (one character dense) c
+  laid (array i e how) dense c = closed (elements how (values_of i) (scalar_of e) (laid e) (up c))
+  laid (structure fs p) dense c =
       closed (if is_placed fs then (placed_spots fs (up c), placed_end fs (up c)) else laid_fields fs p (up c))
-  laid (event l) packed c = ([], c)
-  laid (buffer l e) packed c = ([], c)
-  laid (read m) packed c = laid m packed c
-  laid (named d n m) packed c = laid m packed c
+  laid (event l) dense c = ([], c)
+  laid (buffer l e) dense c = ([], c)
+  laid (read m) dense c = laid m dense c
+  laid (named d n m) dense c = laid m dense c
 
   pub laid_fields : FieldNodes → Bool → ℕ → Laid
-  laid_fields no_fields packed c = ([], c)
-  laid_fields (more_fields name m at fs) packed c = follow (laid m packed c) (laid_fields fs packed)
+  laid_fields no_fields dense c = ([], c)
+  laid_fields (more_fields name m at fs) dense c = follow (laid m dense c) (laid_fields fs dense)
 
 -- the spots of a mode
 abbrev pub spots_of : ModeTree → List Bits

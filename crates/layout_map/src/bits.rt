@@ -80,8 +80,16 @@ fn put_field(word: u32, start: u32, width: u32, field: u64) -> u32
     requires field { field < 2 ^ width }
     ensures { result ≡ put_field word start width field }
 {
-    let word = word as u64;
+    put_wide(word, start, width, field) as u32
+}
+
+// The same, as a wider number.
+fn put_wide(word: u32, start: u32, width: u32, field: u64) -> u64
+    requires end { start + width ≤ 32 }
+    requires field { field < 2 ^ width }
+    ensures { result ≡ put_field word start width field }
+{
     let limit = 1u64 << (start + width);
     let unit = 1u64 << start;
-    (word / limit * limit + field * unit + word % unit) as u32
+    word as u64 / limit * limit + field * unit + word as u64 % unit
 }

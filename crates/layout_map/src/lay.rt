@@ -5,6 +5,7 @@ ghost use Rattle.modes.specs.Scalars.{numbers_of};
 ghost use Rattle.layout_map.specs.Scalar.{is_signed, scalar_of};
 ghost use Rattle.layout_map.specs.Spots.{held, up, begin, after, one, one_of, times, numbers, character, place_bit, step_end, steps_laid, is_placed, spot_at, placed_spot, spot_end, placed_spots, placed_end, laid, laid_fields};
 
+use crate::place::place_of;
 use crate::scalar::{Scalar, scalar_of};
 use chill_base::{Bits, Layout, Memory};
 use modes::{Field, Mode, Spread, number_of_values};
@@ -57,7 +58,9 @@ fn lay_one(scalar: Scalar, packed: bool, cursor: u64, out: &mut Layout) -> Resul
     out.push(Bits {
         word: (first / 32) as u32,
         start,
-        end: start.saturating_add(scalar.width).saturating_sub(1),
+        end: (start as u64 + scalar.width as u64)
+            .saturating_sub(1)
+            .min(u32::MAX as u64) as u32,
         signed: scalar.signed,
     })?;
     Ok(after(scalar.width, packed, first))
@@ -193,7 +196,7 @@ fn lay_field(field: &Field, cursor: u64, out: &mut Layout) -> Result<u64, Memory
     ensures next { IfOk result (λ next. next ≡ spot_end (field_tree field.now).at cursor) }
     ensures room { IfOk result (λ next. next ≤ 137438953440) }
 {
-    match field.at {
+    match place_of(field) {
         None => Ok(cursor),
         Some(at) => {
             let signed = is_signed(scalar_of(&field.mode));
@@ -229,14 +232,14 @@ fn is_signed(scalar: Option<Scalar>) -> bool
 }
 
 // Whether the first field has a place.
-#[tactic(auto, using(modes::proofs::ModeViews::mode_built))]
+#[tactic(auto, using(crate::proofs::PlaceLemmas::first_places))]
 pub(crate) fn is_placed(fields: &[Field]) -> bool
     ensures { result ≡ is_placed (field_nodes (field_trees fields.now)) }
 {
-    match fields.first() {
-        None => false,
-        Some(field) => field.at.is_some(),
+    if fields.len() == 0 {
+        return false;
     }
+    place_of(&fields[0]).is_some()
 }
 
 // Puts the scalars of the mode behind the cursor, packed or not as the array or the structure around it says.

@@ -4,7 +4,7 @@ ghost use Rattle.std.specs.Prelude.{◌≡◌, option_map};
 ghost use Rattle.modes.specs.ModeTree.{mode_tree, place_tree, spread_tree, field_tree, field_trees, field_nodes};
 ghost use Rattle.layout_map.specs.Numbered.{next_number, are_mixed, some_placed, all_placed, first_impossible, fields_impossible, field_impossible, array_impossible, is_misplaced};
 
-use crate::place::{is_possible, is_possible_step};
+use crate::place::{is_possible, is_possible_step, place_of};
 use chill_base::Bits;
 use modes::{Field, Mode, Spread, number_of_values};
 
@@ -109,7 +109,7 @@ fn some_placed(fields: &[Field]) -> bool
     ensures { result ≡ some_placed (field_nodes (field_trees fields.now)) }
 {
     for field in fields {
-        if field.at.is_some() {
+        if place_of(field).is_some() {
             return true;
         }
     }
@@ -121,7 +121,7 @@ fn all_placed(fields: &[Field]) -> bool
     ensures { result ≡ all_placed (field_nodes (field_trees fields.now)) }
 {
     for field in fields {
-        if field.at.is_none() {
+        if place_of(field).is_none() {
             return false;
         }
     }

@@ -6,7 +6,7 @@ ghost use Rattle.layout_map.specs.Overlap.{share, moved, ats_of, at_number, shar
 
 use crate::lay::is_placed;
 use crate::numbered::next_number;
-use crate::place::share_a_bit;
+use crate::place::{place_of, share_a_bit};
 use chill_base::Bits;
 use modes::{Field, Mode, Spread};
 
@@ -22,14 +22,6 @@ fn moved(number: u32, by: usize) -> u32
     ensures { result ≡ moved number by }
 {
     (number as u128 + by as u128).min(4294967295) as u32
-}
-
-// The place of the field, if it has one.
-#[tactic(auto, using(modes::proofs::ModeViews::mode_built))]
-fn place_of(field: &Field) -> Option<Bits>
-    ensures { option_map place_tree result ≡ (field_tree field.now).at }
-{
-    field.at
 }
 
 // Whether both are places, and share a bit.

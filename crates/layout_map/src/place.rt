@@ -1,12 +1,20 @@
 // Places that are written: which are possible, and which share a bit.
-ghost use Rattle.std.specs.Prelude.{◌≡◌, ◌≤◌};
-ghost use Rattle.modes.specs.ModeTree.{mode_tree, place_tree};
+ghost use Rattle.std.specs.Prelude.{◌≡◌, ◌≤◌, option_map};
+ghost use Rattle.modes.specs.ModeTree.{mode_tree, place_tree, field_tree};
 ghost use Rattle.layout_map.specs.Scalar.{scalar_of};
 ghost use Rattle.layout_map.specs.Place.{is_in_word, holds, is_possible, is_possible_step, steps_fit, shares};
 
 use crate::scalar::{Scalar, scalar_of};
 use chill_base::Bits;
-use modes::Mode;
+use modes::{Field, Mode};
+
+// The place of the field, if it has one.
+#[tactic(auto, using(modes::proofs::ModeViews::mode_built))]
+pub(crate) fn place_of(field: &Field) -> Option<Bits>
+    ensures { option_map place_tree result ≡ (field_tree field.now).at }
+{
+    field.at
+}
 
 // Whether the bits are those of one of the first 4,096 words.
 fn is_in_word(at: Bits) -> bool

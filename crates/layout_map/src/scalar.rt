@@ -1,7 +1,7 @@
 // How many bits a scalar needs.
-ghost use Rattle.std.specs.Prelude.{◌≡◌, ◌-◌, max, w64, option_map};
+ghost use Rattle.std.specs.Prelude.{◌≡◌};
 ghost use Rattle.modes.specs.ModeTree.{mode_tree};
-ghost use Rattle.modes.specs.Bounds.{natural_of, values_of};
+ghost use Rattle.modes.specs.Bounds.{natural_of};
 ghost use Rattle.layout_map.specs.Scalar.{digits_of, beyond_of, range_scalar, set_scalar, powerset_scalar, scalar_of};
 
 use modes::{Mode, bounds, number_of_values};
