@@ -1,6 +1,5 @@
 pub mod ExprTaken
 pub mod ItemTaken
-pub mod Lists
 pub mod LocalTaken
 pub mod ModeTaken
 pub mod Nested

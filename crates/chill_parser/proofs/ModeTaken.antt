@@ -7,7 +7,7 @@ use Rattle.chill_tree.specs.declared.tree.name.Name.{Name}
 use Rattle.chill_tree.specs.declared.tree.mode.Packing.{Packing}
 use Rattle.chill_tree.specs.declared.tree.mode.Packing.TheVariants as packings
 use Rattle.chill_tree.specs.declared.tree.mode.PlaceForm.TheVariants as forms
-use Rattle.chill_tree.specs.ExprTree.{ExprTree, whole, character, text, this_instance, paren, receive, start, tuple, uniform, name, apply, field, prefixed, binary}
+use Rattle.chill_tree.specs.ExprTree.{ExprTree, name}
 use Rattle.chill_tree.specs.ModeTree.{DiscreteTree, named, bounded, set_of, IndexTree, index_named, index_bounded, PlaceTree, StepTree, SpreadTree, by_packing, by_step, BaseTree, discrete, powerset, chars, structure, array, FieldTree, field_nodes, ModeTree, base_mode, read_mode, event_mode, buffer_mode}
 use Rattle.rules_model.specs.Marks.{Toks, name_token, begins, begins_with, front}
 use Rattle.rules_model.specs.ExprGrammar.{IsExpr, IsRanked, is_plain, is_chain, first, is_named, a_name}
@@ -63,19 +63,7 @@ name_alone (suc r) (is_chain (first d)) = name_alone r d
 
 index_is : (toks : Toks) (l : ExprTree) (m : Toks) → IsExpr l toks m → (y : IndexTree × Toks) → index_of l m ≡ Ok y → Was IsIndex toks y
 index_is toks (name x) m d = last_is (Was IsIndex toks) (index_named x, m) (rw (name_alone 5 d) is_index_name)
-index_is toks (whole at v) m d = never (Was IsIndex toks) (Absent (front m))
-index_is toks (character at v) m d = never (Was IsIndex toks) (Absent (front m))
-index_is toks (text at v) m d = never (Was IsIndex toks) (Absent (front m))
-index_is toks (this_instance at) m d = never (Was IsIndex toks) (Absent (front m))
-index_is toks (paren at e) m d = never (Was IsIndex toks) (Absent (front m))
-index_is toks (receive at x) m d = never (Was IsIndex toks) (Absent (front m))
-index_is toks (start at x es) m d = never (Was IsIndex toks) (Absent (front m))
-index_is toks (tuple at o b rs) m d = never (Was IsIndex toks) (Absent (front m))
-index_is toks (uniform at o b e) m d = never (Was IsIndex toks) (Absent (front m))
-index_is toks (apply at e es) m d = never (Was IsIndex toks) (Absent (front m))
-index_is toks (field at e x) m d = never (Was IsIndex toks) (Absent (front m))
-index_is toks (prefixed at o e) m d = never (Was IsIndex toks) (Absent (front m))
-index_is toks (binary at l o p r) m d = never (Was IsIndex toks) (Absent (front m))
+index_is toks l m d = never (Was IsIndex toks) (Absent (front m))
 
 sound_index : (n : ℕ) (p : Pos) → Sound IsIndex (index_at n p)
 unfolding index_at

@@ -8,7 +8,7 @@ use Rattle.chill_tree.specs.declared.token.Token.{Token}
 use Rattle.chill_tree.specs.declared.token.TokenKind.{TokenKind}
 use Rattle.chill_tree.specs.declared.tree.name.Name.{Name}
 use Rattle.chill_tree.specs.declared.tree.expr.Operator.{Operator}
-use Rattle.chill_tree.specs.ExprTree.{ExprTree, exprs_in, expr_nodes, place_of}
+use Rattle.chill_tree.specs.ExprTree.{ExprTree, place_of}
 use Rattle.chill_tree.specs.SimpleTree.{SimpleTree, assign, update, call_of, exit, return_with, result_of, assert_that, cause, stop, start_of, delay, continue_event, send, ControlTree, while_holds, for_ever, for_members, for_steps}
 use Rattle.rules_model.specs.Marks.{Toks, tok, word, name_token, begins, begins_with, begins_expr, behind, front, operator_of, may_update}
 use Rattle.rules_model.specs.ExprGrammar.{IsExpr, IsNamed, a_name, with_args, with_field, AreExprs, one_expr, and_expr, is_location, is_loc}
@@ -18,8 +18,10 @@ use Rattle.rules_model.specs.Reading.{Absent, chosen, listed_at}
 use Rattle.rules_model.specs.ExprReading.{expr_at, args_at, named_at}
 use Rattle.rules_model.specs.ModeReading.{value_at}
 use Rattle.rules_model.specs.SimpleReading.{clause_at, flag_at, members_at, steps_at, for_at, control_at, update_of, call_in, called_at, assigned_at, updated_at, behind_name_at, named_action_at, call_at, return_at, start_at, delay_at, message_at, send_at, word_name_at, word_value_at, simple_at}
+use Rattle.rules_model.proofs.SimpleExact.{exprs_back}
 use Rattle.chill_parser.proofs.Taken.{last_is, never, either, chosen_is, sign_then, word_then, name_then, Sound, Was, read_then, sound_list, sound_clause, sound_flag}
-use Rattle.chill_parser.proofs.ExprTaken.{IsSomeNamed, some_named, AreInBrackets, in_brackets, sound_expr, sound_value, sound_named, sound_args}
+use Rattle.expr_parser.proofs.ExprTaken.{InBrackets, bracketed}
+use Rattle.chill_parser.proofs.ExprTaken.{IsSomeNamed, some_named, sound_expr, sound_value, sound_named, sound_args}
 
 -- ---- what controls a loop
 
@@ -86,17 +88,13 @@ update_read : (m : Toks) (o : Pos × Operator) → update_of m ≡ Some o → Up
 update_read [] o e = absurd cc
 update_read (t ∷ rest) o e = updated_by t rest (operator_of t.kind) o refl e
 
-exprs_in_nodes : (es : List ExprTree) → exprs_in (expr_nodes es) ≡ es
-exprs_in_nodes [] = refl
-exprs_in_nodes (e ∷ es) = ap (λ (z : List ExprTree). e ∷ z) (exprs_in_nodes es)
-
 no_call : (c : Name × List ExprTree) → None ≡ Some c → ⊥
 no_call c e = cc
 
 call_made : {k : ℕ} {t : ExprTree} {toks m : Toks} → IsNamed k t toks m → (c : Name × List ExprTree) → call_in t ≡ Some c → IsSimple (call_of c.0.at false c.0 c.1) toks m
 call_made a_name c e = absurd (no_call c e)
 call_made {toks = toks} {m = m} (with_args {es = es} (a_name {n = x}) args lt) c e =
-    let same : (x, es) ≡ c = some_is (x, es) c (ap (λ (z : List ExprTree). Some (x, z)) (sym (exprs_in_nodes es)) ∙ e) in
+    let same : (x, es) ≡ c = some_is (x, es) c (ap (λ (z : List ExprTree). Some (x, z)) (sym (exprs_back es)) ∙ e) in
     subst (λ (z : Name × List ExprTree). IsSimple (call_of z.0.at false z.0 z.1) toks m) same (is_call args)
 call_made (with_args (with_args d a l) args lt) c e = absurd (no_call c e)
 call_made (with_args (with_field d l) args lt) c e = absurd (no_call c e)
@@ -128,24 +126,24 @@ sound_named_action n toks x rest =
 
 -- ---- actions that begin with a word
 
-call_word_made : {at : Pos} {x : Name} {es : List ExprTree} {m rest : Toks} → AreInBrackets es m rest → IsSimple (call_of at true x es) (word at words.Call ∷ name_token x ∷ m) rest
-call_word_made (in_brackets d) = is_call_word d
+call_word_made : {at : Pos} {x : Name} {es : List ExprTree} {m rest : Toks} → InBrackets es m rest → IsSimple (call_of at true x es) (word at words.Call ∷ name_token x ∷ m) rest
+call_word_made (bracketed d) = is_call_word d
 
 sound_call : (n : ℕ) → Sound IsSimple (call_at n)
 unfolding call_at
 sound_call n toks x rest =
     let P : SimpleTree × Toks → Type 0 = Was IsSimple toks in
-    word_then P words.Call toks _ (λ at m e. name_then P m _ (λ y m2 e2. read_then P AreInBrackets (args_at n (expr_at n)) (sound_args n) m2 _ (λ es m3 d.
+    word_then P words.Call toks _ (λ at m e. name_then P m _ (λ y m2 e2. read_then P InBrackets (args_at n (expr_at n)) (sound_args n) m2 _ (λ es m3 d.
     last_is P (call_of at true y es, m3) (rw (e, e2) (call_word_made d))))) (x, rest)
 
-start_made : {at : Pos} {x : Name} {es : List ExprTree} {m rest : Toks} → AreInBrackets es m rest → IsSimple (start_of at x es) (word at words.Start ∷ name_token x ∷ m) rest
-start_made (in_brackets d) = is_start d
+start_made : {at : Pos} {x : Name} {es : List ExprTree} {m rest : Toks} → InBrackets es m rest → IsSimple (start_of at x es) (word at words.Start ∷ name_token x ∷ m) rest
+start_made (bracketed d) = is_start d
 
 sound_start : (n : ℕ) → Sound IsSimple (start_at n)
 unfolding start_at
 sound_start n toks x rest =
     let P : SimpleTree × Toks → Type 0 = Was IsSimple toks in
-    word_then P words.Start toks _ (λ at m e. name_then P m _ (λ y m2 e2. read_then P AreInBrackets (args_at n (expr_at n)) (sound_args n) m2 _ (λ es m3 d.
+    word_then P words.Start toks _ (λ at m e. name_then P m _ (λ y m2 e2. read_then P InBrackets (args_at n (expr_at n)) (sound_args n) m2 _ (λ es m3 d.
     last_is P (start_of at y es, m3) (rw (e, e2) (start_made d))))) (x, rest)
 
 sound_return : (n : ℕ) → Sound IsSimple (return_at n)

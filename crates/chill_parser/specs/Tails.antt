@@ -7,12 +7,12 @@ use Rattle.chill_tree.specs.declared.tree.name.Name.{Name}
 use Rattle.chill_tree.specs.declared.tree.item.ModulionKind.{ModulionKind}
 use Rattle.chill_tree.specs.ModeTree.{ModeTree}
 use Rattle.chill_tree.specs.StatementTree.{BodyTree}
-use Rattle.chill_tree.specs.ItemTree.{ParamTree, ProcedureTree, ItemTree, seize, grant, local_item, signals, procedure, process, action, ModulionTree}
+use Rattle.chill_tree.specs.ItemTree.{ParamTree, ProcedureTree, ItemTree, seize, grant, local_item, signals, procedure, process, action, ModulionTree, modulion_item}
 use Rattle.rules_model.specs.Marks.{Toks}
 use Rattle.rules_model.specs.Reading.{Read, Piece, ◌>>=◌, sign_at, word_at, listed_at}
 use Rattle.rules_model.specs.ModeReading.{local_at}
 use Rattle.rules_model.specs.StatementReading.{handler_at, closing_at, statement_at, actions_at, body_at}
-use Rattle.rules_model.specs.ItemReading.{passed_at, signal_at, Block, block_at, procedure_at, process_at}
+use Rattle.rules_model.specs.ItemReading.{passed_at, signal_at, Block, block_at, procedure_at, process_at, Items, modulion_at}
 
 -- what stands behind the END of a block whose body is known
 abbrev pub block_end_at : ℕ → Name → List BodyTree → Toks → Read Block
@@ -47,3 +47,7 @@ process_item_at n toks = process_at n toks >>= λ x. Ok (Some (process x.0, x.1)
 
 abbrev pub action_item_at : ℕ → Toks → Piece ItemTree
 action_item_at n toks = statement_at n (actions_at n) (body_at n) toks >>= λ x. Ok (Some (action x.0, x.1))
+
+-- a modulion among the items, where items reads those in it
+abbrev pub modulion_item_at : ℕ → Items → Toks → Piece ItemTree
+modulion_item_at n items toks = modulion_at n items toks >>= λ x. Ok (Some (modulion_item x.0, x.1))

@@ -1,21 +1,22 @@
 // Readers of procedures and processes (Z.200, chapters on program structure and on concurrent execution). `inner` is
 // the number of levels of nesting that are left behind an opening token.
 ghost use Rattle.std.specs.Prelude.{map, option_map};
-ghost use Rattle.chill_tree.specs.ItemTree.{param_tree, procedure_tree, process_tree};
+ghost use Rattle.chill_tree.specs.ItemTree.{boxed_procedure, boxed_process, param_tree};
 ghost use Rattle.chill_tree.specs.ModeTree.{mode_tree};
-ghost use Rattle.chill_tree.specs.StatementTree.{body_trees, handler_tree};
+ghost use Rattle.chill_tree.specs.StatementTree.{body_trees, boxed_handler};
 ghost use Rattle.chill_tree.specs.declared.token.Word.TheVariants as words;
 ghost use Rattle.chill_parser.specs.Tails.{block_end_at, procedure_block_at};
 ghost use Rattle.expr_parser.specs.Giving.{Gives};
 ghost use Rattle.rules_model.specs.ItemReading.{block_at, exceptions_at, procedure_at, procedure_rest_at, process_at, process_rest_at, result_at};
 ghost use Rattle.rules_model.specs.SimpleReading.{clause_at};
 
-use crate::heading::less;
 use crate::param::{read_formals, read_params};
 use chill_base::{List, Pos};
 use chill_tree::tree::{BodyPart, Handler, Mode, Name, Param, Procedure, Process};
 use chill_tree::{Sign, Token, Word};
-use expr_parser::{ParseRefusal, read_name, read_names, read_sign, read_word, starts_with};
+use expr_parser::{
+    ParseRefusal, boxed, less, read_name, read_names, read_sign, read_word, starts_with,
+};
 use mode_parser::read_mode;
 use statement_parser::{read_body, read_closing, read_handler};
 use std::alloc::Global;
@@ -26,8 +27,8 @@ pub(crate) fn read_procedure(
     alloc: Global,
     tokens: &[Token],
     inner: usize,
-) -> Result<(Procedure, &[Token]), ParseRefusal>
-    ensures { Gives (λ x. (procedure_tree x.0, x.1.now)) result (procedure_at inner tokens.now) }
+) -> Result<(Box<Procedure>, &[Token]), ParseRefusal>
+    ensures { Gives (λ x. (boxed_procedure x.0, x.1.now)) result (procedure_at inner tokens.now) }
 {
     let (name, rest) = read_name(tokens)?;
     let (_, rest) = read_sign(rest, Sign::Colon)?;
@@ -44,8 +45,8 @@ fn procedure_rest(
     tokens: &[Token],
     inner: usize,
     opened: Pos,
-) -> Result<(Procedure, &[Token]), ParseRefusal>
-    ensures { Gives (λ x. (procedure_tree x.0, x.1.now)) result (procedure_rest_at inner name opened tokens.now) }
+) -> Result<(Box<Procedure>, &[Token]), ParseRefusal>
+    ensures { Gives (λ x. (boxed_procedure x.0, x.1.now)) result (procedure_rest_at inner name opened tokens.now) }
 {
     let (params, rest) = read_params(alloc, tokens, less(less(inner)))?;
     let (returns, rest) = read_returns(alloc, rest, less(inner))?;
@@ -75,23 +76,21 @@ fn procedure_block(
     tokens: &[Token],
     inner: usize,
     opened: Pos,
-) -> Result<(Procedure, &[Token]), ParseRefusal>
-    ensures { Gives (λ x. (procedure_tree x.0, x.1.now)) result (procedure_block_at inner head.name opened (map param_tree head.params) (option_map mode_tree head.returns) head.exceptions tokens.now) }
+) -> Result<(Box<Procedure>, &[Token]), ParseRefusal>
+    ensures { Gives (λ x. (boxed_procedure x.0, x.1.now)) result (procedure_block_at inner head.name opened (map param_tree head.params) (option_map mode_tree head.returns) head.exceptions tokens.now) }
 {
     let (_, rest) = read_sign(tokens, Sign::Semicolon)?;
     let (block, rest) = read_block(alloc, &head.name, rest, inner, opened)?;
-    Ok((
-        Procedure {
-            name: head.name,
-            params: head.params,
-            returns: head.returns,
-            exceptions: head.exceptions,
-            body: block.body,
-            handler: block.handler,
-            closing: block.closing,
-        },
-        rest,
-    ))
+    let procedure = Procedure {
+        name: head.name,
+        params: head.params,
+        returns: head.returns,
+        exceptions: head.exceptions,
+        body: block.body,
+        handler: block.handler,
+        closing: block.closing,
+    };
+    Ok((boxed(alloc, procedure)?, rest))
 }
 
 /// Reads a process.
@@ -100,8 +99,8 @@ pub(crate) fn read_process(
     alloc: Global,
     tokens: &[Token],
     inner: usize,
-) -> Result<(Process, &[Token]), ParseRefusal>
-    ensures { Gives (λ x. (process_tree x.0, x.1.now)) result (process_at inner tokens.now) }
+) -> Result<(Box<Process>, &[Token]), ParseRefusal>
+    ensures { Gives (λ x. (boxed_process x.0, x.1.now)) result (process_at inner tokens.now) }
 {
     let (name, rest) = read_name(tokens)?;
     let (_, rest) = read_sign(rest, Sign::Colon)?;
@@ -118,29 +117,27 @@ fn process_rest(
     tokens: &[Token],
     inner: usize,
     opened: Pos,
-) -> Result<(Process, &[Token]), ParseRefusal>
-    ensures { Gives (λ x. (process_tree x.0, x.1.now)) result (process_rest_at inner name opened tokens.now) }
+) -> Result<(Box<Process>, &[Token]), ParseRefusal>
+    ensures { Gives (λ x. (boxed_process x.0, x.1.now)) result (process_rest_at inner name opened tokens.now) }
 {
     let (formals, rest) = read_formals(alloc, tokens, less(less(inner)))?;
     let (_, rest) = read_sign(rest, Sign::Semicolon)?;
     let (block, rest) = read_block(alloc, &name, rest, inner, opened)?;
-    Ok((
-        Process {
-            name,
-            formals,
-            body: block.body,
-            handler: block.handler,
-            closing: block.closing,
-        },
-        rest,
-    ))
+    let process = Process {
+        name,
+        formals,
+        body: block.body,
+        handler: block.handler,
+        closing: block.closing,
+    };
+    Ok((boxed(alloc, process)?, rest))
 }
 
 // A body, its handler and the name at its end.
 #[derive(Drop)]
 struct Block {
     body: List<BodyPart>,
-    handler: Option<Handler>,
+    handler: Option<Box<Handler>>,
     closing: Option<Name>,
 }
 
@@ -153,7 +150,7 @@ fn read_block<'a>(
     inner: usize,
     opened: Pos,
 ) -> Result<(Block, &'a [Token]), ParseRefusal>
-    ensures { Gives (λ x. ((body_trees x.0.body, option_map handler_tree x.0.handler, x.0.closing), x.1.now)) result (block_at inner name.now opened tokens.now) }
+    ensures { Gives (λ x. ((body_trees x.0.body, option_map boxed_handler x.0.handler, x.0.closing), x.1.now)) result (block_at inner name.now opened tokens.now) }
 {
     let (body, rest) = read_body(alloc, tokens, inner, opened)?;
     let (_, rest) = read_word(rest, Word::End)?;
@@ -168,7 +165,7 @@ fn block_end<'a>(
     tokens: &'a [Token],
     inner: usize,
 ) -> Result<(Block, &'a [Token]), ParseRefusal>
-    ensures { Gives (λ x. ((body_trees x.0.body, option_map handler_tree x.0.handler, x.0.closing), x.1.now)) result (block_end_at inner name.now (body_trees body) tokens.now) }
+    ensures { Gives (λ x. ((body_trees x.0.body, option_map boxed_handler x.0.handler, x.0.closing), x.1.now)) result (block_end_at inner name.now (body_trees body) tokens.now) }
 {
     let (handler, rest) = read_handler(alloc, tokens, inner)?;
     let (closing, rest) = read_closing(rest, Some(name))?;

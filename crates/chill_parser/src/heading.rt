@@ -3,32 +3,13 @@ ghost use Rattle.std.specs.Prelude.{◌≡◌};
 ghost use Rattle.expr_parser.specs.Giving.{Gives};
 ghost use Rattle.rules_model.specs.ItemReading.{kind_at, passed_at, passing_at};
 ghost use Rattle.rules_model.specs.ItemReading as reading;
-ghost use Rattle.rules_model.specs.Marks as marks;
-ghost use Rattle.rules_model.specs.Nesting as nesting;
 
 use chill_base::Pos;
 use chill_tree::tree::{ModulionKind, Passed, Passing};
 use chill_tree::{Token, Word};
-use expr_parser::{ParseRefusal, read_names, read_word, starts_with};
+use expr_parser::{ParseRefusal, behind, read_names, read_word, starts_with};
 use statement_parser::begins_label;
 use std::alloc::Global;
-
-/// The levels of nesting that are left behind one more opening token.
-pub(crate) fn less(levels: usize) -> usize
-    ensures { result ≡ nesting.less levels }
-{
-    if levels == 0 { 0 } else { levels - 1 }
-}
-
-/// The tokens behind the first.
-fn behind(tokens: &[Token]) -> &[Token]
-    ensures { result.now ≡ marks.behind tokens.now }
-{
-    match tokens {
-        [_, rest @ ..] => rest,
-        [] => tokens,
-    }
-}
 
 /// Whether a name, a colon and the word stand at the front.
 pub(crate) fn begins_block(tokens: &[Token], word: Word) -> bool

@@ -2,7 +2,7 @@
 // of nesting that are left behind an opening token.
 ghost use Rattle.std.specs.Prelude.{[], option_map};
 ghost use Rattle.chill_tree.specs.ItemTree.{item_tree, item_trees, modulion_tree};
-ghost use Rattle.chill_parser.specs.Tails.{action_item_at, grant_at, local_item_at, modulion_end_at, procedure_item_at, process_item_at, seize_at, signals_at};
+ghost use Rattle.chill_parser.specs.Tails.{action_item_at, grant_at, local_item_at, modulion_end_at, modulion_item_at, procedure_item_at, process_item_at, seize_at, signals_at};
 ghost use Rattle.expr_parser.specs.Giving.{Gives};
 ghost use Rattle.rules_model.specs.ItemReading.{block_item_at, item_at, items_at, modulion_at};
 ghost use Rattle.rules_model.specs.Reading.{push, repeat};
@@ -13,7 +13,7 @@ use crate::signal::read_signals;
 use chill_base::{List, Pos};
 use chill_tree::tree::{Item, Modulion, ModulionKind, Name};
 use chill_tree::{Sign, Token, Word};
-use expr_parser::{ParseRefusal, read_name, read_sign, read_word, starts_with};
+use expr_parser::{ParseRefusal, boxed, read_name, read_sign, read_word, starts_with};
 use mode_parser::read_local;
 use statement_parser::{
     begins_local, begins_statement, read_closing, read_handler, read_statement,
@@ -137,17 +137,29 @@ fn block_item(
         return process(alloc, tokens, inner);
     }
     if begins_block(tokens, Word::Module) {
-        let (own, rest) = read_modulion(alloc, tokens, inner)?;
-        return Ok(Some((Item::modulion(own), rest)));
+        return modulion(alloc, tokens, inner);
     }
     if begins_block(tokens, Word::Region) {
-        let (own, rest) = read_modulion(alloc, tokens, inner)?;
-        return Ok(Some((Item::modulion(own), rest)));
+        return modulion(alloc, tokens, inner);
     }
     if begins_statement(tokens) {
         return action(alloc, tokens, inner);
     }
     Ok(None)
+}
+
+// Reads a modulion in another.
+#[cycle(item)]
+fn modulion(
+    alloc: Global,
+    tokens: &[Token],
+    inner: usize,
+) -> Result<Option<(Item, &[Token])>, ParseRefusal>
+    ensures { Gives (option_map (λ x. (item_tree x.0, x.1.now))) result (modulion_item_at inner (items_at inner) tokens.now) }
+{
+    let (own, rest) = read_modulion(alloc, tokens, inner)?;
+    let own = boxed(alloc, own)?;
+    Ok(Some((Item::modulion(own), rest)))
 }
 
 // Reads names that are taken from outside.

@@ -1,16 +1,16 @@
 // Readers of parameters (Z.200, chapters on program structure and on concurrent execution). `inner` is the number of
 // levels of nesting that are left behind an opening token.
-ghost use Rattle.std.specs.Prelude.{map, option_map};
+ghost use Rattle.std.specs.Prelude.{map};
 ghost use Rattle.chill_tree.specs.ItemTree.{formal_tree, param_tree};
 ghost use Rattle.expr_parser.specs.Giving.{Gives};
 ghost use Rattle.rules_model.specs.ItemReading.{formal_at, param_at, within_at};
-ghost use Rattle.rules_model.specs.Reading.{another_at, listed_at, push, repeat};
+ghost use Rattle.rules_model.specs.Reading.{listed_at};
 
 use crate::heading::read_passing;
 use chill_base::List;
 use chill_tree::tree::{Formal, Param};
 use chill_tree::{Sign, Token};
-use expr_parser::{ParseRefusal, read_names, read_sign, starts};
+use expr_parser::{Listed, ParseRefusal, read_list, read_names, read_sign, starts};
 use mode_parser::read_mode;
 use std::alloc::Global;
 
@@ -32,8 +32,25 @@ pub(crate) fn read_params(
     Ok((params, rest))
 }
 
+// Parameters of a procedure, by the levels that are left.
+#[derive(Drop)]
+struct Params {
+    inner: usize,
+}
+
+impl Listed for Params {
+    type Item = Param;
+
+    ghost use Rattle.chill_tree.specs.ItemTree.{ParamTree};
+
+    ghost Tree = { ParamTree };
+
+    ghost tree = { param_tree };
+
+    ghost reads = { λ s. param_at s.inner };
+}
+
 // Reads parameters with commas between them, at least one.
-#[tactic(auto, unfolding(rules_model::specs::Reading::listed_at))]
 fn listed_params(
     alloc: Global,
     tokens: &[Token],
@@ -41,50 +58,9 @@ fn listed_params(
 ) -> Result<(List<Param>, &[Token]), ParseRefusal>
     ensures { Gives (λ x. (map param_tree x.0, x.1.now)) result (listed_at (param_at inner) tokens.now) }
 {
-    let (first, rest) = read_param(alloc, tokens, inner)?;
-    let mut params = List::new(alloc);
-    params.push(first)?;
-    other_params(alloc, params, rest, inner, tokens.len())
-}
-
-// Reads further parameters, each behind a comma.
-#[tactic(auto, using(expr_parser::proofs::Repeats::repeats))]
-fn other_params(
-    alloc: Global,
-    first: List<Param>,
-    tokens: &[Token],
-    inner: usize,
-    limit: usize,
-) -> Result<(List<Param>, &[Token]), ParseRefusal>
-    ensures { Gives (λ x. (map param_tree x.0, x.1.now)) result (repeat (another_at (param_at inner)) push limit (map param_tree first) tokens.now) }
-{
-    let mut params = first;
-    let mut rest = tokens;
-    for _ in 0..limit {
-        let Some((param, after)) = another_param(alloc, rest, inner)? else {
-            return Ok((params, rest));
-        };
-        params.push(param)?;
-        rest = after;
-    }
-    Ok((params, rest))
-}
-
-// Reads a comma and a parameter, if the comma is there.
-#[tactic(auto, unfolding(rules_model::specs::Reading::another_at))]
-fn another_param(
-    alloc: Global,
-    tokens: &[Token],
-    inner: usize,
-) -> Result<Option<(Param, &[Token])>, ParseRefusal>
-    ensures { Gives (option_map (λ x. (param_tree x.0, x.1.now))) result (another_at (param_at inner) tokens.now) }
-{
-    if !starts(tokens, Sign::Comma) {
-        return Ok(None);
-    }
-    let (_, rest) = read_sign(tokens, Sign::Comma)?;
-    let (param, rest) = read_param(alloc, rest, inner)?;
-    Ok(Some((param, rest)))
+    read_list(alloc, tokens, &Params { inner }, |item| {
+        read_param(alloc, item, inner)
+    })
 }
 
 // Reads parameters of a procedure that have one mode.
@@ -127,8 +103,25 @@ pub(crate) fn read_formals(
     Ok((formals, rest))
 }
 
+// Parameters of a process, by the levels that are left.
+#[derive(Drop)]
+struct Formals {
+    inner: usize,
+}
+
+impl Listed for Formals {
+    type Item = Formal;
+
+    ghost use Rattle.chill_tree.specs.ItemTree.{FormalTree};
+
+    ghost Tree = { FormalTree };
+
+    ghost tree = { formal_tree };
+
+    ghost reads = { λ s. formal_at s.inner };
+}
+
 // Reads parameters with commas between them, at least one.
-#[tactic(auto, unfolding(rules_model::specs::Reading::listed_at))]
 fn listed_formals(
     alloc: Global,
     tokens: &[Token],
@@ -136,50 +129,9 @@ fn listed_formals(
 ) -> Result<(List<Formal>, &[Token]), ParseRefusal>
     ensures { Gives (λ x. (map formal_tree x.0, x.1.now)) result (listed_at (formal_at inner) tokens.now) }
 {
-    let (first, rest) = read_formal(alloc, tokens, inner)?;
-    let mut formals = List::new(alloc);
-    formals.push(first)?;
-    other_formals(alloc, formals, rest, inner, tokens.len())
-}
-
-// Reads further parameters, each behind a comma.
-#[tactic(auto, using(expr_parser::proofs::Repeats::repeats))]
-fn other_formals(
-    alloc: Global,
-    first: List<Formal>,
-    tokens: &[Token],
-    inner: usize,
-    limit: usize,
-) -> Result<(List<Formal>, &[Token]), ParseRefusal>
-    ensures { Gives (λ x. (map formal_tree x.0, x.1.now)) result (repeat (another_at (formal_at inner)) push limit (map formal_tree first) tokens.now) }
-{
-    let mut formals = first;
-    let mut rest = tokens;
-    for _ in 0..limit {
-        let Some((formal, after)) = another_formal(alloc, rest, inner)? else {
-            return Ok((formals, rest));
-        };
-        formals.push(formal)?;
-        rest = after;
-    }
-    Ok((formals, rest))
-}
-
-// Reads a comma and a parameter, if the comma is there.
-#[tactic(auto, unfolding(rules_model::specs::Reading::another_at))]
-fn another_formal(
-    alloc: Global,
-    tokens: &[Token],
-    inner: usize,
-) -> Result<Option<(Formal, &[Token])>, ParseRefusal>
-    ensures { Gives (option_map (λ x. (formal_tree x.0, x.1.now))) result (another_at (formal_at inner) tokens.now) }
-{
-    if !starts(tokens, Sign::Comma) {
-        return Ok(None);
-    }
-    let (_, rest) = read_sign(tokens, Sign::Comma)?;
-    let (formal, rest) = read_formal(alloc, rest, inner)?;
-    Ok(Some((formal, rest)))
+    read_list(alloc, tokens, &Formals { inner }, |item| {
+        read_formal(alloc, item, inner)
+    })
 }
 
 // Reads parameters of a process that have one mode.

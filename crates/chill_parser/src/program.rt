@@ -7,12 +7,11 @@ ghost use Rattle.rules_model.specs.ItemReading.{modulion_piece_at, program_at};
 ghost use Rattle.rules_model.specs.Nesting as nesting;
 ghost use Rattle.rules_model.specs.Reading.{push, repeat};
 
-use crate::heading::less;
 use crate::item::read_modulion;
 use chill_base::{List, Pos};
 use chill_tree::tree::{Modulion, Tree};
 use chill_tree::{Sign, Token, TokenKind, Word};
-use expr_parser::{ParseRefusal, place};
+use expr_parser::{ParseRefusal, less, place};
 use statement_parser::begins_label;
 use std::alloc::Global;
 

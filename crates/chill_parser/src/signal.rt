@@ -6,19 +6,37 @@ ghost use Rattle.chill_tree.specs.ModeTree.{mode_tree};
 ghost use Rattle.chill_tree.specs.declared.token.Word.TheVariants as words;
 ghost use Rattle.expr_parser.specs.Giving.{Gives};
 ghost use Rattle.rules_model.specs.ItemReading.{signal_at, signal_parts_at};
-ghost use Rattle.rules_model.specs.Reading.{another_at, listed_at, name_at, push, repeat};
+ghost use Rattle.rules_model.specs.Reading.{listed_at, name_at};
 ghost use Rattle.rules_model.specs.SimpleReading.{clause_at};
 
-use crate::heading::less;
 use chill_base::List;
 use chill_tree::tree::{Mode, Name, Signal};
 use chill_tree::{Sign, Token, Word};
-use expr_parser::{ParseRefusal, read_name, read_sign, read_word, starts, starts_with};
+use expr_parser::{
+    Listed, ParseRefusal, less, read_list, read_name, read_sign, read_word, starts, starts_with,
+};
 use mode_parser::read_modes;
 use std::alloc::Global;
 
+// Signals, by the levels that are left.
+#[derive(Drop)]
+struct Signals {
+    inner: usize,
+}
+
+impl Listed for Signals {
+    type Item = Signal;
+
+    ghost use Rattle.chill_tree.specs.ItemTree.{SignalTree};
+
+    ghost Tree = { SignalTree };
+
+    ghost tree = { signal_tree };
+
+    ghost reads = { λ s. signal_at s.inner };
+}
+
 /// Reads signals with commas between them, at least one.
-#[tactic(auto, unfolding(rules_model::specs::Reading::listed_at))]
 pub(crate) fn read_signals(
     alloc: Global,
     tokens: &[Token],
@@ -26,50 +44,9 @@ pub(crate) fn read_signals(
 ) -> Result<(List<Signal>, &[Token]), ParseRefusal>
     ensures { Gives (λ x. (map signal_tree x.0, x.1.now)) result (listed_at (signal_at inner) tokens.now) }
 {
-    let (first, rest) = read_signal(alloc, tokens, inner)?;
-    let mut signals = List::new(alloc);
-    signals.push(first)?;
-    other_signals(alloc, signals, rest, inner, tokens.len())
-}
-
-// Reads further signals, each behind a comma.
-#[tactic(auto, using(expr_parser::proofs::Repeats::repeats))]
-fn other_signals(
-    alloc: Global,
-    first: List<Signal>,
-    tokens: &[Token],
-    inner: usize,
-    limit: usize,
-) -> Result<(List<Signal>, &[Token]), ParseRefusal>
-    ensures { Gives (λ x. (map signal_tree x.0, x.1.now)) result (repeat (another_at (signal_at inner)) push limit (map signal_tree first) tokens.now) }
-{
-    let mut signals = first;
-    let mut rest = tokens;
-    for _ in 0..limit {
-        let Some((signal, after)) = another_signal(alloc, rest, inner)? else {
-            return Ok((signals, rest));
-        };
-        signals.push(signal)?;
-        rest = after;
-    }
-    Ok((signals, rest))
-}
-
-// Reads a comma and a signal, if the comma is there.
-#[tactic(auto, unfolding(rules_model::specs::Reading::another_at))]
-fn another_signal(
-    alloc: Global,
-    tokens: &[Token],
-    inner: usize,
-) -> Result<Option<(Signal, &[Token])>, ParseRefusal>
-    ensures { Gives (option_map (λ x. (signal_tree x.0, x.1.now))) result (another_at (signal_at inner) tokens.now) }
-{
-    if !starts(tokens, Sign::Comma) {
-        return Ok(None);
-    }
-    let (_, rest) = read_sign(tokens, Sign::Comma)?;
-    let (signal, rest) = read_signal(alloc, rest, inner)?;
-    Ok(Some((signal, rest)))
+    read_list(alloc, tokens, &Signals { inner }, |item| {
+        read_signal(alloc, item, inner)
+    })
 }
 
 // Reads a signal.

@@ -1,58 +1,31 @@
-// What an event does to a world.
-use chill_base::List;
-use kernel_base::{Answer, Event, Facts, How, Request};
-use std::alloc::{AllocError, Global};
+// The opening world of small facts, and what an event does to it.
+use crate::tables::few_facts;
+use kernel_base::{Answer, Event, Request};
 use std::test::Fail;
-use world_model::{Phase, World};
-
-// One instance that is active, and one region that is free.
-fn world(alloc: Global) -> Result<World, AllocError> {
-    Ok(World {
-        processes: List::from_vec(vec![in alloc; 0, 0]?),
-        arguments: List::from_vec(vec![in alloc; List::new(alloc), List::new(alloc)]?),
-        phases: List::from_vec(vec![in alloc; Phase::Ended { how: How::Normal }, Phase::Active]?),
-        held: List::from_vec(vec![in alloc; List::new(alloc), List::new(alloc)]?),
-        occupants: List::from_vec(vec![in alloc; None]?),
-        store: List::new(alloc),
-        stored: List::new(alloc),
-        pending: List::new(alloc),
-        input: List::new(alloc),
-        output: List::new(alloc),
-        sends: 0,
-    })
-}
-
-fn facts(alloc: Global) -> Facts {
-    Facts {
-        store: List::new(alloc),
-        layouts: List::new(alloc),
-        regions: 1,
-        events: List::new(alloc),
-        buffers: List::new(alloc),
-        processes: 1,
-        signals: List::new(alloc),
-        input: List::new(alloc),
-        units: 1000,
-    }
-}
+use world_check::{have_few_members, opening_world};
 
 #[test]
 fn a_region_is_locked_by_the_one_who_enters_it(rt: HostRuntime) -> Result<(), Fail> {
     let alloc = rt.alloc();
-    let mut world = world(alloc)?;
+    let mut facts = few_facts(alloc);
+    facts.regions = 2;
+    assert!(rt; have_few_members(&facts));
+    let mut world = opening_world(alloc, &facts)?;
+    assert_eq!(rt; world.occupants.len(), 2);
+    assert_eq!(rt; world.phases.len(), 2);
+    assert_eq!(rt; world.sends, 0);
     let event = Event::Did {
         who: 1,
         ticks: 0,
-        request: Request::Enter { region: 0 },
+        request: Request::Enter { region: 1 },
         answer: Answer::Done,
         refill: None,
     };
-    assert_eq!(rt; world.sends, 0);
-    world.apply(&facts(alloc), &event)?;
-    assert_eq!(rt; world.occupants.len(), 1);
-    assert_eq!(rt; *world.occupants.at(0), Some(1));
+    world.apply(&facts, &event)?;
+    assert_eq!(rt; world.occupants.len(), 2);
+    assert_eq!(rt; *world.occupants.at(1), Some(1));
     assert_eq!(rt; world.held.len(), 2);
     assert_eq!(rt; world.held.at(1).len(), 1);
-    assert_eq!(rt; *world.held.at(1).at(0), 0);
+    assert_eq!(rt; *world.held.at(1).at(0), 1);
     Ok(())
 }

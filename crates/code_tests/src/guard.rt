@@ -4,31 +4,13 @@ mod effects;
 mod heights;
 mod instructions;
 
+use crate::tables::{Body, Range, Shape, code_of, rows_of};
 use chill_base::List;
 use code_guard::{GuardRefusal, guard};
-use code_types::{BodyRow, Code, Handler, Instr};
+use code_types::{Code, Instr};
 use std::alloc::{AllocError, Global};
 use std::process::Abort;
 use std::test::Fail;
-
-/// A handler as a table can hold it.
-#[derive(Drop)]
-pub struct Range {
-    pub from: u32,
-    pub until: u32,
-    pub height: u32,
-    pub target: u32,
-}
-
-/// A body as a table can hold it.
-#[derive(Drop)]
-pub struct Body {
-    pub first: u32,
-    pub params: u32,
-    pub locals: u32,
-    pub results: u32,
-    pub height: u32,
-}
 
 /// The outermost process, with at most two numbers on its stack.
 pub const OUTERMOST: Body = Body {
@@ -37,57 +19,13 @@ pub const OUTERMOST: Body = Body {
     locals: 0,
     results: 0,
     height: 2,
+    listed: &[],
 };
-
-/// A code as a table can hold it: its instructions, handlers and bodies.
-pub struct Shape(
-    pub &'static [Instr],
-    pub &'static [Range],
-    pub &'static [Body],
-);
 
 /// A code that breaks one condition, and the same code mended.
 pub struct Pair {
     pub broken: Shape,
     pub mended: Shape,
-}
-
-fn handlers_of(alloc: Global, ranges: &[Range]) -> Result<Vec<Handler>, AllocError> {
-    let mut handlers = Vec::new(alloc);
-    for range in ranges {
-        handlers.push(Handler {
-            from: range.from,
-            until: range.until,
-            height: range.height,
-            names: List::new(alloc),
-            otherwise: true,
-            target: range.target,
-        })?;
-    }
-    Ok(handlers)
-}
-
-fn rows_of(alloc: Global, bodies: &[Body]) -> Result<Vec<BodyRow>, AllocError> {
-    let mut rows = Vec::new(alloc);
-    for body in bodies {
-        rows.push(BodyRow {
-            first: body.first,
-            params: body.params,
-            locals: body.locals,
-            results: body.results,
-            height: body.height,
-            listed: List::new(alloc),
-        })?;
-    }
-    Ok(rows)
-}
-
-fn code_of(alloc: Global, shape: &Shape) -> Result<Code, AllocError> {
-    Ok(Code {
-        instrs: List::from_vec(shape.0.to_vec(alloc)?),
-        handlers: List::from_vec(handlers_of(alloc, shape.1)?),
-        bodies: List::from_vec(rows_of(alloc, shape.2)?),
-    })
 }
 
 /// Whether the code is guarded.
@@ -159,6 +97,7 @@ fn code_around(alloc: Global, count: u8, instr: Instr, height: u8) -> Result<Cod
         locals: 2,
         results: 3,
         height: 3,
+        listed: &[],
     };
     Ok(Code {
         instrs: List::from_vec(instrs),

@@ -1,339 +1,296 @@
+// Journals by hand, and the first event of each that isn't allowed.
 ghost use Rattle.std.specs.Prelude.{All, IfOk};
 ghost use Rattle.world_check.specs.Opening.{HasFewMembersEach};
 
-use chill_base::{List, Scalars};
+use crate::tables::Asked::{
+    Continue, Delay, End, Enter, Get, ReceiveBuffer, ReceiveSignal, SendBuffer, SendSignal, Start,
+};
+use crate::tables::Given::{Chose, Done, Fail, Got, Instance, Stored, Value};
+use crate::tables::{Asked, Given, answer_of, few_facts, request_of};
+use chill_base::Memory;
 use journal_check::allowed;
-use kernel_base::{Alternative, Alternatives, Answer, Event, Exc, Facts, How, Request};
+use kernel_base::Exc::{Empty, Extinct, Rangefail};
+use kernel_base::How::Normal;
+use kernel_base::{Alternative, Event, Facts};
 use std::alloc::{AllocError, Global};
 use std::process::Abort;
-use std::test::Fail;
+use std::test::Fail as Failure;
+
+/// An event as a table can hold it: who, what is asked, and the answer. Nobody makes ticks.
+#[derive(Drop)]
+pub enum Row {
+    /// The last is the sender whose value took the place of the one received.
+    Did(u32, Asked, Given, Option<u32>),
+    Waits(u32, Asked),
+    Goes(u32, Given),
+}
+
+use Row::{Did, Goes, Waits};
+
+/// A journal, and its first event that isn't allowed.
+pub struct Journal(pub &'static [Row], pub Option<u32>);
+
+const FIRST: &[Alternative] = &[Alternative {
+    thing: 0,
+    number: 0,
+}];
+
+const SECOND: &[Alternative] = &[Alternative {
+    thing: 1,
+    number: 0,
+}];
+
+const STARTS_2: Row = Did(1, Start(1, &[]), Instance(2), None);
+
+const STARTS_3: Row = Did(1, Start(1, &[]), Instance(3), None);
+
+const STARTS_4: Row = Did(1, Start(1, &[]), Instance(4), None);
+
+const EVENTS: &[Journal] = &[
+    // Nobody is continued, and then one delays, who can do nothing more.
+    Journal(
+        &[
+            Did(1, Continue(0), Chose(None), None),
+            Waits(1, Delay(FIRST, 0)),
+            Did(1, Enter(0), Done, None),
+        ],
+        Some(2),
+    ),
+    // An event of length 1 is full.
+    Journal(
+        &[
+            STARTS_2,
+            Waits(2, Delay(SECOND, 0)),
+            Waits(1, Delay(SECOND, 0)),
+        ],
+        Some(2),
+    ),
+    // Of those of priority 5 either may be chosen, and none of a lower one.
+    Journal(
+        &[
+            STARTS_2,
+            STARTS_3,
+            STARTS_4,
+            Waits(2, Delay(FIRST, 0)),
+            Waits(3, Delay(FIRST, 5)),
+            Waits(4, Delay(FIRST, 5)),
+            Did(1, Continue(0), Chose(Some(3)), None),
+        ],
+        None,
+    ),
+    Journal(
+        &[
+            STARTS_2,
+            STARTS_3,
+            STARTS_4,
+            Waits(2, Delay(FIRST, 0)),
+            Waits(3, Delay(FIRST, 5)),
+            Waits(4, Delay(FIRST, 5)),
+            Did(1, Continue(0), Chose(Some(4)), None),
+        ],
+        None,
+    ),
+    Journal(
+        &[
+            STARTS_2,
+            STARTS_3,
+            STARTS_4,
+            Waits(2, Delay(FIRST, 0)),
+            Waits(3, Delay(FIRST, 5)),
+            Waits(4, Delay(FIRST, 5)),
+            Did(1, Continue(0), Chose(Some(2)), None),
+        ],
+        Some(6),
+    ),
+    // A delay frees the region that was locked last, and no other.
+    Journal(
+        &[
+            STARTS_2,
+            Did(2, Enter(0), Done, None),
+            Did(2, Enter(1), Done, None),
+            Waits(2, Delay(FIRST, 0)),
+            Did(1, Enter(1), Done, None),
+            Did(1, Enter(0), Done, None),
+        ],
+        Some(5),
+    ),
+];
+
+const SENDS_10: Row = Did(1, SendBuffer(0, &[10], 0), Stored, None);
+
+const SENDS_20: Row = Did(1, SendBuffer(0, &[20], 5), Stored, None);
+
+const WAITS_30: Row = Waits(2, SendBuffer(0, &[30], 0));
+
+const BUFFERS: &[Journal] = &[
+    // 10, and 20 with a higher priority, are stored; instance 2, which waits to store 30, refills the buffer.
+    Journal(
+        &[
+            SENDS_10,
+            SENDS_20,
+            STARTS_2,
+            WAITS_30,
+            Did(1, ReceiveBuffer(FIRST, false), Got(0, 2, &[20], 1), Some(2)),
+            Did(1, ReceiveBuffer(FIRST, false), Got(0, 3, &[30], 2), None),
+        ],
+        None,
+    ),
+    // The sender of a refill has to be named.
+    Journal(
+        &[
+            SENDS_10,
+            SENDS_20,
+            STARTS_2,
+            WAITS_30,
+            Did(1, ReceiveBuffer(FIRST, false), Got(0, 2, &[20], 1), None),
+        ],
+        Some(4),
+    ),
+    // The value of highest priority is received, and no other.
+    Journal(
+        &[
+            SENDS_10,
+            SENDS_20,
+            STARTS_2,
+            WAITS_30,
+            Did(1, ReceiveBuffer(FIRST, false), Got(0, 1, &[10], 1), Some(2)),
+        ],
+        Some(4),
+    ),
+    // A buffer of length 0 hands over, once.
+    Journal(
+        &[
+            STARTS_2,
+            Waits(2, SendBuffer(1, &[7], 0)),
+            Did(1, ReceiveBuffer(SECOND, false), Got(0, 1, &[7], 2), Some(2)),
+            Goes(2, Stored),
+            Did(1, ReceiveBuffer(SECOND, false), Got(0, 1, &[7], 2), Some(2)),
+        ],
+        Some(4),
+    ),
+];
+
+const TO_NOBODY: Row = Did(1, SendSignal(0, &[], Some(0), 0), Fail(Empty), None);
+
+const ENDS_2: Row = Did(2, End(Normal), Done, None);
+
+const TO_ENDED: Row = Did(1, SendSignal(0, &[], Some(2), 0), Fail(Extinct), None);
+
+const TO_ANY: Row = Did(1, SendSignal(0, &[], None, 0), Stored, None);
+
+const SIGNALS: &[Journal] = &[
+    // A signal to nobody and one to an instance that has ended are refused and draw no number; the next one is stored, and
+    // received by its number.
+    Journal(
+        &[
+            TO_NOBODY,
+            STARTS_2,
+            ENDS_2,
+            TO_ENDED,
+            TO_ANY,
+            Did(1, ReceiveSignal(FIRST, true), Got(0, 1, &[], 1), None),
+        ],
+        None,
+    ),
+    Journal(
+        &[
+            TO_NOBODY,
+            STARTS_2,
+            ENDS_2,
+            TO_ENDED,
+            TO_ANY,
+            Did(1, ReceiveSignal(FIRST, true), Got(0, 3, &[], 1), None),
+        ],
+        Some(5),
+    ),
+];
+
+const NUMBERS: &[Journal] = &[Journal(
+    &[
+        Did(1, Get, Value(&[-12]), None),
+        Did(1, Get, Fail(Rangefail), None),
+        Did(1, Get, Fail(Empty), None),
+        Did(1, Get, Fail(Rangefail), None),
+    ],
+    Some(3),
+)];
 
 // Two regions; an event without a length and one of length 1; buffers of length 2 and 0; a signal that any may receive.
-fn facts(alloc: Global) -> Result<Facts, AllocError>
+fn facts(alloc: Global) -> Result<Facts, Memory>
     ensures { IfOk result (λ facts. All HasFewMembersEach facts.store) }
 {
-    let events = vec![in alloc; None, Some(1)]?;
-    let buffers = vec![in alloc; Some(2), Some(0)]?;
-    let signals = vec![in alloc; None]?;
-    let input = b"-12 99999999999".to_vec(alloc)?;
-    Ok(Facts {
-        store: List::new(alloc),
-        layouts: List::new(alloc),
-        regions: 2,
-        events: List::from_vec(events),
-        buffers: List::from_vec(buffers),
-        processes: 2,
-        signals: List::from_vec(signals),
-        input: List::from_vec(input),
-        units: 1000,
+    let mut facts = few_facts(alloc);
+    facts.regions = 2;
+    facts.processes = 2;
+    facts.events.push(None)?;
+    facts.events.push(Some(1))?;
+    facts.buffers.push(Some(2))?;
+    facts.buffers.push(Some(0))?;
+    facts.signals.push(None)?;
+    facts.input.room().extend_from_slice(b"-12 99999999999")?;
+    Ok(facts)
+}
+
+fn event_of(alloc: Global, row: &Row) -> Result<Event, AllocError> {
+    Ok(match row {
+        Did(who, asked, given, refill) => Event::Did {
+            who: *who,
+            ticks: 0,
+            request: request_of(alloc, asked)?,
+            answer: answer_of(alloc, given)?,
+            refill: *refill,
+        },
+        Waits(who, asked) => Event::Waits {
+            who: *who,
+            ticks: 0,
+            request: request_of(alloc, asked)?,
+        },
+        Goes(who, given) => Event::Goes {
+            who: *who,
+            answer: answer_of(alloc, given)?,
+        },
     })
 }
 
-fn is_run(rt: &impl Abort, alloc: Global, events: &[Event]) -> Result<(), Fail> {
+fn events_of(alloc: Global, rows: &[Row]) -> Result<Vec<Event>, AllocError> {
+    let mut events = Vec::new(alloc);
+    for row in rows {
+        events.push(event_of(alloc, row)?)?;
+    }
+    Ok(events)
+}
+
+/// The first event of the journal that isn't allowed.
+fn refused(rt: &impl Abort, alloc: Global, rows: &[Row]) -> Result<Option<u32>, Failure> {
     let facts = facts(alloc)?;
+    let events = events_of(alloc, rows)?;
     assert!(rt; events.len() < 100);
-    assert_eq!(rt; allowed(alloc, &facts, events)?, None);
+    Ok(allowed(alloc, &facts, &events)?)
+}
+
+fn all_journals(rt: &impl Abort, alloc: Global, journals: &[Journal]) -> Result<(), Failure> {
+    for (i, journal) in journals.iter().enumerate() {
+        assert_eq!(rt; refused(rt, alloc, journal.0)?, journal.1, "journal {i}");
+    }
     Ok(())
 }
 
-fn is_refused_at(rt: &impl Abort, alloc: Global, events: &[Event], place: u32) -> Result<(), Fail> {
-    let facts = facts(alloc)?;
-    assert!(rt; events.len() < 100);
-    assert_eq!(rt; allowed(alloc, &facts, events)?, Some(place));
-    Ok(())
-}
-
-fn only(alloc: Global, thing: u32) -> Result<Alternatives, AllocError> {
-    Ok(List::from_vec(vec![in alloc; Alternative { thing, number: 0 }]?))
-}
-
-fn one(alloc: Global, scalar: i64) -> Result<Scalars, AllocError> {
-    Ok(List::from_vec(vec![in alloc; scalar]?))
-}
-
-fn did(
-    events: &mut Vec<Event>,
-    who: u32,
-    request: Request,
-    answer: Answer,
-    refill: Option<u32>,
-) -> Result<(), AllocError> {
-    events.push(Event::Did {
-        who,
-        ticks: 0,
-        request,
-        answer,
-        refill,
-    })?;
-    Ok(())
-}
-
-fn starts(events: &mut Vec<Event>, alloc: Global, instance: u32) -> Result<(), AllocError> {
-    let request = Request::Start {
-        process: 1,
-        scalars: List::new(alloc),
-    };
-    did(events, 1, request, Answer::Instance(instance), None)
-}
-
-fn enters(events: &mut Vec<Event>, who: u32, region: u32) -> Result<(), AllocError> {
-    did(events, who, Request::Enter { region }, Answer::Done, None)
-}
-
-fn delays(
-    events: &mut Vec<Event>,
-    alloc: Global,
-    who: u32,
-    event: u32,
-    priority: u32,
-) -> Result<(), AllocError> {
-    let request = Request::Delay {
-        events: only(alloc, event)?,
-        priority,
-    };
-    events.push(Event::Waits {
-        who,
-        ticks: 0,
-        request,
-    })?;
-    Ok(())
-}
-
-fn continues(events: &mut Vec<Event>, chosen: Option<u32>) -> Result<(), AllocError> {
-    let request = Request::Continue { event: 0 };
-    did(events, 1, request, Answer::Chose(chosen), None)
-}
-
-fn send(alloc: Global, buffer: u32, scalar: i64, priority: u32) -> Result<Request, AllocError> {
-    Ok(Request::SendBuffer {
-        buffer,
-        scalars: one(alloc, scalar)?,
-        priority,
-    })
-}
-
-fn sends(
-    events: &mut Vec<Event>,
-    alloc: Global,
-    scalar: i64,
-    priority: u32,
-) -> Result<(), AllocError> {
-    let request = send(alloc, 0, scalar, priority)?;
-    did(events, 1, request, Answer::Stored, None)
-}
-
-fn waits_to_send(
-    events: &mut Vec<Event>,
-    alloc: Global,
-    buffer: u32,
-    scalar: i64,
-) -> Result<(), AllocError> {
-    let request = send(alloc, buffer, scalar, 0)?;
-    events.push(Event::Waits {
-        who: 2,
-        ticks: 0,
-        request,
-    })?;
-    Ok(())
-}
-
-fn got(alloc: Global, send: u32, scalar: i64, by: u32) -> Result<Answer, AllocError> {
-    Ok(Answer::Got {
-        alternative: 0,
-        send,
-        scalars: one(alloc, scalar)?,
-        by,
-    })
-}
-
-fn receives(
-    events: &mut Vec<Event>,
-    alloc: Global,
-    buffer: u32,
-    answer: Answer,
-    refill: Option<u32>,
-) -> Result<(), AllocError> {
-    let request = Request::ReceiveBuffer {
-        buffers: only(alloc, buffer)?,
-        otherwise: false,
-    };
-    did(events, 1, request, answer, refill)
-}
-
-fn signals(
-    events: &mut Vec<Event>,
-    alloc: Global,
-    to: Option<u32>,
-    answer: Answer,
-) -> Result<(), AllocError> {
-    let request = Request::SendSignal {
-        signal: 0,
-        scalars: List::new(alloc),
-        to,
-        priority: 0,
-    };
-    did(events, 1, request, answer, None)
-}
-
-fn hears(events: &mut Vec<Event>, alloc: Global, send: u32) -> Result<(), AllocError> {
-    let request = Request::ReceiveSignal {
-        signals: only(alloc, 0)?,
-        otherwise: true,
-    };
-    let answer = Answer::Got {
-        alternative: 0,
-        send,
-        scalars: List::new(alloc),
-        by: 1,
-    };
-    did(events, 1, request, answer, None)
-}
-
-fn gets(events: &mut Vec<Event>, answer: Answer) -> Result<(), AllocError> {
-    did(events, 1, Request::Get, answer, None)
+#[test]
+fn events_choose_by_priority_and_free_a_region(rt: HostRuntime) -> Result<(), Failure> {
+    all_journals(&rt, rt.alloc(), EVENTS)
 }
 
 #[test]
-fn nobody_is_continued_and_then_one_delays(rt: HostRuntime) -> Result<(), Fail> {
-    let alloc = rt.alloc();
-    let mut events = Vec::new(alloc);
-    continues(&mut events, None)?;
-    delays(&mut events, alloc, 1, 0, 0)?;
-    is_run(&rt, alloc, &events)?;
-    enters(&mut events, 1, 0)?;
-    is_refused_at(&rt, alloc, &events, 2)
+fn buffers_are_refilled_and_hand_over(rt: HostRuntime) -> Result<(), Failure> {
+    all_journals(&rt, rt.alloc(), BUFFERS)
 }
 
 #[test]
-fn an_event_of_length_one_is_full(rt: HostRuntime) -> Result<(), Fail> {
-    let alloc = rt.alloc();
-    let mut events = Vec::new(alloc);
-    starts(&mut events, alloc, 2)?;
-    delays(&mut events, alloc, 2, 1, 0)?;
-    is_run(&rt, alloc, &events)?;
-    delays(&mut events, alloc, 1, 1, 0)?;
-    is_refused_at(&rt, alloc, &events, 2)
-}
-
-// Of those of priority 5 either may be chosen.
-fn is_chosen(alloc: Global, p: u32) -> Result<Vec<Event>, AllocError> {
-    let mut events = Vec::new(alloc);
-    starts(&mut events, alloc, 2)?;
-    starts(&mut events, alloc, 3)?;
-    starts(&mut events, alloc, 4)?;
-    delays(&mut events, alloc, 2, 0, 0)?;
-    delays(&mut events, alloc, 3, 0, 5)?;
-    delays(&mut events, alloc, 4, 0, 5)?;
-    continues(&mut events, Some(p))?;
-    Ok(events)
+fn a_refused_signal_draws_no_number(rt: HostRuntime) -> Result<(), Failure> {
+    all_journals(&rt, rt.alloc(), SIGNALS)
 }
 
 #[test]
-fn the_highest_priority_is_chosen(rt: HostRuntime) -> Result<(), Fail> {
-    let alloc = rt.alloc();
-    is_run(&rt, alloc, &is_chosen(alloc, 3)?)?;
-    is_run(&rt, alloc, &is_chosen(alloc, 4)?)?;
-    is_refused_at(&rt, alloc, &is_chosen(alloc, 2)?, 6)
-}
-
-#[test]
-fn a_delay_frees_the_region_that_was_locked_last(rt: HostRuntime) -> Result<(), Fail> {
-    let alloc = rt.alloc();
-    let mut events = Vec::new(alloc);
-    starts(&mut events, alloc, 2)?;
-    enters(&mut events, 2, 0)?;
-    enters(&mut events, 2, 1)?;
-    delays(&mut events, alloc, 2, 0, 0)?;
-    enters(&mut events, 1, 1)?;
-    is_run(&rt, alloc, &events)?;
-    enters(&mut events, 1, 0)?;
-    is_refused_at(&rt, alloc, &events, 5)
-}
-
-// 10, and 20 with a higher priority, are stored; instance 2 waits to store 30.
-fn full(alloc: Global) -> Result<Vec<Event>, AllocError> {
-    let mut events = Vec::new(alloc);
-    sends(&mut events, alloc, 10, 0)?;
-    sends(&mut events, alloc, 20, 5)?;
-    starts(&mut events, alloc, 2)?;
-    waits_to_send(&mut events, alloc, 0, 30)?;
-    Ok(events)
-}
-
-#[test]
-fn a_buffer_is_refilled(rt: HostRuntime) -> Result<(), Fail> {
-    let alloc = rt.alloc();
-    let mut events = full(alloc)?;
-    receives(&mut events, alloc, 0, got(alloc, 2, 20, 1)?, Some(2))?;
-    receives(&mut events, alloc, 0, got(alloc, 3, 30, 2)?, None)?;
-    is_run(&rt, alloc, &events)
-}
-
-#[test]
-fn the_sender_of_a_refill_has_to_be_named(rt: HostRuntime) -> Result<(), Fail> {
-    let alloc = rt.alloc();
-    let mut events = full(alloc)?;
-    receives(&mut events, alloc, 0, got(alloc, 2, 20, 1)?, None)?;
-    is_refused_at(&rt, alloc, &events, 4)
-}
-
-#[test]
-fn the_highest_value_is_received(rt: HostRuntime) -> Result<(), Fail> {
-    let alloc = rt.alloc();
-    let mut events = full(alloc)?;
-    receives(&mut events, alloc, 0, got(alloc, 1, 10, 1)?, Some(2))?;
-    is_refused_at(&rt, alloc, &events, 4)
-}
-
-#[test]
-fn a_buffer_of_length_zero_hands_over(rt: HostRuntime) -> Result<(), Fail> {
-    let alloc = rt.alloc();
-    let mut events = Vec::new(alloc);
-    starts(&mut events, alloc, 2)?;
-    waits_to_send(&mut events, alloc, 1, 7)?;
-    receives(&mut events, alloc, 1, got(alloc, 1, 7, 2)?, Some(2))?;
-    events.push(Event::Goes {
-        who: 2,
-        answer: Answer::Stored,
-    })?;
-    is_run(&rt, alloc, &events)?;
-    receives(&mut events, alloc, 1, got(alloc, 1, 7, 2)?, Some(2))?;
-    is_refused_at(&rt, alloc, &events, 4)
-}
-
-// A signal to nobody and one to an instance that has ended are refused; the next one is stored, and received by its number.
-fn heard(alloc: Global, send: u32) -> Result<Vec<Event>, AllocError> {
-    let mut events = Vec::new(alloc);
-    signals(&mut events, alloc, Some(0), Answer::Fail(Exc::Empty))?;
-    starts(&mut events, alloc, 2)?;
-    did(
-        &mut events,
-        2,
-        Request::End { how: How::Normal },
-        Answer::Done,
-        None,
-    )?;
-    signals(&mut events, alloc, Some(2), Answer::Fail(Exc::Extinct))?;
-    signals(&mut events, alloc, None, Answer::Stored)?;
-    hears(&mut events, alloc, send)?;
-    Ok(events)
-}
-
-#[test]
-fn a_refused_signal_draws_no_number(rt: HostRuntime) -> Result<(), Fail> {
-    let alloc = rt.alloc();
-    is_run(&rt, alloc, &heard(alloc, 1)?)?;
-    is_refused_at(&rt, alloc, &heard(alloc, 3)?, 5)
-}
-
-#[test]
-fn numbers_are_read(rt: HostRuntime) -> Result<(), Fail> {
-    let alloc = rt.alloc();
-    let mut events = Vec::new(alloc);
-    gets(&mut events, Answer::Value(one(alloc, -12)?))?;
-    gets(&mut events, Answer::Fail(Exc::Rangefail))?;
-    gets(&mut events, Answer::Fail(Exc::Empty))?;
-    is_run(&rt, alloc, &events)?;
-    gets(&mut events, Answer::Fail(Exc::Rangefail))?;
-    is_refused_at(&rt, alloc, &events, 3)
+fn numbers_are_read(rt: HostRuntime) -> Result<(), Failure> {
+    all_journals(&rt, rt.alloc(), NUMBERS)
 }

@@ -13,4 +13,4 @@ mod journals;
 #[cfg(test)]
 mod machine;
 #[cfg(test)]
-mod opening;
+mod tables;

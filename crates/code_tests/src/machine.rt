@@ -8,36 +8,15 @@ mod operators;
 mod raising;
 mod requests;
 
-use chill_base::{List, Scalars};
+use crate::tables::{Asked, Body, Given, Range, Shape, answer_of, code_of, request_of, scalars_of};
+use chill_base::Item;
 use code_guard::{Guarded, guard};
 use code_machine::{Machine, Stop};
-use code_types::{BodyRow, Code, Handler, Instr};
-use kernel_base::{Alternative, Answer, Exc, How, Place, Request};
-use std::alloc::{AllocError, Global};
+use code_types::Instr;
+use kernel_base::{Answer, Exc, How};
+use std::alloc::Global;
 use std::process::Abort;
 use std::test::Fail;
-
-/// A handler as a table can hold it.
-#[derive(Drop)]
-pub struct Range {
-    pub from: u32,
-    pub until: u32,
-    pub height: u32,
-    pub names: &'static [u32],
-    pub otherwise: bool,
-    pub target: u32,
-}
-
-/// A body as a table can hold it.
-#[derive(Drop)]
-pub struct Body {
-    pub first: u32,
-    pub params: u32,
-    pub locals: u32,
-    pub results: u32,
-    pub height: u32,
-    pub listed: &'static [u32],
-}
 
 /// The outermost process, with four locals.
 pub const OUTERMOST: Body = Body {
@@ -48,50 +27,6 @@ pub const OUTERMOST: Body = Body {
     height: 16,
     listed: &[],
 };
-
-/// A code as a table can hold it: its instructions, handlers and bodies.
-#[derive(Drop)]
-pub struct Shape(
-    pub &'static [Instr],
-    pub &'static [Range],
-    pub &'static [Body],
-);
-
-/// A request as a table can hold it, with its parts in the order in which the instruction has them.
-#[derive(Drop)]
-pub enum Asked {
-    Read(Place),
-    Write(Place, &'static [i64]),
-    Enter(u32),
-    Leave(u32),
-    Delay(&'static [Alternative], u32),
-    Continue(u32),
-    SendBuffer(u32, &'static [i64], u32),
-    ReceiveBuffer(&'static [Alternative], bool),
-    SendSignal(u32, &'static [i64], Option<u32>, u32),
-    ReceiveSignal(&'static [Alternative], bool),
-    Start(u32, &'static [i64]),
-    Put(&'static str),
-    Get,
-    End(How),
-}
-
-/// An answer as a table can hold it.
-#[derive(Drop)]
-pub enum Given {
-    Value(&'static [i64]),
-    Done,
-    /// The alternative, and the instance that continued.
-    Woken(u32, u32),
-    /// The alternative, the send number, the scalars, and the instance that sent.
-    Got(u32, u32, &'static [i64], u32),
-    Otherwise,
-    Instance(u32),
-    Fail(Exc),
-    Chose(Option<u32>),
-    Handed(u32),
-    Stored,
-}
 
 /// What is done with a machine, and what it has to do.
 pub enum Turn {
@@ -119,141 +54,33 @@ pub enum Row {
     Raises(&'static [Instr], Exc),
 }
 
-fn handlers_of(alloc: Global, ranges: &[Range]) -> Result<Vec<Handler>, AllocError> {
-    let mut handlers = Vec::new(alloc);
-    for range in ranges {
-        handlers.push(Handler {
-            from: range.from,
-            until: range.until,
-            height: range.height,
-            names: List::from_vec(range.names.to_vec(alloc)?),
-            otherwise: range.otherwise,
-            target: range.target,
-        })?;
-    }
-    Ok(handlers)
-}
-
-fn rows_of(alloc: Global, bodies: &[Body]) -> Result<Vec<BodyRow>, AllocError> {
-    let mut rows = Vec::new(alloc);
-    for body in bodies {
-        rows.push(BodyRow {
-            first: body.first,
-            params: body.params,
-            locals: body.locals,
-            results: body.results,
-            height: body.height,
-            listed: List::from_vec(body.listed.to_vec(alloc)?),
-        })?;
-    }
-    Ok(rows)
-}
-
 fn guarded_of(alloc: Global, shape: &Shape) -> Result<Guarded, Fail> {
-    let code = Code {
-        instrs: List::from_vec(shape.0.to_vec(alloc)?),
-        handlers: List::from_vec(handlers_of(alloc, shape.1)?),
-        bodies: List::from_vec(rows_of(alloc, shape.2)?),
-    };
-    match guard(alloc, code) {
+    match guard(alloc, code_of(alloc, shape)?) {
         Ok(guarded) => Ok(guarded),
         Err(_) => Err(Fail::from("a code that isn't guarded")),
     }
 }
 
-fn scalars_of(alloc: Global, numbers: &[i64]) -> Result<Scalars, AllocError> {
-    Ok(List::from_vec(numbers.to_vec(alloc)?))
-}
-
-fn answer_of(alloc: Global, given: &Given) -> Result<Answer, AllocError> {
-    Ok(match given {
-        Given::Value(scalars) => Answer::Value(scalars_of(alloc, scalars)?),
-        Given::Done => Answer::Done,
-        Given::Woken(alternative, by) => Answer::Woken {
-            alternative: *alternative,
-            by: *by,
-        },
-        Given::Got(alternative, send, scalars, by) => Answer::Got {
-            alternative: *alternative,
-            send: *send,
-            scalars: scalars_of(alloc, scalars)?,
-            by: *by,
-        },
-        Given::Otherwise => Answer::Otherwise,
-        Given::Instance(instance) => Answer::Instance(*instance),
-        Given::Fail(exception) => Answer::Fail(*exception),
-        Given::Chose(process) => Answer::Chose(*process),
-        Given::Handed(process) => Answer::Handed(*process),
-        Given::Stored => Answer::Stored,
-    })
-}
-
-/// Whether the request is the one of the table.
-fn is_asked(request: &Request, asked: &Asked) -> bool {
-    match (request, asked) {
-        (Request::Read { place }, Asked::Read(p)) => *place == *p,
-        (Request::Write { place, scalars }, Asked::Write(p, s)) => {
-            *place == *p && scalars.as_slice() == *s
-        }
-        (Request::Enter { region }, Asked::Enter(r)) => *region == *r,
-        (Request::Leave { region }, Asked::Leave(r)) => *region == *r,
-        (Request::Delay { events, priority }, Asked::Delay(e, p)) => {
-            events.as_slice() == *e && *priority == *p
-        }
-        (Request::Continue { event }, Asked::Continue(e)) => *event == *e,
-        (Request::Start { process, scalars }, Asked::Start(p, s)) => {
-            *process == *p && scalars.as_slice() == *s
-        }
-        (Request::Put { bytes }, Asked::Put(text)) => bytes.as_slice() == text.as_bytes(),
-        (Request::Get, Asked::Get) => true,
-        (Request::End { how }, Asked::End(h)) => *how == *h,
-        _ => is_message(request, asked),
-    }
-}
-
-/// Whether the request is the one of the table, which is of a buffer or a signal.
-fn is_message(request: &Request, asked: &Asked) -> bool {
-    match (request, asked) {
-        (
-            Request::SendBuffer {
-                buffer,
-                scalars,
-                priority,
-            },
-            Asked::SendBuffer(b, s, p),
-        ) => *buffer == *b && scalars.as_slice() == *s && *priority == *p,
-        (
-            Request::SendSignal {
-                signal,
-                scalars,
-                to,
-                priority,
-            },
-            Asked::SendSignal(n, s, t, p),
-        ) => *signal == *n && scalars.as_slice() == *s && *to == *t && *priority == *p,
-        (Request::ReceiveBuffer { buffers, otherwise }, Asked::ReceiveBuffer(b, o)) => {
-            buffers.as_slice() == *b && *otherwise == *o
-        }
-        (Request::ReceiveSignal { signals, otherwise }, Asked::ReceiveSignal(s, o)) => {
-            signals.as_slice() == *s && *otherwise == *o
-        }
-        _ => false,
-    }
-}
-
 /// Whether a burst makes so many ticks and asks this request.
-fn asks(guarded: &Guarded, machine: &mut Machine, ticks: u32, asked: &Asked) -> Result<bool, Fail>
+fn asks(
+    alloc: Global,
+    guarded: &Guarded,
+    machine: &mut Machine,
+    ticks: u32,
+    asked: &Asked,
+) -> Result<bool, Fail>
     requires { RunsOn guarded.now machine.old }
     ensures { RunsOn guarded.now machine.new }
 {
     if !machine.can_burst() {
         return Ok(false);
     }
+    let wanted = request_of(alloc, asked)?;
     match machine.burst(guarded, u32::MAX)? {
         Stop::Asks {
             ticks: made,
             request,
-        } => Ok(made == ticks && is_asked(&request, asked)),
+        } => Ok(made == ticks && request.equals(&wanted)),
         Stop::Paused { .. } => Ok(false),
     }
 }
@@ -306,7 +133,7 @@ fn does(
     requires { RunsOn guarded.now machine.old }
     ensures { RunsOn guarded.now machine.new }
 {
-    if asks(guarded, machine, ticks, asked)? {
+    if asks(alloc, guarded, machine, ticks, asked)? {
         takes(alloc, guarded, machine, &Given::Done)
     } else {
         Ok(false)
@@ -341,7 +168,7 @@ fn makes_turn(
     ensures { RunsOn guarded.now machine.new }
 {
     match turn {
-        Turn::Asks(ticks, asked) => asks(guarded, machine, *ticks, asked),
+        Turn::Asks(ticks, asked) => asks(alloc, guarded, machine, *ticks, asked),
         Turn::Puts(ticks, text) => does(alloc, guarded, machine, *ticks, &Asked::Put(text)),
         Turn::Ends(ticks, how) => ends(alloc, guarded, machine, *ticks, *how),
         Turn::Pauses(most) => pauses(guarded, machine, *most),

@@ -1,26 +1,22 @@
 -- What reading an expression took is that expression, whatever stands behind it; and what was read too deep can be
 -- completed to one.
-use Rattle.std.proofs.Common.{◌≡◌, ℕ, zero, suc, ◌+◌, ◌<◌, ◌≤◌, Bool, true, false, cond, eqb, List, [], ◌∷◌, ◌++◌, length, Option, Some, None, Result, Ok, Err, refl, sym, ap, ◌∙◌, subst, arith, ◌⊎◌, inl, inr}
+use Rattle.std.proofs.Common.{◌≡◌, ℕ, zero, suc, ◌<◌, Bool, true, false, cond, eqb, List, [], ◌∷◌, Option, Some, None, Ok, refl, sym, ap, ◌∙◌, subst, arith}
 use Rattle.std.proofs.lemmas.Bool.{eqb-true}
 use Rattle.chill_base.specs.declared.pos.Pos.{Pos}
-use Rattle.chill_tree.specs.declared.token.Word.{Word}
 use Rattle.chill_tree.specs.declared.token.Word.TheVariants as words
-use Rattle.chill_tree.specs.declared.token.Sign.{Sign}
 use Rattle.chill_tree.specs.declared.token.Sign.TheVariants as signs
-use Rattle.chill_tree.specs.declared.token.Token.{Token}
 use Rattle.chill_tree.specs.declared.token.TokenKind.{TokenKind}
 use Rattle.chill_tree.specs.declared.token.TokenKind.TheVariants as kinds
 use Rattle.chill_tree.specs.declared.tree.name.Name.{Name}
 use Rattle.chill_tree.specs.declared.tree.expr.Operator.{Operator}
 use Rattle.chill_tree.specs.declared.tree.expr.Prefix.TheVariants as prefixes
-use Rattle.chill_tree.specs.ExprTree.{ExprTree, whole, character, text, this_instance, paren, receive, start, tuple, uniform, name, apply, field, prefixed, binary, RangeTree, alone, between, expr_nodes, range_nodes, place_of}
+use Rattle.chill_tree.specs.ExprTree.{ExprTree, whole, character, text, this_instance, paren, receive, start, tuple, uniform, name, prefixed, alone, between, expr_nodes, range_nodes}
 use Rattle.rules_model.specs.Marks.{Toks, tok, sign, word, name_token, begins, begins_with, operator_of, rank_of}
 use Rattle.rules_model.specs.ExprGrammar.{IsTupleHead, bare, of_mode, tuple_place, IsNamed, a_name, with_args, with_field, AreArgs, no_args, some_args, AreExprs, one_expr, and_expr, IsRange, is_alone, is_between, AreRanges, one_range, and_range, AreParts, no_parts, some_parts, IsOperand, is_whole, is_character, is_text, is_this, is_paren, is_receive, is_start, is_tuple, is_uniform, is_named, IsRanked, is_plain, is_minus, is_not, is_chain, IsChain, first, turn}
-use Rattle.rules_model.specs.Nesting.{less, room_after, first_deep}
-use Rattle.rules_model.specs.Reading.{Fault, Deep, Absent, Read, Piece, ◌>>=◌, settle, chosen, roomy, sign_at, word_at, name_at, repeat, listed_at}
-use Rattle.rules_model.specs.ExprReading.{args_at, field_at, NamePart, Args, Field, with_part, part_at, parts_at, named_at, paren_at, range_at, begins_uniform, uniform_at, ranges_at, tuple_at, begun_at, operand_at, prefixed_at, ranked_operator, operator_at, turn_at, with_turn, ranked_at, expr_at}
+use Rattle.rules_model.specs.Reading.{Read, ◌>>=◌, settle, chosen, sign_at, word_at, name_at, repeat, listed_at}
+use Rattle.rules_model.specs.ExprReading.{args_at, field_at, NamePart, Args, Field, with_part, part_at, parts_at, paren_at, range_at, begins_uniform, uniform_at, ranges_at, tuple_at, begun_at, operand_at, prefixed_at, ranked_operator, operator_at, turn_at, with_turn, ranked_at, expr_at}
 use Rattle.rules_model.proofs.ExprStops.{operator_marks}
-use Rattle.expr_parser.proofs.Taken.{Takes, Begun, nothing_read, Told, taken, broken, missing, ToldPiece, no_piece, a_piece, broken_piece, missing_piece, Finish, Behind, Led, told_then, told_ok, told_as, IsNext, told_name, told_full, led_by_sign, led_by_word, led_by_name, token_then, closed, settled, After, told_loop, told_listed}
+use Rattle.expr_parser.proofs.Taken.{nothing_read, Told, taken, broken, missing, ToldPiece, no_piece, Finish, Behind, Led, told_then, told_ok, told_as, IsNext, told_name, told_full, led_by_sign, led_by_word, led_by_name, token_then, closed, settled, After, told_loop, told_listed}
 
 -- ---- what completes what was begun
 
@@ -49,7 +45,7 @@ pub data IsPart : NamePart → Toks → Toks → Type 0 where
   args_part : {es : List ExprTree} {t u : Toks} → InBrackets es t u → IsPart (Args es) t u
   field_part : {x : Name} {p : Pos} {u : Toks} → IsPart (Field x) (sign p signs.Dot ∷ name_token x ∷ u) u
 
-named_part : (j : ℕ) (e : ExprTree) (x : NamePart) (t u v : Toks) → j < 32 → IsNamed j e t u → IsPart x u v → IsNamed (suc j) (with_part e x) t v
+pub named_part : (j : ℕ) (e : ExprTree) (x : NamePart) (t u v : Toks) → j < 32 → IsNamed j e t u → IsPart x u v → IsNamed (suc j) (with_part e x) t v
 named_part j e (Args es) t u v lt d (args_part (bracketed a)) = with_args d a lt
 named_part j e (Field x) t u v lt d field_part = with_field d lt
 
@@ -90,7 +86,7 @@ args_told m inner p toks = go (begins signs.Close toks)
 close_args : (p : Pos) → Finish (Led (sign p signs.Open) InBrackets)
 close_args p = record { more = sign p signs.Close ∷ []; tree = []; any = λ z. bracketed no_args }
 
-told_args : (n : ℕ) → Inner n → (toks : Toks) → Told (suc n) (suc n) InBrackets toks (args_at n (expr_at n) toks)
+pub told_args : (n : ℕ) → Inner n → (toks : Toks) → Told (suc n) (suc n) InBrackets toks (args_at n (expr_at n) toks)
 unfolding args_at
 told_args zero inner toks = told_full signs.Open refl InBrackets _ close_args (λ p rest. refl) toks
 told_args (suc m) inner toks =

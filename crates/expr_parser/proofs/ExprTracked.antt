@@ -1,7 +1,6 @@
 -- Expressions in tokens that are alike, read with as many levels of nesting or with more.
-use Rattle.std.proofs.Common.{◌≡◌, ℕ, zero, suc, ◌+◌, ◌<◌, ◌≤◌, Bool, true, false, cond, ◌&&◌, List, [], ◌∷◌, ◌++◌, length, Option, Some, None, Result, Ok, Err, refl, sym, ap, ◌∙◌, subst, arith}
+use Rattle.std.proofs.Common.{◌≡◌, ℕ, zero, suc, ◌≤◌, Bool, true, false, cond, ◌&&◌, List, [], ◌∷◌, Option, Some, None, Ok, Err, refl, ap, ◌∙◌, arith}
 use Rattle.chill_base.specs.declared.pos.Pos.{Pos}
-use Rattle.chill_tree.specs.declared.token.Word.{Word}
 use Rattle.chill_tree.specs.declared.token.Word.TheVariants as words
 use Rattle.chill_tree.specs.declared.token.Sign.{Sign}
 use Rattle.chill_tree.specs.declared.token.Sign.TheVariants as signs
@@ -11,17 +10,16 @@ use Rattle.chill_tree.specs.declared.token.TokenKind.TheVariants as kinds
 use Rattle.chill_tree.specs.declared.tree.name.Name.{Name}
 use Rattle.chill_tree.specs.declared.tree.expr.Operator.{Operator}
 use Rattle.chill_tree.specs.declared.tree.expr.Prefix.TheVariants as prefixes
-use Rattle.chill_tree.specs.ExprTree.{ExprTree, whole, character, text, this_instance, paren, receive, start, tuple, uniform, name, apply, field, prefixed, binary, RangeTree, alone, between, expr_nodes, range_nodes, place_of}
-use Rattle.rules_model.specs.Marks.{Toks, tok, sign, word, name_token, is_sign, begins, begins_with, behind, operator_of, rank_of}
+use Rattle.chill_tree.specs.ExprTree.{ExprTree, paren, tuple, uniform, name, prefixed, RangeTree, alone, between, range_nodes}
+use Rattle.rules_model.specs.Marks.{Toks, tok, sign, is_sign, begins, begins_with, operator_of}
 use Rattle.rules_model.specs.ExprGrammar.{tuple_place, IsRange, IsRanked}
-use Rattle.rules_model.specs.Nesting.{less, room_after, first_deep}
-use Rattle.rules_model.specs.Reading.{Fault, Deep, Absent, Read, Piece, ◌>>=◌, settle, chosen, roomy, sign_at, word_at, name_at, repeat, listed_at}
-use Rattle.rules_model.specs.ExprReading.{args_at, field_at, NamePart, Args, Field, with_part, part_at, parts_at, named_at, paren_at, range_at, begins_uniform, uniform_at, ranges_at, tuple_at, begun_at, operand_at, prefixed_at, ranked_operator, operator_at, turn_at, with_turn, ranked_at, expr_at}
+use Rattle.rules_model.specs.Nesting.{room_after}
+use Rattle.rules_model.specs.Reading.{Deep, Read, ◌>>=◌, settle, chosen, sign_at, word_at, listed_at}
+use Rattle.rules_model.specs.ExprReading.{args_at, field_at, Args, Field, with_part, part_at, parts_at, paren_at, range_at, begins_uniform, uniform_at, ranges_at, tuple_at, begun_at, operand_at, prefixed_at, ranked_operator, operator_at, turn_at, with_turn, ranked_at, expr_at}
 use Rattle.rules_model.proofs.ExprStops.{operator_marks}
 use Rattle.expr_parser.proofs.Marked.{is_sign_true}
-use Rattle.expr_parser.proofs.Taken.{Told}
 use Rattle.expr_parser.proofs.ExprTaken.{told_expr, told_inner, range_told, ranked_is}
-use Rattle.expr_parser.proofs.Tracked.{Front, at_end, at_token, Looks, Tracks, runs_out, both_missing, both_read, TracksPiece, piece_out, pieces_missing, no_pieces, two_pieces, tracks_then, tracks_settled, same_begins, same_word, tracks_sign, tracks_word, tracks_full, tracks_name, tracks_loop, tracks_listed}
+use Rattle.expr_parser.proofs.Tracked.{Front, at_end, at_token, Looks, Tracks, runs_out, both_missing, both_read, TracksPiece, no_pieces, tracks_then, tracks_settled, same_begins, same_word, tracks_sign, tracks_word, tracks_full, tracks_name, tracks_loop, tracks_listed}
 
 -- an opening parenthesis where no level is left behind it
 deep_expr : (at q : Pos) (m : Toks) → expr_at 1 at (sign q signs.Open ∷ m) ≡ Err (Deep q)

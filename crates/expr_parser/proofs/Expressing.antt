@@ -1,15 +1,17 @@
 -- The longest expression from a place, and where there is none.
-use Rattle.std.proofs.Common.{◌≡◌, ℕ, zero, suc, ◌+◌, ◌-◌, ◌<◌, ◌≤◌, List, [], ◌∷◌, ◌++◌, length, take, drop, Option, Some, None, Result, Ok, Err, refl, sym, ap, ◌∙◌, subst, arith, length-append, length-drop}
+use Rattle.std.proofs.Common.{◌≡◌, ℕ, zero, suc, ◌+◌, ◌-◌, ◌<◌, ◌≤◌, [], ◌∷◌, ◌++◌, length, take, drop, Option, Some, None, Result, Ok, Err, refl, sym, ap, ◌∙◌, subst, arith, length-append, length-drop}
 use Rattle.std.specs.Prelude.{IsErrAnd}
 use Rattle.std.proofs.lemmas.List.{append-nil, drop_at, drop-drop, take_all}
 use Rattle.chill_base.specs.declared.pos.Pos.{Pos}
 use Rattle.chill_tree.specs.declared.token.Token.{Token}
+use Rattle.std.specs.declared.alloc.Global.{Global}
+use Rattle.std.specs.declared.boxed.Box.{Box}
 use Rattle.chill_tree.specs.declared.tree.expr.Expr.{Expr}
-use Rattle.chill_tree.specs.ExprTree.{ExprTree, expr_tree}
+use Rattle.chill_tree.specs.ExprTree.{ExprTree}
 use Rattle.rules_model.specs.Marks.{Toks}
-use Rattle.rules_model.specs.ExprGrammar.{IsExpr, IsRanked}
-use Rattle.rules_model.specs.Nesting.{room_after, deep_or, first_deep, StaysBelow}
-use Rattle.rules_model.specs.Reading.{Fault, Deep, Absent, Read}
+use Rattle.rules_model.specs.ExprGrammar.{IsRanked}
+use Rattle.rules_model.specs.Nesting.{room_after, deep_or, first_deep}
+use Rattle.rules_model.specs.Reading.{Deep, Absent, Read}
 use Rattle.rules_model.specs.ExprReading.{ranked_at, expr_at}
 use Rattle.rules_model.proofs.ExprExact.{exact_ranked}
 use Rattle.rules_model.proofs.ExprStarts.{ranked_shrinks}
@@ -22,7 +24,7 @@ use Rattle.expr_parser.proofs.Taken.{Takes, Begun, Told, taken, broken, missing}
 use Rattle.expr_parser.proofs.ExprTaken.{told_value}
 use Rattle.expr_parser.proofs.Tracked.{Front, at_end, at_token, Tracks, runs_out, both_missing, both_read}
 use Rattle.expr_parser.proofs.ExprTracked.{tracks_expr}
-use Rattle.expr_parser.proofs.Longest.{AtLeast, is_deep, reads, value_least}
+use Rattle.expr_parser.proofs.Longest.{AtLeast, reads, value_least}
 
 abbrev pub Value : ℕ → Toks → Read ExprTree
 Value n toks = ranked_at n (expr_at n) 5 toks
@@ -206,6 +208,6 @@ pub to_end : (from : ℕ) (toks slice : Toks) → slice ≡ toks → take (lengt
 to_end from toks slice e = take_all (length slice - from) (drop from slice) (omega (arith, length-drop from slice)) ∙ ap (drop from) e
 
 -- an error that is handed on
-pub handed_on : (toks : Toks) (from : ℕ) (r : Result (Expr × ℕ) ParseRefusal) (e : ParseRefusal) → IsErrAnd r (λ x. x ≡ e) → RefusesExpr (drop from toks) e → Expresses toks from r
+pub handed_on : (toks : Toks) (from : ℕ) (r : Result (Box Expr Global × ℕ) ParseRefusal) (e : ParseRefusal) → IsErrAnd r (λ x. x ≡ e) → RefusesExpr (drop from toks) e → Expresses toks from r
 handed_on toks from (Ok x) e h refuses = absurd h
 handed_on toks from (Err x) e h refuses = subst (λ (y : ParseRefusal). RefusesExpr (drop from toks) y) (sym h) refuses

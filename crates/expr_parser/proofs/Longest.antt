@@ -1,9 +1,8 @@
 -- What is read as an expression is the longest one.
-use Rattle.std.proofs.Common.{◌≡◌, ℕ, zero, suc, ◌+◌, ◌-◌, ◌<◌, ◌≤◌, Bool, true, false, cond, List, [], ◌∷◌, ◌++◌, length, Option, Some, None, Result, Ok, Err, refl, sym, ap, ◌∙◌, subst, arith, length-append, ◌⊎◌, inl, inr}
+use Rattle.std.proofs.Common.{◌≡◌, ℕ, zero, suc, ◌-◌, ◌≤◌, Bool, true, false, cond, ◌∷◌, length, Option, Some, None, Result, Ok, Err, refl, ap, subst, arith, length-append, ◌⊎◌, inl, inr}
 use Rattle.chill_base.specs.declared.pos.Pos.{Pos}
 use Rattle.chill_tree.specs.declared.token.Word.TheVariants as words
 use Rattle.chill_tree.specs.declared.token.Sign.TheVariants as signs
-use Rattle.chill_tree.specs.declared.token.Token.{Token}
 use Rattle.chill_tree.specs.declared.token.TokenKind.{TokenKind}
 use Rattle.chill_tree.specs.declared.tree.name.Name.{Name}
 use Rattle.chill_tree.specs.declared.tree.expr.Operator.{Operator}
@@ -11,13 +10,13 @@ use Rattle.chill_tree.specs.declared.tree.expr.Prefix.TheVariants as prefixes
 use Rattle.chill_tree.specs.ExprTree.{ExprTree, name, prefixed}
 use Rattle.rules_model.specs.Marks.{Toks, tok, sign, word, name_token, begins, begins_with, operator_of, rank_of}
 use Rattle.rules_model.specs.ExprGrammar.{IsNamed, a_name, with_args, with_field, IsOperand, IsRanked, is_plain, is_minus, is_not, is_chain, IsChain, first, turn}
-use Rattle.rules_model.specs.Nesting.{room_after, StaysBelow}
+use Rattle.rules_model.specs.Nesting.{StaysBelow}
 use Rattle.rules_model.specs.Reading.{Fault, Deep, Absent, Read, Piece, ◌>>=◌, settle, chosen, sign_at, word_at, repeat}
-use Rattle.rules_model.specs.ExprReading.{args_at, field_at, NamePart, Args, Field, with_part, part_at, parts_at, named_at, tuple_at, begun_at, operand_at, prefixed_at, ranked_operator, operator_at, turn_at, with_turn, ranked_at, expr_at}
-use Rattle.rules_model.proofs.ExprStarts.{operand_unsigned, named_few, chain_few}
+use Rattle.rules_model.specs.ExprReading.{args_at, field_at, NamePart, Args, Field, with_part, part_at, parts_at, tuple_at, begun_at, operand_at, prefixed_at, operator_at, turn_at, with_turn, ranked_at, expr_at}
+use Rattle.rules_model.proofs.ExprStarts.{operand_unsigned, named_few}
 use Rattle.rules_model.proofs.ExprStops.{turn_stops, operator_marks, operator_some}
 use Rattle.rules_model.proofs.ExprExact.{exact_closed, parted_operand, exact_named, exact_chain}
-use Rattle.expr_parser.proofs.Taken.{Takes, Told, taken, broken, missing, ToldPiece, told_loop}
+use Rattle.expr_parser.proofs.Taken.{Told, taken, broken, missing, ToldPiece, told_loop}
 use Rattle.expr_parser.proofs.ExprTaken.{IsPart, part_told, IsTurn, turn_told, ranked_told, begun_told, told_inner}
 
 -- as much as that was read, or levels of nesting were wanting

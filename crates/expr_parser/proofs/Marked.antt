@@ -1,5 +1,5 @@
 -- Signs and words are told apart by their numbers.
-use Rattle.std.proofs.Common.{◌≡◌, ℕ, zero, suc, Bool, true, false, eqb, List, [], ◌∷◌, refl, sym, ap, ◌∙◌, subst}
+use Rattle.std.proofs.Common.{◌≡◌, ℕ, zero, suc, Bool, true, false, eqb, List, [], ◌∷◌, refl, sym, ap, ◌∙◌}
 use denote.Enum.Bare.{sameb, same_true, same_false}
 use Rattle.chill_tree.specs.contracts.token.Word.{the_type}
 use Rattle.std.proofs.lemmas.Bool.{eqb-true, eq-eqb}

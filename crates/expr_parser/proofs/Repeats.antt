@@ -1,11 +1,11 @@
 -- One loop that reads piece after piece, and what is read by it.
-use Rattle.std.proofs.Common.{◌≡◌, ℕ, zero, suc, ◌+◌, ◌-◌, ◌<◌, ◌≤◌, List, [], ◌∷◌, Option, Some, None, Result, Ok, Err, refl, sym, ap, ◌∙◌, arith}
+use Rattle.std.proofs.Common.{◌≡◌, ℕ, suc, ◌+◌, ◌-◌, ◌<◌, ◌≤◌, Option, Some, None, Ok, Err, refl, sym, ap, ◌∙◌, arith}
 use Rattle.std.specs.Prelude.{option_map}
 use Rattle.expr_parser.specs.declared.refusal.ParseRefusal.{ParseRefusal}
 use Rattle.expr_parser.specs.declared.refusal.ParseRefusal.TheVariants as refusals
 use Rattle.expr_parser.specs.Giving.{Fails}
 use Rattle.rules_model.specs.Marks.{Toks}
-use Rattle.rules_model.specs.Reading.{Fault, Deep, Absent, Read, Piece, ◌>>=◌, chosen, repeat}
+use Rattle.rules_model.specs.Reading.{Deep, Absent, Read, Piece, repeat}
 
 module _ {S P : Type 0} (piece : Toks → Piece P) (grow : S → P → S) (limit : ℕ) (total : Read S) where
   pub goes_on : (i : ℕ) (s : S) (toks : Toks) (x : P × Toks) → i < limit → piece toks ≡ Ok (Some x) → repeat piece grow (limit - i) s toks ≡ total → repeat piece grow (limit - (i + 1)) (grow s x.0) x.1 ≡ total

@@ -1,6 +1,6 @@
 -- Two lists of tokens that agree as far as levels of nesting are left, read with as many levels or with more: what
 -- is read is the same, unless levels were wanting.
-use Rattle.std.proofs.Common.{◌≡◌, ℕ, zero, suc, ◌+◌, ◌<◌, ◌≤◌, Bool, true, false, cond, ◌&&◌, List, [], ◌∷◌, ◌++◌, length, Option, Some, None, Result, Ok, Err, refl, sym, ap, ◌∙◌, subst, arith, length-append}
+use Rattle.std.proofs.Common.{◌≡◌, ℕ, zero, suc, ◌≤◌, Bool, true, false, cond, List, [], ◌∷◌, length, Option, Some, None, Result, Ok, Err, refl, sym, ap, ◌∙◌, subst, arith, length-append}
 use Rattle.chill_base.specs.declared.pos.Pos.{Pos}
 use Rattle.chill_tree.specs.declared.token.Sign.{Sign}
 use Rattle.chill_tree.specs.declared.token.Sign.TheVariants as signs
@@ -8,12 +8,11 @@ use Rattle.chill_tree.specs.declared.token.Word.{Word}
 use Rattle.chill_tree.specs.declared.token.Token.{Token}
 use Rattle.chill_tree.specs.declared.token.TokenKind.{TokenKind}
 use Rattle.chill_tree.specs.declared.token.TokenKind.TheVariants as kinds
-use Rattle.chill_tree.specs.declared.tree.name.Name.{Name}
-use Rattle.rules_model.specs.Marks.{Toks, tok, sign, is_sign, is_word, begins, begins_with}
-use Rattle.rules_model.specs.Nesting.{room_after, deep_or, first_deep}
+use Rattle.rules_model.specs.Marks.{Toks, tok, is_sign, is_word, begins, begins_with}
+use Rattle.rules_model.specs.Nesting.{room_after}
 use Rattle.rules_model.specs.Reading.{Fault, Deep, Absent, Read, Piece, ◌>>=◌, settle, chosen, sign_at, word_at, name_of, name_at, repeat, push, another_at, listed_at}
 use Rattle.expr_parser.proofs.Marked.{is_sign_true, is_word_true}
-use Rattle.expr_parser.proofs.Taken.{Told, taken, broken, missing}
+use Rattle.expr_parser.proofs.Taken.{Told, taken}
 
 -- which tokens are alike where n levels are left
 -- (b is read with n levels, a with as many or more)

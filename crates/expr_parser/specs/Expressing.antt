@@ -1,8 +1,10 @@
 -- What the parser of expressions answers.
-use Rattle.std.specs.Prelude.{◌≡◌, ℕ, ◌<◌, ◌≤◌, List, [], ◌++◌, length, drop, Option, Some, None, Result, Ok, Err}
+use Rattle.std.specs.Prelude.{◌≡◌, ℕ, ◌<◌, ◌≤◌, [], ◌++◌, length, drop, Option, Some, Result, Ok, Err}
 use Rattle.chill_base.specs.declared.pos.Pos.{Pos}
+use Rattle.std.specs.declared.alloc.Global.{Global}
+use Rattle.std.specs.declared.boxed.Box.{Box}
 use Rattle.chill_tree.specs.declared.tree.expr.Expr.{Expr}
-use Rattle.chill_tree.specs.ExprTree.{ExprTree, expr_tree}
+use Rattle.chill_tree.specs.ExprTree.{ExprTree, boxed_expr}
 use Rattle.expr_parser.specs.declared.refusal.ParseRefusal.{ParseRefusal}
 use Rattle.expr_parser.specs.declared.refusal.ParseRefusal.TheVariants as refusals
 use Rattle.rules_model.specs.Marks.{Toks, front}
@@ -50,6 +52,6 @@ RefusesExpr toks (refusals.NoProgram at) = HasNone toks × StaysBelowLimit toks 
 RefusesExpr toks refusals.Memory = Unit {0}
 
 -- the answer for the tokens from a place on: an expression and the place behind it
-abbrev pub Expresses : Toks → ℕ → Result (Expr × ℕ) ParseRefusal → Type 0
-Expresses toks from (Ok x) = IsLongest (expr_tree x.0) (drop from toks) (drop x.1 toks) × StaysBelowLimit (drop from toks) × (from < x.1) × (x.1 ≤ length toks)
+abbrev pub Expresses : Toks → ℕ → Result (Box Expr Global × ℕ) ParseRefusal → Type 0
+Expresses toks from (Ok x) = IsLongest (boxed_expr x.0) (drop from toks) (drop x.1 toks) × StaysBelowLimit (drop from toks) × (from < x.1) × (x.1 ≤ length toks)
 Expresses toks from (Err e) = RefusesExpr (drop from toks) e

@@ -1,15 +1,16 @@
 // Readers of expressions and of their parts (Z.200, chapter on values).
-ghost use Rattle.std.specs.Prelude.{◌≡◌, ◌-◌, ◌<◌, ◌∷◌, [], option_map, IfOk};
-ghost use Rattle.chill_tree.specs.ExprTree.{expr_tree, range_tree, expr_trees, range_trees};
+ghost use Rattle.std.specs.Prelude.{◌≡◌, ◌-◌, ◌<◌, map, option_map, IfOk};
+ghost use Rattle.chill_tree.specs.ExprTree.{boxed_expr, expr_tree, expr_trees, range_tree, range_trees};
 ghost use Rattle.expr_parser.specs.Giving.{Gives};
 ghost use Rattle.expr_parser.specs.Parts.{part_of};
 ghost use Rattle.rules_model.specs.Marks as marks;
 ghost use Rattle.rules_model.specs.ExprGrammar as grammar;
-ghost use Rattle.rules_model.specs.Reading.{repeat, push, another_at, listed_at};
+ghost use Rattle.rules_model.specs.Reading.{repeat, listed_at};
 ghost use Rattle.rules_model.specs.ExprReading.{args_at, field_at, part_at, parts_at, named_at, paren_at, range_at, uniform_at, ranges_at, tuple_at, begun_at, operand_at, prefixed_at, operator_at, turn_at, ranked_at, expr_at};
 ghost use Rattle.rules_model.specs.ExprReading as reading;
 
 use crate::ParseRefusal;
+use crate::list::{Listed, read_list};
 use crate::reader::{operator_of, read_name, read_sign, read_word, starts, starts_with};
 use chill_base::{Item, List, Memory, Pos};
 use chill_tree::tree::{Expr, Name, Operator, Prefix, ValueRange};
@@ -31,8 +32,8 @@ pub fn read_expr(
     tokens: &[Token],
     room: usize,
     opened: Pos,
-) -> Result<(Expr, &[Token]), ParseRefusal>
-    ensures { Gives (λ x. (expr_tree x.0, x.1.now)) result (expr_at room opened tokens.now) }
+) -> Result<(Box<Expr>, &[Token]), ParseRefusal>
+    ensures { Gives (λ x. (boxed_expr x.0, x.1.now)) result (expr_at room opened tokens.now) }
 {
     if room == 0 {
         return Err(ParseRefusal::TooDeep { at: opened });
@@ -45,8 +46,8 @@ pub fn read_value(
     alloc: Global,
     tokens: &[Token],
     inner: usize,
-) -> Result<(Expr, &[Token]), ParseRefusal>
-    ensures { Gives (λ x. (expr_tree x.0, x.1.now)) result (ranked_at inner (expr_at inner) 5 tokens.now) }
+) -> Result<(Box<Expr>, &[Token]), ParseRefusal>
+    ensures { Gives (λ x. (boxed_expr x.0, x.1.now)) result (ranked_at inner (expr_at inner) 5 tokens.now) }
 {
     ranked(alloc, tokens, LOOSEST, inner)
 }
@@ -59,8 +60,8 @@ fn ranked(
     tokens: &[Token],
     rank: usize,
     inner: usize,
-) -> Result<(Expr, &[Token]), ParseRefusal>
-    ensures { Gives (λ x. (expr_tree x.0, x.1.now)) result (ranked_at inner (expr_at inner) rank tokens.now) }
+) -> Result<(Box<Expr>, &[Token]), ParseRefusal>
+    ensures { Gives (λ x. (boxed_expr x.0, x.1.now)) result (ranked_at inner (expr_at inner) rank tokens.now) }
 {
     if rank == 0 {
         return prefixed(alloc, tokens, inner);
@@ -74,13 +75,13 @@ fn ranked(
 #[tactic(auto, using(crate::proofs::Repeats::repeats))]
 fn turns(
     alloc: Global,
-    first: Expr,
+    first: Box<Expr>,
     tokens: &[Token],
     rank: usize,
     inner: usize,
-) -> Result<(Expr, &[Token]), ParseRefusal>
+) -> Result<(Box<Expr>, &[Token]), ParseRefusal>
     requires { 0 < rank }
-    ensures { Gives (λ x. (expr_tree x.0, x.1.now)) result (repeat (turn_at (ranked_at inner (expr_at inner) (rank - 1)) rank) reading.with_turn 32 (expr_tree first) tokens.now) }
+    ensures { Gives (λ x. (boxed_expr x.0, x.1.now)) result (repeat (turn_at (ranked_at inner (expr_at inner) (rank - 1)) rank) reading.with_turn 32 (boxed_expr first) tokens.now) }
 {
     let mut left = first;
     let mut rest = tokens;
@@ -99,12 +100,12 @@ fn turns(
 struct Behind {
     sign: Pos,
     operator: Operator,
-    right: Expr,
+    right: Box<Expr>,
 }
 
 // An expression with one more operator.
-fn with_turn(alloc: Global, left: Expr, turn: Behind) -> Result<Expr, Memory>
-    ensures { IfOk result (λ e. expr_tree e ≡ reading.with_turn (expr_tree left) ((turn.sign, turn.operator), expr_tree turn.right)) }
+fn with_turn(alloc: Global, left: Box<Expr>, turn: Behind) -> Result<Box<Expr>, Memory>
+    ensures { IfOk result (λ e. boxed_expr e ≡ reading.with_turn (boxed_expr left) ((turn.sign, turn.operator), boxed_expr turn.right)) }
 {
     Expr::binary(alloc, left, turn.operator, turn.sign, turn.right)
 }
@@ -119,7 +120,7 @@ fn turn(
     inner: usize,
 ) -> Result<Option<(Behind, &[Token])>, ParseRefusal>
     requires { 0 < rank }
-    ensures { Gives (option_map (λ x. (((x.0.sign, x.0.operator), expr_tree x.0.right), x.1.now))) result (turn_at (ranked_at inner (expr_at inner) (rank - 1)) rank tokens.now) }
+    ensures { Gives (option_map (λ x. (((x.0.sign, x.0.operator), boxed_expr x.0.right), x.1.now))) result (turn_at (ranked_at inner (expr_at inner) (rank - 1)) rank tokens.now) }
 {
     match operator(tokens, rank) {
         Some((sign, operator, rest)) => match ranked(alloc, rest, rank - 1, inner) {
@@ -175,8 +176,12 @@ fn rank_of(operator: Operator) -> usize
 // Reads an operand, with an operator before it or none.
 #[cycle(expr)]
 #[tactic(auto, unfolding(rules_model::specs::ExprReading::prefixed_at))]
-fn prefixed(alloc: Global, tokens: &[Token], inner: usize) -> Result<(Expr, &[Token]), ParseRefusal>
-    ensures { Gives (λ x. (expr_tree x.0, x.1.now)) result (prefixed_at inner (expr_at inner) tokens.now) }
+fn prefixed(
+    alloc: Global,
+    tokens: &[Token],
+    inner: usize,
+) -> Result<(Box<Expr>, &[Token]), ParseRefusal>
+    ensures { Gives (λ x. (boxed_expr x.0, x.1.now)) result (prefixed_at inner (expr_at inner) tokens.now) }
 {
     if starts(tokens, Sign::Minus) {
         let (at, rest) = read_sign(tokens, Sign::Minus)?;
@@ -194,27 +199,34 @@ fn prefixed(alloc: Global, tokens: &[Token], inner: usize) -> Result<(Expr, &[To
 // Reads a literal, an expression in parentheses, a tuple, or a name with its parts.
 #[cycle(expr)]
 #[tactic(auto, unfolding(rules_model::specs::ExprReading::operand_at))]
-fn operand(alloc: Global, tokens: &[Token], inner: usize) -> Result<(Expr, &[Token]), ParseRefusal>
-    ensures { Gives (λ x. (expr_tree x.0, x.1.now)) result (operand_at inner (expr_at inner) tokens.now) }
+fn operand(
+    alloc: Global,
+    tokens: &[Token],
+    inner: usize,
+) -> Result<(Box<Expr>, &[Token]), ParseRefusal>
+    ensures { Gives (λ x. (boxed_expr x.0, x.1.now)) result (operand_at inner (expr_at inner) tokens.now) }
 {
     match tokens {
         [token, rest @ ..] => match &token.kind {
-            TokenKind::Whole(value) => Ok((Expr::whole(token.at, *value), rest)),
-            TokenKind::Char(value) => Ok((Expr::character(token.at, *value), rest)),
-            TokenKind::Text(value) => Ok((Expr::text(token.at, value.as_text().copy()?), rest)),
+            TokenKind::Whole(value) => Ok((Expr::whole(alloc, token.at, *value)?, rest)),
+            TokenKind::Char(value) => Ok((Expr::character(alloc, token.at, *value)?, rest)),
+            TokenKind::Text(value) => {
+                let value = value.as_text().copy()?;
+                Ok((Expr::text(alloc, token.at, value)?, rest))
+            }
             TokenKind::Name(text) => {
                 let text = text.copy()?;
                 begun(alloc, Name { at: token.at, text }, rest, inner)
             }
-            TokenKind::Word(Word::This) => Ok((Expr::this_instance(token.at), rest)),
+            TokenKind::Word(Word::This) => Ok((Expr::this_instance(alloc, token.at)?, rest)),
             TokenKind::Word(Word::Receive) => {
                 let (buffer, rest) = read_name(rest)?;
-                Ok((Expr::receive(token.at, buffer), rest))
+                Ok((Expr::receive(alloc, token.at, buffer)?, rest))
             }
             TokenKind::Word(Word::Start) => {
                 let (process, rest) = read_name(rest)?;
                 let (args, rest) = read_args(alloc, rest, inner)?;
-                Ok((Expr::start(token.at, process, args), rest))
+                Ok((Expr::start(alloc, token.at, process, args)?, rest))
             }
             TokenKind::Sign(Sign::Open) => paren(alloc, tokens, inner),
             TokenKind::Sign(Sign::OpenBracket) => tuple(alloc, None, tokens, inner),
@@ -227,8 +239,12 @@ fn operand(alloc: Global, tokens: &[Token], inner: usize) -> Result<(Expr, &[Tok
 // Reads an expression in parentheses.
 #[cycle(expr)]
 #[tactic(auto, unfolding(rules_model::specs::ExprReading::paren_at))]
-fn paren(alloc: Global, tokens: &[Token], inner: usize) -> Result<(Expr, &[Token]), ParseRefusal>
-    ensures { Gives (λ x. (expr_tree x.0, x.1.now)) result (paren_at (expr_at inner) tokens.now) }
+fn paren(
+    alloc: Global,
+    tokens: &[Token],
+    inner: usize,
+) -> Result<(Box<Expr>, &[Token]), ParseRefusal>
+    ensures { Gives (λ x. (boxed_expr x.0, x.1.now)) result (paren_at (expr_at inner) tokens.now) }
 {
     let (at, rest) = read_sign(tokens, Sign::Open)?;
     let (of, rest) = read_expr(alloc, rest, inner, at)?;
@@ -244,17 +260,17 @@ fn begun(
     name: Name,
     tokens: &[Token],
     inner: usize,
-) -> Result<(Expr, &[Token]), ParseRefusal>
-    ensures { Gives (λ x. (expr_tree x.0, x.1.now)) result (begun_at inner (expr_at inner) name tokens.now) }
+) -> Result<(Box<Expr>, &[Token]), ParseRefusal>
+    ensures { Gives (λ x. (boxed_expr x.0, x.1.now)) result (begun_at inner (expr_at inner) name tokens.now) }
 {
     if !starts(tokens, Sign::OpenBracket) {
-        return parts(alloc, Expr::name(name), tokens, inner);
+        return parts(alloc, Expr::name(alloc, name)?, tokens, inner);
     }
     let text = name.text.copy()?;
     let mode = Name { at: name.at, text };
     match tuple(alloc, Some(mode), tokens, inner) {
         Ok((found, rest)) => Ok((found, rest)),
-        Err(ParseRefusal::NoProgram { .. }) => Ok((Expr::name(name), tokens)),
+        Err(ParseRefusal::NoProgram { .. }) => Ok((Expr::name(alloc, name)?, tokens)),
         Err(refusal) => Err(refusal),
     }
 }
@@ -266,11 +282,11 @@ pub fn read_named(
     alloc: Global,
     tokens: &[Token],
     inner: usize,
-) -> Result<(Expr, &[Token]), ParseRefusal>
-    ensures { Gives (λ x. (expr_tree x.0, x.1.now)) result (named_at inner (expr_at inner) tokens.now) }
+) -> Result<(Box<Expr>, &[Token]), ParseRefusal>
+    ensures { Gives (λ x. (boxed_expr x.0, x.1.now)) result (named_at inner (expr_at inner) tokens.now) }
 {
     let (name, rest) = read_name(tokens)?;
-    parts(alloc, Expr::name(name), rest, inner)
+    parts(alloc, Expr::name(alloc, name)?, rest, inner)
 }
 
 // A part behind a name.
@@ -285,11 +301,11 @@ enum NamePart {
 #[tactic(auto, using(crate::proofs::Repeats::repeats))]
 fn parts(
     alloc: Global,
-    first: Expr,
+    first: Box<Expr>,
     tokens: &[Token],
     inner: usize,
-) -> Result<(Expr, &[Token]), ParseRefusal>
-    ensures { Gives (λ x. (expr_tree x.0, x.1.now)) result (parts_at inner (expr_at inner) (expr_tree first) tokens.now) }
+) -> Result<(Box<Expr>, &[Token]), ParseRefusal>
+    ensures { Gives (λ x. (boxed_expr x.0, x.1.now)) result (parts_at inner (expr_at inner) (boxed_expr first) tokens.now) }
 {
     let mut of = first;
     let mut rest = tokens;
@@ -304,8 +320,8 @@ fn parts(
 }
 
 // An expression with one more part.
-fn with_part(alloc: Global, of: Expr, part: NamePart) -> Result<Expr, Memory>
-    ensures { IfOk result (λ e. expr_tree e ≡ reading.with_part (expr_tree of) (part_of part)) }
+fn with_part(alloc: Global, of: Box<Expr>, part: NamePart) -> Result<Box<Expr>, Memory>
+    ensures { IfOk result (λ e. boxed_expr e ≡ reading.with_part (boxed_expr of) (part_of part)) }
 {
     match part {
         NamePart::Args(args) => Expr::apply(alloc, of, args),
@@ -372,9 +388,27 @@ pub fn read_args(
     Ok((args, rest))
 }
 
+// Expressions in what opened at a place, where so many levels of nesting are left.
+#[derive(Drop)]
+struct Exprs {
+    room: usize,
+    opened: Pos,
+}
+
+impl Listed for Exprs {
+    type Item = Expr;
+
+    ghost use Rattle.chill_tree.specs.ExprTree.{ExprTree};
+
+    ghost Tree = { ExprTree };
+
+    ghost tree = { expr_tree };
+
+    ghost reads = { λ s. expr_at s.room s.opened };
+}
+
 /// Reads expressions with commas between them, at least one, each as `read_expr` does.
 #[cycle(expr)]
-#[tactic(auto, unfolding(rules_model::specs::Reading::listed_at))]
 pub fn read_exprs(
     alloc: Global,
     tokens: &[Token],
@@ -383,54 +417,17 @@ pub fn read_exprs(
 ) -> Result<(List<Expr>, &[Token]), ParseRefusal>
     ensures { Gives (λ x. (expr_trees x.0, x.1.now)) result (listed_at (expr_at room opened) tokens.now) }
 {
-    let (first, rest) = read_expr(alloc, tokens, room, opened)?;
-    let mut items = List::new(alloc);
-    items.push(first)?;
-    other_exprs(alloc, items, rest, room, opened, tokens.len())
-}
-
-// Reads further expressions, each behind a comma.
-#[cycle(expr)]
-#[tactic(auto, using(crate::proofs::Repeats::repeats))]
-fn other_exprs(
-    alloc: Global,
-    first: List<Expr>,
-    tokens: &[Token],
-    room: usize,
-    opened: Pos,
-    limit: usize,
-) -> Result<(List<Expr>, &[Token]), ParseRefusal>
-    ensures { Gives (λ x. (expr_trees x.0, x.1.now)) result (repeat (another_at (expr_at room opened)) push limit (expr_trees first) tokens.now) }
-{
-    let mut items = first;
-    let mut rest = tokens;
-    for _ in 0..limit {
-        let Some((item, after)) = another_expr(alloc, rest, room, opened)? else {
-            return Ok((items, rest));
-        };
-        items.push(item)?;
-        rest = after;
-    }
-    Ok((items, rest))
-}
-
-// Reads a comma and an expression, if the comma is there.
-#[cycle(expr)]
-#[tactic(auto, unfolding(rules_model::specs::Reading::another_at))]
-fn another_expr(
-    alloc: Global,
-    tokens: &[Token],
-    room: usize,
-    opened: Pos,
-) -> Result<Option<(Expr, &[Token])>, ParseRefusal>
-    ensures { Gives (option_map (λ x. (expr_tree x.0, x.1.now))) result (another_at (expr_at room opened) tokens.now) }
-{
-    if !starts(tokens, Sign::Comma) {
-        return Ok(None);
-    }
-    let (_, rest) = read_sign(tokens, Sign::Comma)?;
-    let (item, rest) = read_expr(alloc, rest, room, opened)?;
-    Ok(Some((item, rest)))
+    read_list(
+        alloc,
+        tokens,
+        &Exprs { room, opened },
+        |item|
+            ensures { Gives (λ x. (expr_tree x.0, x.1.now)) result (expr_at room opened item.now) }
+        {
+            let (found, rest) = read_expr(alloc, item, room, opened)?;
+            Ok((Box::into_inner(found), rest))
+        },
+    )
 }
 
 // Reads a tuple from its bracket on.
@@ -441,8 +438,8 @@ fn tuple(
     mode: Option<Name>,
     tokens: &[Token],
     inner: usize,
-) -> Result<(Expr, &[Token]), ParseRefusal>
-    ensures { Gives (λ x. (expr_tree x.0, x.1.now)) result (tuple_at inner (expr_at inner) mode tokens.now) }
+) -> Result<(Box<Expr>, &[Token]), ParseRefusal>
+    ensures { Gives (λ x. (boxed_expr x.0, x.1.now)) result (tuple_at inner (expr_at inner) mode tokens.now) }
 {
     let (bracket, rest) = read_sign(tokens, Sign::OpenBracket)?;
     if inner == 0 {
@@ -453,7 +450,7 @@ fn tuple(
     }
     let (parts, rest) = tuple_parts(alloc, rest, inner, bracket)?;
     let at = tuple_place(&mode, bracket);
-    Ok((Expr::tuple(at, mode, bracket, parts), rest))
+    Ok((Expr::tuple(alloc, at, mode, bracket, parts)?, rest))
 }
 
 // The place of a tuple's first token.
@@ -485,8 +482,8 @@ fn uniform(
     bracket: Pos,
     tokens: &[Token],
     inner: usize,
-) -> Result<(Expr, &[Token]), ParseRefusal>
-    ensures { Gives (λ x. (expr_tree x.0, x.1.now)) result (uniform_at inner (expr_at inner) mode bracket tokens.now) }
+) -> Result<(Box<Expr>, &[Token]), ParseRefusal>
+    ensures { Gives (λ x. (boxed_expr x.0, x.1.now)) result (uniform_at inner (expr_at inner) mode bracket tokens.now) }
 {
     let (opened, rest) = read_sign(tokens, Sign::Open)?;
     if inner < 2 {
@@ -521,9 +518,27 @@ fn tuple_parts(
     Ok((parts, rest))
 }
 
+// Expressions and ranges in what opened at a place, where so many levels of nesting are left.
+#[derive(Drop)]
+struct Ranges {
+    room: usize,
+    opened: Pos,
+}
+
+impl Listed for Ranges {
+    type Item = ValueRange;
+
+    ghost use Rattle.chill_tree.specs.ExprTree.{RangeTree};
+
+    ghost Tree = { RangeTree };
+
+    ghost tree = { range_tree };
+
+    ghost reads = { λ s. range_at (expr_at s.room s.opened) };
+}
+
 /// Reads expressions or ranges with commas between them, at least one, each as `read_range` does.
 #[cycle(expr)]
-#[tactic(auto, unfolding(rules_model::specs::Reading::listed_at))]
 pub fn read_ranges(
     alloc: Global,
     tokens: &[Token],
@@ -532,54 +547,14 @@ pub fn read_ranges(
 ) -> Result<(List<ValueRange>, &[Token]), ParseRefusal>
     ensures { Gives (λ x. (range_trees x.0, x.1.now)) result (listed_at (range_at (expr_at room opened)) tokens.now) }
 {
-    let (first, rest) = read_range(alloc, tokens, room, opened)?;
-    let mut items = List::new(alloc);
-    items.push(first)?;
-    other_ranges(alloc, items, rest, room, opened, tokens.len())
-}
-
-// Reads further ranges, each behind a comma.
-#[cycle(expr)]
-#[tactic(auto, using(crate::proofs::Repeats::repeats))]
-fn other_ranges(
-    alloc: Global,
-    first: List<ValueRange>,
-    tokens: &[Token],
-    room: usize,
-    opened: Pos,
-    limit: usize,
-) -> Result<(List<ValueRange>, &[Token]), ParseRefusal>
-    ensures { Gives (λ x. (range_trees x.0, x.1.now)) result (repeat (another_at (range_at (expr_at room opened))) push limit (range_trees first) tokens.now) }
-{
-    let mut items = first;
-    let mut rest = tokens;
-    for _ in 0..limit {
-        let Some((item, after)) = another_range(alloc, rest, room, opened)? else {
-            return Ok((items, rest));
-        };
-        items.push(item)?;
-        rest = after;
-    }
-    Ok((items, rest))
-}
-
-// Reads a comma and a range, if the comma is there.
-#[cycle(expr)]
-#[tactic(auto, unfolding(rules_model::specs::Reading::another_at))]
-fn another_range(
-    alloc: Global,
-    tokens: &[Token],
-    room: usize,
-    opened: Pos,
-) -> Result<Option<(ValueRange, &[Token])>, ParseRefusal>
-    ensures { Gives (option_map (λ x. (range_tree x.0, x.1.now))) result (another_at (range_at (expr_at room opened)) tokens.now) }
-{
-    if !starts(tokens, Sign::Comma) {
-        return Ok(None);
-    }
-    let (_, rest) = read_sign(tokens, Sign::Comma)?;
-    let (item, rest) = read_range(alloc, rest, room, opened)?;
-    Ok(Some((item, rest)))
+    read_list(
+        alloc,
+        tokens,
+        &Ranges { room, opened },
+        |item|
+            ensures { Gives (λ x. (range_tree x.0, x.1.now)) result (range_at (expr_at room opened) item.now) }
+        { read_range(alloc, item, room, opened) },
+    )
 }
 
 /// Reads an expression, or two with a colon between them, each as `read_expr` does.

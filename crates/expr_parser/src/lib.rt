@@ -5,14 +5,18 @@
 #![tactic(auto)]
 
 mod expr;
+mod list;
+mod names;
 mod parse;
 mod reader;
 mod refusal;
 
 pub use expr::{read_args, read_expr, read_exprs, read_named, read_range, read_ranges, read_value};
+pub use list::{Listed, read_list};
+pub use names::read_names;
 pub use parse::parse_expr;
 pub use reader::{
-    operator_of, place, read_name, read_names, read_sign, read_word, starts, starts_expr,
+    behind, boxed, less, operator_of, place, read_name, read_sign, read_word, starts, starts_expr,
     starts_with,
 };
 pub use refusal::ParseRefusal;

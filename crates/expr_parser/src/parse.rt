@@ -19,7 +19,7 @@ pub fn parse_expr(
     alloc: Global,
     tokens: &Tokens,
     from: usize,
-) -> Result<(Expr, usize), ParseRefusal>
+) -> Result<(Box<Expr>, usize), ParseRefusal>
     requires { from ≤ length tokens.now }
     ensures { Expresses tokens.now from result }
 {

@@ -1,11 +1,12 @@
 // Readers of what stands at the front of a list of tokens: signs, words and names.
-ghost use Rattle.std.specs.Prelude.{◌≡◌, ◌∷◌, [], option_map};
+ghost use Rattle.std.specs.Prelude.{◌≡◌, IfOk};
 ghost use Rattle.expr_parser.specs.Giving.{Gives};
 ghost use Rattle.rules_model.specs.Marks as marks;
-ghost use Rattle.rules_model.specs.Reading.{sign_at, word_at, name_at, repeat, push, another_at, listed_at};
+ghost use Rattle.rules_model.specs.Nesting as nesting;
+ghost use Rattle.rules_model.specs.Reading.{sign_at, word_at, name_at};
 
 use crate::ParseRefusal;
-use chill_base::{Item, List, Pos};
+use chill_base::{Item, Memory, Pos};
 use chill_tree::tree::{Name, Operator};
 use chill_tree::{Sign, Token, TokenKind, Word};
 use std::alloc::Global;
@@ -48,6 +49,23 @@ pub fn place(tokens: &[Token]) -> Option<Pos>
         Some(token) => Some(token.at),
         None => None,
     }
+}
+
+/// The tokens behind the first.
+pub fn behind(tokens: &[Token]) -> &[Token]
+    ensures { result.now ≡ marks.behind tokens.now }
+{
+    match tokens {
+        [_, rest @ ..] => rest,
+        [] => tokens,
+    }
+}
+
+/// The levels of nesting that are left behind one more opening token.
+pub fn less(levels: usize) -> usize
+    ensures { result ≡ nesting.less levels }
+{
+    if levels == 0 { 0 } else { levels - 1 }
 }
 
 /// The operator between two operands that a token is.
@@ -128,51 +146,6 @@ pub fn read_name(tokens: &[Token]) -> Result<(Name, &[Token]), ParseRefusal>
     }
 }
 
-/// Reads names with commas between them, at least one.
-#[tactic(auto, unfolding(rules_model::specs::Reading::listed_at))]
-pub fn read_names(alloc: Global, tokens: &[Token]) -> Result<(List<Name>, &[Token]), ParseRefusal>
-    ensures { Gives (λ x. (x.0, x.1.now)) result (listed_at name_at tokens.now) }
-{
-    let (first, rest) = read_name(tokens)?;
-    let mut names = List::new(alloc);
-    names.push(first)?;
-    other_names(names, rest, tokens.len())
-}
-
-// Further names, each behind a comma.
-#[tactic(auto, using(crate::proofs::Repeats::repeats))]
-fn other_names(
-    first: List<Name>,
-    tokens: &[Token],
-    limit: usize,
-) -> Result<(List<Name>, &[Token]), ParseRefusal>
-    ensures { Gives (λ x. (x.0, x.1.now)) result (repeat (another_at name_at) push limit first tokens.now) }
-{
-    let mut names = first;
-    let mut rest = tokens;
-    for _ in 0..limit {
-        let Some((name, after)) = another_name(rest)? else {
-            return Ok((names, rest));
-        };
-        names.push(name)?;
-        rest = after;
-    }
-    Ok((names, rest))
-}
-
-// A comma and a name, if the comma is there.
-#[tactic(auto, unfolding(rules_model::specs::Reading::another_at))]
-fn another_name(tokens: &[Token]) -> Result<Option<(Name, &[Token])>, ParseRefusal>
-    ensures { Gives (option_map (λ x. (x.0, x.1.now))) result (another_at name_at tokens.now) }
-{
-    if !starts(tokens, Sign::Comma) {
-        return Ok(None);
-    }
-    let (_, rest) = read_sign(tokens, Sign::Comma)?;
-    let (name, rest) = read_name(rest)?;
-    Ok(Some((name, rest)))
-}
-
 // Whether a token is a sign.
 fn is_sign(kind: &TokenKind, sign: Sign) -> bool
     ensures { result ≡ marks.is_sign sign kind.now }
@@ -206,4 +179,11 @@ fn begins_expr(kind: &TokenKind) -> bool
         TokenKind::Sign(Sign::Open | Sign::OpenBracket | Sign::Minus) => true,
         _ => false,
     }
+}
+
+/// A node in a box.
+pub fn boxed<T: Drop>(alloc: Global, node: T) -> Result<Box<T>, Memory>
+    ensures { IfOk result (λ own. own.value ≡ node) }
+{
+    Ok(Box::new(alloc, node)?)
 }

@@ -1,9 +1,9 @@
 // Readers of modes of values (Z.200, chapter on modes).
-ghost use Rattle.std.specs.Prelude.{◌≡◌, ◌∷◌, [], option_map};
-ghost use Rattle.chill_tree.specs.ModeTree.{index_tree, base_tree, field_tree, field_trees};
+ghost use Rattle.std.specs.Prelude.{map};
+ghost use Rattle.chill_tree.specs.ModeTree.{index_tree, boxed_base, field_tree, field_trees};
 ghost use Rattle.expr_parser.specs.Giving.{Gives};
 ghost use Rattle.mode_parser.specs.BaseParts.{powerset_at, chars_at, structure_at, array_at, elements_at, laid_out_at};
-ghost use Rattle.rules_model.specs.Reading.{repeat, push, another_at, listed_at};
+ghost use Rattle.rules_model.specs.Reading.{listed_at};
 ghost use Rattle.rules_model.specs.ModeReading.{plain_base_at, arrays_at, one_field_at, fields_at, base_at};
 
 use crate::discrete::{read_discrete, read_index};
@@ -12,7 +12,8 @@ use chill_base::{List, Pos};
 use chill_tree::tree::{Base, Field, Index};
 use chill_tree::{Sign, Token, Word};
 use expr_parser::{
-    ParseRefusal, place, read_expr, read_names, read_sign, read_word, starts, starts_with,
+    Listed, ParseRefusal, place, read_expr, read_list, read_names, read_sign, read_word,
+    starts_with,
 };
 use std::alloc::Global;
 
@@ -24,8 +25,8 @@ pub fn read_base(
     alloc: Global,
     tokens: &[Token],
     inner: usize,
-) -> Result<(Base, &[Token]), ParseRefusal>
-    ensures { Gives (λ x. (base_tree x.0, x.1.now)) result (base_at inner tokens.now) }
+) -> Result<(Box<Base>, &[Token]), ParseRefusal>
+    ensures { Gives (λ x. (boxed_base x.0, x.1.now)) result (base_at inner tokens.now) }
 {
     arrays(alloc, tokens, DIMENSIONS, inner)
 }
@@ -38,8 +39,8 @@ fn arrays(
     tokens: &[Token],
     count: usize,
     inner: usize,
-) -> Result<(Base, &[Token]), ParseRefusal>
-    ensures { Gives (λ x. (base_tree x.0, x.1.now)) result (arrays_at inner (fields_at inner) count tokens.now) }
+) -> Result<(Box<Base>, &[Token]), ParseRefusal>
+    ensures { Gives (λ x. (boxed_base x.0, x.1.now)) result (arrays_at inner (fields_at inner) count tokens.now) }
 {
     let is_array = starts_with(tokens, Word::Array);
     if count == 0 {
@@ -61,8 +62,8 @@ fn array(
     tokens: &[Token],
     count: usize,
     inner: usize,
-) -> Result<(Base, &[Token]), ParseRefusal>
-    ensures { Gives (λ x. (base_tree x.0, x.1.now)) result (array_at inner (fields_at inner) count tokens.now) }
+) -> Result<(Box<Base>, &[Token]), ParseRefusal>
+    ensures { Gives (λ x. (boxed_base x.0, x.1.now)) result (array_at inner (fields_at inner) count tokens.now) }
 {
     let (at, rest) = read_word(tokens, Word::Array)?;
     let (opened, rest) = read_sign(rest, Sign::Open)?;
@@ -79,8 +80,8 @@ fn elements(
     tokens: &[Token],
     count: usize,
     inner: usize,
-) -> Result<(Base, &[Token]), ParseRefusal>
-    ensures { Gives (λ x. (base_tree x.0, x.1.now)) result (elements_at inner (fields_at inner) count at (index_tree index) tokens.now) }
+) -> Result<(Box<Base>, &[Token]), ParseRefusal>
+    ensures { Gives (λ x. (boxed_base x.0, x.1.now)) result (elements_at inner (fields_at inner) count at (index_tree index) tokens.now) }
 {
     let (_, rest) = read_sign(tokens, Sign::Close)?;
     let (element, rest) = arrays(alloc, rest, count, inner)?;
@@ -92,11 +93,11 @@ fn laid_out(
     alloc: Global,
     at: Pos,
     index: Index,
-    element: Base,
+    element: Box<Base>,
     tokens: &[Token],
     inner: usize,
-) -> Result<(Base, &[Token]), ParseRefusal>
-    ensures { Gives (λ x. (base_tree x.0, x.1.now)) result (laid_out_at inner at (index_tree index) (base_tree element) tokens.now) }
+) -> Result<(Box<Base>, &[Token]), ParseRefusal>
+    ensures { Gives (λ x. (boxed_base x.0, x.1.now)) result (laid_out_at inner at (index_tree index) (boxed_base element) tokens.now) }
 {
     let (spread, rest) = read_spread(alloc, tokens, inner)?;
     Ok((Base::array(alloc, at, index, element, spread)?, rest))
@@ -109,8 +110,8 @@ fn plain_base(
     alloc: Global,
     tokens: &[Token],
     inner: usize,
-) -> Result<(Base, &[Token]), ParseRefusal>
-    ensures { Gives (λ x. (base_tree x.0, x.1.now)) result (plain_base_at inner (fields_at inner) tokens.now) }
+) -> Result<(Box<Base>, &[Token]), ParseRefusal>
+    ensures { Gives (λ x. (boxed_base x.0, x.1.now)) result (plain_base_at inner (fields_at inner) tokens.now) }
 {
     if starts_with(tokens, Word::Powerset) {
         return powerset(alloc, tokens, inner);
@@ -122,27 +123,35 @@ fn plain_base(
         return structure(alloc, tokens, inner);
     }
     let (own, rest) = read_discrete(alloc, tokens, inner)?;
-    Ok((Base::discrete(own), rest))
+    Ok((Base::discrete(alloc, own)?, rest))
 }
 
 // Reads the sets of values of a discrete mode.
-fn powerset(alloc: Global, tokens: &[Token], inner: usize) -> Result<(Base, &[Token]), ParseRefusal>
-    ensures { Gives (λ x. (base_tree x.0, x.1.now)) result (powerset_at inner tokens.now) }
+fn powerset(
+    alloc: Global,
+    tokens: &[Token],
+    inner: usize,
+) -> Result<(Box<Base>, &[Token]), ParseRefusal>
+    ensures { Gives (λ x. (boxed_base x.0, x.1.now)) result (powerset_at inner tokens.now) }
 {
     let (at, rest) = read_word(tokens, Word::Powerset)?;
     let (member, rest) = read_discrete(alloc, rest, inner)?;
-    Ok((Base::powerset(at, member), rest))
+    Ok((Base::powerset(alloc, at, member)?, rest))
 }
 
 // Reads texts of a length.
-fn chars(alloc: Global, tokens: &[Token], inner: usize) -> Result<(Base, &[Token]), ParseRefusal>
-    ensures { Gives (λ x. (base_tree x.0, x.1.now)) result (chars_at inner tokens.now) }
+fn chars(
+    alloc: Global,
+    tokens: &[Token],
+    inner: usize,
+) -> Result<(Box<Base>, &[Token]), ParseRefusal>
+    ensures { Gives (λ x. (boxed_base x.0, x.1.now)) result (chars_at inner tokens.now) }
 {
     let (at, rest) = read_word(tokens, Word::Chars)?;
     let (opened, rest) = read_sign(rest, Sign::Open)?;
     let (length, rest) = read_expr(alloc, rest, inner, opened)?;
     let (_, rest) = read_sign(rest, Sign::Close)?;
-    Ok((Base::chars(at, length), rest))
+    Ok((Base::chars(alloc, at, length)?, rest))
 }
 
 // Reads a structure.
@@ -151,15 +160,15 @@ fn structure(
     alloc: Global,
     tokens: &[Token],
     inner: usize,
-) -> Result<(Base, &[Token]), ParseRefusal>
-    ensures { Gives (λ x. (base_tree x.0, x.1.now)) result (structure_at (fields_at inner) tokens.now) }
+) -> Result<(Box<Base>, &[Token]), ParseRefusal>
+    ensures { Gives (λ x. (boxed_base x.0, x.1.now)) result (structure_at (fields_at inner) tokens.now) }
 {
     let (at, rest) = read_word(tokens, Word::Struct)?;
     let (opened, rest) = read_sign(rest, Sign::Open)?;
     let (fields, rest) = fields(alloc, rest, inner, opened)?;
     let (_, rest) = read_sign(rest, Sign::Close)?;
     let (packing, rest) = read_packing(rest)?;
-    Ok((Base::structure(at, fields, packing), rest))
+    Ok((Base::structure(alloc, at, fields, packing)?, rest))
 }
 
 // Reads the fields of a structure, behind the bracket at the place `opened` where `room` levels are left.
@@ -179,9 +188,26 @@ fn fields(
     some_fields(alloc, tokens, room - 1)
 }
 
+// Fields of a structure, where so many levels of nesting are left behind their opening tokens.
+#[derive(Drop)]
+struct StructureFields {
+    inner: usize,
+}
+
+impl Listed for StructureFields {
+    type Item = Field;
+
+    ghost use Rattle.chill_tree.specs.ModeTree.{FieldTree};
+
+    ghost Tree = { FieldTree };
+
+    ghost tree = { field_tree };
+
+    ghost reads = { λ s. one_field_at s.inner (arrays_at s.inner (fields_at s.inner) 8) };
+}
+
 // Reads fields with commas between them, at least one.
 #[cycle(base)]
-#[tactic(auto, unfolding(rules_model::specs::Reading::listed_at))]
 fn some_fields(
     alloc: Global,
     tokens: &[Token],
@@ -189,52 +215,14 @@ fn some_fields(
 ) -> Result<(List<Field>, &[Token]), ParseRefusal>
     ensures { Gives (λ x. (field_trees x.0, x.1.now)) result (listed_at (one_field_at inner (arrays_at inner (fields_at inner) 8)) tokens.now) }
 {
-    let (first, rest) = one_field(alloc, tokens, inner)?;
-    let mut items = List::new(alloc);
-    items.push(first)?;
-    other_fields(alloc, items, rest, inner, tokens.len())
-}
-
-// Reads further fields, each behind a comma.
-#[cycle(base)]
-#[tactic(auto, using(expr_parser::proofs::Repeats::repeats))]
-fn other_fields(
-    alloc: Global,
-    first: List<Field>,
-    tokens: &[Token],
-    inner: usize,
-    limit: usize,
-) -> Result<(List<Field>, &[Token]), ParseRefusal>
-    ensures { Gives (λ x. (field_trees x.0, x.1.now)) result (repeat (another_at (one_field_at inner (arrays_at inner (fields_at inner) 8))) push limit (field_trees first) tokens.now) }
-{
-    let mut items = first;
-    let mut rest = tokens;
-    for _ in 0..limit {
-        let Some((item, after)) = another_field(alloc, rest, inner)? else {
-            return Ok((items, rest));
-        };
-        items.push(item)?;
-        rest = after;
-    }
-    Ok((items, rest))
-}
-
-// Reads a comma and a field, if the comma is there.
-#[cycle(base)]
-#[tactic(auto, unfolding(rules_model::specs::Reading::another_at))]
-fn another_field(
-    alloc: Global,
-    tokens: &[Token],
-    inner: usize,
-) -> Result<Option<(Field, &[Token])>, ParseRefusal>
-    ensures { Gives (option_map (λ x. (field_tree x.0, x.1.now))) result (another_at (one_field_at inner (arrays_at inner (fields_at inner) 8)) tokens.now) }
-{
-    if !starts(tokens, Sign::Comma) {
-        return Ok(None);
-    }
-    let (_, rest) = read_sign(tokens, Sign::Comma)?;
-    let (item, rest) = one_field(alloc, rest, inner)?;
-    Ok(Some((item, rest)))
+    read_list(
+        alloc,
+        tokens,
+        &StructureFields { inner },
+        |item|
+            ensures { Gives (λ x. (field_tree x.0, x.1.now)) result (one_field_at inner (arrays_at inner (fields_at inner) 8) item.now) }
+        { one_field(alloc, item, inner) },
+    )
 }
 
 // Reads fields of one mode, and their place where one is written.

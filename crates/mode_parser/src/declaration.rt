@@ -1,9 +1,9 @@
 // Readers of declarations of locations.
-ghost use Rattle.std.specs.Prelude.{◌≡◌, ◌∷◌, [], map, option_map};
+ghost use Rattle.std.specs.Prelude.{map, option_map};
 ghost use Rattle.chill_tree.specs.LocalTree.{initial_tree, declaration_tree};
 ghost use Rattle.expr_parser.specs.Giving.{Gives};
 ghost use Rattle.mode_parser.specs.LocalParts.{by_sign_at, by_word_at};
-ghost use Rattle.rules_model.specs.Reading.{repeat, push, another_at, listed_at};
+ghost use Rattle.rules_model.specs.Reading.{listed_at};
 ghost use Rattle.rules_model.specs.ModeReading.{initial_at, declaration_at};
 
 use crate::mode::read_mode;
@@ -11,12 +11,30 @@ use chill_base::List;
 use chill_tree::tree::{Declaration, Initial};
 use chill_tree::{Sign, Token, Word};
 use expr_parser::{
-    ParseRefusal, read_names, read_sign, read_value, read_word, starts, starts_with,
+    Listed, ParseRefusal, read_list, read_names, read_sign, read_value, read_word, starts,
+    starts_with,
 };
 use std::alloc::Global;
 
+// Declarations, where so many levels of nesting are left behind their opening tokens.
+#[derive(Drop)]
+struct Declarations {
+    inner: usize,
+}
+
+impl Listed for Declarations {
+    type Item = Declaration;
+
+    ghost use Rattle.chill_tree.specs.LocalTree.{DeclarationTree};
+
+    ghost Tree = { DeclarationTree };
+
+    ghost tree = { declaration_tree };
+
+    ghost reads = { λ s. declaration_at s.inner };
+}
+
 /// Reads declarations with commas between them, at least one.
-#[tactic(auto, unfolding(rules_model::specs::Reading::listed_at))]
 pub fn read_declarations(
     alloc: Global,
     tokens: &[Token],
@@ -24,50 +42,9 @@ pub fn read_declarations(
 ) -> Result<(List<Declaration>, &[Token]), ParseRefusal>
     ensures { Gives (λ x. (map declaration_tree x.0, x.1.now)) result (listed_at (declaration_at inner) tokens.now) }
 {
-    let (first, rest) = declaration(alloc, tokens, inner)?;
-    let mut items = List::new(alloc);
-    items.push(first)?;
-    other_declarations(alloc, items, rest, inner, tokens.len())
-}
-
-// Reads further declarations, each behind a comma.
-#[tactic(auto, using(expr_parser::proofs::Repeats::repeats))]
-fn other_declarations(
-    alloc: Global,
-    first: List<Declaration>,
-    tokens: &[Token],
-    inner: usize,
-    limit: usize,
-) -> Result<(List<Declaration>, &[Token]), ParseRefusal>
-    ensures { Gives (λ x. (map declaration_tree x.0, x.1.now)) result (repeat (another_at (declaration_at inner)) push limit (map declaration_tree first) tokens.now) }
-{
-    let mut items = first;
-    let mut rest = tokens;
-    for _ in 0..limit {
-        let Some((item, after)) = another_declaration(alloc, rest, inner)? else {
-            return Ok((items, rest));
-        };
-        items.push(item)?;
-        rest = after;
-    }
-    Ok((items, rest))
-}
-
-// Reads a comma and a declaration, if the comma is there.
-#[tactic(auto, unfolding(rules_model::specs::Reading::another_at))]
-fn another_declaration(
-    alloc: Global,
-    tokens: &[Token],
-    inner: usize,
-) -> Result<Option<(Declaration, &[Token])>, ParseRefusal>
-    ensures { Gives (option_map (λ x. (declaration_tree x.0, x.1.now))) result (another_at (declaration_at inner) tokens.now) }
-{
-    if !starts(tokens, Sign::Comma) {
-        return Ok(None);
-    }
-    let (_, rest) = read_sign(tokens, Sign::Comma)?;
-    let (item, rest) = declaration(alloc, rest, inner)?;
-    Ok(Some((item, rest)))
+    read_list(alloc, tokens, &Declarations { inner }, |item| {
+        declaration(alloc, item, inner)
+    })
 }
 
 // Reads names for locations, their mode, and what they hold at first where it is written.

@@ -1,6 +1,6 @@
 // Readers of named modes, ranges, sets and the indices of arrays (Z.200, chapter on modes).
 ghost use Rattle.std.specs.Prelude.{◌≡◌};
-ghost use Rattle.chill_tree.specs.ExprTree.{expr_tree};
+ghost use Rattle.chill_tree.specs.ExprTree.{boxed_expr};
 ghost use Rattle.chill_tree.specs.ModeTree.{discrete_tree, index_tree};
 ghost use Rattle.expr_parser.specs.Giving.{Gives};
 ghost use Rattle.rules_model.specs.ModeReading.{set_at, bounds_at, discrete_at, index_of, index_at};
@@ -83,11 +83,10 @@ pub fn read_index(
 }
 
 // The indices that are one expression, which has to be a name.
-#[tactic(auto, using(crate::proofs::Indexes::index_by_name))]
-fn index_of_name(single: Expr, rest: &[Token]) -> Result<(Index, &[Token]), ParseRefusal>
-    ensures { Gives (λ x. (index_tree x.0, x.1.now)) result (index_of (expr_tree single) rest.now) }
+fn index_of_name(single: Box<Expr>, rest: &[Token]) -> Result<(Index, &[Token]), ParseRefusal>
+    ensures { Gives (λ x. (index_tree x.0, x.1.now)) result (index_of (boxed_expr single) rest.now) }
 {
-    match single.into_name() {
+    match Expr::into_name(single) {
         Some(name) => Ok((Index::Named(name), rest)),
         None => Err(ParseRefusal::NoProgram { at: place(rest) }),
     }

@@ -1,17 +1,17 @@
 // Readers of modes (Z.200, chapter on modes).
-ghost use Rattle.std.specs.Prelude.{◌≡◌, ◌∷◌, [], map, option_map};
+ghost use Rattle.std.specs.Prelude.{map};
 ghost use Rattle.chill_tree.specs.ModeTree.{mode_tree};
 ghost use Rattle.expr_parser.specs.Giving.{Gives};
 ghost use Rattle.mode_parser.specs.ModeParts.{read_only_at, event_at, buffer_at};
-ghost use Rattle.rules_model.specs.Reading.{repeat, push, another_at, listed_at};
+ghost use Rattle.rules_model.specs.Reading.{listed_at};
 ghost use Rattle.rules_model.specs.ModeReading.{mode_at};
 
 use crate::base::read_base;
 use crate::place::read_length;
 use chill_base::List;
 use chill_tree::tree::Mode;
-use chill_tree::{Sign, Token, Word};
-use expr_parser::{ParseRefusal, read_sign, read_word, starts, starts_with};
+use chill_tree::{Token, Word};
+use expr_parser::{Listed, ParseRefusal, read_list, read_word, starts_with};
 use std::alloc::Global;
 
 /// Reads a mode, where `inner` levels of nesting are left behind its opening tokens.
@@ -73,8 +73,25 @@ fn buffer(alloc: Global, tokens: &[Token], inner: usize) -> Result<(Mode, &[Toke
     Ok((mode, rest))
 }
 
+// Modes, where so many levels of nesting are left behind their opening tokens.
+#[derive(Drop)]
+struct Modes {
+    inner: usize,
+}
+
+impl Listed for Modes {
+    type Item = Mode;
+
+    ghost use Rattle.chill_tree.specs.ModeTree.{ModeTree};
+
+    ghost Tree = { ModeTree };
+
+    ghost tree = { mode_tree };
+
+    ghost reads = { λ s. mode_at s.inner };
+}
+
 /// Reads modes with commas between them, at least one, each as `read_mode` does.
-#[tactic(auto, unfolding(rules_model::specs::Reading::listed_at))]
 pub fn read_modes(
     alloc: Global,
     tokens: &[Token],
@@ -82,48 +99,7 @@ pub fn read_modes(
 ) -> Result<(List<Mode>, &[Token]), ParseRefusal>
     ensures { Gives (λ x. (map mode_tree x.0, x.1.now)) result (listed_at (mode_at inner) tokens.now) }
 {
-    let (first, rest) = read_mode(alloc, tokens, inner)?;
-    let mut items = List::new(alloc);
-    items.push(first)?;
-    other_modes(alloc, items, rest, inner, tokens.len())
-}
-
-// Reads further modes, each behind a comma.
-#[tactic(auto, using(expr_parser::proofs::Repeats::repeats))]
-fn other_modes(
-    alloc: Global,
-    first: List<Mode>,
-    tokens: &[Token],
-    inner: usize,
-    limit: usize,
-) -> Result<(List<Mode>, &[Token]), ParseRefusal>
-    ensures { Gives (λ x. (map mode_tree x.0, x.1.now)) result (repeat (another_at (mode_at inner)) push limit (map mode_tree first) tokens.now) }
-{
-    let mut items = first;
-    let mut rest = tokens;
-    for _ in 0..limit {
-        let Some((item, after)) = another_mode(alloc, rest, inner)? else {
-            return Ok((items, rest));
-        };
-        items.push(item)?;
-        rest = after;
-    }
-    Ok((items, rest))
-}
-
-// Reads a comma and a mode, if the comma is there.
-#[tactic(auto, unfolding(rules_model::specs::Reading::another_at))]
-fn another_mode(
-    alloc: Global,
-    tokens: &[Token],
-    inner: usize,
-) -> Result<Option<(Mode, &[Token])>, ParseRefusal>
-    ensures { Gives (option_map (λ x. (mode_tree x.0, x.1.now))) result (another_at (mode_at inner) tokens.now) }
-{
-    if !starts(tokens, Sign::Comma) {
-        return Ok(None);
-    }
-    let (_, rest) = read_sign(tokens, Sign::Comma)?;
-    let (item, rest) = read_mode(alloc, rest, inner)?;
-    Ok(Some((item, rest)))
+    read_list(alloc, tokens, &Modes { inner }, |item| {
+        read_mode(alloc, item, inner)
+    })
 }

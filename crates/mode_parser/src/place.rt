@@ -1,16 +1,15 @@
 // Readers of lengths, of places in words, and of how parts lie (Z.200, chapter on modes).
 ghost use Rattle.std.specs.Prelude.{◌≡◌, option_map};
-ghost use Rattle.chill_tree.specs.ExprTree.{expr_tree};
+ghost use Rattle.chill_tree.specs.ExprTree.{boxed_expr};
 ghost use Rattle.chill_tree.specs.ModeTree.{place_tree, step_tree, spread_tree};
 ghost use Rattle.expr_parser.specs.Giving.{Gives};
 ghost use Rattle.mode_parser.specs.PlaceParts.{bound_at};
-ghost use Rattle.rules_model.specs.Nesting as nesting;
 ghost use Rattle.rules_model.specs.ModeReading.{length_at, place_end_at, place_at, field_place_at, step_at, packing_at, spread_at};
 
 use chill_base::Pos;
 use chill_tree::tree::{Expr, Packing, Place, PlaceForm, Spread, Step};
 use chill_tree::{Sign, Token, Word};
-use expr_parser::{ParseRefusal, read_expr, read_sign, read_word, starts, starts_with};
+use expr_parser::{ParseRefusal, less, read_expr, read_sign, read_word, starts, starts_with};
 use std::alloc::Global;
 
 /// Reads a length in its brackets, if the bracket is there.
@@ -19,8 +18,8 @@ pub fn read_length(
     alloc: Global,
     tokens: &[Token],
     inner: usize,
-) -> Result<(Option<Expr>, &[Token]), ParseRefusal>
-    ensures { Gives (λ x. (option_map expr_tree x.0, x.1.now)) result (length_at inner tokens.now) }
+) -> Result<(Option<Box<Expr>>, &[Token]), ParseRefusal>
+    ensures { Gives (λ x. (option_map boxed_expr x.0, x.1.now)) result (length_at inner tokens.now) }
 {
     if !starts(tokens, Sign::Open) {
         return Ok((None, tokens));
@@ -68,8 +67,8 @@ fn whole_place(
 #[derive(Drop)]
 struct Begun {
     at: Pos,
-    word: Expr,
-    start: Expr,
+    word: Box<Expr>,
+    start: Box<Expr>,
 }
 
 // Reads the end of a place, behind its start.
@@ -81,7 +80,7 @@ fn place_end(
     tokens: &[Token],
     inner: usize,
 ) -> Result<(Place, &[Token]), ParseRefusal>
-    ensures { Gives (λ x. (place_tree x.0, x.1.now)) result (place_end_at inner begun.at opened (expr_tree begun.word) (expr_tree begun.start) tokens.now) }
+    ensures { Gives (λ x. (place_tree x.0, x.1.now)) result (place_end_at inner begun.at opened (boxed_expr begun.word) (boxed_expr begun.start) tokens.now) }
 {
     if starts(tokens, Sign::Colon) {
         return bound(
@@ -115,7 +114,7 @@ fn bound(
     sign: Sign,
     inner: usize,
 ) -> Result<(Place, &[Token]), ParseRefusal>
-    ensures { Gives (λ x. (place_tree x.0, x.1.now)) result (bound_at inner begun.at opened (expr_tree begun.word) (expr_tree begun.start) form sign tokens.now) }
+    ensures { Gives (λ x. (place_tree x.0, x.1.now)) result (bound_at inner begun.at opened (boxed_expr begun.word) (boxed_expr begun.start) form sign tokens.now) }
 {
     let (_, rest) = read_sign(tokens, sign)?;
     let (bound, rest) = read_expr(alloc, rest, inner, opened)?;
@@ -147,16 +146,6 @@ fn step(alloc: Global, tokens: &[Token], inner: usize) -> Result<(Step, &[Token]
         distance,
     };
     Ok((step, rest))
-}
-
-// The levels that are left behind one more opening token.
-fn less(levels: usize) -> usize
-    ensures { result ≡ nesting.less levels }
-{
-    if levels == 0 {
-        return 0;
-    }
-    levels - 1
 }
 
 /// Reads whether the parts of a structure are packed, if it is said.

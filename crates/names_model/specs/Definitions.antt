@@ -1,6 +1,6 @@
 -- The definitions of a program. Each is known by its number: how many stand before it in the text. The predefined names have
 -- the numbers behind them.
-use Rattle.std.specs.Prelude.{ℕ, zero, suc, ◌+◌, Bool, false, List, [], ◌∷◌, ◌++◌, map, flat_map, length, slice_get, Option, Some, None, codes, if◌then◌else◌}
+use Rattle.std.specs.Prelude.{ℕ, zero, suc, ◌+◌, Bool, false, List, [], ◌∷◌, ◌++◌, map, length, slice_get, Option, Some, None, codes}
 use Rattle.std.specs.List.{filter}
 use Rattle.std.specs.Str.{bytes_eq}
 use Rattle.names_model.specs.declared.identifier.Identifier.{Identifier}
@@ -9,10 +9,9 @@ use Rattle.names_model.specs.declared.kind.Kind.TheVariants as kinds
 use Rattle.names_model.specs.declared.definition.Inside.{Inside}
 use Rattle.names_model.specs.declared.definition.Inside.TheVariants.{Outermost, Modulion, Body, Block}
 use Rattle.names_model.specs.declared.definition.Definition.{Definition}
-use Rattle.names_model.specs.declared.part.Mention.{Mention}
 use Rattle.names_model.specs.declared.part.Clause.{Clause}
 use Rattle.names_model.specs.Parts.{PartTree, PartNodes, define, mention, seize, seize_all, grant, grant_all, stray, modulion, routine, block, no_parts, more_parts}
-use Rattle.names_model.specs.Sizes.{elements_in, clause_size, head_size, size_of}
+use Rattle.names_model.specs.Sizes.{elements_in, head_size, size_of}
 
 -- where the definitions in a block stand that stands somewhere
 abbrev pub within : Inside → Inside

@@ -3,9 +3,9 @@ use Rattle.std.specs.Prelude.{ℕ, suc, ◌+◌, Bool, ◌&&◌, ◌||◌, List,
 use Rattle.std.specs.List.{filter}
 use Rattle.diagnostics.specs.declared.rule.Rule.TheVariants as rules
 use Rattle.diagnostics.specs.declared.diagnostic.Diagnostic.{Diagnostic}
-use Rattle.group_dependence.specs.declared.group.Group.{Group}
-use Rattle.group_dependence.specs.Groups.{edges_of}
-use Rattle.group_dependence.specs.Testing.{depends_on}
+use Rattle.cycles.specs.declared.group.Group.{Group}
+use Rattle.cycles.specs.Groups.{edges_of}
+use Rattle.cycles.specs.Testing.{depends_on}
 use Rattle.names_model.specs.declared.identifier.Identifier.{Identifier}
 use Rattle.names_model.specs.declared.definition.Definition.{Definition}
 use Rattle.names_model.specs.declared.part.Mention.{Mention}
@@ -16,7 +16,7 @@ use Rattle.names_model.specs.Parts.{PartTree, PartNodes, define, mention, seize,
 use Rattle.names_model.specs.Sizes.{clause_size}
 use Rattle.names_model.specs.Definitions.{numbers_on, with_predefined, is_kind_at}
 use Rattle.names_model.specs.Seeing.{Reach, sees}
-use Rattle.names_model.specs.NameRules.{Node, nodes, tell}
+use Rattle.names_model.specs.NameRules.{nodes, tell}
 
 -- the names that are used in a text
 abbrev pub uses_in : List Mention → List Identifier

@@ -1,6 +1,5 @@
 -- The parts of programs and modulions.
 use Rattle.std.specs.Prelude.{Bool, true, false, List, [], ◌∷◌, ◌++◌, map, flat_map, Option, Some, None}
-use Rattle.chill_base.specs.declared.pos.Pos.{Pos}
 use Rattle.chill_tree.specs.declared.tree.name.Name.{Name}
 use Rattle.chill_tree.specs.declared.tree.item.ModulionKind.{ModulionKind}
 use Rattle.chill_tree.specs.declared.tree.item.ModulionKind.TheVariants as modulions
@@ -8,7 +7,7 @@ use Rattle.chill_tree.specs.declared.tree.item.Passed.{Passed}
 use Rattle.chill_tree.specs.declared.tree.item.Passed.TheVariants.{Names, All}
 use Rattle.chill_tree.specs.StatementTree.{BodyTree, HandlerTree, handler_node, body_nodes}
 use Rattle.chill_tree.specs.ModeTree.{ModeTree}
-use Rattle.chill_tree.specs.ItemTree.{SignalTree, ParamTree, ProcedureTree, FormalTree, ProcessTree, ItemTree, ItemNodes, local_item, signals, procedure, process, action, no_items, more_items, ModulionTree, ProgramTree, modulion_item}
+use Rattle.chill_tree.specs.ItemTree.{SignalTree, ParamTree, ProcedureTree, FormalTree, ProcessTree, ItemTree, ItemNodes, local_item, signals, procedure, process, action, no_items, more_items, ProgramTree, modulion_item}
 use Rattle.chill_tree.specs.ItemTree.{seize as seize_item, grant as grant_item, modulion as modulion_of}
 use Rattle.names_model.specs.declared.kind.Kind.{Kind}
 use Rattle.names_model.specs.declared.kind.Kind.TheVariants as kinds

@@ -1,7 +1,6 @@
 -- The names in modes: those that are used, and the elements that SETs define.
-use Rattle.std.specs.Prelude.{List, [], ◌∷◌, ◌++◌, map, Option, Some, None}
-use Rattle.chill_tree.specs.declared.tree.name.Name.{Name}
-use Rattle.chill_tree.specs.ModeTree.{DiscreteTree, named, bounded, set_of, IndexTree, index_named, index_bounded, PlaceTree, StepTree, SpreadTree, by_packing, by_step, BaseTree, FieldNodes, discrete, powerset, chars, structure, array, no_fields, more_fields, ModeTree, base_mode, read_mode, event_mode, buffer_mode}
+use Rattle.std.specs.Prelude.{List, [], ◌++◌, map, Option, Some, None}
+use Rattle.chill_tree.specs.ModeTree.{DiscreteTree, named, bounded, set_of, IndexTree, index_named, index_bounded, PlaceTree, SpreadTree, by_packing, by_step, BaseTree, FieldNodes, discrete, powerset, chars, structure, array, no_fields, more_fields, ModeTree, base_mode, read_mode, event_mode, buffer_mode}
 use Rattle.names_model.specs.declared.kind.Need.TheVariants as needs
 use Rattle.names_model.specs.declared.part.Mention.{Mention}
 use Rattle.names_model.specs.Identifiers.{identifier}

@@ -1,5 +1,5 @@
 -- The rules on names, each stated of one part in its reach.
-use Rattle.std.specs.Prelude.{ℕ, suc, ◌+◌, ◌==◌, Bool, true, false, ◌&&◌, ◌||◌, not, List, [], ◌∷◌, ◌++◌, map, flat_map, length, nat_lt, slice_get, Option, Some, None, if◌then◌else◌}
+use Rattle.std.specs.Prelude.{ℕ, suc, ◌+◌, ◌==◌, Bool, ◌&&◌, ◌||◌, not, List, [], ◌∷◌, ◌++◌, flat_map, length, nat_lt, slice_get, Option, Some, None, if◌then◌else◌}
 use Rattle.std.specs.List.{list_any}
 use Rattle.std.specs.Str.{bytes_eq}
 use Rattle.chill_base.specs.declared.pos.Pos.{Pos}
@@ -8,7 +8,6 @@ use Rattle.diagnostics.specs.declared.rule.Rule.TheVariants as rules
 use Rattle.diagnostics.specs.declared.diagnostic.Diagnostic.{Diagnostic}
 use Rattle.names_model.specs.declared.identifier.Identifier.{Identifier}
 use Rattle.names_model.specs.declared.kind.Kind.{Kind}
-use Rattle.names_model.specs.declared.kind.Need.{Need}
 use Rattle.names_model.specs.declared.kind.Need.TheVariants as needs
 use Rattle.names_model.specs.declared.definition.Definition.{Definition}
 use Rattle.names_model.specs.declared.entry.Entry.{Entry}
@@ -20,7 +19,7 @@ use Rattle.names_model.specs.Parts.{PartTree, PartNodes, define, mention, seize,
 use Rattle.names_model.specs.Sizes.{head_size, size_of}
 use Rattle.names_model.specs.Definitions.{with_predefined, spelling_at, is_kind_at}
 use Rattle.names_model.specs.Entries.{param_names}
-use Rattle.names_model.specs.Seeing.{Reach, outermost, in_modulion, in_block, sees, seen_around, reach_entries, is_empty}
+use Rattle.names_model.specs.Seeing.{Reach, in_modulion, in_block, sees, seen_around, reach_entries, is_empty}
 
 -- a part and the reach in which it stands; its first definition has the number `from`
 pub record Node : Type 0 where

@@ -59,3 +59,7 @@ part_tree = fold-Part PartTree part_layer
 
 abbrev pub part_trees : List Part → List PartTree
 part_trees ps = map part_tree ps
+
+-- the parts of a reach
+abbrev pub nodes_of : List Part → PartNodes
+nodes_of ps = part_nodes (part_trees ps)

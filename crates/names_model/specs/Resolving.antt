@@ -13,7 +13,7 @@ use Rattle.names_model.specs.Parts.{PartTree, PartNodes, define, mention, seize,
 use Rattle.names_model.specs.ItemParts.{program_parts}
 use Rattle.names_model.specs.Definitions.{text_definitions, with_predefined}
 use Rattle.names_model.specs.Seeing.{Reach, outermost, sees}
-use Rattle.names_model.specs.NameRules.{Node, nodes, told_in, told_surplus}
+use Rattle.names_model.specs.NameRules.{nodes, told_in, told_surplus}
 use Rattle.names_model.specs.Dependence.{groups_in, told_selves}
 
 -- ---- the list of the phase

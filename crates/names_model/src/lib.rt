@@ -12,6 +12,8 @@ mod identifier;
 mod kind;
 mod names;
 mod part;
+mod sizes;
+mod telling;
 
 pub use definition::{Definition, Inside};
 pub use entry::Entry;
@@ -19,3 +21,8 @@ pub use identifier::{Identifier, Spelling};
 pub use kind::{Kind, Need};
 pub use names::{Names, Resolved};
 pub use part::{Clause, Mention, Part};
+pub use sizes::{
+    clause_size, clauses_size, elements_size, head_size, names_size, size_of, sizes_of,
+    up_to_greatest,
+};
+pub use telling::push_told;

@@ -1,11 +1,12 @@
 // The parts of reaches (Z.200, chapter on general semantic properties, visibility): what a text defines, uses, seizes and
 // grants, in the order of the text.
-ghost use Rattle.std.specs.Prelude.{◌≡◌, [], ◌∷◌, length, IfOk, IfSome};
-ghost use Rattle.names_model.specs.Parts.{define, mention, seize, seize_all, grant, grant_all, stray, modulion, routine, part_nodes, part_tree, part_trees};
-ghost use Rattle.names_model.specs.Sizes.{elements_in, clause_size, clauses_size, head_size, size_of, sizes_of, block_of};
+ghost use Rattle.std.specs.Prelude.{◌≡◌, IfOk};
+ghost use Rattle.names_model.specs.Parts.{define, mention, seize, seize_all, grant, grant_all, stray, modulion, routine, nodes_of, part_tree, part_trees};
+ghost use Rattle.names_model.specs.Sizes.{sizes_of, block_of};
 
 use crate::identifier::Identifier;
 use crate::kind::{Kind, Need};
+use crate::sizes::sizes_of;
 use chill_base::{List, Memory, Pos};
 
 /// A name in a mode or an expression.
@@ -73,28 +74,6 @@ pub enum Part {
     },
 }
 
-impl Mention {
-    // How many elements of a SET it defines.
-    fn size(&self) -> u32
-        ensures { result ≡ length (elements_in (self.now ∷ [])) }
-    {
-        match self {
-            Mention::Use { .. } | Mention::Argument { .. } => 0,
-            Mention::Element(_) => 1,
-        }
-    }
-}
-
-impl Clause {
-    /// How many names it defines, with the elements of the SETs in its text; none where no `u32` holds that number.
-    pub fn size(&self) -> Option<u32>
-        ensures { IfSome result (λ n. n ≡ clause_size self.now) }
-    {
-        let names = u32::try_from(self.names.len()).ok()?;
-        names.checked_add(mentions_size(self.text.as_slice())?)
-    }
-}
-
 impl Part {
     /// A definition of names.
     #[tactic(auto, using(crate::proofs::PartViews::part_built))]
@@ -155,9 +134,9 @@ impl Part {
     /// A module or a region of these parts. It answers `Memory` where no `u32` holds their size.
     #[tactic(auto, using(crate::proofs::PartViews::part_built))]
     pub fn modulion(name: Identifier, region: bool, parts: List<Part>) -> Result<Part, Memory>
-        ensures { IfOk result (λ p. part_tree p ≡ modulion name region (sizes_of (part_nodes (part_trees parts))) (part_nodes (part_trees parts))) }
+        ensures { IfOk result (λ p. part_tree p ≡ modulion name region (sizes_of (nodes_of parts)) (nodes_of parts)) }
     {
-        let size = Part::sizes(parts.as_slice()).ok_or(Memory)?;
+        let size = held_size(parts.as_slice())?;
         Ok(Part::Modulion {
             name,
             region,
@@ -175,9 +154,9 @@ impl Part {
         returned: List<Mention>,
         parts: List<Part>,
     ) -> Result<Part, Memory>
-        ensures { IfOk result (λ p. part_tree p ≡ routine name kind params returned (sizes_of (part_nodes (part_trees parts))) (part_nodes (part_trees parts))) }
+        ensures { IfOk result (λ p. part_tree p ≡ routine name kind params returned (sizes_of (nodes_of parts)) (nodes_of parts)) }
     {
-        let size = Part::sizes(parts.as_slice()).ok_or(Memory)?;
+        let size = held_size(parts.as_slice())?;
         Ok(Part::Routine {
             name,
             kind,
@@ -193,74 +172,20 @@ impl Part {
     pub fn block(parts: List<Part>) -> Result<Part, Memory>
         ensures { IfOk result (λ p. part_tree p ≡ block_of (part_trees parts)) }
     {
-        let size = Part::sizes(parts.as_slice()).ok_or(Memory)?;
+        let size = held_size(parts.as_slice())?;
         Ok(Part::Block { size, parts })
     }
-
-    /// How many definitions stand in it; none where no `u32` holds that number.
-    #[tactic(auto, using(crate::proofs::PartViews::part_built))]
-    pub fn size(&self) -> Option<u32>
-        ensures { IfSome result (λ n. n ≡ size_of (part_tree self.now)) }
-    {
-        match self {
-            Part::Define(clause) => clause.size(),
-            Part::Modulion { size, .. } => size.checked_add(1),
-            Part::Routine {
-                params,
-                result,
-                size,
-                ..
-            } => routine_head_size(params.as_slice(), result.as_slice())?.checked_add(*size),
-            Part::Block { size, .. } => Some(*size),
-            Part::Mention(_)
-            | Part::Seize(_)
-            | Part::SeizeAll(_)
-            | Part::Grant(_)
-            | Part::GrantAll(_)
-            | Part::Stray(_) => Some(0),
-        }
-    }
-
-    /// How many definitions stand in parts; none where no `u32` holds that number.
-    pub fn sizes(parts: &[Part]) -> Option<u32>
-        ensures { IfSome result (λ n. n ≡ sizes_of (part_nodes (part_trees parts.now))) }
-    {
-        let mut sum: u32 = 0;
-        for part in parts {
-            sum = sum.checked_add(part.size()?)?;
-        }
-        Some(sum)
-    }
 }
 
-// How many elements the SETs among mentions define.
-fn mentions_size(mentions: &[Mention]) -> Option<u32>
-    ensures { IfSome result (λ n. n ≡ length (elements_in mentions.now)) }
+// How many definitions stand in the parts that another holds. It answers `Memory` where no `u32` below the greatest holds that
+// number.
+fn held_size(parts: &[Part]) -> Result<u32, Memory>
+    ensures { IfOk result (λ n. n ≡ sizes_of (nodes_of parts.now)) }
 {
-    let mut sum: u32 = 0;
-    for mention in mentions {
-        sum = sum.checked_add(mention.size())?;
+    match sizes_of(parts) {
+        u32::MAX => Err(Memory),
+        size => Ok(size),
     }
-    Some(sum)
-}
-
-// How many definitions stand in clauses.
-fn clauses_total(clauses: &[Clause]) -> Option<u32>
-    ensures { IfSome result (λ n. n ≡ clauses_size clauses.now) }
-{
-    let mut sum: u32 = 0;
-    for clause in clauses {
-        sum = sum.checked_add(clause.size()?)?;
-    }
-    Some(sum)
-}
-
-// How many definitions a procedure or process has before those in its body.
-fn routine_head_size(params: &[Clause], returned: &[Mention]) -> Option<u32>
-    ensures { IfSome result (λ n. n ≡ head_size params.now returned.now) }
-{
-    let sum = clauses_total(params)?.checked_add(mentions_size(returned)?)?;
-    sum.checked_add(1)
 }
 
 // Dropped by hand, so that whoever drops one makes one call, and has none of its cases.

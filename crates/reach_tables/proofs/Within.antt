@@ -15,15 +15,15 @@ pub either : (a b : Bool) → (a || b) ≡ true → (a ≡ true) ⊎ (b ≡ true
 either true b h = inl refl
 either false b h = inr h
 
-pub or-left : (a b : Bool) → a ≡ true → (a || b) ≡ true
+or-left : (a b : Bool) → a ≡ true → (a || b) ≡ true
 or-left true b h = refl
 or-left false b h = cc
 
-pub or-right : (a b : Bool) → b ≡ true → (a || b) ≡ true
+or-right : (a b : Bool) → b ≡ true → (a || b) ≡ true
 or-right true b h = refl
 or-right false b h = h
 
-pub or-none : (a : Bool) → (a || false) ≡ a
+or-none : (a : Bool) → (a || false) ≡ a
 or-none true = refl
 or-none false = refl
 
@@ -68,7 +68,7 @@ any-at p d (x ∷ xs) h k = side (λ e. any-at p d xs e k) (either (x == d) (is_
     side rest (inr e) = or-right (p x) (list_any p xs) (rest e)
 
 -- whether any passes is told by those that were there and those that were put behind them
-pub any-once : (q : ℕ → Bool) (xs ys : List ℕ) → list_any q (once_behind xs ys) ≡ (list_any q xs || list_any q ys)
+any-once : (q : ℕ → Bool) (xs ys : List ℕ) → list_any q (once_behind xs ys) ≡ (list_any q xs || list_any q ys)
 any-once q xs [] = sym (or-none (list_any q xs))
 any-once q xs (y ∷ ys) = any-once q (if is_among y xs then xs else xs ++ y ∷ []) ys ∙ side (is_among y xs) refl
   where
@@ -85,7 +85,7 @@ any-once q xs (y ∷ ys) = any-once q (if is_among y xs then xs else xs ++ y ∷
     side true is = absorbed (list_any q xs) (q y) (list_any q ys) (λ k. any-at q y xs is k)
     side false is = ap (λ b. b || list_any q ys) (any-behind q xs y) ∙ assoc (list_any q xs) (q y) (list_any q ys)
 
-pub any-filter : (p q : ℕ → Bool) (xs : List ℕ) → list_any q (filter p xs) ≡ list_any (λ x. p x && q x) xs
+any-filter : (p q : ℕ → Bool) (xs : List ℕ) → list_any q (filter p xs) ≡ list_any (λ x. p x && q x) xs
 any-filter p q [] = refl
 any-filter p q (x ∷ xs) = side (p x) (any-filter p q xs)
   where

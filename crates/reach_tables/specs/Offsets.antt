@@ -1,12 +1,7 @@
 -- Where the numbers of definitions lie.
-use Rattle.std.specs.Prelude.{ℕ, suc, ◌+◌, ◌<◌, ◌^◌, List, ⊤}
-use Rattle.names_model.specs.declared.part.Part.{Part}
-use Rattle.names_model.specs.Parts.{PartTree, PartNodes, define, mention, seize, seize_all, grant, grant_all, stray, modulion, routine, block, no_parts, more_parts, part_nodes, part_trees}
+use Rattle.std.specs.Prelude.{ℕ, suc, ◌+◌, ◌<◌, ◌^◌, ⊤}
+use Rattle.names_model.specs.Parts.{PartTree, PartNodes, define, mention, seize, seize_all, grant, grant_all, stray, modulion, routine, block, no_parts, more_parts}
 use Rattle.names_model.specs.Sizes.{head_size, size_of}
-
--- the parts of a reach
-abbrev pub nodes_of : List Part → PartNodes
-nodes_of ps = part_nodes (part_trees ps)
 
 abbrev mutual
   -- the numbers of the definitions inside a part, the first of which is `from`, are below 2 ^ 32

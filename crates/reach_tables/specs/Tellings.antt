@@ -9,7 +9,6 @@ use Rattle.diagnostics.specs.Listing.{IsIn, SameMembers}
 use Rattle.names_model.specs.declared.definition.Definition.{Definition}
 use Rattle.names_model.specs.Definitions.{spelling_at}
 use Rattle.names_model.specs.NameRules.{tell, told_number}
-use Rattle.reach_tables.specs.Names.{is_named}
 
 -- N1 of the number's name is told at the place; of no number nothing is said
 abbrev pub IsTold : List Definition → Pos → List Diagnostic → Option ℕ → Type 0
@@ -30,10 +29,7 @@ pub record Tells (all : List Definition) (at : Pos) (known : List ℕ) (d : ℕ)
   pub last : IsTold all at new next
   pub told : SameMembers new (old ++ told_number all known at d)
 
--- one of some numbers is another than one of others
-abbrev pub clashes_any : List ℕ → List ℕ → Bool
-clashes_any ds others = list_any (λ d. is_another_among d others) ds
-
--- N1 is told of a name that is among others
-abbrev pub told_of : Pos → List (List ℕ) → List ℕ → List Diagnostic
-told_of at names n = if is_named names n then tell at rules.N1 n ∷ [] else []
+-- those of some numbers that don't have the name of the one before them
+abbrev pub firsts : List Definition → Option ℕ → List ℕ → List ℕ
+firsts all last [] = []
+firsts all last (d ∷ ds) = (if is_last all last d then [] else d ∷ []) ++ firsts all (if is_last all last d then last else Some d) ds

@@ -1,7 +1,6 @@
 // The definitions of a program by their numbers.
 ghost use Rattle.std.specs.Prelude.{◌≡◌, []};
 
-use crate::qualities::Qualities;
 use crate::table::Table;
 use names_model::{Definition, Kind, Need, Spelling};
 
@@ -18,10 +17,9 @@ pub struct Book {
 }
 
 impl Book {
-    ghost use Rattle.std.specs.Prelude.{◌≡◌, ◌∷◌, [], slice_get};
+    ghost use Rattle.std.specs.Prelude.{◌≡◌, slice_get};
     ghost use Rattle.names_model.specs.Definitions.{elements_of, is_kind_at, kind_of, spelling_at};
     ghost use Rattle.names_model.specs.Kinds.{fits, is_location, is_measuring};
-    ghost use Rattle.reach_tables.specs.Asking.{Rated, has_elements};
 
     /// The name of a definition.
     pub fn spelling(&self, number: usize) -> &Spelling
@@ -75,28 +73,5 @@ impl Book {
         ensures { result ≡ is_kind_at is_measuring self.now.all.items number }
     {
         matches!(self.kind(number), Some(Kind::MeasuringRoutine))
-    }
-
-    /// Whether elements go with a definition.
-    pub fn has_elements(&self, number: u32) -> bool
-        ensures { result ≡ has_elements self.now.all.items number }
-    {
-        0 < self.elements(number)
-    }
-
-    /// What a definition is alone.
-    pub fn qualities(&self, number: u32) -> Qualities
-        ensures { Rated self.now.all.items result (number ∷ []) }
-    {
-        Qualities {
-            mode: self.is_fit(Need::Mode, number),
-            process: self.is_fit(Need::Process, number),
-            action: self.is_fit(Need::Action, number),
-            location: self.is_fit(Need::Location, number),
-            message: self.is_fit(Need::Message, number),
-            value: self.is_fit(Need::Value, number),
-            measuring: self.is_measuring(number),
-            elements: self.has_elements(number),
-        }
     }
 }

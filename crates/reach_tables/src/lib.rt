@@ -1,42 +1,40 @@
-//! What a reach keeps under each name, and what is seen by it: `shows_any`, `first_shown` and `find_shown` answer by what
-//! the tables of the reaches around a place show.
+//! The definitions of a program by their numbers, and what each of its reaches has and shows under each name.
 //!
-//! It stands on `names_model`, whose entries the tables hold, and below `reach_entries`, which opens reaches by them,
-//! `reach_lends`, which makes what they lend, and `reach_walk`, which asks what a place sees. `specs/Held.antt` says what a table has under a name, and `specs/Scopes.antt`
-//! what the tables around a place show, and when this is what a reach sees as `names_model` defines it.
+//! `Book::of` has all definitions of a program, `givens_of` makes once what each modulion has from itself and from its
+//! modulions, and `enter_parts` enters what a reach has, place by place, with N1 of it. `sees` and `seen_around` lend what the
+//! tables around a place show. It meets the definitions of `names_model`, and stands below `reach_walk`, which goes over all
+//! parts with these tables.
 #![tactic(auto)]
 
-mod asked;
-mod asking;
+mod among;
 mod book;
-mod crowded;
-mod entered;
-mod group;
-mod holding;
-mod lent;
+mod collect;
+mod definitions;
+mod entries;
+mod founds;
+mod given;
+mod giving;
+mod granted;
 mod marked;
-mod names;
-mod offsets;
-mod places;
-mod qualities;
+mod opening;
+mod passages;
+mod passing;
+mod place;
+mod predefined;
+mod reached;
 mod scope;
+mod source;
 mod table;
+mod twice;
 
-pub use asked::Asked;
-pub use asking::{among, among_own, any_meets};
 pub use book::Book;
-pub use crowded::is_another_under;
-pub use entered::{Entered, FEW};
-pub use group::{Group, Shared};
-pub use holding::{Held, Item};
-pub use lent::{Lendings, Lent};
-pub use marked::Marked;
-pub use names::Names;
-pub use offsets::{
-    clause_size, clauses_size, elements_size, head_size, names_size, size_of, sizes_of,
-    up_to_greatest,
-};
-pub use places::Places;
-pub use qualities::Qualities;
-pub use scope::{Scope, find_shown, first_shown, is_known, lent_by, shows_any};
+pub use entries::{enter_params, push_all};
+pub use given::{Given, lent_inner, split_given};
+pub use giving::givens_of;
+pub use opening::Opening;
+pub use place::Place;
+pub use predefined::COUNT as PREDEFINED_COUNT;
+pub use reached::{enter_parts, enter_places, seizes_all};
+pub use scope::{Scope, seen_around, sees};
+pub use source::Source;
 pub use table::Table;

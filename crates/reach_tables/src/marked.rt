@@ -7,7 +7,7 @@ use std::marker::Model;
 /// Numbers, of which it is known at once whether one is there.
 #[derive(Drop)]
 pub struct Marked {
-    set: IndexSet<usize>,
+    set: IndexSet<u32>,
 }
 
 impl Model for Marked {
@@ -20,7 +20,7 @@ impl Model for Marked {
 
 impl Marked {
     ghost use Rattle.std.specs.Prelude.{◌≡◌, ℕ, [], true, not, nat_eq, IfOk, OnOk, if◌then◌else◌};
-    ghost use Rattle.reach_tables.specs.Marked.{is_marked};
+    ghost use Rattle.reach_tables.specs.Marks.{is_marked};
 
     /// No number is marked. It takes no memory.
     pub fn new(alloc: Global) -> Marked
@@ -32,18 +32,11 @@ impl Marked {
     }
 
     /// Marks a number, and tells whether it is new.
-    pub fn mark(&mut self, number: usize) -> Result<bool, Memory>
+    pub fn mark(&mut self, number: u32) -> Result<bool, Memory>
         ensures new { IfOk result (λ added. added ≡ not (is_marked self.old number)) }
         ensures marks { OnOk result ((d : ℕ) → is_marked self.new d ≡ (if nat_eq number d then true else is_marked self.old d)) }
     {
         let added = self.set.insert(number)?;
         Ok(added)
-    }
-
-    /// Whether a number is marked.
-    pub fn contains(&self, number: usize) -> bool
-        ensures { result ≡ is_marked self.now number }
-    {
-        self.set.contains(&number)
     }
 }

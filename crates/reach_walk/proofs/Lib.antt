@@ -1,8 +1,6 @@
-pub mod Showing
-pub mod Walking
-pub mod Defining
 pub mod Grouping
+pub mod Joining
 pub mod Measuring
 pub mod ProgramMeasures
-pub mod Listing
-pub mod Leading
+pub mod Showing
+pub mod Walking

@@ -1,4 +1,3 @@
-pub mod Named
 pub mod Findings
 pub mod Measures
-pub mod Listed
+pub mod SameGroups

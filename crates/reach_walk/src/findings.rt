@@ -10,9 +10,9 @@ ghost use Rattle.reach_tables.specs.Scopes.{Shows};
 use crate::groups::note_groups;
 use crate::told::tell_here;
 use crate::uses::note_uses;
-use chill_base::{Memory, Numbers};
+use chill_base::Memory;
+use cycles::Group;
 use diagnostics::Diagnostic;
-use group_dependence::TargetGroup;
 use names_model::{Part, Resolved};
 use reach_tables::{Book, Scope};
 use std::alloc::Global;
@@ -21,9 +21,7 @@ use std::alloc::Global;
 #[derive(Drop)]
 pub struct Findings {
     pub told: Vec<Diagnostic>,
-    /// The lists of numbers to which the groups point.
-    pub lists: Vec<Numbers>,
-    pub groups: Vec<TargetGroup>,
+    pub groups: Vec<Group>,
     pub uses: Vec<Resolved>,
 }
 
@@ -32,11 +30,10 @@ impl Findings {
 
     /// Nothing is found yet.
     pub fn new(alloc: Global) -> Findings
-        ensures { (result.told.items ≡ []) × (result.lists.items ≡ []) × (result.groups.items ≡ []) × (result.uses.items ≡ []) }
+        ensures { (result.told.items ≡ []) × (result.groups.items ≡ []) × (result.uses.items ≡ []) }
     {
         Findings {
             told: Vec::new(alloc),
-            lists: Vec::new(alloc),
             groups: Vec::new(alloc),
             uses: Vec::new(alloc),
         }
@@ -53,18 +50,10 @@ pub fn note_here(
     part: &Part,
     out: &mut Findings,
 ) -> Result<(), Memory>
-    ensures { (text : List Definition) (r : Reach) → Shows book.now scope.now text r → from + size_of (part_tree part.now) < 2 ^ 32 → OnOk result (AddsHere scope.now out.old out.new text r from (part_tree part.now)) }
+    ensures { (text : List Definition) (r : Reach) → Shows book.now scope.now text r → from + size_of (part_tree part.now) < 2 ^ 32 → OnOk result (AddsHere out.old out.new text r from (part_tree part.now)) }
 {
     tell_here(alloc, book, scope, part, &mut out.told)?;
-    note_groups(
-        alloc,
-        book,
-        scope,
-        out.lists.as_slice(),
-        from,
-        part,
-        &mut out.groups,
-    )?;
+    note_groups(alloc, book, scope, from, part, &mut out.groups)?;
     note_uses(book, scope, part, &mut out.uses)?;
     Ok(())
 }

@@ -1,21 +1,18 @@
 // What depends on what: the groups of the definitions of one text and of those that are seen under the names in it.
-ghost use Rattle.std.specs.Prelude.{◌≡◌, ℕ, ◌++◌, ◌∷◌, [], suc, ◌+◌, ◌<◌, ◌^◌, length, flat_map, List, IfOk, OnOk};
-ghost use Rattle.group_dependence.specs.Targets.{SameEdges, groups_with, target_nodes};
+ghost use Rattle.std.specs.Prelude.{◌≡◌, ◌++◌, ◌∷◌, [], suc, ◌+◌, ◌<◌, ◌^◌, length, List, IfOk, OnOk};
 ghost use Rattle.names_model.specs.declared.definition.Definition.{Definition};
 ghost use Rattle.names_model.specs.Definitions.{numbers_on};
 ghost use Rattle.names_model.specs.Dependence.{clause_group, group, groups_of, named_in, param_groups};
 ghost use Rattle.names_model.specs.Parts.{part_tree};
 ghost use Rattle.names_model.specs.Seeing.{Reach};
 ghost use Rattle.names_model.specs.Sizes.{clause_size, clauses_size, head_size, size_of};
-ghost use Rattle.reach_walk.specs.Listed.{AllListed, Leads, SameNumbers};
-ghost use Rattle.reach_tables.specs.Placed.{Includes};
 ghost use Rattle.reach_tables.specs.Scopes.{Shows};
+ghost use Rattle.reach_walk.specs.SameGroups.{SameGroups};
 
-use crate::targets::push_targets;
-use chill_base::{List, Memory, Numbers};
-use group_dependence::{Target, TargetGroup};
-use names_model::{Clause, Identifier, Mention, Part};
-use reach_tables::{Book, Scope, clause_size};
+use chill_base::{Memory, Numbers};
+use cycles::Group;
+use names_model::{Clause, Identifier, Mention, Part, clause_size};
+use reach_tables::{Book, Scope, push_all, sees};
 use std::alloc::Global;
 
 // The numbers of names, the first of which has the number `from`.
@@ -31,38 +28,43 @@ fn numbers_on(alloc: Global, from: u32, names: &[Identifier]) -> Result<Numbers,
     Ok(numbers)
 }
 
-// Puts the definitions that are seen under the name that a mention uses behind other targets.
-fn push_seen(
-    book: &Book,
-    scope: &Scope,
-    lists: &[Numbers],
-    mention: &Mention,
-    out: &mut List<Target>,
-) -> Result<(), Memory>
-    ensures { (final : List (List ℕ)) (text : List Definition) (r : Reach) → Shows book.now scope.now text r → Includes lists.now final → AllListed final scope.now → OnOk result (Leads final out.old out.new (named_in text r (mention.now ∷ []))) }
+// Puts the definitions that are seen under the name that a mention uses behind others.
+#[tactic(auto, using(reach_tables::proofs::Appends::nothing_more))]
+fn push_seen(book: &Book, scope: &Scope, mention: &Mention, out: &mut Numbers) -> Result<(), Memory>
+    ensures { (text : List Definition) (r : Reach) → Shows book.now scope.now text r → OnOk result (out.new ≡ out.old ++ named_in text r (mention.now ∷ [])) }
 {
     match mention {
-        Mention::Use { name, .. } => push_targets(book, scope, lists, &name.spelling, out),
-        Mention::Argument { name, .. } => push_targets(book, scope, lists, &name.spelling, out),
+        Mention::Use { name, .. } => push_all(sees(book, scope, &name.spelling), out),
+        Mention::Argument { name, .. } => push_all(sees(book, scope, &name.spelling), out),
         Mention::Element(_) => Ok(()),
     }
 }
 
 // All definitions that are seen under the names in a text.
-fn named_in(
-    alloc: Global,
-    book: &Book,
-    scope: &Scope,
-    lists: &[Numbers],
-    text: &[Mention],
-) -> Result<List<Target>, Memory>
-    ensures { (final : List (List ℕ)) (whole : List Definition) (r : Reach) → Shows book.now scope.now whole r → Includes lists.now final → AllListed final scope.now → IfOk result (λ targets. SameNumbers (flat_map (target_nodes final) targets) (named_in whole r text.now)) }
+fn named_in(alloc: Global, book: &Book, scope: &Scope, text: &[Mention]) -> Result<Numbers, Memory>
+    ensures { (whole : List Definition) (r : Reach) → Shows book.now scope.now whole r → IfOk result (λ numbers. numbers ≡ named_in whole r text.now) }
 {
-    let mut targets = List::new(alloc);
+    let mut numbers = Numbers::new(alloc);
     for mention in text {
-        push_seen(book, scope, lists, mention, &mut targets)?;
+        push_seen(book, scope, mention, &mut numbers)?;
     }
-    Ok(targets)
+    Ok(numbers)
+}
+
+// Puts a group behind others, or its first nodes to those of the last one, where that depends on the same: so many definitions
+// of one text each are one group.
+fn push_group(own: Group, out: &mut Vec<Group>) -> Result<(), Memory>
+    ensures { OnOk result (SameGroups out.new.items (out.old.items ++ own ∷ [])) }
+{
+    let Some(mut last) = out.pop() else {
+        return Ok(out.push(own)?);
+    };
+    if last.to.as_slice() == own.to.as_slice() {
+        push_all(own.from.as_slice(), &mut last.from)?;
+        return Ok(out.push(last)?);
+    }
+    out.push(last)?;
+    Ok(out.push(own)?)
 }
 
 // Notes on what the names of a clause depend.
@@ -70,20 +72,19 @@ fn note_clause(
     alloc: Global,
     book: &Book,
     scope: &Scope,
-    lists: &[Numbers],
     from: u32,
     clause: &Clause,
-    out: &mut Vec<TargetGroup>,
+    out: &mut Vec<Group>,
 ) -> Result<(), Memory>
-    ensures { (final : List (List ℕ)) (text : List Definition) (r : Reach) → Shows book.now scope.now text r → Includes lists.now final → AllListed final scope.now → from + clause_size clause.now < 2 ^ 32 → OnOk result (SameEdges (groups_with final out.new.items) (groups_with final out.old.items ++ clause_group text r from clause.now ∷ [])) }
+    ensures { (text : List Definition) (r : Reach) → Shows book.now scope.now text r → from + clause_size clause.now < 2 ^ 32 → OnOk result (SameGroups out.new.items (out.old.items ++ clause_group text r from clause.now ∷ [])) }
 {
     let defined = numbers_on(alloc, from, clause.names.as_slice())?;
-    let named = named_in(alloc, book, scope, lists, clause.text.as_slice())?;
-    out.push(TargetGroup {
+    let named = named_in(alloc, book, scope, clause.text.as_slice())?;
+    let own = Group {
         from: defined,
         to: named,
-    })?;
-    Ok(())
+    };
+    push_group(own, out)
 }
 
 // Notes on what parameters depend.
@@ -91,16 +92,15 @@ fn note_params(
     alloc: Global,
     book: &Book,
     scope: &Scope,
-    lists: &[Numbers],
     from: u32,
     params: &[Clause],
-    out: &mut Vec<TargetGroup>,
+    out: &mut Vec<Group>,
 ) -> Result<(), Memory>
-    ensures { (final : List (List ℕ)) (text : List Definition) (r : Reach) → Shows book.now scope.now text r → Includes lists.now final → AllListed final scope.now → from + clauses_size params.now < 2 ^ 32 → OnOk result (SameEdges (groups_with final out.new.items) (groups_with final out.old.items ++ param_groups text r from params.now)) }
+    ensures { (text : List Definition) (r : Reach) → Shows book.now scope.now text r → from + clauses_size params.now < 2 ^ 32 → OnOk result (SameGroups out.new.items (out.old.items ++ param_groups text r from params.now)) }
 {
     let mut next = from;
     for clause in params {
-        note_clause(alloc, book, scope, lists, next, clause, out)?;
+        note_clause(alloc, book, scope, next, clause, out)?;
         next = next.saturating_add(clause_size(clause));
     }
     Ok(())
@@ -111,48 +111,39 @@ fn note_routine(
     alloc: Global,
     book: &Book,
     scope: &Scope,
-    lists: &[Numbers],
     from: u32,
     params: &[Clause],
     returned: &[Mention],
-    out: &mut Vec<TargetGroup>,
+    out: &mut Vec<Group>,
 ) -> Result<(), Memory>
-    ensures { (final : List (List ℕ)) (text : List Definition) (r : Reach) → Shows book.now scope.now text r → Includes lists.now final → AllListed final scope.now → from + head_size params.now returned.now < 2 ^ 32 → OnOk result (SameEdges (groups_with final out.new.items) (groups_with final out.old.items ++ group (from ∷ []) (named_in text r returned.now) ∷ param_groups text r (suc from) params.now)) }
+    ensures { (text : List Definition) (r : Reach) → Shows book.now scope.now text r → from + head_size params.now returned.now < 2 ^ 32 → OnOk result (SameGroups out.new.items (out.old.items ++ group (from ∷ []) (named_in text r returned.now) ∷ param_groups text r (suc from) params.now)) }
 {
     let mut defined = Numbers::new(alloc);
     defined.push(from)?;
-    let named = named_in(alloc, book, scope, lists, returned)?;
-    out.push(TargetGroup {
+    let named = named_in(alloc, book, scope, returned)?;
+    let own = Group {
         from: defined,
         to: named,
-    })?;
-    note_params(
-        alloc,
-        book,
-        scope,
-        lists,
-        from.saturating_add(1),
-        params,
-        out,
-    )?;
+    };
+    push_group(own, out)?;
+    note_params(alloc, book, scope, from.saturating_add(1), params, out)?;
     Ok(())
 }
 
 /// Notes what depends on what by a part, whose first definition has the number `from`.
-#[tactic(auto, using(names_model::proofs::PartViews::part_built, crate::proofs::Grouping::no_group))]
+#[tactic(auto, using(names_model::proofs::PartViews::part_built))]
 pub fn note_groups(
     alloc: Global,
     book: &Book,
     scope: &Scope,
-    lists: &[Numbers],
     from: u32,
     part: &Part,
-    out: &mut Vec<TargetGroup>,
+    out: &mut Vec<Group>,
 ) -> Result<(), Memory>
-    ensures { (final : List (List ℕ)) (text : List Definition) (r : Reach) → Shows book.now scope.now text r → Includes lists.now final → AllListed final scope.now → from + size_of (part_tree part.now) < 2 ^ 32 → OnOk result (SameEdges (groups_with final out.new.items) (groups_with final out.old.items ++ groups_of text r from (part_tree part.now))) }
+    ensures { (text : List Definition) (r : Reach) → Shows book.now scope.now text r → from + size_of (part_tree part.now) < 2 ^ 32 → OnOk result (SameGroups out.new.items (out.old.items ++ groups_of text r from (part_tree part.now))) }
 {
     match part {
-        Part::Define(clause) => note_clause(alloc, book, scope, lists, from, clause, out),
+        Part::Define(clause) => note_clause(alloc, book, scope, from, clause, out),
         Part::Routine {
             params,
             result: returned,
@@ -161,7 +152,6 @@ pub fn note_groups(
             alloc,
             book,
             scope,
-            lists,
             from,
             params.as_slice(),
             returned.as_slice(),

@@ -1,56 +1,77 @@
 // What is told of parts in their reach: N2 to N5.
-ghost use Rattle.std.specs.Prelude.{◌≡◌, ◌++◌, ℕ, List, OnOk, flat_map};
+ghost use Rattle.std.specs.Prelude.{◌≡◌, ◌++◌, List, OnOk, flat_map};
 ghost use Rattle.names_model.specs.declared.definition.Definition.{Definition};
-ghost use Rattle.names_model.specs.Kinds.{fits};
+ghost use Rattle.names_model.specs.Kinds.{fits, is_measuring};
 ghost use Rattle.names_model.specs.Parts.{part_tree};
-ghost use Rattle.names_model.specs.Seeing.{Reach, is_empty, sees};
+ghost use Rattle.names_model.specs.Seeing.{Reach, sees};
 ghost use Rattle.names_model.specs.NameRules.{any_kind, fits_argument, told_here, told_mention, told_mentions, told_use, unless_seen};
 ghost use Rattle.reach_tables.specs.Scopes.{Shows};
 
-use crate::seen::{none_around, sees_any, sees_none};
 use chill_base::Memory;
 use diagnostics::{Diagnostic, Rule};
-use names_model::{Clause, Identifier, Mention, Need, Part, Spelling};
-use reach_entries::push_told;
-use reach_tables::{Asked, Book, Scope};
+use names_model::{Clause, Identifier, Mention, Need, Part, push_told};
+use reach_tables::{Book, Scope, seen_around, sees};
 use std::alloc::Global;
 
-// Tells a rule of a name if nothing is seen.
-fn tell_unseen(
+// Tells a rule of a name unless something is seen.
+fn tell_unless_seen(
     alloc: Global,
     rule: Rule,
     name: &Identifier,
-    unseen: bool,
+    seen: &[u32],
     out: &mut Vec<Diagnostic>,
 ) -> Result<(), Memory>
-    ensures { (seen : List ℕ) → unseen ≡ is_empty seen → OnOk result (out.new.items ≡ out.old.items ++ unless_seen rule name.now seen) }
+    ensures { OnOk result (out.new.items ≡ out.old.items ++ unless_seen rule name.now seen.now) }
 {
-    if unseen {
+    if seen.is_empty() {
         push_told(alloc, name.at, rule, &name.spelling, out)?;
     }
     Ok(())
 }
 
-// Whether a name may be the whole argument of a routine.
-fn fits_argument(book: &Book, scope: &Scope, callee: &Spelling, name: &Spelling) -> bool
-    ensures { (text : List Definition) (r : Reach) → Shows book.now scope.now text r → result ≡ fits_argument book.now.all.items (sees text r callee.now) (sees text r name.now) }
+// Whether any of the definitions is of a kind that is needed.
+fn is_any_fit(book: &Book, need: Need, numbers: &[u32]) -> bool
+    ensures { result ≡ any_kind (fits need) book.now.all.items numbers.now }
 {
-    sees_any(book, scope, name, Asked::Fits(Need::Value))
-        || (sees_any(book, scope, callee, Asked::IsMeasuring)
-            && sees_any(book, scope, name, Asked::Fits(Need::Mode)))
+    for number in numbers {
+        if book.is_fit(need, *number) {
+            return true;
+        }
+    }
+    false
+}
+
+// Whether any of the definitions is of UPPER, LOWER or SIZE.
+fn is_any_measuring(book: &Book, numbers: &[u32]) -> bool
+    ensures { result ≡ any_kind is_measuring book.now.all.items numbers.now }
+{
+    for number in numbers {
+        if book.is_measuring(*number) {
+            return true;
+        }
+    }
+    false
+}
+
+// Whether a name may be the whole argument of a routine.
+fn fits_argument(book: &Book, callee: &[u32], seen: &[u32]) -> bool
+    ensures { result ≡ fits_argument book.now.all.items callee.now seen.now }
+{
+    is_any_fit(book, Need::Value, seen)
+        || (is_any_measuring(book, callee) && is_any_fit(book, Need::Mode, seen))
 }
 
 // Tells of a used name that isn't seen or isn't fit.
 fn tell_use(
     alloc: Global,
     name: &Identifier,
-    unseen: bool,
+    seen: &[u32],
     fit: bool,
     out: &mut Vec<Diagnostic>,
 ) -> Result<(), Memory>
-    ensures { (seen : List ℕ) → unseen ≡ is_empty seen → OnOk result (out.new.items ≡ out.old.items ++ told_use name.now seen fit) }
+    ensures { OnOk result (out.new.items ≡ out.old.items ++ told_use name.now seen.now fit) }
 {
-    if unseen {
+    if seen.is_empty() {
         push_told(alloc, name.at, Rule::N2, &name.spelling, out)?;
         return Ok(());
     }
@@ -71,9 +92,8 @@ fn tell_needed(
 ) -> Result<(), Memory>
     ensures { (text : List Definition) (r : Reach) → Shows book.now scope.now text r → OnOk result (out.new.items ≡ out.old.items ++ told_use name.now (sees text r name.now.spelling) (any_kind (fits need) book.now.all.items (sees text r name.now.spelling))) }
 {
-    let unseen = sees_none(book, scope, &name.spelling);
-    let fit = sees_any(book, scope, &name.spelling, Asked::Fits(need));
-    tell_use(alloc, name, unseen, fit, out)?;
+    let seen = sees(book, scope, &name.spelling);
+    tell_use(alloc, name, seen, is_any_fit(book, need, seen), out)?;
     Ok(())
 }
 
@@ -88,9 +108,9 @@ fn tell_argument(
 ) -> Result<(), Memory>
     ensures { (text : List Definition) (r : Reach) → Shows book.now scope.now text r → OnOk result (out.new.items ≡ out.old.items ++ told_use name.now (sees text r name.now.spelling) (fits_argument book.now.all.items (sees text r routine.now.spelling) (sees text r name.now.spelling))) }
 {
-    let unseen = sees_none(book, scope, &name.spelling);
-    let fit = fits_argument(book, scope, &routine.spelling, &name.spelling);
-    tell_use(alloc, name, unseen, fit, out)?;
+    let seen = sees(book, scope, &name.spelling);
+    let callee = sees(book, scope, &routine.spelling);
+    tell_use(alloc, name, seen, fits_argument(book, callee, seen), out)?;
     Ok(())
 }
 
@@ -177,12 +197,12 @@ pub fn tell_here(
         Part::Define(clause) => tell_mentions(alloc, book, scope, clause.text.as_slice(), out),
         Part::Mention(mention) => tell_mention(alloc, book, scope, mention, out),
         Part::Seize(name) => {
-            let unseen = none_around(book, scope, &name.spelling);
-            tell_unseen(alloc, Rule::N3, name, unseen, out)
+            let seen = seen_around(book, scope, &name.spelling);
+            tell_unless_seen(alloc, Rule::N3, name, seen, out)
         }
         Part::Grant(name) => {
-            let unseen = sees_none(book, scope, &name.spelling);
-            tell_unseen(alloc, Rule::N3, name, unseen, out)
+            let seen = sees(book, scope, &name.spelling);
+            tell_unless_seen(alloc, Rule::N3, name, seen, out)
         }
         Part::Stray(name) => push_told(alloc, name.at, Rule::N4, &name.spelling, out),
         Part::Routine {

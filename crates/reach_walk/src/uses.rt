@@ -6,10 +6,19 @@ ghost use Rattle.names_model.specs.Resolving.{resolved_here, resolved_mention, r
 ghost use Rattle.names_model.specs.Seeing.{Reach, sees};
 ghost use Rattle.reach_tables.specs.Scopes.{Shows};
 
-use crate::seen::first_seen;
 use chill_base::Memory;
 use names_model::{Clause, Identifier, Mention, Part, Resolved};
-use reach_tables::{Book, Scope};
+use reach_tables::{Book, Scope, sees};
+
+// The first number, or 0 where there is none.
+fn first_of(numbers: &[u32]) -> u32
+    ensures { result ≡ slice_index_or numbers.now 0 0 }
+{
+    match numbers.first() {
+        Some(number) => *number,
+        None => 0,
+    }
+}
 
 // Notes what a used name stands for.
 fn note_name(
@@ -20,7 +29,7 @@ fn note_name(
 ) -> Result<(), Memory>
     ensures { (text : List Definition) (r : Reach) → Shows book.now scope.now text r → OnOk result (out.new.items ≡ out.old.items ++ record { at = name.now.at; to = slice_index_or (sees text r name.now.spelling) 0 0 } ∷ []) }
 {
-    let to = first_seen(book, scope, &name.spelling);
+    let to = first_of(sees(book, scope, &name.spelling));
     out.push(Resolved { at: name.at, to })?;
     Ok(())
 }

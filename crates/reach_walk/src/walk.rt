@@ -8,42 +8,39 @@ ghost use Rattle.names_model.specs.Entries.{param_names};
 ghost use Rattle.names_model.specs.Seeing.{Reach, in_block, in_modulion, outermost, entries_in};
 ghost use Rattle.names_model.specs.NameRules.{nodes, told_behind};
 ghost use Rattle.reach_tables.specs.Books.{Keeps};
-ghost use Rattle.reach_entries.specs.Givens.{given_of, given_trees, givens};
+ghost use Rattle.reach_tables.specs.Givens.{given_of, given_trees, givens};
 ghost use Rattle.reach_walk.specs.Findings.{AddsInside, AddsNodes, AddsReach};
-ghost use Rattle.reach_tables.specs.Offsets.{Fits, FitsInside, nodes_of};
-ghost use Rattle.reach_entries.specs.Places.{singles};
-ghost use Rattle.reach_tables.specs.Scopes.{Opened, Shows, Sound, shown};
-ghost use Rattle.reach_tables.specs.declared.scope.Scope.{Outside};
+ghost use Rattle.reach_tables.specs.Offsets.{Fits, FitsInside};
+ghost use Rattle.names_model.specs.Parts.{nodes_of};
+ghost use Rattle.reach_tables.specs.Places.{singles};
+ghost use Rattle.reach_tables.specs.Scopes.{Holds, Shows, shown, told_by};
 
 use crate::findings::{Findings, note_here};
-use crate::lists::list_own;
 use chill_base::{List, Memory};
 use diagnostics::Diagnostic;
-use names_model::{Clause, Part};
-use reach_entries::{
-    Given, Opening, Place, enter_params, enter_parts, enter_places, givens_of, lent_inner,
-    seizes_all, split_given,
+use names_model::{Clause, Part, head_size, size_of};
+use reach_tables::{
+    Book, Given, Opening, Place, Scope, Source, Table, enter_params, enter_parts, enter_places,
+    givens_of, lent_inner, seizes_all, split_given,
 };
-use reach_lends::lend_in;
-use reach_tables::{Book, Lent, Scope, Table, head_size, size_of, sizes_of};
 use std::alloc::Global;
 
-/// The table of a reach with a head, which is opened in a scope, and N1 of it.
+/// The table of a reach with a head, and N1 of it.
 fn open_reach(
     alloc: Global,
     book: &Book,
-    around: &Scope,
+    around: &Source,
     head: &[Place],
     given: &[Given],
     from: u32,
     parts: &[Part],
     out: &mut Vec<Diagnostic>,
 ) -> Result<Table, Memory>
-    ensures table { Sound book.now around.now → Fits from (nodes_of parts.now) → given_trees given.now ≡ givens book.now.all.items from (nodes_of parts.now) → IfOk result (λ t. Opened book.now around.now t (singles head.now ++ entries_in book.now.all.items (shown book.now around.now) from (nodes_of parts.now))) }
-    ensures told { Sound book.now around.now → Fits from (nodes_of parts.now) → given_trees given.now ≡ givens book.now.all.items from (nodes_of parts.now) → OnOk result (SameMembers out.new.items (out.old.items ++ told_behind book.now.all.items [] (singles head.now ++ entries_in book.now.all.items (shown book.now around.now) from (nodes_of parts.now)))) }
+    ensures table { Fits from (nodes_of parts.now) → given_trees given.now ≡ givens book.now.all.items from (nodes_of parts.now) → IfOk result (λ t. Holds t book.now.all.items (singles head.now ++ entries_in book.now.all.items (told_by around.now) from (nodes_of parts.now))) }
+    ensures told { Fits from (nodes_of parts.now) → given_trees given.now ≡ givens book.now.all.items from (nodes_of parts.now) → OnOk result (SameMembers out.new.items (out.old.items ++ told_behind book.now.all.items [] (singles head.now ++ entries_in book.now.all.items (told_by around.now) from (nodes_of parts.now)))) }
 {
     let mut opening = Opening::new(alloc);
-    enter_places(alloc, book, around, head, &mut opening)?;
+    enter_places(alloc, book, head, &mut opening)?;
     enter_parts(alloc, book, around, given, from, parts, &mut opening)?;
     opening.close(out)
 }
@@ -57,17 +54,22 @@ fn params_of(alloc: Global, from: u32, params: &List<Clause>) -> Result<Vec<Plac
     Ok(head)
 }
 
-// The number of the first definition in a reach with a head.
-fn first_number(head: &[Place], from: u32) -> u32 {
-    match head.first() {
-        Some(place) => place.number,
-        None => from,
-    }
-}
-
-// The number behind those of the definitions in parts.
-fn number_behind(from: u32, parts: &[Part]) -> u32 {
-    from.saturating_add(sizes_of(parts))
+// The same of a reach inside another.
+fn open_inner<'a>(
+    alloc: Global,
+    book: &'a Book,
+    scope: &'a Scope<'a>,
+    head: &[Place],
+    given: &[Given],
+    from: u32,
+    parts: &[Part],
+    out: &mut Vec<Diagnostic>,
+) -> Result<Table, Memory>
+    ensures table { Fits from (nodes_of parts.now) → given_trees given.now ≡ givens book.now.all.items from (nodes_of parts.now) → IfOk result (λ t. Holds t book.now.all.items (singles head.now ++ entries_in book.now.all.items (shown book.now scope.now) from (nodes_of parts.now))) }
+    ensures told { Fits from (nodes_of parts.now) → given_trees given.now ≡ givens book.now.all.items from (nodes_of parts.now) → OnOk result (SameMembers out.new.items (out.old.items ++ told_behind book.now.all.items [] (singles head.now ++ entries_in book.now.all.items (shown book.now scope.now) from (nodes_of parts.now)))) }
+{
+    let around = Source::Around { book, scope };
+    open_reach(alloc, book, &around, head, given, from, parts, out)
 }
 
 /// Finds what there is in the parts of a reach and in those inside it.
@@ -81,7 +83,7 @@ fn walk<'a>(
     given: &[Given],
     out: &mut Findings,
 ) -> Result<(), Memory>
-    ensures { (text : List Definition) (r : Reach) → Shows book.now scope.now text r → Fits from (nodes_of parts.now) → given_trees given.now ≡ givens book.now.all.items from (nodes_of parts.now) → OnOk result (AddsNodes scope.now out.old out.new text (nodes r from (nodes_of parts.now))) }
+    ensures { (text : List Definition) (r : Reach) → Shows book.now scope.now text r → Fits from (nodes_of parts.now) → given_trees given.now ≡ givens book.now.all.items from (nodes_of parts.now) → OnOk result (AddsNodes out.old out.new text (nodes r from (nodes_of parts.now))) }
 {
     let mut next = from;
     let mut left = given;
@@ -107,7 +109,7 @@ fn walk_inside<'a>(
     given: &[Given],
     out: &mut Findings,
 ) -> Result<(), Memory>
-    ensures { (text : List Definition) (r : Reach) → Shows book.now scope.now text r → from + size_of (part_tree part.now) < 2 ^ 32 → FitsInside from (part_tree part.now) → given_trees given.now ≡ given_of book.now.all.items from (part_tree part.now) → OnOk result (AddsInside scope.now out.old out.new text r from (part_tree part.now)) }
+    ensures { (text : List Definition) (r : Reach) → Shows book.now scope.now text r → from + size_of (part_tree part.now) < 2 ^ 32 → FitsInside from (part_tree part.now) → given_trees given.now ≡ given_of book.now.all.items from (part_tree part.now) → OnOk result (AddsInside out.old out.new text r from (part_tree part.now)) }
 {
     match part {
         Part::Modulion { parts, .. } => {
@@ -154,25 +156,15 @@ fn walk_modulion<'a>(
     given: &[Given],
     out: &mut Findings,
 ) -> Result<(), Memory>
-    ensures { (text : List Definition) (r : Reach) → Shows book.now scope.now text r → Fits from (nodes_of parts.now) → given_trees given.now ≡ givens book.now.all.items from (nodes_of parts.now) → OnOk result (AddsReach scope.now out.old out.new text (in_modulion r from (nodes_of parts.now)) from (nodes_of parts.now)) }
+    ensures { (text : List Definition) (r : Reach) → Shows book.now scope.now text r → Fits from (nodes_of parts.now) → given_trees given.now ≡ givens book.now.all.items from (nodes_of parts.now) → OnOk result (AddsReach out.old out.new text (in_modulion r from (nodes_of parts.now)) from (nodes_of parts.now)) }
 {
     let parts = parts.as_slice();
-    let table = open_reach(alloc, book, scope, &[], given, from, parts, &mut out.told)?;
-    let places = list_own(
-        alloc,
-        &table,
-        from,
-        number_behind(from, parts),
-        &mut out.lists,
-    )?;
-    let mut inner = Scope::Reach {
+    let table = open_inner(alloc, book, scope, &[], given, from, parts, &mut out.told)?;
+    let inner = Scope::Modulion {
         table,
         takes_all: seizes_all(parts),
         outer: scope,
-        places,
-        lent: Lent::new(alloc, false),
     };
-    lend_in(alloc, book, &mut inner, parts, &mut out.lists)?;
     walk(alloc, &*book, &inner, from, parts, given, out)?;
     Ok(())
 }
@@ -188,25 +180,15 @@ fn walk_block<'a>(
     parts: &List<Part>,
     out: &mut Findings,
 ) -> Result<(), Memory>
-    ensures { (text : List Definition) (r : Reach) → Shows book.now scope.now text r → Fits from (nodes_of parts.now) → OnOk result (AddsReach scope.now out.old out.new text (in_block r (singles head.now) from (nodes_of parts.now)) from (nodes_of parts.now)) }
+    ensures { (text : List Definition) (r : Reach) → Shows book.now scope.now text r → Fits from (nodes_of parts.now) → OnOk result (AddsReach out.old out.new text (in_block r (singles head.now) from (nodes_of parts.now)) from (nodes_of parts.now)) }
 {
     let parts = parts.as_slice();
     let made = givens_of(alloc, book, from, parts)?;
     let given = made.as_slice();
-    let table = open_reach(alloc, book, scope, head, given, from, parts, &mut out.told)?;
-    let places = list_own(
-        alloc,
-        &table,
-        first_number(head, from),
-        number_behind(from, parts),
-        &mut out.lists,
-    )?;
-    let inner = Scope::Reach {
+    let table = open_inner(alloc, book, scope, head, given, from, parts, &mut out.told)?;
+    let inner = Scope::Block {
         table,
-        takes_all: true,
         outer: scope,
-        places,
-        lent: Lent::new(alloc, false),
     };
     walk(alloc, &*book, &inner, from, parts, given, out)?;
     Ok(())
@@ -220,22 +202,22 @@ pub fn find_in_program(
     parts: &List<Part>,
     out: &mut Findings,
 ) -> Result<(), Memory>
-    ensures { (text : List Definition) → Keeps book.now text → Fits 0 (nodes_of parts.now) → OnOk result (AddsReach Outside out.old out.new text (outermost (nodes_of parts.now)) 0 (nodes_of parts.now)) }
+    ensures { (text : List Definition) → Keeps book.now text → Fits 0 (nodes_of parts.now) → OnOk result (AddsReach out.old out.new text (outermost (nodes_of parts.now)) 0 (nodes_of parts.now)) }
 {
     let parts = parts.as_slice();
     let made = givens_of(alloc, book, 0, parts)?;
     let given = made.as_slice();
-    let outside = Scope::Outside;
-    let table = open_reach(alloc, book, &outside, &[], given, 0, parts, &mut out.told)?;
-    let places = list_own(alloc, &table, 0, number_behind(0, parts), &mut out.lists)?;
-    let mut inner = Scope::Reach {
-        table,
-        takes_all: false,
-        outer: &outside,
-        places,
-        lent: Lent::new(alloc, false),
-    };
-    lend_in(alloc, book, &mut inner, parts, &mut out.lists)?;
-    walk(alloc, book, &inner, 0, parts, given, out)?;
+    let table = open_reach(
+        alloc,
+        book,
+        &Source::Nothing,
+        &[],
+        given,
+        0,
+        parts,
+        &mut out.told,
+    )?;
+    let scope = Scope::Outermost { table };
+    walk(alloc, book, &scope, 0, parts, given, out)?;
     Ok(())
 }

@@ -156,7 +156,7 @@ an_update : (n : ℕ) (t v : ExprTree) (o : Operator) (kind : TokenKind) (p q : 
 unfolding named_action_at behind_name_at updated_at sign_at
 an_update n t v o kind p q toks m rest h b u l hv = rw (h, b, u, l, hv) refl
 
-exprs_back : (es : List ExprTree) → exprs_in (expr_nodes es) ≡ es
+pub exprs_back : (es : List ExprTree) → exprs_in (expr_nodes es) ≡ es
 exprs_back [] = refl
 exprs_back (e ∷ es) = ap (λ xs. e ∷ xs) (exprs_back es)
 

@@ -7,12 +7,12 @@ use Rattle.chill_tree.specs.declared.tree.name.Name.{Name}
 use Rattle.chill_tree.specs.declared.tree.mode.Packing.{Packing}
 use Rattle.chill_tree.specs.declared.tree.mode.Packing.TheVariants as packings
 use Rattle.chill_tree.specs.declared.tree.mode.PlaceForm.TheVariants as forms
-use Rattle.chill_tree.specs.ExprTree.{ExprTree, whole, character, text, this_instance, paren, receive, start, tuple, uniform, name, apply, field, prefixed, binary}
+use Rattle.chill_tree.specs.ExprTree.{ExprTree, name_in}
 use Rattle.chill_tree.specs.ModeTree.{DiscreteTree, named, bounded, set_of, IndexTree, index_named, index_bounded, PlaceTree, StepTree, SpreadTree, by_packing, by_step, BaseTree, discrete, powerset, chars, structure, array, FieldTree, field_nodes, ModeTree, base_mode, read_mode, event_mode, buffer_mode}
 use Rattle.chill_tree.specs.LocalTree.{SynonymTree, ModeDefinitionTree, InitialTree, DeclarationTree, LocalTree, synonyms, syn_modes, new_modes, locations}
 use Rattle.rules_model.specs.Marks.{Toks, begins, begins_with, front}
 use Rattle.rules_model.specs.Nesting.{less}
-use Rattle.rules_model.specs.Reading.{Deep, Absent, Read, ◌>>=◌, sign_at, word_at, name_at, listed_at}
+use Rattle.rules_model.specs.Reading.{Deep, Absent, Read, ◌>>=◌, chosen, sign_at, word_at, name_at, listed_at}
 use Rattle.rules_model.specs.ExprReading.{ranked_at, expr_at}
 
 -- In what follows n is the number of levels of nesting that are left behind an opening token.
@@ -39,20 +39,7 @@ discrete_at n toks =
 
 -- an index that is one expression has to be a name
 abbrev pub index_of : ExprTree → Toks → Read IndexTree
-index_of (name x) toks = Ok (index_named x, toks)
-index_of (whole at v) toks = Err (Absent (front toks))
-index_of (character at v) toks = Err (Absent (front toks))
-index_of (text at v) toks = Err (Absent (front toks))
-index_of (this_instance at) toks = Err (Absent (front toks))
-index_of (paren at e) toks = Err (Absent (front toks))
-index_of (receive at x) toks = Err (Absent (front toks))
-index_of (start at x es) toks = Err (Absent (front toks))
-index_of (tuple at m b rs) toks = Err (Absent (front toks))
-index_of (uniform at m b e) toks = Err (Absent (front toks))
-index_of (apply at e es) toks = Err (Absent (front toks))
-index_of (field at e x) toks = Err (Absent (front toks))
-index_of (prefixed at o e) toks = Err (Absent (front toks))
-index_of (binary at l o p r) toks = Err (Absent (front toks))
+index_of t toks = chosen (name_in t) (Err (Absent (front toks))) (λ x. Ok (index_named x, toks))
 
 unfoldable pub index_at : ℕ → Pos → Toks → Read IndexTree
 index_at n p toks =

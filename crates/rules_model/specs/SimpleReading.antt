@@ -1,12 +1,12 @@
 -- Reading actions that hold no other, and what controls a loop, from the front.
-use Rattle.std.specs.Prelude.{ℕ, Bool, true, false, List, [], ◌∷◌, Option, Some, None, Ok, Err, if◌then◌else◌}
+use Rattle.std.specs.Prelude.{ℕ, Bool, true, false, List, [], ◌∷◌, Option, Some, None, option_map, Ok, Err, if◌then◌else◌}
 use Rattle.chill_base.specs.declared.pos.Pos.{Pos}
 use Rattle.chill_tree.specs.declared.token.Word.{Word}
 use Rattle.chill_tree.specs.declared.token.Word.TheVariants as words
 use Rattle.chill_tree.specs.declared.token.Sign.TheVariants as signs
 use Rattle.chill_tree.specs.declared.tree.name.Name.{Name}
 use Rattle.chill_tree.specs.declared.tree.expr.Operator.{Operator}
-use Rattle.chill_tree.specs.ExprTree.{ExprTree, name, apply, exprs_in, place_of}
+use Rattle.chill_tree.specs.ExprTree.{ExprTree, exprs_in, applied_in, place_of}
 use Rattle.chill_tree.specs.SimpleTree.{SimpleTree, assign, update, call_of, exit, return_with, result_of, assert_that, cause, stop, start_of, delay, continue_event, send, ControlTree, while_holds, for_ever, for_members, for_steps}
 use Rattle.rules_model.specs.Marks.{Toks, begins, begins_with, begins_expr, behind, front, operator_of, may_update}
 use Rattle.rules_model.specs.ExprGrammar.{is_location}
@@ -49,13 +49,8 @@ update_of [] = None
 update_of (t ∷ rest) = chosen (operator_of t.kind) None (λ o. if may_update o then Some (t.at, o) else None)
 
 -- the name and the arguments of a name with one part in brackets
-abbrev pub called_name : Pos → ExprTree → List ExprTree → Option (Name × List ExprTree)
-called_name at (name x) es = Some (x, es)
-called_name at _ es = None
-
 abbrev pub call_in : ExprTree → Option (Name × List ExprTree)
-call_in (apply at e es) = called_name at e (exprs_in es)
-call_in _ = None
+call_in t = option_map (λ a. (a.0, exprs_in a.1)) (applied_in t)
 
 unfoldable pub called_at : ExprTree → Toks → Read SimpleTree
 called_at t toks = chosen (call_in t) (Err (Absent (front toks))) (λ c. Ok (call_of c.0.at false c.0 c.1, toks))

@@ -1,15 +1,10 @@
 -- Levels of nesting that are left, and what they leave inside.
-use Rattle.std.proofs.Common.{◌≡◌, ℕ, zero, suc, ◌-◌, List, [], ◌∷◌, Result, Err, refl, arith}
+use Rattle.std.proofs.Common.{◌≡◌, ℕ, suc, List, [], ◌∷◌, Result, Err, refl}
 use Rattle.std.specs.Prelude.{map}
 use Rattle.chill_base.specs.declared.pos.Pos.{Pos}
 use Rattle.rules_model.specs.Marks.{Toks, front}
-use Rattle.rules_model.specs.Nesting.{less}
 use Rattle.rules_model.specs.Reading.{Fault, Deep, Absent, many_at}
 use Rattle.rules_model.specs.StatementReading.{kept, action_at, body_part_at, inside_at, actions_at, body_at}
-
-pub one_less : (n : ℕ) → n - 1 ≡ less n
-one_less zero = refl
-one_less (suc n) = omega arith
 
 -- what opened where no level is left
 pub actions_deep : (n : ℕ) (p : Pos) (toks : Toks) → n ≡ 0 → actions_at n p toks ≡ Err (Deep p)

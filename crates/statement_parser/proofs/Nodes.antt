@@ -8,54 +8,18 @@ use Rattle.chill_base.specs.declared.pos.Pos.{Pos}
 use Rattle.chill_tree.specs.declared.tree.name.Name.{Name}
 use Rattle.chill_tree.specs.declared.tree.expr.Expr.{Expr}
 use Rattle.chill_tree.specs.declared.tree.expr.Expr.TheVariants as made
-use Rattle.chill_tree.specs.ExprTree.{ExprTree, ExprNodes, whole, character, text, this_instance, paren, receive, start, tuple, uniform, name, apply, field, prefixed, binary, expr_nodes, exprs_in, expr_tree, expr_trees, named_apply, applied_in}
+use Rattle.chill_tree.specs.ExprTree.{ExprTree, ExprNodes, expr_nodes, exprs_in, expr_tree, expr_trees, applied_in}
 use Rattle.chill_tree.proofs.ExprViews.{tree-apply}
+use Rattle.rules_model.proofs.SimpleExact.{exprs_back}
 use Rattle.rules_model.specs.ExprGrammar.{is_location}
-use Rattle.rules_model.specs.SimpleReading.{called_name, call_in}
-
-pub exprs_kept : (es : List ExprTree) → exprs_in (expr_nodes es) ≡ es
-exprs_kept [] = refl
-exprs_kept (e ∷ es) = ap (λ xs. e ∷ xs) (exprs_kept es)
-
--- by the name before the brackets
-called_by_name : (here : Pos) (t : ExprTree) (ns : ExprNodes) → called_name here t (exprs_in ns) ≡ option_map {U = Name × List ExprTree} (λ a. (a.0, exprs_in a.1)) (named_apply ns t)
-called_by_name here (whole at v) ns = refl
-called_by_name here (character at v) ns = refl
-called_by_name here (text at v) ns = refl
-called_by_name here (this_instance at) ns = refl
-called_by_name here (paren at e) ns = refl
-called_by_name here (receive at x) ns = refl
-called_by_name here (start at x es) ns = refl
-called_by_name here (tuple at m b rs) ns = refl
-called_by_name here (uniform at m b e) ns = refl
-called_by_name here (name x) ns = refl
-called_by_name here (apply at e es) ns = refl
-called_by_name here (field at e x) ns = refl
-called_by_name here (prefixed at o e) ns = refl
-called_by_name here (binary at l o p r) ns = refl
-
-call_by_name : (t : ExprTree) → call_in t ≡ option_map {U = Name × List ExprTree} (λ a. (a.0, exprs_in a.1)) (applied_in t)
-call_by_name (whole at v) = refl
-call_by_name (character at v) = refl
-call_by_name (text at v) = refl
-call_by_name (this_instance at) = refl
-call_by_name (paren at e) = refl
-call_by_name (receive at x) = refl
-call_by_name (start at x es) = refl
-call_by_name (tuple at m b rs) = refl
-call_by_name (uniform at m b e) = refl
-call_by_name (name x) = refl
-call_by_name (apply at e es) = called_by_name at e es
-call_by_name (field at e x) = refl
-call_by_name (prefixed at o e) = refl
-call_by_name (binary at l o p r) = refl
+use Rattle.rules_model.specs.SimpleReading.{call_in}
 
 kept_in : (r : Option (Name × List Expr)) → option_map {U = Name × List ExprTree} (λ c. (c.0, expr_trees c.1)) r ≡ option_map {U = Name × List ExprTree} (λ a. (a.0, exprs_in a.1)) (option_map {U = Name × ExprNodes} (λ a. (a.0, expr_nodes (expr_trees a.1))) r)
 kept_in None = refl
-kept_in (Some (n, es)) = ap (λ xs. Some (n, xs)) (sym (exprs_kept (expr_trees es)))
+kept_in (Some (n, es)) = ap (λ xs. Some (n, xs)) (sym (exprs_back (expr_trees es)))
 
 pub applied_call : (t : ExprTree) (r : Option (Name × List Expr)) → option_map {U = Name × ExprNodes} (λ a. (a.0, expr_nodes (expr_trees a.1))) r ≡ applied_in t → option_map {U = Name × List ExprTree} (λ c. (c.0, expr_trees c.1)) r ≡ call_in t
-applied_call t r h = kept_in r ∙ ap (option_map {U = Name × List ExprTree} (λ a. (a.0, exprs_in a.1))) h ∙ sym (call_by_name t)
+applied_call t r h = kept_in r ∙ ap (option_map {U = Name × List ExprTree} (λ a. (a.0, exprs_in a.1))) h
 
 -- with one expression in the brackets
 pub one_argument : (e : Expr) (at : Pos) (of : Box Expr Global) (args : List Expr) (b : Bool) → e ≡ made.Apply at of args → length args ≡ 1 → b ≡ is_location (expr_tree of.value) → b ≡ is_location (expr_tree e)

@@ -7,14 +7,13 @@ ghost use Rattle.rules_model.specs.Reading.{many_at};
 ghost use Rattle.rules_model.specs.StatementReading.{otherwise_at, branch_at, case_at, alternative_at, receipt_at, actions_at};
 
 use crate::clause::names_clause;
-use crate::level::less;
 use crate::statement::read_actions;
 use chill_base::{List, Pos};
 use chill_tree::tree::{CaseAlternative, ElsIf, NamedAlternative, ReceiveAlternative, Statement};
 use chill_tree::{Sign, Token, Word};
 use expr_parser::{
-    ParseRefusal, read_name, read_names, read_ranges, read_sign, read_value, read_word, starts,
-    starts_with,
+    ParseRefusal, less, read_name, read_names, read_ranges, read_sign, read_value, read_word,
+    starts, starts_with,
 };
 use std::alloc::Global;
 

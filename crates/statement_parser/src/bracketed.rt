@@ -1,7 +1,7 @@
 // Readers of actions that hold others (Z.200, chapters on actions and on concurrent execution).
 ghost use Rattle.std.specs.Prelude.{map, option_map};
-ghost use Rattle.chill_tree.specs.ExprTree.{expr_tree};
-ghost use Rattle.chill_tree.specs.StatementTree.{statement_trees, case_tree, bracketed_tree};
+ghost use Rattle.chill_tree.specs.ExprTree.{boxed_expr};
+ghost use Rattle.chill_tree.specs.StatementTree.{statement_trees, boxed_bracketed, case_tree};
 ghost use Rattle.expr_parser.specs.Giving.{Gives};
 ghost use Rattle.rules_model.specs.StatementReading.{if_at, case_of_at, do_at, begin_at, delay_case_at, receive_case_at, bracketed_at, actions_at, body_at};
 ghost use Rattle.statement_parser.specs.Tails.{if_end_at, case_end_at, delay_end_at, receive_end_at};
@@ -11,12 +11,11 @@ use crate::alternative::{
 };
 use crate::control::read_control;
 use crate::head::{DelayHead, read_delay_head, read_receive_head};
-use crate::level::less;
 use crate::statement::{read_actions, read_body};
 use chill_base::{List, Pos};
 use chill_tree::tree::{Bracketed, CaseAlternative, Expr, Statement};
 use chill_tree::{Sign, Token, Word};
-use expr_parser::{ParseRefusal, place, read_sign, read_value, read_word, starts_with};
+use expr_parser::{ParseRefusal, less, place, read_sign, read_value, read_word, starts_with};
 use std::alloc::Global;
 
 /// Reads an action that holds others; `inner` levels of nesting are left in it.
@@ -26,8 +25,8 @@ pub fn read_bracketed(
     alloc: Global,
     tokens: &[Token],
     inner: usize,
-) -> Result<(Bracketed, &[Token]), ParseRefusal>
-    ensures { Gives (λ x. (bracketed_tree x.0, x.1.now)) result (bracketed_at inner (actions_at inner) (body_at inner) tokens.now) }
+) -> Result<(Box<Bracketed>, &[Token]), ParseRefusal>
+    ensures { Gives (λ x. (boxed_bracketed x.0, x.1.now)) result (bracketed_at inner (actions_at inner) (body_at inner) tokens.now) }
 {
     if starts_with(tokens, Word::If) {
         return if_then(alloc, tokens, inner);
@@ -54,8 +53,8 @@ fn if_then(
     alloc: Global,
     tokens: &[Token],
     inner: usize,
-) -> Result<(Bracketed, &[Token]), ParseRefusal>
-    ensures { Gives (λ x. (bracketed_tree x.0, x.1.now)) result (if_at inner (actions_at inner) tokens.now) }
+) -> Result<(Box<Bracketed>, &[Token]), ParseRefusal>
+    ensures { Gives (λ x. (boxed_bracketed x.0, x.1.now)) result (if_at inner (actions_at inner) tokens.now) }
 {
     let (at, rest) = read_word(tokens, Word::If)?;
     let (condition, rest) = read_value(alloc, rest, less(inner))?;
@@ -70,17 +69,17 @@ fn if_then(
 fn if_end(
     alloc: Global,
     at: Pos,
-    condition: Expr,
+    condition: Box<Expr>,
     actions: List<Statement>,
     tokens: &[Token],
     inner: usize,
-) -> Result<(Bracketed, &[Token]), ParseRefusal>
-    ensures { Gives (λ x. (bracketed_tree x.0, x.1.now)) result (if_end_at inner (actions_at inner) at (expr_tree condition) (statement_trees actions) tokens.now) }
+) -> Result<(Box<Bracketed>, &[Token]), ParseRefusal>
+    ensures { Gives (λ x. (boxed_bracketed x.0, x.1.now)) result (if_end_at inner (actions_at inner) at (boxed_expr condition) (statement_trees actions) tokens.now) }
 {
     let (branches, rest) = read_branches(alloc, tokens, inner, at)?;
     let (otherwise, rest) = read_otherwise(alloc, rest, inner, at)?;
     let (_, rest) = read_word(rest, Word::Fi)?;
-    let action = Bracketed::if_then(at, condition, actions, branches, otherwise);
+    let action = Bracketed::if_then(alloc, at, condition, actions, branches, otherwise)?;
     Ok((action, rest))
 }
 
@@ -91,8 +90,8 @@ fn case_of(
     alloc: Global,
     tokens: &[Token],
     inner: usize,
-) -> Result<(Bracketed, &[Token]), ParseRefusal>
-    ensures { Gives (λ x. (bracketed_tree x.0, x.1.now)) result (case_of_at inner (actions_at inner) tokens.now) }
+) -> Result<(Box<Bracketed>, &[Token]), ParseRefusal>
+    ensures { Gives (λ x. (boxed_bracketed x.0, x.1.now)) result (case_of_at inner (actions_at inner) tokens.now) }
 {
     let (at, rest) = read_word(tokens, Word::Case)?;
     let (selector, rest) = read_value(alloc, rest, less(inner))?;
@@ -107,19 +106,19 @@ fn case_of(
 fn case_end(
     alloc: Global,
     at: Pos,
-    selector: Expr,
+    selector: Box<Expr>,
     alternatives: List<CaseAlternative>,
     tokens: &[Token],
     inner: usize,
-) -> Result<(Bracketed, &[Token]), ParseRefusal>
-    ensures { Gives (λ x. (bracketed_tree x.0, x.1.now)) result (case_end_at (actions_at inner) at (expr_tree selector) (map case_tree alternatives) tokens.now) }
+) -> Result<(Box<Bracketed>, &[Token]), ParseRefusal>
+    ensures { Gives (λ x. (boxed_bracketed x.0, x.1.now)) result (case_end_at (actions_at inner) at (boxed_expr selector) (map case_tree alternatives) tokens.now) }
 {
     if alternatives.is_empty() {
         return Err(ParseRefusal::NoProgram { at: place(tokens) });
     }
     let (otherwise, rest) = read_otherwise(alloc, tokens, inner, at)?;
     let (_, rest) = read_word(rest, Word::Esac)?;
-    let action = Bracketed::case_of(at, selector, alternatives, otherwise);
+    let action = Bracketed::case_of(alloc, at, selector, alternatives, otherwise)?;
     Ok((action, rest))
 }
 
@@ -130,15 +129,15 @@ fn do_loop(
     alloc: Global,
     tokens: &[Token],
     inner: usize,
-) -> Result<(Bracketed, &[Token]), ParseRefusal>
-    ensures { Gives (λ x. (bracketed_tree x.0, x.1.now)) result (do_at inner (actions_at inner) tokens.now) }
+) -> Result<(Box<Bracketed>, &[Token]), ParseRefusal>
+    ensures { Gives (λ x. (boxed_bracketed x.0, x.1.now)) result (do_at inner (actions_at inner) tokens.now) }
 {
     let (at, rest) = read_word(tokens, Word::Do)?;
     let (control, rest) = read_control(alloc, rest, less(inner))?;
     let (_, rest) = read_sign(rest, Sign::Semicolon)?;
     let (actions, rest) = read_actions(alloc, rest, inner, at)?;
     let (_, rest) = read_word(rest, Word::Od)?;
-    Ok((Bracketed::do_loop(at, control, actions), rest))
+    Ok((Bracketed::do_loop(alloc, at, control, actions)?, rest))
 }
 
 // Reads a block.
@@ -148,13 +147,13 @@ fn begin_end(
     alloc: Global,
     tokens: &[Token],
     inner: usize,
-) -> Result<(Bracketed, &[Token]), ParseRefusal>
-    ensures { Gives (λ x. (bracketed_tree x.0, x.1.now)) result (begin_at (body_at inner) tokens.now) }
+) -> Result<(Box<Bracketed>, &[Token]), ParseRefusal>
+    ensures { Gives (λ x. (boxed_bracketed x.0, x.1.now)) result (begin_at (body_at inner) tokens.now) }
 {
     let (at, rest) = read_word(tokens, Word::Begin)?;
     let (body, rest) = read_body(alloc, rest, inner, at)?;
     let (_, rest) = read_word(rest, Word::End)?;
-    Ok((Bracketed::begin_end(at, body), rest))
+    Ok((Bracketed::begin_end(alloc, at, body)?, rest))
 }
 
 // Reads a DELAY CASE.
@@ -164,8 +163,8 @@ fn delay_case(
     alloc: Global,
     tokens: &[Token],
     inner: usize,
-) -> Result<(Bracketed, &[Token]), ParseRefusal>
-    ensures { Gives (λ x. (bracketed_tree x.0, x.1.now)) result (delay_case_at inner (actions_at inner) tokens.now) }
+) -> Result<(Box<Bracketed>, &[Token]), ParseRefusal>
+    ensures { Gives (λ x. (boxed_bracketed x.0, x.1.now)) result (delay_case_at inner (actions_at inner) tokens.now) }
 {
     let (at, rest) = read_word(tokens, Word::Delay)?;
     let (opened, rest) = read_word(rest, Word::Case)?;
@@ -183,8 +182,8 @@ fn delay_end(
     head: DelayHead,
     tokens: &[Token],
     inner: usize,
-) -> Result<(Bracketed, &[Token]), ParseRefusal>
-    ensures { Gives (λ x. (bracketed_tree x.0, x.1.now)) result (delay_end_at (actions_at inner) at opened (option_map expr_tree head.set) (option_map expr_tree head.priority) tokens.now) }
+) -> Result<(Box<Bracketed>, &[Token]), ParseRefusal>
+    ensures { Gives (λ x. (boxed_bracketed x.0, x.1.now)) result (delay_end_at (actions_at inner) at opened (option_map boxed_expr head.set) (option_map boxed_expr head.priority) tokens.now) }
 {
     let (alternatives, rest) = read_alternatives(alloc, tokens, inner, opened)?;
     if alternatives.is_empty() {
@@ -192,7 +191,7 @@ fn delay_end(
     }
     let (_, rest) = read_word(rest, Word::Esac)?;
     let DelayHead { set, priority } = head;
-    let action = Bracketed::delay_case(at, set, priority, alternatives);
+    let action = Bracketed::delay_case(alloc, at, set, priority, alternatives)?;
     Ok((action, rest))
 }
 
@@ -203,8 +202,8 @@ fn receive_case(
     alloc: Global,
     tokens: &[Token],
     inner: usize,
-) -> Result<(Bracketed, &[Token]), ParseRefusal>
-    ensures { Gives (λ x. (bracketed_tree x.0, x.1.now)) result (receive_case_at inner (actions_at inner) tokens.now) }
+) -> Result<(Box<Bracketed>, &[Token]), ParseRefusal>
+    ensures { Gives (λ x. (boxed_bracketed x.0, x.1.now)) result (receive_case_at inner (actions_at inner) tokens.now) }
 {
     let (at, rest) = read_word(tokens, Word::Receive)?;
     let (opened, rest) = read_word(rest, Word::Case)?;
@@ -219,11 +218,11 @@ fn receive_end(
     alloc: Global,
     at: Pos,
     opened: Pos,
-    set: Option<Expr>,
+    set: Option<Box<Expr>>,
     tokens: &[Token],
     inner: usize,
-) -> Result<(Bracketed, &[Token]), ParseRefusal>
-    ensures { Gives (λ x. (bracketed_tree x.0, x.1.now)) result (receive_end_at (actions_at inner) at opened (option_map expr_tree set) tokens.now) }
+) -> Result<(Box<Bracketed>, &[Token]), ParseRefusal>
+    ensures { Gives (λ x. (boxed_bracketed x.0, x.1.now)) result (receive_end_at (actions_at inner) at opened (option_map boxed_expr set) tokens.now) }
 {
     let (alternatives, rest) = read_receipts(alloc, tokens, inner, opened)?;
     if alternatives.is_empty() {
@@ -231,6 +230,6 @@ fn receive_end(
     }
     let (otherwise, rest) = read_otherwise(alloc, rest, inner, opened)?;
     let (_, rest) = read_word(rest, Word::Esac)?;
-    let action = Bracketed::receive_case(at, set, alternatives, otherwise);
+    let action = Bracketed::receive_case(alloc, at, set, alternatives, otherwise)?;
     Ok((action, rest))
 }

@@ -1,6 +1,6 @@
 // Words that may be left out, with what they ask for.
 ghost use Rattle.std.specs.Prelude.{option_map};
-ghost use Rattle.chill_tree.specs.ExprTree.{expr_tree};
+ghost use Rattle.chill_tree.specs.ExprTree.{boxed_expr};
 ghost use Rattle.expr_parser.specs.Giving.{Gives};
 ghost use Rattle.rules_model.specs.Reading.{name_at, listed_at};
 ghost use Rattle.rules_model.specs.ModeReading.{value_at};
@@ -19,8 +19,8 @@ pub fn value_clause(
     tokens: &[Token],
     word: Word,
     inner: usize,
-) -> Result<(Option<Expr>, &[Token]), ParseRefusal>
-    ensures { Gives (λ x. (option_map expr_tree x.0, x.1.now)) result (clause_at word (value_at inner) tokens.now) }
+) -> Result<(Option<Box<Expr>>, &[Token]), ParseRefusal>
+    ensures { Gives (λ x. (option_map boxed_expr x.0, x.1.now)) result (clause_at word (value_at inner) tokens.now) }
 {
     if !starts_with(tokens, word) {
         return Ok((None, tokens));

@@ -1,6 +1,6 @@
 // Readers of what controls a loop (Z.200, DO action).
 ghost use Rattle.std.specs.Prelude.{option_map};
-ghost use Rattle.chill_tree.specs.ExprTree.{expr_tree};
+ghost use Rattle.chill_tree.specs.ExprTree.{boxed_expr};
 ghost use Rattle.chill_tree.specs.SimpleTree.{control_tree};
 ghost use Rattle.expr_parser.specs.Giving.{Gives};
 ghost use Rattle.rules_model.specs.SimpleReading.{members_at, steps_at, for_at, control_at};
@@ -105,8 +105,8 @@ fn steps(
 struct Begun {
     at: Pos,
     counter: Name,
-    start: Expr,
-    step: Option<Expr>,
+    start: Box<Expr>,
+    step: Option<Box<Expr>>,
     down: bool,
 }
 
@@ -118,7 +118,7 @@ fn steps_end(
     tokens: &[Token],
     inner: usize,
 ) -> Result<(Control, &[Token]), ParseRefusal>
-    ensures { Gives (λ x. (control_tree x.0, x.1.now)) result (steps_end_at inner begun.at begun.counter (expr_tree begun.start) (option_map expr_tree begun.step) begun.down tokens.now) }
+    ensures { Gives (λ x. (control_tree x.0, x.1.now)) result (steps_end_at inner begun.at begun.counter (boxed_expr begun.start) (option_map boxed_expr begun.step) begun.down tokens.now) }
 {
     let (_, rest) = read_word(tokens, Word::To)?;
     let (end, rest) = read_value(alloc, rest, inner)?;

@@ -1,6 +1,6 @@
 // The reader of handlers (Z.200, chapter on exception handling).
 ghost use Rattle.std.specs.Prelude.{◌≡◌, map, option_map};
-ghost use Rattle.chill_tree.specs.StatementTree.{statement_trees, named_tree, handler_tree};
+ghost use Rattle.chill_tree.specs.StatementTree.{statement_trees, named_tree, boxed_handler};
 ghost use Rattle.expr_parser.specs.Giving.{Gives};
 ghost use Rattle.rules_model.specs.StatementGrammar as grammar;
 ghost use Rattle.rules_model.specs.StatementReading.{handler_at, actions_at};
@@ -19,8 +19,8 @@ pub fn read_handler(
     alloc: Global,
     tokens: &[Token],
     inner: usize,
-) -> Result<(Option<Handler>, &[Token]), ParseRefusal>
-    ensures { Gives (λ x. (option_map handler_tree x.0, x.1.now)) result (handler_at (actions_at inner) tokens.now) }
+) -> Result<(Option<Box<Handler>>, &[Token]), ParseRefusal>
+    ensures { Gives (λ x. (option_map boxed_handler x.0, x.1.now)) result (handler_at (actions_at inner) tokens.now) }
 {
     if !starts_with(tokens, Word::On) {
         return Ok((None, tokens));
@@ -32,7 +32,8 @@ pub fn read_handler(
         return Err(ParseRefusal::NoProgram { at: place(rest) });
     }
     let (_, rest) = read_word(rest, Word::End)?;
-    Ok((Some(Handler::new(at, alternatives, otherwise)), rest))
+    let handler = Handler::new(alloc, at, alternatives, otherwise)?;
+    Ok((Some(handler), rest))
 }
 
 // Whether a handler has an alternative or an ELSE.

@@ -1,6 +1,6 @@
 // Readers of what stands before the alternatives of DELAY CASE and RECEIVE CASE.
 ghost use Rattle.std.specs.Prelude.{option_map};
-ghost use Rattle.chill_tree.specs.ExprTree.{expr_tree};
+ghost use Rattle.chill_tree.specs.ExprTree.{boxed_expr};
 ghost use Rattle.expr_parser.specs.Giving.{Gives};
 ghost use Rattle.rules_model.specs.StatementReading.{delay_head_at, receive_head_at};
 
@@ -15,8 +15,8 @@ use std::alloc::Global;
 /// priority.
 #[derive(Drop)]
 pub struct DelayHead {
-    pub set: Option<Expr>,
-    pub priority: Option<Expr>,
+    pub set: Option<Box<Expr>>,
+    pub priority: Option<Box<Expr>>,
 }
 
 /// Reads it; `inner` levels of nesting are left behind an opening token.
@@ -26,7 +26,7 @@ pub fn read_delay_head(
     tokens: &[Token],
     inner: usize,
 ) -> Result<(DelayHead, &[Token]), ParseRefusal>
-    ensures { Gives (λ x. ((option_map expr_tree x.0.set, option_map expr_tree x.0.priority), x.1.now)) result (delay_head_at inner tokens.now) }
+    ensures { Gives (λ x. ((option_map boxed_expr x.0.set, option_map boxed_expr x.0.priority), x.1.now)) result (delay_head_at inner tokens.now) }
 {
     if starts_with(tokens, Word::Set) {
         let (_, rest) = read_word(tokens, Word::Set)?;
@@ -59,8 +59,8 @@ pub fn read_receive_head(
     alloc: Global,
     tokens: &[Token],
     inner: usize,
-) -> Result<(Option<Expr>, &[Token]), ParseRefusal>
-    ensures { Gives (λ x. (option_map expr_tree x.0, x.1.now)) result (receive_head_at inner tokens.now) }
+) -> Result<(Option<Box<Expr>>, &[Token]), ParseRefusal>
+    ensures { Gives (λ x. (option_map boxed_expr x.0, x.1.now)) result (receive_head_at inner tokens.now) }
 {
     if !starts_with(tokens, Word::Set) {
         return Ok((None, tokens));

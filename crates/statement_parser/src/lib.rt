@@ -11,7 +11,6 @@ mod closing;
 mod control;
 mod handler;
 mod head;
-mod level;
 mod location;
 mod mark;
 mod named;

@@ -1,6 +1,6 @@
 // Names with their parts, as targets of assignments and as calls.
 ghost use Rattle.std.specs.Prelude.{◌≡◌, option_map};
-ghost use Rattle.chill_tree.specs.ExprTree.{expr_tree, expr_trees};
+ghost use Rattle.chill_tree.specs.ExprTree.{boxed_expr, expr_tree, expr_trees};
 ghost use Rattle.expr_parser.specs.Giving.{Gives};
 ghost use Rattle.rules_model.specs.ExprGrammar as grammar;
 ghost use Rattle.rules_model.specs.SimpleReading as reading;
@@ -18,8 +18,8 @@ pub fn read_location(
     alloc: Global,
     tokens: &[Token],
     inner: usize,
-) -> Result<(Expr, &[Token]), ParseRefusal>
-    ensures { Gives (λ x. (expr_tree x.0, x.1.now)) result (location_at inner tokens.now) }
+) -> Result<(Box<Expr>, &[Token]), ParseRefusal>
+    ensures { Gives (λ x. (boxed_expr x.0, x.1.now)) result (location_at inner tokens.now) }
 {
     let (found, rest) = read_named(alloc, tokens, inner)?;
     if !is_location(&found) {
@@ -52,8 +52,8 @@ pub fn is_location(expr: &Expr) -> bool
 }
 
 /// The name and the arguments of a name with one part in brackets.
-pub fn call_in(expr: Expr) -> Option<(Name, List<Expr>)>
-    ensures { option_map (λ c. (c.0, expr_trees c.1)) result ≡ reading.call_in (expr_tree expr) }
+pub fn call_in(expr: Box<Expr>) -> Option<(Name, List<Expr>)>
+    ensures { option_map (λ c. (c.0, expr_trees c.1)) result ≡ reading.call_in (boxed_expr expr) }
 {
-    expr.into_applied()
+    Expr::into_applied(expr)
 }

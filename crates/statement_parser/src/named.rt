@@ -1,6 +1,6 @@
 // Readers of actions that begin with a name: assignments and calls (Z.200, assignment action, call action).
 ghost use Rattle.std.specs.Prelude.{◌≡◌, option_map};
-ghost use Rattle.chill_tree.specs.ExprTree.{expr_tree};
+ghost use Rattle.chill_tree.specs.ExprTree.{boxed_expr};
 ghost use Rattle.chill_tree.specs.SimpleTree.{simple_tree};
 ghost use Rattle.expr_parser.specs.Giving.{Gives};
 ghost use Rattle.rules_model.specs.Marks as marks;
@@ -11,7 +11,9 @@ use crate::location::{call_in, is_location};
 use chill_base::Pos;
 use chill_tree::tree::{Expr, Operator, Simple};
 use chill_tree::{Sign, Token};
-use expr_parser::{ParseRefusal, operator_of, place, read_named, read_sign, read_value, starts};
+use expr_parser::{
+    ParseRefusal, behind, operator_of, place, read_named, read_sign, read_value, starts,
+};
 use std::alloc::Global;
 
 /// Reads an action that begins with a name; `inner` levels of nesting are left behind an opening token.
@@ -31,11 +33,11 @@ pub fn read_named_action(
 #[tactic(auto, unfolding(rules_model::specs::SimpleReading::behind_name_at))]
 fn behind_name(
     alloc: Global,
-    target: Expr,
+    target: Box<Expr>,
     tokens: &[Token],
     inner: usize,
 ) -> Result<(Simple, &[Token]), ParseRefusal>
-    ensures { Gives (λ x. (simple_tree x.0, x.1.now)) result (behind_name_at inner (expr_tree target) tokens.now) }
+    ensures { Gives (λ x. (simple_tree x.0, x.1.now)) result (behind_name_at inner (boxed_expr target) tokens.now) }
 {
     if starts(tokens, Sign::Becomes) {
         return assigned(alloc, target, tokens, inner);
@@ -50,11 +52,11 @@ fn behind_name(
 #[tactic(auto, unfolding(rules_model::specs::SimpleReading::assigned_at))]
 fn assigned(
     alloc: Global,
-    target: Expr,
+    target: Box<Expr>,
     tokens: &[Token],
     inner: usize,
 ) -> Result<(Simple, &[Token]), ParseRefusal>
-    ensures { Gives (λ x. (simple_tree x.0, x.1.now)) result (assigned_at inner (expr_tree target) tokens.now) }
+    ensures { Gives (λ x. (simple_tree x.0, x.1.now)) result (assigned_at inner (boxed_expr target) tokens.now) }
 {
     if !is_location(&target) {
         return Err(ParseRefusal::NoProgram { at: place(tokens) });
@@ -69,13 +71,13 @@ fn assigned(
 #[tactic(auto, unfolding(rules_model::specs::SimpleReading::updated_at))]
 fn updated(
     alloc: Global,
-    target: Expr,
+    target: Box<Expr>,
     operator: Operator,
     sign: Pos,
     tokens: &[Token],
     inner: usize,
 ) -> Result<(Simple, &[Token]), ParseRefusal>
-    ensures { Gives (λ x. (simple_tree x.0, x.1.now)) result (updated_at inner (expr_tree target) (sign, operator) tokens.now) }
+    ensures { Gives (λ x. (simple_tree x.0, x.1.now)) result (updated_at inner (boxed_expr target) (sign, operator) tokens.now) }
 {
     if !is_location(&target) {
         return Err(ParseRefusal::NoProgram { at: place(tokens) });
@@ -95,8 +97,8 @@ fn updated(
 
 // A call, if the name has one part in brackets.
 #[tactic(auto, unfolding(rules_model::specs::SimpleReading::called_at))]
-fn called(target: Expr, tokens: &[Token]) -> Result<(Simple, &[Token]), ParseRefusal>
-    ensures { Gives (λ x. (simple_tree x.0, x.1.now)) result (called_at (expr_tree target) tokens.now) }
+fn called(target: Box<Expr>, tokens: &[Token]) -> Result<(Simple, &[Token]), ParseRefusal>
+    ensures { Gives (λ x. (simple_tree x.0, x.1.now)) result (called_at (boxed_expr target) tokens.now) }
 {
     match call_in(target) {
         Some((name, args)) => {
@@ -142,15 +144,5 @@ fn may_update(operator: Operator) -> bool
         Operator::OrIf | Operator::AndIf | Operator::In => false,
         Operator::Equal | Operator::NotEqual | Operator::Less | Operator::LessOrEqual => false,
         Operator::Greater | Operator::GreaterOrEqual => false,
-    }
-}
-
-// The tokens behind the first.
-fn behind(tokens: &[Token]) -> &[Token]
-    ensures { result.now ≡ marks.behind tokens.now }
-{
-    match tokens {
-        [_, rest @ ..] => rest,
-        [] => tokens,
     }
 }

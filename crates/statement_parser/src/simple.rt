@@ -1,6 +1,6 @@
 // Readers of actions that hold no other (Z.200, chapters on actions and on concurrent execution).
 ghost use Rattle.std.specs.Prelude.{option_map};
-ghost use Rattle.chill_tree.specs.ExprTree.{expr_tree, expr_trees};
+ghost use Rattle.chill_tree.specs.ExprTree.{expr_trees};
 ghost use Rattle.chill_tree.specs.SimpleTree.{simple_tree, exit, cause, continue_event, result_of, assert_that};
 ghost use Rattle.chill_tree.specs.declared.token.Word.TheVariants as words;
 ghost use Rattle.expr_parser.specs.Giving.{Gives};

@@ -1,7 +1,7 @@
 // Readers of statements, of lists of them and of bodies.
 ghost use Rattle.std.specs.Prelude.{◌≡◌, map, option_map};
-ghost use Rattle.chill_tree.specs.SimpleTree.{simple_tree};
-ghost use Rattle.chill_tree.specs.StatementTree.{statement_tree, bracketed_tree, body_tree, statement_trees, body_trees};
+ghost use Rattle.chill_tree.specs.SimpleTree.{boxed_simple, simple_tree};
+ghost use Rattle.chill_tree.specs.StatementTree.{statement_tree, boxed_bracketed, bracketed_tree, body_tree, statement_trees, body_trees};
 ghost use Rattle.expr_parser.specs.Giving.{Gives};
 ghost use Rattle.rules_model.specs.Reading.{many_at};
 ghost use Rattle.rules_model.specs.SimpleGrammar as simple_grammar;
@@ -16,7 +16,7 @@ use crate::simple::read_simple;
 use chill_base::{List, Pos};
 use chill_tree::tree::{BodyPart, Bracketed, Name, Simple, Statement};
 use chill_tree::{Sign, Token};
-use expr_parser::{ParseRefusal, read_name, read_sign, starts};
+use expr_parser::{ParseRefusal, boxed, read_name, read_sign, starts};
 use mode_parser::read_local;
 use std::alloc::Global;
 
@@ -244,6 +244,7 @@ fn unlabelled(
     ensures { Gives (λ x. (statement_tree x.0, x.1.now)) result (unlabelled_at inner (actions_at inner) tokens.now) }
 {
     let (action, rest) = read_simple(alloc, tokens, inner)?;
+    let action = boxed(alloc, action)?;
     let (handler, rest) = read_handler(alloc, rest, inner)?;
     let (_, rest) = read_sign(rest, Sign::Semicolon)?;
     let at = place_of_simple(&action);

@@ -11,8 +11,6 @@ mod calls;
 #[cfg(test)]
 mod expressions;
 #[cfg(test)]
-mod lists;
-#[cfg(test)]
 mod parts;
 #[cfg(test)]
 mod tokens;

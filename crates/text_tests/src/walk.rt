@@ -1,13 +1,13 @@
 // One program of two modulions: what is found of it was written by hand.
 use chill_base::{Item, List, Memory, Pos, Text};
-use diagnostics::Rule;
-use group_dependence::Target;
+use diagnostics::{Rule, list_once};
 use names_model::{Clause, Identifier, Kind, Mention, Need, Part, Spelling};
-use reach_walk::{Findings, book_of, find_in_program};
+use reach_tables::Book;
+use reach_walk::{Findings, find_in_program};
 use std::alloc::Global;
 use std::test::Fail;
 
-pub fn identifier(alloc: Global, line: u32, name: &str) -> Result<Identifier, Memory> {
+fn identifier(alloc: Global, line: u32, name: &str) -> Result<Identifier, Memory> {
     Ok(Identifier {
         at: Pos { line, column: 1 },
         spelling: Spelling::from_bytes(alloc, name.as_bytes())?,
@@ -21,13 +21,7 @@ fn mentioned(alloc: Global, line: u32, name: &str, need: Need) -> Result<Part, M
     }))
 }
 
-pub fn defined(
-    alloc: Global,
-    line: u32,
-    kind: Kind,
-    name: &str,
-    used: &str,
-) -> Result<Part, Memory> {
+fn defined(alloc: Global, line: u32, kind: Kind, name: &str, used: &str) -> Result<Part, Memory> {
     let mut names = List::new(alloc);
     names.push(identifier(alloc, line, name)?)?;
     let mut text = List::new(alloc);
@@ -38,11 +32,11 @@ pub fn defined(
     Ok(Part::Define(Clause { kind, names, text }))
 }
 
-pub fn location(alloc: Global, line: u32, name: &str) -> Result<Part, Memory> {
+fn location(alloc: Global, line: u32, name: &str) -> Result<Part, Memory> {
     defined(alloc, line, Kind::Location, name, "INT")
 }
 
-pub fn modulion(
+fn modulion(
     alloc: Global,
     line: u32,
     name: &str,
@@ -79,7 +73,7 @@ fn program(alloc: Global) -> Result<List<Part>, Memory> {
 
 fn found(alloc: Global) -> Result<Findings, Memory> {
     let parts = program(alloc)?;
-    let book = book_of(alloc, parts.as_slice())?;
+    let book = Book::of(alloc, parts.as_slice())?;
     let mut out = Findings::new(alloc);
     find_in_program(alloc, &book, &parts, &mut out)?;
     Ok(out)
@@ -88,10 +82,11 @@ fn found(alloc: Global) -> Result<Findings, Memory> {
 #[test]
 fn rules_on_names_are_told(rt: HostRuntime) -> Result<(), Fail> {
     let alloc = rt.alloc();
-    let told = found(alloc)?.told;
+    let mut told = found(alloc)?.told;
+    list_once(&mut told);
     let wanted = [
-        (5, Rule::N1, "x"),
         (4, Rule::N3, "y"),
+        (5, Rule::N1, "x"),
         (8, Rule::N3, "z"),
         (10, Rule::N5, "x"),
         (11, Rule::N2, "giver"),
@@ -127,7 +122,7 @@ fn locations_depend_on_their_modes(rt: HostRuntime) -> Result<(), Fail> {
     assert_eq!(rt; groups.len(), wanted.len());
     for (group, (from, to)) in groups.iter().zip(wanted.iter()) {
         assert!(rt; group.from.as_slice() == [*from].as_slice());
-        assert!(rt; group.to.as_slice() == [Target::Node(*to)].as_slice());
+        assert!(rt; group.to.as_slice() == [*to].as_slice());
     }
     Ok(())
 }

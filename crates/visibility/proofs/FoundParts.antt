@@ -1,10 +1,9 @@
 -- What is found of a program's parts is found of its tree.
-use Rattle.std.proofs.Common.{◌≡◌, ℕ, ◌+◌, ◌<◌, ◌^◌, List, [], ◌++◌, min, length, length-append, arith, refl, sym, ap, ◌∙◌, subst}
+use Rattle.std.proofs.Common.{◌≡◌, ℕ, ◌+◌, ◌-◌, ◌<◌, ◌^◌, List, [], ◌++◌, min, length, length-append, arith, refl, sym, ap, ◌∙◌, subst}
 use Rattle.diagnostics.specs.declared.diagnostic.Diagnostic.{Diagnostic}
 use Rattle.chill_tree.specs.ItemTree.{ProgramTree}
 use Rattle.diagnostics.specs.Listing.{SameMembers}
-use Rattle.group_dependence.specs.declared.target.TargetGroup.{TargetGroup}
-use Rattle.group_dependence.specs.Targets.{SameEdges, groups_with}
+use Rattle.cycles.specs.declared.group.Group.{Group}
 use Rattle.names_model.specs.declared.definition.Definition.{Definition}
 use Rattle.names_model.specs.Parts.{PartNodes}
 use Rattle.names_model.specs.Sizes.{sizes_of}
@@ -15,18 +14,18 @@ use Rattle.names_model.specs.Resolving.{level_of}
 use Rattle.names_model.specs.Seeing.{outermost}
 use Rattle.reach_tables.specs.declared.book.Book.{Book}
 use Rattle.reach_walk.specs.declared.findings.Findings.{Findings}
-use Rattle.reach_tables.specs.declared.scope.Scope.{Outside}
 use Rattle.reach_tables.specs.Books.{Keeps}
 use Rattle.reach_tables.specs.Offsets.{Fits}
 use Rattle.reach_walk.specs.Findings.{AddsReach}
-use Rattle.reach_tables.proofs.Including.{includes-refl}
+use Rattle.reach_walk.specs.SameGroups.{SameGroups}
+use Rattle.visibility.specs.declared.finding.Found.{Found}
 use Rattle.visibility.specs.Found.{IsFound}
 
 -- what the calls promise of parts
 pub record Promises (ps : PartNodes) (count : ℕ) (book : Book) (old new : Findings) : Type 0 where
   pub size : count ≡ min (sizes_of ps) 4294967295
   pub keeps : Fits 0 ps → length (with_predefined (text_definitions ps)) < 2 ^ 32 → Keeps book (text_definitions ps)
-  pub adds : (text : List Definition) → Keeps book text → Fits 0 ps → AddsReach Outside old new text (outermost ps) 0 ps
+  pub adds : (text : List Definition) → Keeps book text → Fits 0 ps → AddsReach old new text (outermost ps) 0 ps
   pub told : old.told.items ≡ []
   pub groups : old.groups.items ≡ []
   pub uses : old.uses.items ≡ []
@@ -51,7 +50,7 @@ found_at tree count book old new few fit size p =
       keeps = keeps;
       count = sizes ∙ sym own;
       told = subst (λ (l : List Diagnostic). SameMembers new.told.items (l ++ told_in (text_definitions (level_of tree)) (outermost (level_of tree)) 0 (level_of tree))) p.told adds.told;
-      groups = subst (λ (gs : List TargetGroup). SameEdges (groups_with new.lists.items new.groups.items) (groups_with new.lists.items gs ++ groups_in (text_definitions (level_of tree)) (outermost (level_of tree)) 0 (level_of tree))) p.groups (adds.groups new.lists.items (includes-refl new.lists.items) tt);
+      groups = subst (λ (l : List Group). SameGroups new.groups.items (l ++ groups_in (text_definitions (level_of tree)) (outermost (level_of tree)) 0 (level_of tree))) p.groups adds.groups;
       uses = behind_none old.uses.items new.uses.items _ p.uses adds.uses;
     }
 

@@ -1,4 +1,3 @@
 pub mod FoundParts
-pub mod LocationSteps
 pub mod Phase
 pub mod SelfSteps

@@ -3,9 +3,9 @@ use Rattle.std.proofs.Common.{◌≡◌, ℕ, ◌+◌, ◌<◌, ◌≤◌, Bool,
 use Rattle.std.specs.Prelude.{flat_map, map}
 use Rattle.std.proofs.lemmas.List.{at_drop_all, map-append}
 use Rattle.std.proofs.lemmas.List.Elements.{filter-append}
-use Rattle.group_dependence.specs.declared.group.Group.{Group}
-use Rattle.group_dependence.specs.declared.target.Target.{Target}
-use Rattle.group_dependence.specs.declared.target.TargetGroup.{TargetGroup}
+use Rattle.cycles.specs.declared.group.Group.{Group}
+use Rattle.cycles.specs.declared.target.Target.{Target}
+use Rattle.cycles.specs.declared.target.TargetGroup.{TargetGroup}
 
 module _ (p : ℕ → Bool) (before after : Target → List ℕ) where
   -- one target more: of what it stood for, what passes the test is left

@@ -1,5 +1,6 @@
 -- What is answered of the names of a program.
-use Rattle.std.specs.Prelude.{◌≡◌, ◌≢◌, [], Result, Ok, Err}
+use Rattle.std.specs.Prelude.{◌≡◌, ◌≢◌, List, [], Result, Ok, Err}
+use Rattle.diagnostics.specs.declared.diagnostic.Diagnostic.{Diagnostic}
 use Rattle.chill_tree.specs.ItemTree.{ProgramTree}
 use Rattle.names_model.specs.declared.names.Names.{Names}
 use Rattle.names_model.specs.Resolving.{broken_names, level_of, names_of}

@@ -1,8 +1,8 @@
 -- Flags that tell what depends on itself.
 use Rattle.std.specs.Prelude.{◌≡◌, ℕ, false, List, slice_index_or}
-use Rattle.group_dependence.specs.declared.group.Group.{Group}
-use Rattle.group_dependence.specs.Groups.{edges_of}
-use Rattle.group_dependence.specs.Testing.{depends_on}
+use Rattle.cycles.specs.declared.group.Group.{Group}
+use Rattle.cycles.specs.Groups.{edges_of}
+use Rattle.cycles.specs.Testing.{depends_on}
 use Rattle.names_model.specs.declared.definition.Definition.{Definition}
 use Rattle.names_model.specs.Dependence.{among_locations}
 use Rattle.visibility.specs.declared.selves.Flags.{Flags}

@@ -5,9 +5,10 @@ ghost use Rattle.visibility.specs.Found.{IsFound};
 
 use chill_base::Memory;
 use chill_tree::tree::Tree;
+use names_model::sizes_of;
 use reach_parts::program_parts;
-use reach_tables::{Book, sizes_of};
-use reach_walk::{Findings, PREDEFINED_COUNT, book_of, find_in_program, fits_law, size_law};
+use reach_tables::{Book, PREDEFINED_COUNT};
+use reach_walk::{Findings, find_in_program, fits_law, size_law};
 use std::alloc::Global;
 
 /// The definitions of a program, how many of them its text has, and what its parts tell, depend on and use.
@@ -29,7 +30,7 @@ pub fn find(alloc: Global, tree: &Tree) -> Result<Found, Memory>
     }
     fits_law();
     size_law();
-    let book = book_of(alloc, parts.as_slice())?;
+    let book = Book::of(alloc, parts.as_slice())?;
     let mut findings = Findings::new(alloc);
     find_in_program(alloc, &book, &parts, &mut findings)?;
     Ok(Found {

@@ -24,11 +24,10 @@ pub fn resolve(alloc: Global, tree: &Tree) -> Result<Names, Refusal>
     } = find(alloc, tree)?;
     let Findings {
         mut told,
-        lists,
         groups,
         uses,
     } = findings;
-    tell_selves(alloc, &book, count, &lists, &groups, &mut told)?;
+    tell_selves(alloc, &book, count, &groups, &mut told)?;
     tell_surplus(alloc, &book, count, &mut told)?;
     same_list_law();
     list_once(&mut told);

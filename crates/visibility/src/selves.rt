@@ -1,20 +1,18 @@
 // N6: what depends on itself.
 ghost use Rattle.std.specs.Prelude.{◌≡◌, ◌++◌, ℕ, List, IfOk, OnOk, Some, length, false, slice_get, slice_index_or};
 ghost use Rattle.names_model.specs.declared.definition.Definition.{Definition};
-ghost use Rattle.group_dependence.specs.declared.group.Group.{Group};
-ghost use Rattle.group_dependence.specs.Targets.{groups_with};
+ghost use Rattle.cycles.specs.declared.group.Group.{Group};
 ghost use Rattle.names_model.specs.Kinds.{is_constant};
 ghost use Rattle.names_model.specs.Definitions.{is_kind_at};
 ghost use Rattle.names_model.specs.Dependence.{is_self, told_self, told_selves};
 ghost use Rattle.reach_tables.specs.Books.{Keeps};
 ghost use Rattle.visibility.specs.Tested.{Tests};
 
-use crate::locations::{among_locations, location_lists};
-use chill_base::{Memory, Numbers};
+use crate::locations::among_locations;
+use chill_base::Memory;
+use cycles::{Group, selves};
 use diagnostics::{Diagnostic, Rule};
-use group_dependence::{TargetGroup, selves};
-use names_model::{Definition, Kind};
-use reach_entries::push_told;
+use names_model::{Definition, Kind, push_told};
 use reach_tables::Book;
 use std::alloc::Global;
 
@@ -26,18 +24,12 @@ pub struct Flags {
 }
 
 // The flags of these groups.
-fn flags_of(
-    alloc: Global,
-    book: &Book,
-    lists: &[Numbers],
-    groups: &[TargetGroup],
-) -> Result<Flags, Memory>
-    ensures { IfOk result (λ f. Tests f book.now.all.items (groups_with lists.now groups.now)) }
+fn flags_of(alloc: Global, book: &Book, groups: &[Group]) -> Result<Flags, Memory>
+    ensures { IfOk result (λ f. Tests f book.now.all.items groups.now) }
 {
-    let through = selves(alloc, lists, groups)?;
-    let locations = location_lists(alloc, book, lists)?;
-    let whole = among_locations(alloc, book, groups)?;
-    let among = selves(alloc, locations.as_slice(), whole.as_slice())?;
+    let through = selves(alloc, groups)?;
+    let locations = among_locations(alloc, book, groups)?;
+    let among = selves(alloc, locations.as_slice())?;
     Ok(Flags { through, among })
 }
 
@@ -104,13 +96,12 @@ pub fn tell_selves(
     alloc: Global,
     book: &Book,
     count: u32,
-    lists: &[Numbers],
-    groups: &[TargetGroup],
+    groups: &[Group],
     out: &mut Vec<Diagnostic>,
 ) -> Result<(), Memory>
-    ensures { (text : List Definition) → Keeps book.now text → count ≡ length text → OnOk result (out.new.items ≡ out.old.items ++ told_selves text (groups_with lists.now groups.now)) }
+    ensures { (text : List Definition) → Keeps book.now text → count ≡ length text → OnOk result (out.new.items ≡ out.old.items ++ told_selves text groups.now) }
 {
-    let flags = flags_of(alloc, book, lists, groups)?;
+    let flags = flags_of(alloc, book, groups)?;
     for number in 0..count {
         tell_self(alloc, book, &flags, number, out)?;
     }

@@ -5,19 +5,22 @@ use Rattle.rules_model.specs.ItemReading.{item_at, items_at}
 use Rattle.chill_parser.proofs.item.+item.Given as goal
 
 abbrev pub decreases-each_item : goal.decreases-each_item
-decreases-each_item l = 5 * l.inner + 4
+decreases-each_item l = 6 * l.inner + 5
 
 abbrev pub decreases-read_item : goal.decreases-read_item
-decreases-read_item l = 5 * l.inner + 3
+decreases-read_item l = 6 * l.inner + 4
 
 abbrev pub decreases-block_item : goal.decreases-block_item
-decreases-block_item l = 5 * l.inner + 2
+decreases-block_item l = 6 * l.inner + 3
+
+abbrev pub decreases-modulion : goal.decreases-modulion
+decreases-modulion l = 6 * l.inner + 2
 
 abbrev pub decreases-read_modulion : goal.decreases-read_modulion
-decreases-read_modulion l = 5 * l.inner + 1
+decreases-read_modulion l = 6 * l.inner + 1
 
 abbrev pub decreases-read_items : goal.decreases-read_items
-decreases-read_items l = 5 * l.room
+decreases-read_items l = 6 * l.room
 
 -- what is still read from here is what was read from the start
 abbrev pub invariant-each_item-loop : goal.invariant-each_item-loop

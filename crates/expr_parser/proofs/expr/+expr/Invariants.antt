@@ -1,7 +1,7 @@
-use Rattle.std.proofs.Common.{◌≡◌, ℕ, ◌-◌, ◌+◌, ◌*◌, ◌≤◌, [], length}
-use Rattle.chill_tree.specs.ExprTree.{expr_tree, expr_trees, range_trees}
-use Rattle.rules_model.specs.Reading.{repeat, push, another_at}
-use Rattle.rules_model.specs.ExprReading.{part_at, with_part, range_at, turn_at, with_turn, ranked_at, expr_at}
+use Rattle.std.proofs.Common.{◌≡◌, ◌-◌, ◌+◌, ◌*◌}
+use Rattle.chill_tree.specs.ExprTree.{boxed_expr}
+use Rattle.rules_model.specs.Reading.{repeat}
+use Rattle.rules_model.specs.ExprReading.{part_at, with_part, turn_at, with_turn, ranked_at, expr_at}
 use Rattle.expr_parser.proofs.expr.+expr.Given as goal
 
 abbrev pub decreases-read_expr : goal.decreases-read_expr
@@ -40,11 +40,11 @@ decreases-read_args l = 40 * l.inner + 24
 abbrev pub decreases-read_exprs : goal.decreases-read_exprs
 decreases-read_exprs l = 40 * l.room + 23
 
-abbrev pub decreases-other_exprs : goal.decreases-other_exprs
-decreases-other_exprs l = 40 * l.room + 22
+abbrev pub decreases-read_exprs-read_list : goal.decreases-read_exprs-read_list
+decreases-read_exprs-read_list l = 40 * l.room + 22
 
-abbrev pub decreases-another_expr : goal.decreases-another_expr
-decreases-another_expr l = 40 * l.room + 21
+abbrev pub decreases-read_ranges-read_list : goal.decreases-read_ranges-read_list
+decreases-read_ranges-read_list l = 40 * l.room + 22
 
 abbrev pub decreases-tuple : goal.decreases-tuple
 decreases-tuple l = 40 * l.inner + 26
@@ -58,28 +58,14 @@ decreases-tuple_parts l = 40 * l.inner + 25
 abbrev pub decreases-read_ranges : goal.decreases-read_ranges
 decreases-read_ranges l = 40 * l.room + 24
 
-abbrev pub decreases-other_ranges : goal.decreases-other_ranges
-decreases-other_ranges l = 40 * l.room + 23
-
-abbrev pub decreases-another_range : goal.decreases-another_range
-decreases-another_range l = 40 * l.room + 22
-
 abbrev pub decreases-read_range : goal.decreases-read_range
 decreases-read_range l = 40 * l.room + 21
 
 -- what is still read from here is what was read from the start
-abbrev pub invariant-other_exprs-loop : goal.invariant-other_exprs-loop
-invariant-other_exprs-loop l =
-    repeat (another_at (expr_at l.room l.opened)) push (l.limit - l.counter) (expr_trees l.items) l.rest ≡ repeat (another_at (expr_at l.room l.opened)) push l.limit (expr_trees l.fn.first) l.tokens
-
-abbrev pub invariant-other_ranges-loop : goal.invariant-other_ranges-loop
-invariant-other_ranges-loop l =
-    repeat (another_at (range_at (expr_at l.room l.opened))) push (l.limit - l.counter) (range_trees l.items) l.rest ≡ repeat (another_at (range_at (expr_at l.room l.opened))) push l.limit (range_trees l.fn.first) l.tokens
-
 abbrev pub invariant-parts-loop : goal.invariant-parts-loop
 invariant-parts-loop l =
-    repeat (part_at l.inner (expr_at l.inner)) with_part (32 - l.counter) (expr_tree l.of) l.rest ≡ repeat (part_at l.inner (expr_at l.inner)) with_part 32 (expr_tree l.fn.first) l.tokens
+    repeat (part_at l.inner (expr_at l.inner)) with_part (32 - l.counter) (boxed_expr l.of) l.rest ≡ repeat (part_at l.inner (expr_at l.inner)) with_part 32 (boxed_expr l.fn.first) l.tokens
 
 abbrev pub invariant-turns-loop : goal.invariant-turns-loop
 invariant-turns-loop l =
-    repeat (turn_at (ranked_at l.inner (expr_at l.inner) (l.rank - 1)) l.rank) with_turn (32 - l.counter) (expr_tree l.left) l.rest ≡ repeat (turn_at (ranked_at l.inner (expr_at l.inner) (l.rank - 1)) l.rank) with_turn 32 (expr_tree l.fn.first) l.tokens
+    repeat (turn_at (ranked_at l.inner (expr_at l.inner) (l.rank - 1)) l.rank) with_turn (32 - l.counter) (boxed_expr l.left) l.rest ≡ repeat (turn_at (ranked_at l.inner (expr_at l.inner) (l.rank - 1)) l.rank) with_turn 32 (boxed_expr l.fn.first) l.tokens

@@ -1,5 +1,5 @@
-use Rattle.std.proofs.Common.{◌≡◌, ◌∙◌, ◌-◌, sym, ap, arith, length, take, drop, Ok, Err}
-use Rattle.chill_tree.specs.ExprTree.{expr_tree}
+use Rattle.std.proofs.Common.{◌∙◌, sym, ap, arith, drop}
+use Rattle.chill_tree.specs.ExprTree.{boxed_expr}
 use Rattle.expr_parser.specs.Giving.{Fails}
 use Rattle.expr_parser.proofs.Expressing.{Value, expressed, to_end, refused, handed_on}
 use Rattle.expr_parser.proofs.parse.parse_expr.Goals as goal
@@ -7,13 +7,13 @@ use Rattle.expr_parser.proofs.parse.parse_expr.Goals as goal
 pub overflow_sub-result : goal.overflow_sub-result
 overflow_sub-result c =
     let h = ap (Value 64) (sym (to_end c.args.from c.args.tokens.now c.as_slice.result.now c.as_slice.ensures)) ∙ c.in_ok-found.ensures in
-    let x = expressed c.args.tokens.now c.in_ok-found.rest.now c.args.from (expr_tree c.in_ok-found.found) c.requires h in
+    let x = expressed c.args.tokens.now c.in_ok-found.rest.now c.args.from (boxed_expr c.in_ok-found.found) c.requires h in
     omega (arith, x.2, c.len.ensures)
 
 pub returns : goal.returns
 returns c =
     let h = ap (Value 64) (sym (to_end c.args.from c.args.tokens.now c.as_slice.result.now c.as_slice.ensures)) ∙ c.in_ok-found.ensures in
-    rw c.len.ensures (expressed c.args.tokens.now c.in_ok-found.rest.now c.args.from (expr_tree c.in_ok-found.found) c.requires h)
+    rw c.len.ensures (expressed c.args.tokens.now c.in_ok-found.rest.now c.args.from (boxed_expr c.in_ok-found.found) c.requires h)
 
 pub returns-in_err-found : goal.returns-in_err-found
 returns-in_err-found c =

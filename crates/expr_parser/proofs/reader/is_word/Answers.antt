@@ -1,4 +1,4 @@
-use Rattle.std.proofs.Common.{◌≡◌, ◌∙◌, sym, ap}
+use Rattle.std.proofs.Common.{◌∙◌, sym, ap}
 use Rattle.rules_model.specs.Marks.{is_word}
 use Rattle.expr_parser.proofs.Marked.{word_tested}
 use Rattle.expr_parser.proofs.reader.is_word.Goals as goal

@@ -1,7 +1,4 @@
-use Rattle.std.proofs.Common.{◌≡◌, ◌-◌, ◌+◌, ◌*◌}
-use Rattle.chill_tree.specs.ModeTree.{field_trees}
-use Rattle.rules_model.specs.Reading.{repeat, push, another_at}
-use Rattle.rules_model.specs.ModeReading.{arrays_at, one_field_at, fields_at}
+use Rattle.std.proofs.Common.{◌+◌, ◌*◌}
 use Rattle.mode_parser.proofs.base.+base.Given as goal
 
 abbrev pub decreases-arrays : goal.decreases-arrays
@@ -25,16 +22,8 @@ decreases-fields l = 60 * l.room + 10
 abbrev pub decreases-some_fields : goal.decreases-some_fields
 decreases-some_fields l = 60 * l.inner + 55
 
-abbrev pub decreases-other_fields : goal.decreases-other_fields
-decreases-other_fields l = 60 * l.inner + 54
-
-abbrev pub decreases-another_field : goal.decreases-another_field
-decreases-another_field l = 60 * l.inner + 53
+abbrev pub decreases-some_fields-read_list : goal.decreases-some_fields-read_list
+decreases-some_fields-read_list l = 60 * l.inner + 54
 
 abbrev pub decreases-one_field : goal.decreases-one_field
 decreases-one_field l = 60 * l.inner + 52
-
--- what is still read from here is what was read from the start
-abbrev pub invariant-other_fields-loop : goal.invariant-other_fields-loop
-invariant-other_fields-loop l =
-    repeat (another_at (one_field_at l.inner (arrays_at l.inner (fields_at l.inner) 8))) push (l.limit - l.counter) (field_trees l.items) l.rest ≡ repeat (another_at (one_field_at l.inner (arrays_at l.inner (fields_at l.inner) 8))) push l.limit (field_trees l.fn.first) l.tokens

@@ -1,4 +1,4 @@
-use Rattle.std.proofs.Common.{◌≡◌, ◌<◌, ◌^◌, List, min, length, arith, ap, subst}
+use Rattle.std.proofs.Common.{◌≡◌, ℕ, ◌<◌, ◌^◌, List, min, length, arith, ap, sym, ◌∙◌, subst}
 use Rattle.chill_tree.specs.ItemTree.{program_tree}
 use Rattle.names_model.specs.declared.part.Part.{Part}
 use Rattle.names_model.specs.Parts.{part_nodes}
@@ -19,6 +19,6 @@ returns c =
       keeps = subst (λ (z : List Part). Fits 0 (nodes_of z) → length (with_predefined (text_definitions (nodes_of z))) < 2 ^ 32 → Keeps book (text_definitions (nodes_of z))) c.as_slice-2.ensures c.in_ok-book.ensures;
       adds = c.in_ok-find_in_program.ensures;
       told = c.new-findings.ensures.0;
-      groups = c.new-findings.ensures.2;
-      uses = c.new-findings.ensures.3;
+      groups = c.new-findings.ensures.1;
+      uses = c.new-findings.ensures.2;
     })

@@ -1,5 +1,5 @@
 use Rattle.std.proofs.Common.{map}
-use Rattle.group_dependence.specs.Targets.{group_with}
+use Rattle.cycles.specs.Targets.{group_with}
 use Rattle.names_model.specs.Dependence.{group, locations_in}
 use Rattle.visibility.proofs.LocationSteps.{groups-on}
 use Rattle.visibility.proofs.locations.among_locations.Goals as goal

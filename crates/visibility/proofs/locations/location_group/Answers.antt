@@ -1,5 +1,5 @@
 use Rattle.std.proofs.Common.{map}
-use Rattle.group_dependence.specs.Targets.{target_nodes}
+use Rattle.cycles.specs.Targets.{target_nodes}
 use Rattle.names_model.specs.Kinds.{is_location}
 use Rattle.names_model.specs.Definitions.{is_kind_at}
 use Rattle.names_model.specs.Dependence.{locations_in}

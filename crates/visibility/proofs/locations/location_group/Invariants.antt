@@ -1,6 +1,6 @@
 use Rattle.std.proofs.Common.{◌≡◌, ℕ, List, ◌++◌, map, drop}
 use Rattle.std.specs.Prelude.{flat_map}
-use Rattle.group_dependence.specs.Targets.{target_nodes}
+use Rattle.cycles.specs.Targets.{target_nodes}
 use Rattle.names_model.specs.Dependence.{locations_in}
 use Rattle.visibility.proofs.locations.location_group.Given as goal
 

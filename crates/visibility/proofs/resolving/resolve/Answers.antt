@@ -1,7 +1,6 @@
-use Rattle.std.proofs.Common.{◌≡◌, ◌∙◌, ◌++◌, ℕ, Bool, true, false, sym, ap, List}
+use Rattle.std.proofs.Common.{◌≡◌, ◌∙◌, ◌++◌, Bool, true, false, sym, ap, List, []}
 use Rattle.chill_tree.specs.ItemTree.{program_tree}
-use Rattle.group_dependence.specs.declared.target.TargetGroup.{TargetGroup}
-use Rattle.group_dependence.specs.Targets.{groups_with}
+use Rattle.cycles.specs.declared.group.Group.{Group}
 use Rattle.names_model.specs.Definitions.{text_definitions}
 use Rattle.names_model.specs.Dependence.{told_selves}
 use Rattle.names_model.specs.Resolving.{level_of}
@@ -17,7 +16,7 @@ returns-then-not-is_empty c =
     let tree = program_tree c.args.tree.now in
     let found = c.in_ok-book.field-0 in
     let f = c.in_ok-book.ensures in
-    let selves = c.in_ok-tell_selves.ensures _ f.keeps f.count ∙ ap (λ (ls : List (List ℕ)). found.findings.told.items ++ told_selves (text_definitions (level_of tree)) (groups_with ls c.deref-2.result.now)) c.deref.ensures.value ∙ ap (λ (gs : List TargetGroup). found.findings.told.items ++ told_selves (text_definitions (level_of tree)) (groups_with found.findings.lists.items gs)) c.deref-2.ensures.value in
+    let selves = c.in_ok-tell_selves.ensures _ f.keeps f.count ∙ ap (λ (gs : List Group). found.findings.told.items ++ told_selves (text_definitions (level_of tree)) gs) c.deref.ensures.value in
     let broken = broken_are tree found _ _ c.list_once.new.diagnostics.items c.same_list_law.ensures f selves (c.in_ok-tell_surplus.ensures _ f.keeps f.count) c.list_once.ensures in
     (c.from_vec-broken.ensures ∙ broken, λ e. not_both c.is_empty.result (c.is_empty.ensures.1 e) c.if-not-is_empty.true)
 
@@ -26,6 +25,6 @@ returns c =
     let tree = program_tree c.args.tree.now in
     let found = c.in_ok-book.field-0 in
     let f = c.in_ok-book.ensures in
-    let selves = c.in_ok-tell_selves.ensures _ f.keeps f.count ∙ ap (λ (ls : List (List ℕ)). found.findings.told.items ++ told_selves (text_definitions (level_of tree)) (groups_with ls c.deref-2.result.now)) c.deref.ensures.value ∙ ap (λ (gs : List TargetGroup). found.findings.told.items ++ told_selves (text_definitions (level_of tree)) (groups_with found.findings.lists.items gs)) c.deref-2.ensures.value in
+    let selves = c.in_ok-tell_selves.ensures _ f.keeps f.count ∙ ap (λ (gs : List Group). found.findings.told.items ++ told_selves (text_definitions (level_of tree)) gs) c.deref.ensures.value in
     let broken = broken_are tree found _ _ c.list_once.new.diagnostics.items c.same_list_law.ensures f selves (c.in_ok-tell_surplus.ensures _ f.keeps f.count) c.list_once.ensures in
     (sym broken ∙ sym c.from_vec-broken.ensures ∙ c.is_empty.ensures.0 c.if-not-is_empty.false, names_are tree found c.from_vec.result c.from_vec-2.result f c.from_vec.ensures c.from_vec-2.ensures)

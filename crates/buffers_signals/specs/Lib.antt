@@ -1,0 +1,5 @@
+pub mod Lists
+pub mod Buffers
+pub mod Signals
+pub mod Ranks
+pub mod Steps

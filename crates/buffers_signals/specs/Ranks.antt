@@ -1,0 +1,66 @@
+-- How values and signals stand, where they may be chosen.
+use Rattle.std.specs.Prelude.{◌≡◌, ℕ, ◌==◌, ◌&&◌, not, Bool, true, false, List, slice_get, slice_index_or, if◌then◌else◌, Some, None, is_some}
+use Rattle.std.specs.declared.option.Option.{Option}
+use Rattle.kernel_base.specs.declared.request.Alternative.{Alternative}
+use Rattle.world_model.specs.declared.world.PendingSignal.{PendingSignal}
+use Rattle.world_model.specs.Lists.{number_for}
+use Rattle.kernel_lists.specs.declared.best.Rank.{Rank}
+use Rattle.kernel_lists.specs.declared.best.Best.{Best}
+use Rattle.kernel_lists.specs.Best.{precedes_in}
+use Rattle.buffers_signals.specs.declared.messages.Held.{Held}
+use Rattle.buffers_signals.specs.declared.receiving.Source.{Source}
+use Rattle.buffers_signals.specs.declared.receiving.Source.TheVariants.{Stored, Offered, Nowhere}
+use Rattle.buffers_signals.specs.Lists.{rank_of}
+use Rattle.buffers_signals.specs.Signals.{may_receive}
+use Rattle.buffers_signals.specs.Buffers.{SeenBuffers, IsChoice, NoCandidate}
+
+-- a value stands by its rank where this holds
+abbrev pub rank_where : Bool → Held → Option Rank
+rank_where may held = if may then Some (rank_of held.value) else None
+
+-- the value of one that waits to send to the buffer
+abbrev pub sender_rank : ℕ → Held → Option Rank
+sender_rank buffer held = rank_where (held.buffer == buffer) held
+
+-- of a buffer of length 0
+abbrev pub is_zero : Option ℕ → Bool
+is_zero None = false
+is_zero (Some length) = length == 0
+
+abbrev pub is_unbuffered : List (Option ℕ) → ℕ → Bool
+is_unbuffered lengths buffer = is_zero (slice_index_or lengths buffer None)
+
+abbrev pub is_listed : List Alternative → ℕ → Bool
+is_listed buffers buffer = is_some (number_for buffers buffer)
+
+-- a value that lies in a listed buffer
+abbrev pub stored_rank : List (Option ℕ) → List Alternative → Held → Option Rank
+stored_rank lengths buffers held = rank_where (is_listed buffers held.buffer && not (is_unbuffered lengths held.buffer)) held
+
+-- a value whose sender waits on a listed buffer of length 0
+abbrev pub offered_rank : List (Option ℕ) → List Alternative → Held → Option Rank
+offered_rank lengths buffers held = rank_where (is_listed buffers held.buffer && is_unbuffered lengths held.buffer) held
+
+-- where the better of both stands
+abbrev pub source_between : Option Best → Option Best → Source
+source_between None None = Nowhere
+source_between (Some stored) None = Stored stored.place
+source_between None (Some offered) = Offered offered.place
+source_between (Some stored) (Some offered) = if precedes_in offered.rank stored.rank then Offered offered.place else Stored stored.place
+
+-- the choice stands at this place
+pub record IsChoiceAt (b : SeenBuffers) (buffers : List Alternative) (list : List Held) (unbuffered : Bool) (place : ℕ) : Type 0 where
+  pub held : Held
+  pub at : slice_get list place ≡ Some held
+  pub choice : IsChoice b buffers held
+  pub length : is_unbuffered b.lengths held.buffer ≡ unbuffered
+
+-- where the choice stands, if there is one
+abbrev pub IsSource : SeenBuffers → List Alternative → Source → Type 0
+IsSource b buffers (Stored place) = IsChoiceAt b buffers b.stored false place
+IsSource b buffers (Offered place) = IsChoiceAt b buffers b.senders true place
+IsSource b buffers Nowhere = NoCandidate b buffers
+
+-- a pending signal that is listed and that the process may receive
+abbrev pub signal_rank : List (Option ℕ) → ℕ → ℕ → List Alternative → PendingSignal → Option Rank
+signal_rank wanted who process signals signal = if may_receive wanted signal.signal signal.to who process && is_listed signals signal.signal then Some (rank_of signal.value) else None

@@ -1,9 +1,0 @@
-pub mod Members
-pub mod Between
-pub mod Bounds
-pub mod Cut
-pub mod OverLists
-pub mod SameGroups
-pub mod Shortened
-pub mod Testing
-pub mod UpTo

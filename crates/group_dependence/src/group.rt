@@ -1,9 +1,0 @@
-// Groups of nodes.
-use chill_base::Numbers;
-
-/// Each of the first nodes depends on each of the second.
-#[derive(Debug, Drop)]
-pub struct Group {
-    pub from: Numbers,
-    pub to: Numbers,
-}

@@ -1,8 +1,0 @@
-// The law of the test.
-ghost use Rattle.group_dependence.specs.Testing.{TestingLaw};
-
-/// The test of dependence tells what depends on what.
-#[tactic(auto, using(crate::proofs::Testing::tests))]
-pub fn testing_law()
-    ensures { TestingLaw }
-{}

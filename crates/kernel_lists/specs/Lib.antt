@@ -1,0 +1,4 @@
+pub mod Best
+pub mod First
+pub mod Once
+pub mod Room

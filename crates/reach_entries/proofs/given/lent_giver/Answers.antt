@@ -1,6 +1,0 @@
-use Rattle.std.proofs.Common.{refl, sym}
-use Rattle.reach_entries.proofs.Lending.{giver-some}
-use Rattle.reach_entries.proofs.given.lent_giver.Goals as goal
-
-pub returns-in-Some : goal.returns-in-Some
-returns-in-Some c = giver-some c.args.own.now _ _ (sym c.in-Some.ensures.value) refl c.as_slice.ensures refl

@@ -1,6 +1,0 @@
-pub mod Givens
-pub mod Places
-pub mod Passages
-pub mod Opens
-pub mod Gathered
-pub mod Grants

@@ -1,7 +1,0 @@
-use Rattle.std.proofs.Common.{ℕ, ◌<◌}
-use Rattle.self_dependence.specs.Marks.{NodePasses}
-use Rattle.self_dependence.proofs.marks.nodes_pass.Given as goal
-
--- the nodes so far pass
-abbrev pub invariant-loop-node : goal.invariant-loop-node
-invariant-loop-node l = (v : ℕ) → v < l.node → NodePasses l.edges l.marks v
