@@ -1,8 +1,8 @@
 -- Turns of the search for fields that share a bit.
-use Rattle.std.proofs.Common.{◌≡◌, ℕ, zero, suc, ◌+◌, ◌-◌, ◌<◌, ◌≤◌, List, [], ◌∷◌, length, get_or, Option, None, refl, ap, arith, add-one}
+use Rattle.std.proofs.Common.{◌≡◌, ℕ, zero, suc, ◌+◌, ◌-◌, ◌<◌, List, [], ◌∷◌, length, get_or, Option, refl, ap, arith, add-one}
 use Rattle.modes.specs.declared.mode.Field.{Field}
 use Rattle.modes.specs.ModeTree.{PlaceTree, field_nodes, field_tree, field_trees}
-use Rattle.layout_map.specs.Overlap.{ats_of, at_number, sharing_from, share, second_from, found, moved}
+use Rattle.layout_map.specs.Overlap.{ats_of, at_number, sharing_from, share, second_from, found}
 use Rattle.std.specs.Prelude.{if◌then◌else◌, Some}
 
 -- the place of a field by its number

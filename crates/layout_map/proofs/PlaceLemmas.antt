@@ -1,5 +1,5 @@
 -- A turn of the test of the elements of STEP.
-use Rattle.std.proofs.Common.{◌≡◌, ℕ, zero, suc, ◌+◌, ◌-◌, ◌*◌, ◌/◌, ◌%◌, ◌<◌, ◌≤◌, Bool, ◌&&◌, List, [], ◌∷◌, length, get_or, false, refl, ap, arith}
+use Rattle.std.proofs.Common.{◌≡◌, ℕ, suc, ◌+◌, ◌-◌, ◌/◌, ◌%◌, ◌<◌, ◌&&◌, List, [], ◌∷◌, length, get_or, false, refl, ap, arith}
 use Rattle.std.specs.Prelude.{nat_le, is_some}
 use Rattle.modes.specs.declared.mode.Field.{Field}
 use Rattle.modes.specs.ModeTree.{field_nodes, field_tree, field_trees}

@@ -3,8 +3,7 @@ use Rattle.std.proofs.Common.{◌≡◌, ℕ, zero, suc, ◌+◌, ◌-◌, ◌*�
 use Rattle.modes.specs.ModeTree.{FieldNodes, no_fields, more_fields}
 use Rattle.modes.specs.Scalars.{numbers_of}
 use Rattle.modes.proofs.ModeViews.{mode_built}
-use Rattle.layout_map.specs.declared.scalar.Scalar.{Scalar}
-use Rattle.layout_map.specs.Spots.{Laid, follow, times, one, numbers, held, spot_end, placed_end}
+use Rattle.layout_map.specs.Spots.{Laid, follow, times, one, numbers, placed_end}
 
 -- with a turn left, the next one is made
 pub turn : (n k : ℕ) (f : ℕ → Laid) (c : ℕ) → k < n → times (n - k) f c ≡ follow (f c) (times (n - (k + 1)) f)

@@ -1,11 +1,11 @@
 -- The fields, and the arrays with STEP, of a mode in the order of the text: the first that has an impossible place, and the
 -- first that shares a bit with an earlier one. Numbers rise by one; one past 4,294,967,295, which no text comes to, is
 -- held as that.
-use Rattle.std.specs.Prelude.{ℕ, zero, suc, ◌+◌, min, Bool, true, false, ◌&&◌, ◌||◌, not, List, [], ◌∷◌, ◌++◌, length, Option, Some, None, is_some, if◌then◌else◌, position, Ok, Err}
+use Rattle.std.specs.Prelude.{ℕ, ◌+◌, min, Bool, true, false, ◌&&◌, ◌||◌, not, Option, Some, None, is_some, if◌then◌else◌, Ok, Err}
 use Rattle.std.specs.declared.result.Result.{Result}
 use Rattle.modes.specs.ModeTree.{ModeTree, int, boolean, char, instance, set_of, range, powerset, chars, array, structure, event, buffer, read, named, FieldNodes, no_fields, more_fields, PlaceTree, SpreadTree, words, packed, step}
 use Rattle.modes.specs.Bounds.{values_of}
-use Rattle.layout_map.specs.Place.{is_possible, is_possible_step, shares}
+use Rattle.layout_map.specs.Place.{is_possible, is_possible_step}
 
 abbrev pub next_number : ℕ → ℕ
 next_number n = min (n + 1) 4294967295

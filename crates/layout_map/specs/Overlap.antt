@@ -1,5 +1,5 @@
 -- The first field that shares a bit with an earlier one.
-use Rattle.std.specs.Prelude.{ℕ, zero, suc, ◌+◌, min, Bool, true, false, List, [], ◌∷◌, length, slice_index_or, Option, Some, None, if◌then◌else◌, Ok, Err}
+use Rattle.std.specs.Prelude.{ℕ, zero, suc, ◌+◌, min, Bool, false, List, [], ◌∷◌, length, slice_index_or, Option, Some, None, if◌then◌else◌, Ok, Err}
 use Rattle.std.specs.declared.result.Result.{Result}
 use Rattle.modes.specs.ModeTree.{ModeTree, int, boolean, char, instance, set_of, range, powerset, chars, array, structure, event, buffer, read, named, FieldNodes, no_fields, more_fields, PlaceTree, SpreadTree, words, packed, step}
 use Rattle.layout_map.specs.declared.overlap.Shared.{Shared}

@@ -2,7 +2,7 @@
 use Rattle.std.specs.Prelude.{ℕ, suc, ◌-◌, max, ℤ, pos, negsuc, int_lt, Bool, true, false, ◌&&◌, nat_le, if◌then◌else◌, Option, Some, None}
 use Rattle.std.specs.Int.{leading_zeros, w64}
 use Rattle.modes.specs.declared.mode.Bounds.{Bounds}
-use Rattle.modes.specs.ModeTree.{ModeTree, int, boolean, char, instance, set_of, range, powerset, chars, array, structure, event, buffer, read, named}
+use Rattle.modes.specs.ModeTree.{ModeTree, int, boolean, char, instance, set_of, range, powerset, read, named}
 use Rattle.modes.specs.Bounds.{bounds_of, natural_of, values_of}
 use Rattle.layout_map.specs.declared.scalar.Scalar.{Scalar}
 

@@ -1,5 +1,5 @@
 -- Numbers in the bits of words.
-use Rattle.std.specs.Prelude.{◌≡◌, ℕ, ◌+◌, ◌-◌, ◌*◌, ◌/◌, ◌%◌, ◌^◌, ◌<◌, ◌≤◌, ℤ, pos, neg_ℤ, ◌-ℤ◌, ◌≤ℤ◌, ◌<ℤ◌, int_lt, Bool, ◌&&◌, nat_le, if◌then◌else◌, MatchBool}
+use Rattle.std.specs.Prelude.{ℕ, ◌+◌, ◌-◌, ◌*◌, ◌/◌, ◌%◌, ◌^◌, ◌≤◌, ℤ, pos, neg_ℤ, ◌-ℤ◌, ◌≤ℤ◌, ◌<ℤ◌, int_lt, Bool, ◌&&◌, nat_le, if◌then◌else◌, MatchBool}
 use Rattle.chill_base.specs.declared.layout.Bits.{Bits}
 use Rattle.modes.specs.Bounds.{natural_of}
 use Rattle.layout_map.specs.Scalar.{beyond_of}

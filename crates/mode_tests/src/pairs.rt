@@ -1,15 +1,14 @@
 // Which of two modes are similar, v-equivalent and equivalent, and which classes go with which modes.
 use crate::build::{Step, build};
+use Step::{
+    Array, ArrayPack, ArrayStep, At, Bool, Buffer, Char, Chars, Event, Field, Instance, Int, New,
+    Powerset, Range, Read, Set, Struct, StructPack, Syn,
+};
 use chill_base::Memory;
 use modes::{Class, Mode, compatible, equivalent, goes_with, similar, v_equivalent};
 use std::alloc::Global;
 use std::rc::Rc;
 use std::test::Fail;
-
-use Step::{
-    Array, ArrayPack, ArrayStep, At, Bool, Buffer, Char, Chars, Event, Field, Instance, Int, New,
-    Powerset, Range, Read, Set, Struct, StructPack, Syn,
-};
 
 // A mode of each kind. Behind it one letter for each mode of the list: `e` equivalent, `v` only v-equivalent, `s` only similar,
 // `.` not similar.
@@ -29,10 +28,22 @@ const KINDS: &[(&[Step], &[u8])] = &[
     (&[Chars(4)], b"............e........"),
     (&[Chars(5)], b".............e......."),
     (&[Int, Range(0, 7), Bool, Array], b"..............e......"),
-    (&[Int, Range(0, 7), Bool, ArrayPack], b"...............e....."),
-    (&[Int, Field(b"a"), Bool, Field(b"b"), Struct(0)], b"................e...."),
-    (&[Int, Field(b"a"), Bool, Field(b"c"), Struct(0)], b".................e..."),
-    (&[Int, Field(b"a"), Bool, Field(b"b"), StructPack(0)], b"..................e.."),
+    (
+        &[Int, Range(0, 7), Bool, ArrayPack],
+        b"...............e.....",
+    ),
+    (
+        &[Int, Field(b"a"), Bool, Field(b"b"), Struct(0)],
+        b"................e....",
+    ),
+    (
+        &[Int, Field(b"a"), Bool, Field(b"c"), Struct(0)],
+        b".................e...",
+    ),
+    (
+        &[Int, Field(b"a"), Bool, Field(b"b"), StructPack(0)],
+        b"..................e..",
+    ),
     (&[Event], b"....................."),
     (&[Int, Buffer], b"....................."),
 ];
@@ -42,8 +53,16 @@ const PAIRS: &[(&[Step], &[Step], u8)] = &[
     (&[Set(1, 2), Powerset], &[Set(1, 2), Syn(7), Powerset], b'e'),
     (&[Set(1, 2), Powerset], &[Set(1, 2), New(7), Powerset], b'.'),
     (&[Set(1, 2), Powerset], &[Set(1, 2), Read, Powerset], b'.'),
-    (&[Int, Range(0, 3), Powerset], &[Int, Range(0, 4), Powerset], b'.'),
-    (&[Int, Range(0, 3), Powerset, New(8)], &[Int, Range(0, 3), Powerset], b's'),
+    (
+        &[Int, Range(0, 3), Powerset],
+        &[Int, Range(0, 4), Powerset],
+        b'.',
+    ),
+    (
+        &[Int, Range(0, 3), Powerset, New(8)],
+        &[Int, Range(0, 3), Powerset],
+        b's',
+    ),
     (&[Int, New(1), Range(0, 3)], &[Int, New(1)], b'v'),
     (&[Int, New(1), Range(0, 3)], &[Int, Range(0, 3)], b's'),
     (&[Int, New(1), Read], &[Int, New(1)], b'v'),
@@ -53,21 +72,73 @@ const PAIRS: &[(&[Step], &[Step], u8)] = &[
     (&[Int, Read, Range(0, 3)], &[Int, Range(0, 3)], b'e'),
     (&[Char, Range(0, 255)], &[Char], b'e'),
     (&[Bool, Range(0, 0)], &[Bool], b'v'),
-    (&[Int, Range(0, 7), Syn(3), Bool, Array], &[Int, Range(0, 7), Bool, Array], b'e'),
-    (&[Int, Range(0, 7), New(3), Bool, Array], &[Int, Range(0, 7), Bool, Array], b'e'),
-    (&[Int, Range(1, 8), Bool, Array], &[Int, Range(0, 7), Bool, Array], b'.'),
-    (&[Char, Range(0, 7), Bool, Array], &[Int, Range(0, 7), Bool, Array], b'.'),
+    (
+        &[Int, Range(0, 7), Syn(3), Bool, Array],
+        &[Int, Range(0, 7), Bool, Array],
+        b'e',
+    ),
+    (
+        &[Int, Range(0, 7), New(3), Bool, Array],
+        &[Int, Range(0, 7), Bool, Array],
+        b'e',
+    ),
+    (
+        &[Int, Range(1, 8), Bool, Array],
+        &[Int, Range(0, 7), Bool, Array],
+        b'.',
+    ),
+    (
+        &[Char, Range(0, 7), Bool, Array],
+        &[Int, Range(0, 7), Bool, Array],
+        b'.',
+    ),
     (&[Bool, Bool, Read, Array], &[Bool, Bool, Array], b'.'),
     (&[Bool, Bool, Array, Read], &[Bool, Bool, Array], b'v'),
-    (&[Bool, Bool, ArrayStep(0, 0, 0, 1)], &[Bool, Bool, ArrayStep(0, 0, 0, 1)], b'e'),
-    (&[Bool, Bool, ArrayStep(0, 0, 0, 1)], &[Bool, Bool, ArrayStep(0, 0, 0, 2)], b'.'),
-    (&[Bool, Bool, ArrayStep(0, 0, 0, 1)], &[Bool, Bool, ArrayPack], b'.'),
-    (&[Bool, At(b"a", 0, 0, 0), Struct(0)], &[Bool, At(b"a", 0, 0, 0), Struct(0)], b'e'),
-    (&[Bool, At(b"a", 0, 0, 0), Struct(0)], &[Bool, At(b"a", 0, 0, 1), Struct(0)], b'.'),
-    (&[Bool, At(b"a", 0, 0, 0), Struct(0)], &[Bool, Field(b"a"), Struct(0)], b'.'),
-    (&[Bool, Field(b"a"), Struct(0), New(4)], &[Bool, Field(b"a"), Struct(0), New(5)], b's'),
-    (&[Bool, Field(b"a"), Struct(0)], &[Bool, Field(b"a"), Bool, Field(b"b"), Struct(0)], b'.'),
-    (&[Event, Field(b"a"), Struct(0)], &[Event, Field(b"a"), Struct(0)], b'.'),
+    (
+        &[Bool, Bool, ArrayStep(0, 0, 0, 1)],
+        &[Bool, Bool, ArrayStep(0, 0, 0, 1)],
+        b'e',
+    ),
+    (
+        &[Bool, Bool, ArrayStep(0, 0, 0, 1)],
+        &[Bool, Bool, ArrayStep(0, 0, 0, 2)],
+        b'.',
+    ),
+    (
+        &[Bool, Bool, ArrayStep(0, 0, 0, 1)],
+        &[Bool, Bool, ArrayPack],
+        b'.',
+    ),
+    (
+        &[Bool, At(b"a", 0, 0, 0), Struct(0)],
+        &[Bool, At(b"a", 0, 0, 0), Struct(0)],
+        b'e',
+    ),
+    (
+        &[Bool, At(b"a", 0, 0, 0), Struct(0)],
+        &[Bool, At(b"a", 0, 0, 1), Struct(0)],
+        b'.',
+    ),
+    (
+        &[Bool, At(b"a", 0, 0, 0), Struct(0)],
+        &[Bool, Field(b"a"), Struct(0)],
+        b'.',
+    ),
+    (
+        &[Bool, Field(b"a"), Struct(0), New(4)],
+        &[Bool, Field(b"a"), Struct(0), New(5)],
+        b's',
+    ),
+    (
+        &[Bool, Field(b"a"), Struct(0)],
+        &[Bool, Field(b"a"), Bool, Field(b"b"), Struct(0)],
+        b'.',
+    ),
+    (
+        &[Event, Field(b"a"), Struct(0)],
+        &[Event, Field(b"a"), Struct(0)],
+        b'.',
+    ),
 ];
 
 // A mode, and whether NULL goes with it.
@@ -98,12 +169,14 @@ fn holds(a: &Rc<Mode>, b: &Rc<Mode>, expected: u8) -> Result<bool, Memory> {
     let derived = Class::Derived(a.clone()?);
     let of_value = expected == b'e' || expected == b'v';
     let of_derived = expected != b'.';
-    Ok(letter(a, b) == expected
-        && letter(b, a) == expected
-        && goes_with(&value, b) == of_value
-        && goes_with(&derived, b) == of_derived
-        && compatible(&derived, &Class::Value(b.clone()?)) == of_derived
-        && !goes_with(&Class::Nothing, b))
+    Ok(
+        letter(a, b) == expected
+            && letter(b, a) == expected
+            && goes_with(&value, b) == of_value
+            && goes_with(&derived, b) == of_derived
+            && compatible(&derived, &Class::Value(b.clone()?)) == of_derived
+            && !goes_with(&Class::Nothing, b),
+    )
 }
 
 fn kinds_hold(alloc: Global) -> Result<bool, Memory> {

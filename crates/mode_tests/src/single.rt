@@ -1,5 +1,9 @@
 // What holds of one mode: root, novelty, READ, bounds, numbers of values and scalars, the lowest value, the limits.
 use crate::build::{Step, build};
+use Step::{
+    Array, ArrayPack, At, Bool, Buffer, Char, Chars, Event, Field, Instance, Int, New, Powerset,
+    Range, Read, Set, Struct, Syn,
+};
 use chill_base::{List, Memory};
 use modes::{
     Bounds, Mode, add_lowest, bounds, equivalent, holds_read, is_discrete, is_of_language, is_read,
@@ -7,11 +11,6 @@ use modes::{
 };
 use std::alloc::Global;
 use std::test::Fail;
-
-use Step::{
-    Array, ArrayPack, At, Bool, Buffer, Char, Chars, Event, Field, Instance, Int, New, Powerset,
-    Range, Read, Set, Struct, Syn,
-};
 
 // A mode, its root and its novelty.
 const ROOTS: &[(&[Step], &[Step], Option<u32>)] = &[
@@ -26,13 +25,33 @@ const ROOTS: &[(&[Step], &[Step], Option<u32>)] = &[
     (&[Int, New(2), Syn(3)], &[Int, New(2)], Some(2)),
     (&[Int, Read, New(2)], &[Int, New(2)], Some(2)),
     (&[Int, New(2), New(3)], &[Int, New(2), New(3)], Some(3)),
-    (&[Int, New(2), Syn(4), New(3), Read], &[Int, New(2), New(3)], Some(3)),
-    (&[Int, New(2), Range(0, 9), Range(1, 3)], &[Int, New(2)], Some(2)),
+    (
+        &[Int, New(2), Syn(4), New(3), Read],
+        &[Int, New(2), New(3)],
+        Some(3),
+    ),
+    (
+        &[Int, New(2), Range(0, 9), Range(1, 3)],
+        &[Int, New(2)],
+        Some(2),
+    ),
     (&[Set(4, 3), Syn(1), Range(0, 1)], &[Set(4, 3)], None),
     (&[Int, New(2), Powerset], &[Int, New(2), Powerset], None),
-    (&[Bool, Int, New(2), Array], &[Bool, Int, New(2), Array], None),
-    (&[Int, New(2), Field(b"a"), Struct(0), Syn(9)], &[Int, New(2), Field(b"a"), Struct(0)], None),
-    (&[Chars(3), New(7), Read, Syn(8)], &[Chars(3), New(7)], Some(7)),
+    (
+        &[Bool, Int, New(2), Array],
+        &[Bool, Int, New(2), Array],
+        None,
+    ),
+    (
+        &[Int, New(2), Field(b"a"), Struct(0), Syn(9)],
+        &[Int, New(2), Field(b"a"), Struct(0)],
+        None,
+    ),
+    (
+        &[Chars(3), New(7), Read, Syn(8)],
+        &[Chars(3), New(7)],
+        Some(7),
+    ),
 ];
 
 // A mode, whether it is READ, and whether a location of it is only read.
@@ -45,10 +64,22 @@ const READS: &[(&[Step], bool, bool)] = &[
     (&[Bool, Int, Read, Array], false, true),
     (&[Bool, Int, Array, Read], true, true),
     (&[Bool, Read, Int, Array], false, false),
-    (&[Int, Field(b"a"), Int, Read, Field(b"b"), Struct(0)], false, true),
-    (&[Int, Field(b"a"), Int, Field(b"b"), Struct(0)], false, false),
+    (
+        &[Int, Field(b"a"), Int, Read, Field(b"b"), Struct(0)],
+        false,
+        true,
+    ),
+    (
+        &[Int, Field(b"a"), Int, Field(b"b"), Struct(0)],
+        false,
+        false,
+    ),
     (&[Bool, Read, Powerset], false, false),
-    (&[Bool, Int, Read, Field(b"a"), Struct(0), Array, New(3)], false, true),
+    (
+        &[Bool, Int, Read, Field(b"a"), Struct(0), Array, New(3)],
+        false,
+        true,
+    ),
     (&[Int, Read, Buffer], false, false),
 ];
 
@@ -71,10 +102,30 @@ const NUMBERS: &[(&[Step], Option<(i64, i64)>, u64, u32, u32)] = &[
     (&[Chars(256)], None, 0, 256, 256),
     (&[Int, Range(1, 4096), Bool, Array], None, 0, 4096, 4096),
     (&[Int, Range(0, 4096), Bool, Array], None, 0, 4097, 4097),
-    (&[Int, Range(1, 100), Int, Range(1, 100), Bool, Array, Array], None, 0, 4097, 4097),
+    (
+        &[Int, Range(1, 100), Int, Range(1, 100), Bool, Array, Array],
+        None,
+        0,
+        4097,
+        4097,
+    ),
     (&[Bool, Chars(0), Array], None, 0, 0, 2),
     (&[Bool, Chars(3), Array], None, 0, 6, 6),
-    (&[Int, Field(b"a"), Chars(0), Field(b"b"), Bool, Field(b"c"), Struct(0)], None, 0, 2, 3),
+    (
+        &[
+            Int,
+            Field(b"a"),
+            Chars(0),
+            Field(b"b"),
+            Bool,
+            Field(b"c"),
+            Struct(0),
+        ],
+        None,
+        0,
+        2,
+        3,
+    ),
     (&[Event], None, 0, 0, 0),
     (&[Int, Buffer], None, 0, 0, 0),
 ];
@@ -94,8 +145,32 @@ const LOWEST: &[(&[Step], &[i64])] = &[
     (&[Chars(3)], &[32, 32, 32]),
     (&[Bool, Int, Range(4, 5), Array], &[4, 4]),
     (&[Bool, Chars(2), ArrayPack], &[32, 32, 32, 32]),
-    (&[Int, Range(1, 9), Field(b"a"), Chars(1), Field(b"b"), Bool, Field(b"c"), Struct(0)], &[1, 32, 0]),
-    (&[Bool, Int, Range(6, 9), Field(b"a"), Char, Field(b"b"), Struct(0), Array], &[6, 0, 6, 0]),
+    (
+        &[
+            Int,
+            Range(1, 9),
+            Field(b"a"),
+            Chars(1),
+            Field(b"b"),
+            Bool,
+            Field(b"c"),
+            Struct(0),
+        ],
+        &[1, 32, 0],
+    ),
+    (
+        &[
+            Bool,
+            Int,
+            Range(6, 9),
+            Field(b"a"),
+            Char,
+            Field(b"b"),
+            Struct(0),
+            Array,
+        ],
+        &[6, 0, 6, 0],
+    ),
 ];
 
 // A mode, and whether a text can give it to a location.
@@ -120,10 +195,19 @@ const LIMITS: &[(&[Step], bool)] = &[
     (&[Int, Range(1, 4096), Bool, Array], true),
     (&[Int, Range(0, 4096), Bool, Array], false),
     (&[Int, Bool, Array], false),
-    (&[Int, Range(1, 64), Int, Range(1, 64), Int, Array, Array], true),
-    (&[Int, Range(1, 64), Int, Range(1, 65), Int, Array, Array], false),
+    (
+        &[Int, Range(1, 64), Int, Range(1, 64), Int, Array, Array],
+        true,
+    ),
+    (
+        &[Int, Range(1, 64), Int, Range(1, 65), Int, Array, Array],
+        false,
+    ),
     (&[Int, Range(1, 4096), Chars(0), Array], true),
-    (&[Int, Range(1, 64), Int, Range(1, 65), Chars(0), Array, Array], false),
+    (
+        &[Int, Range(1, 64), Int, Range(1, 65), Chars(0), Array, Array],
+        false,
+    ),
     (&[Struct(0)], false),
     (&[Int, At(b"a", 9, 9, 9), Struct(0)], true),
     (&[Event], false),

@@ -1,4 +1,4 @@
-use Rattle.std.proofs.Common.{◌≡◌, ◌≤◌, ◌<◌, ◌^◌, max, drop}
+use Rattle.std.proofs.Common.{◌≡◌, max, drop}
 use Rattle.layout_map.specs.Spots.{words_of}
 use Rattle.layout_map.proofs.bits.words.Given as goal
 
