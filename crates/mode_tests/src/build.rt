@@ -77,7 +77,7 @@ fn structure(
     fields: &mut Vec<Field>,
 ) -> Result<Option<Mode>, Memory> {
     let mut taken = Vec::new(alloc);
-    while fields.len() > first {
+    for _i in first..fields.len() {
         if let Some(field) = fields.pop() {
             taken.push(field)?;
         }
