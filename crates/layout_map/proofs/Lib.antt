@@ -3,3 +3,8 @@ pub mod SpotLemmas
 pub mod OverlapLemmas
 pub mod WordLemmas
 pub mod NumberLemmas
+pub mod Runs
+pub mod Narrow
+pub mod Steps
+pub mod Placed
+pub mod ModeRuns

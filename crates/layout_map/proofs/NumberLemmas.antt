@@ -1,11 +1,11 @@
 -- Numbers in two's complement.
-use Rattle.std.proofs.Common.{◌≡◌, ℕ, zero, suc, ◌+◌, ◌-◌, ◌*◌, ◌^◌, ◌<◌, ◌≤◌, Bool, true, false, refl, sym, ap, ◌∙◌, arith, rules}
+use Rattle.std.proofs.Common.{◌≡◌, ℕ, suc, ◌+◌, ◌-◌, ◌*◌, ◌^◌, ◌<◌, ◌≤◌, Bool, true, false, refl, ap, ◌∙◌, arith}
 use Rattle.std.proofs.lemmas.Int.{ints}
-use Rattle.std.specs.Prelude.{ℤ, pos, negsuc, neg_ℤ, ◌≤ℤ◌, ◌<ℤ◌, ◌-ℤ◌, MatchBool, nat_le, if◌then◌else◌}
+use Rattle.std.specs.Prelude.{ℤ, pos, negsuc, ◌-ℤ◌, MatchBool}
 use Rattle.std.proofs.lemmas.Nat.{pow_pos, pow-add}
 use Rattle.std.proofs.lemmas.Bool.Decides.{nat_tests}
 use Rattle.chill_base.specs.declared.layout.Bits.{Bits}
-use Rattle.layout_map.specs.Words.{IsInWord, IsSignedBelow, IsUnsignedBelow, IsWithinBits, number_of_field, number_in, coded_in, put_in, field_in, put_field}
+use Rattle.layout_map.specs.Words.{IsSignedBelow, IsUnsignedBelow, IsWithinBits, number_of_field, number_in, coded_in, put_in}
 use Rattle.layout_map.proofs.WordLemmas.{put-field, bit-below_field, bit-above_field}
 use Rattle.std.specs.Int.{bit_at}
 

@@ -5,3 +5,4 @@ pub mod Spots
 pub mod Overlap
 pub mod Outcome
 pub mod Words
+pub mod Apart

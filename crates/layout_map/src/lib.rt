@@ -14,7 +14,7 @@ mod place;
 mod scalar;
 
 pub use bits::{get_bits, put_bits, words};
-pub use laws::word_law;
+pub use laws::{spot_law, width_law, word_law};
 pub use layouts::{LayoutRefusal, layout};
 pub use place::{is_possible, is_possible_step, share_a_bit};
 pub use scalar::{Scalar, scalar_of};
