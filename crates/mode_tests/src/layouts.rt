@@ -425,8 +425,11 @@ fn is_laid(layout: &Layout, expected: &[(u32, u32, u32, bool)]) -> bool {
     true
 }
 
-fn laid_hold(alloc: Global) -> Result<bool, LayoutRefusal> {
-    for (steps, expected) in LAID {
+fn laid_hold(
+    alloc: Global,
+    rows: &[(&[Step], &[(u32, u32, u32, bool)])],
+) -> Result<bool, LayoutRefusal> {
+    for (steps, expected) in rows {
         let Ok(Some(mode)) = build(alloc, steps) else {
             return Ok(false);
         };
@@ -444,8 +447,8 @@ fn refusal(alloc: Global, mode: &Mode) -> Option<LayoutRefusal> {
     }
 }
 
-fn refusals_hold(alloc: Global) -> bool {
-    for (steps, field) in IMPOSSIBLE {
+fn impossible_hold(alloc: Global, rows: &[(&[Step], u32)]) -> bool {
+    for (steps, field) in rows {
         let Ok(Some(mode)) = build(alloc, steps) else {
             return false;
         };
@@ -453,7 +456,11 @@ fn refusals_hold(alloc: Global) -> bool {
             return false;
         }
     }
-    for (steps, first, second) in OVERLAPS {
+    true
+}
+
+fn overlaps_hold(alloc: Global, rows: &[(&[Step], u32, u32)]) -> bool {
+    for (steps, first, second) in rows {
         let Ok(Some(mode)) = build(alloc, steps) else {
             return false;
         };
@@ -479,8 +486,9 @@ fn large_powerset(alloc: Global) -> Result<(u64, usize), LayoutRefusal> {
 
 #[test]
 fn modes_are_laid(rt: HostRuntime) -> Result<(), Fail> {
-    assert_eq!(rt; laid_hold(rt.alloc()), Ok(true));
-    assert!(rt; refusals_hold(rt.alloc()));
+    assert_eq!(rt; laid_hold(rt.alloc(), LAID), Ok(true));
+    assert!(rt; impossible_hold(rt.alloc(), IMPOSSIBLE));
+    assert!(rt; overlaps_hold(rt.alloc(), OVERLAPS));
     assert_eq!(rt; large_powerset(rt.alloc()), Ok((128, 128)));
     Ok(())
 }

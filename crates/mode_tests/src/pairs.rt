@@ -179,9 +179,9 @@ fn holds(a: &Rc<Mode>, b: &Rc<Mode>, expected: u8) -> Result<bool, Memory> {
     )
 }
 
-fn kinds_hold(alloc: Global) -> Result<bool, Memory> {
-    for (steps, letters) in KINDS {
-        for (column, (others, _)) in KINDS.iter().enumerate() {
+fn kinds_hold(alloc: Global, rows: &[(&[Step], &[u8])]) -> Result<bool, Memory> {
+    for (steps, letters) in rows {
+        for (column, (others, _)) in rows.iter().enumerate() {
             let Some(a) = build(alloc, steps)? else {
                 return Ok(false);
             };
@@ -196,8 +196,8 @@ fn kinds_hold(alloc: Global) -> Result<bool, Memory> {
     Ok(true)
 }
 
-fn pairs_hold(alloc: Global) -> Result<bool, Memory> {
-    for (steps, others, expected) in PAIRS {
+fn pairs_hold(alloc: Global, rows: &[(&[Step], &[Step], u8)]) -> Result<bool, Memory> {
+    for (steps, others, expected) in rows {
         let Some(a) = build(alloc, steps)? else {
             return Ok(false);
         };
@@ -211,8 +211,8 @@ fn pairs_hold(alloc: Global) -> Result<bool, Memory> {
     Ok(true)
 }
 
-fn nulls_hold(alloc: Global) -> Result<bool, Memory> {
-    for (steps, expected) in NULLS {
+fn nulls_hold(alloc: Global, rows: &[(&[Step], bool)]) -> Result<bool, Memory> {
+    for (steps, expected) in rows {
         let Some(mode) = build(alloc, steps)? else {
             return Ok(false);
         };
@@ -225,8 +225,8 @@ fn nulls_hold(alloc: Global) -> Result<bool, Memory> {
 
 #[test]
 fn modes_compare(rt: HostRuntime) -> Result<(), Fail> {
-    assert!(rt; kinds_hold(rt.alloc())?);
-    assert!(rt; pairs_hold(rt.alloc())?);
-    assert!(rt; nulls_hold(rt.alloc())?);
+    assert!(rt; kinds_hold(rt.alloc(), KINDS)?);
+    assert!(rt; pairs_hold(rt.alloc(), PAIRS)?);
+    assert!(rt; nulls_hold(rt.alloc(), NULLS)?);
     Ok(())
 }

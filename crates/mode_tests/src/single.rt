@@ -216,8 +216,8 @@ const LIMITS: &[(&[Step], bool)] = &[
     (&[Int, Read, New(3)], true),
 ];
 
-fn roots_hold(alloc: Global) -> Result<bool, Memory> {
-    for (steps, expected, name) in ROOTS {
+fn roots_hold(alloc: Global, rows: &[(&[Step], &[Step], Option<u32>)]) -> Result<bool, Memory> {
+    for (steps, expected, name) in rows {
         let Some(mode) = build(alloc, steps)? else {
             return Ok(false);
         };
@@ -232,8 +232,8 @@ fn roots_hold(alloc: Global) -> Result<bool, Memory> {
     Ok(true)
 }
 
-fn reads_hold(alloc: Global) -> Result<bool, Memory> {
-    for (steps, own, holds) in READS {
+fn reads_hold(alloc: Global, rows: &[(&[Step], bool, bool)]) -> Result<bool, Memory> {
+    for (steps, own, holds) in rows {
         let Some(mode) = build(alloc, steps)? else {
             return Ok(false);
         };
@@ -252,8 +252,11 @@ fn same_bounds(mode: &Mode, expected: Option<(i64, i64)>) -> bool {
     bounds(mode) == wanted && is_discrete(mode) == wanted.is_some()
 }
 
-fn numbers_hold(alloc: Global) -> Result<bool, Memory> {
-    for (steps, limits, values, scalars, leaves) in NUMBERS {
+fn numbers_hold(
+    alloc: Global,
+    rows: &[(&[Step], Option<(i64, i64)>, u64, u32, u32)],
+) -> Result<bool, Memory> {
+    for (steps, limits, values, scalars, leaves) in rows {
         let Some(mode) = build(alloc, steps)? else {
             return Ok(false);
         };
@@ -268,8 +271,8 @@ fn numbers_hold(alloc: Global) -> Result<bool, Memory> {
     Ok(true)
 }
 
-fn lowest_hold(alloc: Global) -> Result<bool, Memory> {
-    for (steps, expected) in LOWEST {
+fn lowest_hold(alloc: Global, rows: &[(&[Step], &[i64])]) -> Result<bool, Memory> {
+    for (steps, expected) in rows {
         let Some(mode) = build(alloc, steps)? else {
             return Ok(false);
         };
@@ -282,8 +285,8 @@ fn lowest_hold(alloc: Global) -> Result<bool, Memory> {
     Ok(true)
 }
 
-fn limits_hold(alloc: Global) -> Result<bool, Memory> {
-    for (steps, expected) in LIMITS {
+fn limits_hold(alloc: Global, rows: &[(&[Step], bool)]) -> Result<bool, Memory> {
+    for (steps, expected) in rows {
         let Some(mode) = build(alloc, steps)? else {
             return Ok(false);
         };
@@ -296,10 +299,10 @@ fn limits_hold(alloc: Global) -> Result<bool, Memory> {
 
 #[test]
 fn single_modes(rt: HostRuntime) -> Result<(), Fail> {
-    assert!(rt; roots_hold(rt.alloc())?);
-    assert!(rt; reads_hold(rt.alloc())?);
-    assert!(rt; numbers_hold(rt.alloc())?);
-    assert!(rt; lowest_hold(rt.alloc())?);
-    assert!(rt; limits_hold(rt.alloc())?);
+    assert!(rt; roots_hold(rt.alloc(), ROOTS)?);
+    assert!(rt; reads_hold(rt.alloc(), READS)?);
+    assert!(rt; numbers_hold(rt.alloc(), NUMBERS)?);
+    assert!(rt; lowest_hold(rt.alloc(), LOWEST)?);
+    assert!(rt; limits_hold(rt.alloc(), LIMITS)?);
     Ok(())
 }
