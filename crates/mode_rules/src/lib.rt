@@ -1,0 +1,25 @@
+//! The modes, classes and values of a program's definitions (Z.200, chapters on modes and on values), each evaluated once,
+//! and the rules on modes and constants that they break.
+//!
+//! It stands on `visibility`'s names, on `modes`, whose tests it asks, and on `layout_map`; the checks of statements and
+//! of processes and the elaborated program stand on it. What is known of a definition or an expression is none where
+//! something that it needs is broken, so nothing is told twice for one fault.
+#![tactic(auto)]
+
+mod constants;
+mod evaluation;
+mod known;
+mod numbers;
+mod operators;
+mod order;
+mod origin;
+mod phase;
+mod places;
+mod predefined;
+mod routines;
+mod told;
+mod tuples;
+mod uses;
+mod written;
+
+pub use phase::told_of_modes;

@@ -1,0 +1,326 @@
+// Operators in constants: which operands fit, the class of the result, and its value (Z.200, chapter on operations).
+use crate::evaluation::Evaluation;
+use crate::known::{Known, form_in, member_count};
+use crate::numbers::{
+    arithmetic, complement, first, has_member, is_included, logic, of_int, order, sets, single,
+    truth,
+};
+use crate::told::Told;
+use chill_base::{Memory, Pos, Scalars};
+use chill_tree::tree::{Operator, Prefix};
+use diagnostics::Rule;
+use modes::{Bounds, Class, Form, Mode, bounds, compatible, goes_with, root};
+use std::alloc::Global;
+use std::cmp::Ordering;
+use std::rc::Rc;
+
+/// What is known of two operands, and whether no rule is broken in them.
+#[derive(Drop)]
+pub struct Operands {
+    pub left: Known,
+    pub right: Known,
+    pub is_whole: bool,
+}
+
+impl<'a> Evaluation<'a> {
+    /// What is known of two operands with an operator between them.
+    pub fn binary(
+        &self,
+        operator: Operator,
+        sign: Pos,
+        operands: &Operands,
+        told: &mut Told,
+    ) -> Result<Known, Memory> {
+        let Operands {
+            left,
+            right,
+            is_whole,
+        } = operands;
+        if !left.is_constant || !right.is_constant {
+            return Ok(Known::varying());
+        }
+        if !*is_whole {
+            return Ok(Known::broken());
+        }
+        let (Some(one), Some(other)) = (&left.class, &right.class) else {
+            return Ok(Known::broken());
+        };
+        let Some(class) = self.class_of_binary(operator, one, other)? else {
+            told.tell(Rule::M10, sign)?;
+            return Ok(Known::broken());
+        };
+        let (Some(mine), Some(theirs)) = (&left.value, &right.value) else {
+            return Ok(Known {
+                class: Some(class),
+                value: None,
+                is_constant: true,
+            });
+        };
+        match self.value_of_binary(operator, other, mine, theirs)? {
+            None => {
+                told.tell(Rule::M11, sign)?;
+                Ok(Known::broken())
+            }
+            Some(value) => Ok(Known::constant(class, value)),
+        }
+    }
+
+    /// What is known of an operand with an operator before it.
+    pub fn unary(
+        &self,
+        operator: Prefix,
+        at: Pos,
+        operand: &Known,
+        told: &mut Told,
+    ) -> Result<Known, Memory> {
+        if !operand.is_constant {
+            return Ok(Known::varying());
+        }
+        let Some(own) = &operand.class else {
+            return Ok(Known::broken());
+        };
+        let Some(class) = self.class_of_unary(operator, own)? else {
+            told.tell(Rule::M10, at)?;
+            return Ok(Known::broken());
+        };
+        let Some(value) = &operand.value else {
+            return Ok(Known {
+                class: Some(class),
+                value: None,
+                is_constant: true,
+            });
+        };
+        match self.value_of_unary(operator, own, value)? {
+            None => {
+                told.tell(Rule::M11, at)?;
+                Ok(Known::broken())
+            }
+            Some(value) => Ok(Known::constant(class, value)),
+        }
+    }
+
+    /// The class of the result of an operator between two operands, or none where they don't fit it.
+    pub fn class_of_binary(
+        &self,
+        operator: Operator,
+        left: &Class,
+        right: &Class,
+    ) -> Result<Option<Class>, Memory> {
+        match operator {
+            Operator::Plus
+            | Operator::Minus
+            | Operator::Times
+            | Operator::Divide
+            | Operator::Mod
+            | Operator::Rem
+            | Operator::Or
+            | Operator::And
+            | Operator::Xor
+            | Operator::OrIf
+            | Operator::AndIf => {
+                if !compatible(left, right) || !takes_operands(operator, left) {
+                    return Ok(None);
+                }
+                self.combined(left, right)
+            }
+            Operator::Equal | Operator::NotEqual => self.truth_if(are_equatable(left, right)),
+            Operator::Less | Operator::LessOrEqual | Operator::Greater | Operator::GreaterOrEqual =>
+                self.truth_if(are_ordered(left, right)),
+            Operator::In => self.truth_if(can_be_member(left, right)),
+        }
+    }
+
+    /// The class of the result of an operator before an operand, or none where it doesn't fit.
+    pub fn class_of_unary(
+        &self,
+        operator: Prefix,
+        operand: &Class,
+    ) -> Result<Option<Class>, Memory> {
+        let fits = match (operator, form_in(operand)) {
+            (Prefix::Minus, Some(Form::Int)) => true,
+            (Prefix::Not, Some(Form::Bool)) | (Prefix::Not, Some(Form::Powerset(_))) => true,
+            _ => false,
+        };
+        if !fits {
+            return Ok(None);
+        }
+        self.combined(operand, operand)
+    }
+
+    /// BOOL, where operands fit.
+    fn truth_if(&self, fits: bool) -> Result<Option<Class>, Memory> {
+        if !fits {
+            return Ok(None);
+        }
+        Ok(Some(Class::Derived(self.plain.bool.clone()?)))
+    }
+
+    /// The class of a result that has its operands' class: Value of the root where one is Value, else Derived of it.
+    pub fn combined(&self, left: &Class, right: &Class) -> Result<Option<Class>, Memory> {
+        match (left, right) {
+            (Class::Value(mode), _) => Ok(Some(Class::Value(root(self.alloc, mode)?))),
+            (_, Class::Value(mode)) => Ok(Some(Class::Value(root(self.alloc, mode)?))),
+            (Class::Derived(mode), _) => Ok(Some(Class::Derived(root(self.alloc, mode)?))),
+            _ => Ok(None),
+        }
+    }
+
+    // The value of an operator between two operands that fit it, the right one of a class, or none where it raises an
+    // exception.
+    fn value_of_binary(
+        &self,
+        operator: Operator,
+        class: &Class,
+        left: &Scalars,
+        right: &Scalars,
+    ) -> Result<Option<Scalars>, Memory> {
+        match form_in(class) {
+            Some(Form::Powerset(member)) => self.value_on_powersets(operator, member, left, right),
+            Some(Form::Int) if is_arithmetic(operator) => {
+                match (first(left), first(right)) {
+                    (Some(one), Some(other)) => self.some_single(arithmetic(operator, one, other)),
+                    _ => Ok(None),
+                }
+            }
+            Some(Form::Bool) if is_logic(operator) => {
+                let holds = logic(operator, first(left) == Some(1), first(right) == Some(1));
+                self.some_single(Some(truth(holds)))
+            }
+            _ => self.some_single(Some(truth(holds_between(operator, order(left, right))))),
+        }
+    }
+
+    // An operator whose right operand is a powerset.
+    fn value_on_powersets(
+        &self,
+        operator: Operator,
+        member: &Mode,
+        left: &Scalars,
+        right: &Scalars,
+    ) -> Result<Option<Scalars>, Memory> {
+        let holds = match operator {
+            Operator::Or | Operator::And | Operator::Xor | Operator::Minus => {
+                return Ok(Some(sets(self.alloc, operator, left, right)?));
+            }
+            Operator::In => match (first(left), bounds(member)) {
+                (Some(number), Some(Bounds { low, .. })) => {
+                    has_member(right, number.saturating_sub(low))
+                }
+                _ => return Ok(None),
+            },
+            Operator::LessOrEqual => is_included(left, right),
+            Operator::GreaterOrEqual => is_included(right, left),
+            Operator::Less => is_included(left, right) && order(left, right) != Ordering::Equal,
+            Operator::Greater => is_included(right, left) && order(left, right) != Ordering::Equal,
+            _ => holds_between(operator, order(left, right)),
+        };
+        self.some_single(Some(truth(holds)))
+    }
+
+    // The value of an operator before an operand that fits it, or none where it raises an exception.
+    fn value_of_unary(
+        &self,
+        operator: Prefix,
+        class: &Class,
+        operand: &Scalars,
+    ) -> Result<Option<Scalars>, Memory> {
+        match (operator, form_in(class)) {
+            (Prefix::Not, Some(Form::Powerset(member))) => {
+                let size = member_count(member);
+                Ok(Some(complement(self.alloc, operand, size)?))
+            }
+            (Prefix::Not, _) => self.some_single(Some(truth(first(operand) != Some(1)))),
+            (Prefix::Minus, _) => match first(operand) {
+                None => Ok(None),
+                Some(number) => self.some_single(negated(number)),
+            },
+        }
+    }
+
+    /// The list of one number, where there is one.
+    pub fn some_single(&self, number: Option<i64>) -> Result<Option<Scalars>, Memory> {
+        match number {
+            None => Ok(None),
+            Some(number) => Ok(Some(single(self.alloc, number)?)),
+        }
+    }
+}
+
+// The number with its sign turned, where it is one of INT.
+fn negated(number: i64) -> Option<i64> {
+    of_int(number.checked_neg()?)
+}
+
+// Whether an operator takes operands of a class, and gives a result of theirs.
+fn takes_operands(operator: Operator, class: &Class) -> bool {
+    match form_in(class) {
+        Some(Form::Int) => is_arithmetic(operator),
+        Some(Form::Bool) => is_logic(operator),
+        Some(Form::Powerset(_)) => matches!(
+            operator,
+            Operator::Minus | Operator::Or | Operator::And | Operator::Xor
+        ),
+        _ => false,
+    }
+}
+
+fn is_arithmetic(operator: Operator) -> bool {
+    matches!(
+        operator,
+        Operator::Plus
+            | Operator::Minus
+            | Operator::Times
+            | Operator::Divide
+            | Operator::Mod
+            | Operator::Rem
+    )
+}
+
+fn is_logic(operator: Operator) -> bool {
+    matches!(
+        operator,
+        Operator::Or | Operator::And | Operator::Xor | Operator::OrIf | Operator::AndIf
+    )
+}
+
+// Whether `=` and `/=` take the operands.
+fn are_equatable(left: &Class, right: &Class) -> bool {
+    compatible(left, right)
+        && !matches!(form_in(left), Some(Form::Meeting))
+        && !matches!(form_in(right), Some(Form::Meeting))
+}
+
+// Whether `<` and the like take the operands.
+fn are_ordered(left: &Class, right: &Class) -> bool {
+    compatible(left, right)
+        && matches!(
+            form_in(left),
+            Some(Form::Int)
+                | Some(Form::Bool)
+                | Some(Form::Char)
+                | Some(Form::Set { .. })
+                | Some(Form::Chars(_))
+                | Some(Form::Powerset(_))
+        )
+}
+
+// Whether IN takes the operands.
+fn can_be_member(left: &Class, right: &Class) -> bool {
+    match form_in(right) {
+        Some(Form::Powerset(member)) => goes_with(left, member),
+        _ => false,
+    }
+}
+
+// Whether a comparison holds between two values that stand to each other like this.
+fn holds_between(operator: Operator, order: Ordering) -> bool {
+    match operator {
+        Operator::Equal => order == Ordering::Equal,
+        Operator::NotEqual => order != Ordering::Equal,
+        Operator::Less => order == Ordering::Less,
+        Operator::LessOrEqual => order != Ordering::Greater,
+        Operator::Greater => order == Ordering::Greater,
+        Operator::GreaterOrEqual => order != Ordering::Less,
+        _ => false,
+    }
+}

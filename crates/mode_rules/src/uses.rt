@@ -1,0 +1,45 @@
+// What the names of a program stand for, by their places.
+use chill_base::{List, Memory, Pos};
+use names_model::{Definition, Resolved};
+use std::alloc::Global;
+
+// As many halvings as a list of any length needs.
+const HALVINGS: u32 = 64;
+
+/// The number that stands with a place. The places rise.
+pub fn number_at(numbers: &[Resolved], at: Pos) -> Option<u32> {
+    let (mut low, mut high) = (0, numbers.len());
+    for _ in 0..HALVINGS {
+        if low >= high {
+            return None;
+        }
+        let middle = low + (high - low) / 2;
+        let found = numbers.get(middle)?;
+        if found.at == at {
+            return Some(found.to);
+        }
+        if found.at < at {
+            low = middle + 1;
+        } else {
+            high = middle;
+        }
+    }
+    None
+}
+
+/// The places of the definitions of a text, with their numbers. The predefined ones behind them have no place.
+pub fn places(alloc: Global, definitions: &[Definition]) -> Result<List<Resolved>, Memory> {
+    let mut found = List::new(alloc);
+    let mut to = 0_u32;
+    for own in definitions {
+        if own.name.at.line == 0 {
+            break;
+        }
+        found.push(Resolved {
+            at: own.name.at,
+            to,
+        })?;
+        to = to.saturating_add(1);
+    }
+    Ok(found)
+}

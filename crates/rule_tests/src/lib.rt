@@ -1,0 +1,9 @@
+//! Tests of the rules on modes and constants: texts, and all that is told of each, by hand.
+//!
+//! It proves nothing of its own. Tests stand in a crate at the top because a crate with tests is proved twice.
+#![tactic(auto)]
+
+#[cfg(test)]
+mod modes_and_constants;
+#[cfg(test)]
+mod rows;
