@@ -1,0 +1,6 @@
+pub mod Keyed
+pub mod Queued
+pub mod Seated
+pub mod Kept
+pub mod View
+pub mod Serving
