@@ -72,7 +72,7 @@ mirror_started tell same none ps p phases xs each h =
     record { each = λ i. more.each i ∙ told_same tell same none ps p phases i _ each refl; once = more.once }
 
 -- what changes as an instance is started
-pub record StartsOne (s s' : State) (who ticks process : ℕ) (scalars : List ℤ) : Type 0 where
+pub record StartsState (s s' : State) (who ticks process : ℕ) (scalars : List ℤ) : Type 0 where
   pub facts : s'.facts ≡ s.facts
   pub widest : s'.widest ≡ s.widest
   pub ready : s'.ready ≡ s.ready
@@ -92,7 +92,7 @@ sleeps_started facts w process scalars s h = record {
   counts = λ event. let c = count_push (λ phase. is_some (sleeper_in event phase)) w.phases Active in h.counts event ∙ (let e : count_by (λ phase. is_some (sleeper_in event phase)) w.phases ≡ count_by (λ phase. is_some (sleeper_in event phase)) (w.phases ++ Active ∷ []) = omega (arith, c) in e);
 }
 
-rests_started : (s s' : State) (who ticks process : ℕ) (scalars : List ℤ) → IsNumbered (world_in s) → StartsOne s s' who ticks process scalars → Rests s.facts (world_in s) s → Rests s.facts (started (world_in s) process scalars) s'
+rests_started : (s s' : State) (who ticks process : ℕ) (scalars : List ℤ) → IsNumbered (world_in s) → StartsState s s' who ticks process scalars → Rests s.facts (world_in s) s → Rests s.facts (started (world_in s) process scalars) s'
 rests_started s s' who ticks process scalars each c r =
     let w = world_in s in
     let b = s.queues.buffers in
@@ -123,7 +123,7 @@ rests_started s s' who ticks process scalars each c r =
     }
 
 pub start_serves : (s s' : State) (who ticks process : ℕ) (scalars : List ℤ) (r : Ready) → CanServe s who (Start process scalars) r → InRange who ticks (Instance (length (world_in s).phases)) → count_of_live (world_in s) < most_live
-    → StartsOne s s' who ticks process scalars → Serves s s' who ticks (Start process scalars) (Now (Instance (length (world_in s).phases)))
+    → StartsState s s' who ticks process scalars → Serves s s' who ticks (Start process scalars) (Now (Instance (length (world_in s).phases)))
 start_serves s s' who ticks process scalars r can range room c =
     let k = can.kept in
     let w = world_in s in
