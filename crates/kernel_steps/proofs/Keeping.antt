@@ -100,6 +100,11 @@ kept_at s' facts widest events w f n e there sound book seated rests =
       rests = subst (λ (x : Facts). Rests x (world_in s') s') (sym f) (subst (λ (x : World). Rests facts x s') (sym world) rests);
     }
 
+-- one event, behind which nobody goes on
+pub kept_with : (s s' : State) (event : Event) → IsKept s → MayCome s.facts s.widest (world_in s) event → s'.facts ≡ s.facts → s'.widest ≡ s.widest → s'.journal.events ≡ s.journal.events ++ event ∷ [] → Seated (after s.facts (world_in s) event) s'.seats
+    → Rests s.facts (after s.facts (world_in s) event) s' → IsKept s'
+kept_with s s' event k may f n e seated rests = kept_at s' s.facts s.widest (s.journal.events ++ event ∷ []) (after s.facts (world_in s) event) f n e (world_push s.facts s.journal.events event) k.sound (book_push s.facts s.widest s.journal.events event k.book may) seated rests
+
 pub kept_by : (s s' : State) (event : Event) (going : Option Going) → IsKept s → Follows s s' event going → IsKept s'
 kept_by s s' event None k f =
     let events : s'.journal.events ≡ s.journal.events ++ event ∷ [] = f.events ∙ append-nil (s.journal.events ++ event ∷ []) in

@@ -18,3 +18,5 @@ pub mod Sleeping
 pub mod Entering
 pub mod Fetching
 pub mod Pausing
+pub mod Numbered
+pub mod Starting

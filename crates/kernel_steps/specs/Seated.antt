@@ -1,15 +1,15 @@
 -- How what is kept of the instances and the regions stands for a world.
-use Rattle.std.specs.Prelude.{◌≡◌, ℕ, ◌<◌, List, [], ◌∷◌, ◌++◌, ℤ, length, map, slice_get, slice_set, Some, None}
+use Rattle.std.specs.Prelude.{◌≡◌, ℕ, ◌<◌, ◌⊎◌, List, [], ◌∷◌, ◌++◌, ℤ, length, map, slice_get, slice_set, Some, None}
 use Rattle.std.specs.declared.option.Option.{Option}
 use Rattle.kernel_base.specs.declared.request.Request.{Request}
 use Rattle.kernel_base.specs.declared.answer.Answer.{Answer}
 use Rattle.world_model.specs.declared.world.Phase.{Phase}
 use Rattle.world_model.specs.declared.world.Phase.TheVariants.{Active, Waiting, Chosen, Ended}
 use Rattle.world_model.specs.declared.world.World.{World}
-use Rattle.world_model.specs.Waiting.{phase_of}
+use Rattle.world_model.specs.Waiting.{phase_of, IsActive}
 use Rattle.world_model.specs.World as worlds
-use Rattle.world_model.specs.World.{with_phase, freed_last, locked_back, back_in}
-use Rattle.world_model.specs.Allowed.{MayGo, Occupies}
+use Rattle.world_model.specs.World.{with_phase, freed, freed_last, entered, occupant, locked_back, back_in}
+use Rattle.world_model.specs.Allowed.{MayGo, IsFree, Occupies}
 use Rattle.world_model.specs.Lists.{last_of}
 use Rattle.kernel_base.specs.declared.ends.How.TheVariants.{Normal}
 use Rattle.instance_table.specs.declared.phase.Phase as tables
@@ -97,3 +97,52 @@ pub record NobodyGoes (w : World) (s new : Seats) : Type 0 where
 abbrev pub Settles : World → Seats → Seats → Option Going → Type 0
 Settles w s new None = NobodyGoes w s new
 Settles w s new (Some going) = GoesOn w s new going
+
+-- `who` comes to wait for a region that another occupies, for every world that the seats stand for
+abbrev pub CanSuspend : Seats → ℕ → ℕ → Type 0
+CanSuspend s who region = (w : World) × (phase : Phase) × (other : ℕ) × Seated w s × (phase_of w who ≡ Some phase) × (suspended_in who phase ≡ None) × Occupies w other region × (0 < who)
+
+abbrev pub Suspends : Seats → Seats → ℕ → ℕ → Copies → Type 0
+Suspends s new who region copies = (w : World) (phase : Phase) (other : ℕ) → Seated w s → phase_of w who ≡ Some phase → suspended_in who phase ≡ None → Occupies w other region → 0 < who → copies ≡ twice copies.noted
+    → NobodyGoes (with_phase w who (Chosen copies.noted (Some region))) s new
+
+-- `who` waits, and is chosen
+abbrev pub CanChoose : Seats → ℕ → Type 0
+CanChoose s who = (w : World) × (request : Request) × (send : Option ℕ) × (back : Option ℕ) × Seated w s × (phase_of w who ≡ Some (Waiting request send back))
+
+abbrev pub Chooses : Seats → Seats → ℕ → Copies → Option Going → Type 0
+Chooses s new who copies going = (w : World) (request : Request) (send back : Option ℕ) → Seated w s → phase_of w who ≡ Some (Waiting request send back) → copies ≡ twice copies.noted → Settles (with_phase w who (Chosen copies.noted back)) s new going
+
+-- the same with an answer that is copied here
+abbrev pub Hands : Seats → Seats → ℕ → Answer → Option Going → Type 0
+Hands s new who answer going = (w : World) (request : Request) (send back : Option ℕ) → Seated w s → phase_of w who ≡ Some (Waiting request send back) → Settles (with_phase w who (Chosen answer back)) s new going
+
+-- the same of one that has a region to lock again
+abbrev pub CanChooseBack : Seats → ℕ → ℕ → Type 0
+CanChooseBack s who region = (w : World) × (request : Request) × (send : Option ℕ) × Seated w s × (phase_of w who ≡ Some (Waiting request send (Some region)))
+
+abbrev pub ChoosesBack : Seats → Seats → ℕ → ℕ → Copies → Option Going → Type 0
+ChoosesBack s new who region copies going = (w : World) (request : Request) (send : Option ℕ) → Seated w s → phase_of w who ≡ Some (Waiting request send (Some region)) → copies ≡ twice copies.noted
+    → Settles (with_phase w who (Chosen copies.noted (Some region))) s new going
+
+-- a region is freed
+abbrev pub CanRelease : Seats → ℕ → Type 0
+CanRelease s region = (w : World) × (who : ℕ) × Seated w s × Occupies w who region
+
+abbrev pub Releases : Seats → Seats → ℕ → Option Going → Type 0
+Releases s new region going = (w : World) (who : ℕ) → Seated w s → Occupies w who region → Settles (freed w who region) s new going
+
+-- `who` comes to wait for anything but a region
+abbrev pub CanWait : Seats → ℕ → Type 0
+CanWait s who = (w : World) × Seated w s × IsActive w who × OwnsLast w who
+
+abbrev pub BeginsToWait : Seats → Seats → ℕ → Option Going → Type 0
+BeginsToWait s new who going = (w : World) (request : Request) (send : Option ℕ) → Seated w s → IsActive w who → OwnsLast w who → Settles (waiting w who request send) s new going
+
+-- `who` locks a region that is free, or that it occupies
+abbrev pub Locks : Seats → Seats → ℕ → ℕ → Type 0
+Locks s new who region = (w : World) → Seated w s → IsActive w who → IsFree w region ⊎ Occupies w who region → NobodyGoes (entered w who region (occupant w region)) s new
+
+-- an instance is started
+abbrev pub StartsOne : Seats → Seats → ℕ → Type 0
+StartsOne s new process = (w : World) (scalars : List ℤ) → Seated w s → Seated (started w process scalars) new

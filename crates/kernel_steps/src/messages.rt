@@ -1,13 +1,8 @@
 // What SEND and RECEIVE share: answers that are handed over, and signals that are refused.
-ghost use Rattle.std.specs.Prelude.{◌≡◌, ◌≤◌, ◌<◌, ◌+◌, ℕ, [], Some, vec_capacity};
-ghost use Rattle.std.specs.declared.option.Option.{Option};
-ghost use Rattle.kernel_base.specs.declared.request.Request.{Request};
+ghost use Rattle.std.specs.Prelude.{◌≡◌, ◌≤◌, ◌<◌, ◌+◌, [], Some, vec_capacity};
 ghost use Rattle.world_model.specs.declared.world.World.{World};
-ghost use Rattle.world_model.specs.declared.world.Phase.TheVariants.{Waiting, Chosen};
-ghost use Rattle.world_model.specs.Waiting.{phase_of};
 ghost use Rattle.world_model.specs.World as worlds;
-ghost use Rattle.world_model.specs.World.{with_phase};
-ghost use Rattle.kernel_steps.specs.Seated.{Seated, Settles};
+ghost use Rattle.kernel_steps.specs.Seated.{Seated, CanChoose, Hands};
 ghost use Rattle.kernel_steps.specs.Kept.{count_of_scalars};
 
 use crate::copies::twin;
@@ -18,10 +13,10 @@ use kernel_base::{Answer, Exc};
 /// One that waited is handed an answer. It takes no memory.
 pub fn hand(seats: &mut Seats, to: u32, answer: Answer, buffer: Vec<i64>) -> Option<Going>
     requires spare { 0 < seats.old.regions.spare }
-    requires seated { (w : World) × (request : Request) × (send : Option ℕ) × (back : Option ℕ) × Seated w seats.old × (phase_of w to ≡ Some (Waiting request send back)) }
+    requires seated { CanChoose seats.old to }
     requires empty { buffer.items ≡ [] }
     requires room { count_of_scalars answer ≤ vec_capacity buffer }
-    ensures settles { (w : World) (request : Request) (send back : Option ℕ) → Seated w seats.old → phase_of w to ≡ Some (Waiting request send back) → Settles (with_phase w to (Chosen answer back)) seats.old seats.new result }
+    ensures settles { Hands seats.old seats.new to answer result }
     ensures spare { seats.old.regions.spare ≤ seats.new.regions.spare + 1 }
 {
     let handed = twin(&answer, buffer);

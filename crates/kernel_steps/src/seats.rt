@@ -1,15 +1,10 @@
 // Who may go on: the phases of the instances, the regions, and the answers of those that were chosen.
-ghost use Rattle.std.specs.Prelude.{◌≡◌, ◌+◌, ◌<◌, ◌≤◌, ◌++◌, ◌∷◌, [], ◌⊎◌, ℕ, length, slice_get, slice_set, Some, None, OnOk, List, ℤ, ◌^◌, vec_len, vec_capacity};
-ghost use Rattle.std.specs.declared.option.Option.{Option};
-ghost use Rattle.kernel_base.specs.declared.request.Request.{Request};
-ghost use Rattle.world_model.specs.declared.world.World.{World};
-ghost use Rattle.world_model.specs.declared.world.Phase as phases;
-ghost use Rattle.world_model.specs.declared.world.Phase.TheVariants.{Waiting, Chosen};
-ghost use Rattle.world_model.specs.Waiting.{phase_of, IsActive};
-ghost use Rattle.world_model.specs.World.{with_phase, freed, entered, occupant};
-ghost use Rattle.world_model.specs.Allowed.{IsFree, Occupies};
+ghost use Rattle.std.specs.Prelude.{◌≡◌, ◌+◌, ◌<◌, ◌≤◌, ◌++◌, ◌∷◌, [], ◌^◌};
+ghost use Rattle.std.specs.Prelude.{length, slice_set, Some, None, vec_len, vec_capacity};
 ghost use Rattle.instance_table.specs.declared.phase.Phase.TheVariants as kinds;
-ghost use Rattle.kernel_steps.specs.Seated.{Seated, Settles, NobodyGoes, OwnsLast, IsSeated, suspended_in, twice, waiting, started};
+ghost use Rattle.kernel_steps.specs.Seated.{CanSuspend, Suspends, CanChoose, Chooses};
+ghost use Rattle.kernel_steps.specs.Seated.{CanChooseBack, ChoosesBack, CanRelease, Releases};
+ghost use Rattle.kernel_steps.specs.Seated.{CanWait, BeginsToWait, Locks, StartsOne};
 
 use instance_table::{Instances, Phase};
 use kernel_base::Answer;
@@ -69,9 +64,8 @@ fn go(seats: &mut Seats, who: u32, copies: Copies) -> Going
 /// One that asked comes to wait for a region that another occupies, or one that was chosen for the region that it freed.
 pub fn suspend(seats: &mut Seats, who: u32, region: u32, copies: Copies)
     requires spare { 0 < seats.old.regions.spare }
-    requires seated { (w : World) × (phase : phases.Phase) × (other : ℕ) × Seated w seats.old × (phase_of w who ≡ Some phase) × (suspended_in who phase ≡ None) × Occupies w other region × (0 < who) }
-    ensures seated { (w : World) (phase : phases.Phase) (other : ℕ) → Seated w seats.old → phase_of w who ≡ Some phase → suspended_in who phase ≡ None → Occupies w other region → 0 < who → copies ≡ twice copies.noted
-        → NobodyGoes (with_phase w who (Chosen copies.noted (Some region))) seats.old seats.new }
+    requires seated { CanSuspend seats.old who region }
+    ensures seated { Suspends seats.old seats.new who region copies }
     ensures spare { seats.old.regions.spare ≤ seats.new.regions.spare + 1 }
 {
     seats.regions.wait(region, who);
@@ -82,9 +76,8 @@ pub fn suspend(seats: &mut Seats, who: u32, region: u32, copies: Copies)
 /// One that waited is chosen. It goes on where it has no region to lock again, or that region is free.
 pub fn choose(seats: &mut Seats, who: u32, copies: Copies) -> Option<Going>
     requires spare { 0 < seats.old.regions.spare }
-    requires seated { (w : World) × (request : Request) × (send : Option ℕ) × (back : Option ℕ) × Seated w seats.old × (phase_of w who ≡ Some (Waiting request send back)) }
-    ensures settles { (w : World) (request : Request) (send back : Option ℕ) → Seated w seats.old → phase_of w who ≡ Some (Waiting request send back) → copies ≡ twice copies.noted
-        → Settles (with_phase w who (Chosen copies.noted back)) seats.old seats.new result }
+    requires seated { CanChoose seats.old who }
+    ensures settles { Chooses seats.old seats.new who copies result }
     ensures spare { seats.old.regions.spare ≤ seats.new.regions.spare + 1 }
 {
     match seats.backs[who as usize] {
@@ -95,9 +88,8 @@ pub fn choose(seats: &mut Seats, who: u32, copies: Copies) -> Option<Going>
 
 fn choose_back(seats: &mut Seats, who: u32, region: u32, copies: Copies) -> Option<Going>
     requires spare { 0 < seats.old.regions.spare }
-    requires seated { (w : World) × (request : Request) × (send : Option ℕ) × Seated w seats.old × (phase_of w who ≡ Some (Waiting request send (Some region))) }
-    ensures settles { (w : World) (request : Request) (send : Option ℕ) → Seated w seats.old → phase_of w who ≡ Some (Waiting request send (Some region)) → copies ≡ twice copies.noted
-        → Settles (with_phase w who (Chosen copies.noted (Some region))) seats.old seats.new result }
+    requires seated { CanChooseBack seats.old who region }
+    ensures settles { ChoosesBack seats.old seats.new who region copies result }
     ensures spare { seats.old.regions.spare ≤ seats.new.regions.spare + 1 }
 {
     if seats.regions.occupant(region).is_some() {
@@ -111,8 +103,8 @@ fn choose_back(seats: &mut Seats, who: u32, region: u32, copies: Copies) -> Opti
 /// Frees a region. The one that waits longest for it goes on.
 pub fn release(seats: &mut Seats, region: u32) -> Option<Going>
     requires spare { 0 < seats.old.regions.spare }
-    requires seated { (w : World) × (who : ℕ) × Seated w seats.old × Occupies w who region }
-    ensures settles { (w : World) (who : ℕ) → Seated w seats.old → Occupies w who region → Settles (freed w who region) seats.old seats.new result }
+    requires seated { CanRelease seats.old region }
+    ensures settles { Releases seats.old seats.new region result }
     ensures spare { seats.old.regions.spare ≤ seats.new.regions.spare + 1 }
 {
     let who = seats.regions.free(region)?;
@@ -123,8 +115,8 @@ pub fn release(seats: &mut Seats, region: u32) -> Option<Going>
 /// One that asked comes to wait for anything but a region. It frees the region that it locked last.
 pub fn wait(seats: &mut Seats, who: u32) -> Option<Going>
     requires spare { 0 < seats.old.regions.spare }
-    requires seated { (w : World) × Seated w seats.old × IsActive w who × OwnsLast w who }
-    ensures settles { (w : World) (request : Request) (send : Option ℕ) → Seated w seats.old → IsActive w who → OwnsLast w who → Settles (waiting w who request send) seats.old seats.new result }
+    requires seated { CanWait seats.old who }
+    ensures settles { BeginsToWait seats.old seats.new who result }
     ensures spare { seats.old.regions.spare ≤ seats.new.regions.spare + 1 }
 {
     seats.instances.set_phase(who, Phase::Waiting);
@@ -140,7 +132,7 @@ pub fn wait(seats: &mut Seats, who: u32) -> Option<Going>
 pub fn enter(seats: &mut Seats, who: u32, region: u32)
     requires spare { 0 < seats.old.regions.spare }
     requires there { region < length seats.old.regions.occupants }
-    ensures seated { (w : World) → Seated w seats.old → IsActive w who → IsFree w region ⊎ Occupies w who region → NobodyGoes (entered w who region (occupant w region)) seats.old seats.new }
+    ensures seated { Locks seats.old seats.new who region }
     ensures spare { seats.old.regions.spare ≤ seats.new.regions.spare + 1 }
 {
     let _locked = seats.regions.lock(region, who);
@@ -154,7 +146,7 @@ pub fn start(seats: &mut Seats, process: u32) -> u32
     requires unfetched { vec_len seats.old.unfetched < vec_capacity seats.old.unfetched }
     requires few { length seats.old.instances.phases < 2 ^ 32 }
     ensures number { result ≡ length seats.old.instances.phases }
-    ensures seated { (w : World) (scalars : List ℤ) → Seated w seats.old → Seated (started w process scalars) seats.new }
+    ensures seated { StartsOne seats.old seats.new process }
     ensures unfetched { seats.new.unfetched.items ≡ seats.old.unfetched.items ++ None ∷ [] }
 {
     let instance = seats.instances.start(process);

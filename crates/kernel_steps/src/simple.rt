@@ -1,5 +1,5 @@
-// Requests that let nobody go on: shared locations, output, and a START that fails.
-ghost use Rattle.std.specs.Prelude.{◌↔◌, ◌≤◌, IsTrue};
+// Requests that let nobody go on: shared locations, output, and START.
+ghost use Rattle.std.specs.Prelude.{◌↔◌, ◌≤◌, ◌<◌, IsTrue};
 ghost use Rattle.kernel_base.specs.declared.request.Request.TheVariants as requests;
 ghost use Rattle.world_model.specs.Waiting.{count_of_live};
 ghost use Rattle.world_model.specs.Allowed.{most_live};
@@ -9,7 +9,7 @@ ghost use Rattle.kernel_steps.specs.Serving.{CanServe, Serves};
 use crate::copies::twin_scalars;
 use crate::noting::did;
 use crate::state::Ready;
-use crate::{Reply, State};
+use crate::{Reply, State, seats};
 use chill_base::{List, Scalars, Text};
 use kernel_base::{Answer, Exc, Place, Request};
 
@@ -64,16 +64,16 @@ pub fn put(s: &mut State, who: u32, ticks: u32, bytes: Text, ready: Ready) -> Re
     Reply::Now(Answer::Done)
 }
 
-/// Whether as many instances are live as may be.
-pub fn is_full(s: &State) -> bool
+// Whether as many instances are live as may be.
+fn is_full(s: &State) -> bool
     requires { IsKept s.now }
     ensures { IsTrue result ↔ (most_live ≤ count_of_live (world_in s.now)) }
 {
     s.seats.instances.live() >= 1000
 }
 
-/// START where as many instances are live as may be: it fails with `Spacefail`. It takes no memory.
-pub fn refuse_start(
+// As many instances are live as may be.
+fn refuse_start(
     s: &mut State,
     who: u32,
     ticks: u32,
@@ -93,4 +93,46 @@ pub fn refuse_start(
         Answer::Fail(Exc::Spacefail),
     );
     Reply::Now(Answer::Fail(Exc::Spacefail))
+}
+
+/// START. It takes no memory.
+pub fn start(
+    s: &mut State,
+    who: u32,
+    ticks: u32,
+    process: u32,
+    scalars: Scalars,
+    ready: Ready,
+) -> Reply
+    requires { CanServe s.old who (requests.Start process scalars) ready }
+    ensures { Serves s.old s.new who ticks (requests.Start process scalars) result }
+{
+    if is_full(s) {
+        return refuse_start(s, who, ticks, process, scalars, ready);
+    }
+    start_new(s, who, ticks, process, scalars, ready)
+}
+
+fn start_new(
+    s: &mut State,
+    who: u32,
+    ticks: u32,
+    process: u32,
+    scalars: Scalars,
+    ready: Ready,
+) -> Reply
+    requires can { CanServe s.old who (requests.Start process scalars) ready }
+    requires room { count_of_live (world_in s.old) < most_live }
+    ensures { Serves s.old s.new who ticks (requests.Start process scalars) result }
+{
+    let instance = seats::start(&mut s.seats, process);
+    s.arguments.push_reserved(scalars);
+    did(
+        &mut s.journal,
+        who,
+        ticks,
+        ready.request,
+        Answer::Instance(instance),
+    );
+    Reply::Now(Answer::Instance(instance))
 }
