@@ -21,3 +21,4 @@ pub mod Pausing
 pub mod Numbered
 pub mod Starting
 pub mod Digits
+pub mod Freeing

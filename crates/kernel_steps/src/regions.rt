@@ -9,7 +9,8 @@ use crate::noting::{did, goes, waits};
 use crate::seats::{enter as lock, release, suspend};
 use crate::state::Ready;
 use crate::{Copies, Reply, State};
-use kernel_base::{Answer, Request};
+use instance_table::Phase;
+use kernel_base::{Answer, How, Request};
 
 // Whether a region that was found so is another's.
 fn is_other(occupant: Option<u32>, who: u32) -> bool
@@ -85,5 +86,28 @@ fn leave_own(s: &mut State, who: u32, ticks: u32, region: u32, ready: Ready) -> 
     );
     let going = release(&mut s.seats, region);
     goes(&mut s.journal, going);
+    Reply::Now(Answer::Done)
+}
+
+/// The end of a process. Its regions become free in the order of their numbers. It takes no memory.
+pub fn end(s: &mut State, who: u32, ticks: u32, how: How, ready: Ready) -> Reply
+    requires { CanServe s.old who (requests.End how) ready }
+    ensures { Serves s.old s.new who ticks (requests.End how) result }
+{
+    did(
+        &mut s.journal,
+        who,
+        ticks,
+        Request::End { how },
+        Answer::Done,
+    );
+    s.seats.instances.set_phase(who, Phase::Ended(how));
+    for region in 0..s.facts.regions {
+        let occupant = s.seats.regions.occupant(region);
+        if occupant == Some(who) {
+            let going = release(&mut s.seats, region);
+            goes(&mut s.journal, going);
+        }
+    }
     Reply::Now(Answer::Done)
 }
