@@ -4,3 +4,4 @@ pub mod Seated
 pub mod Kept
 pub mod View
 pub mod Serving
+pub mod Numbers

@@ -22,3 +22,12 @@ pub fn word_end(input: &[u8]) -> usize
     let skipped = separators_len(input);
     skipped + word_len(behind(input, skipped))
 }
+
+/// How many bytes are taken behind those that were taken before, with them.
+pub fn word_end_from(input: &[u8], read: usize) -> usize
+    requires { read ≤ length input.now }
+    ensures within { result ≤ length input.now }
+    ensures taken { drop result input.now ≡ inputs.input_behind (drop read input.now) }
+{
+    read + word_end(behind(input, read))
+}

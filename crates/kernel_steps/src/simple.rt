@@ -1,13 +1,16 @@
-// Requests that let nobody go on: shared locations, output, and START.
-ghost use Rattle.std.specs.Prelude.{◌↔◌, ◌≤◌, ◌<◌, IsTrue};
+// Requests that let nobody go on: shared locations, input and output, and START.
+ghost use Rattle.std.specs.Prelude.{◌≡◌, ◌↔◌, ◌≤◌, ◌<◌, [], IsTrue, vec_capacity};
 ghost use Rattle.kernel_base.specs.declared.request.Request.TheVariants as requests;
 ghost use Rattle.world_model.specs.Waiting.{count_of_live};
 ghost use Rattle.world_model.specs.Allowed.{most_live};
 ghost use Rattle.kernel_steps.specs.Kept.{IsKept, world_in};
+ghost use Rattle.kernel_steps.specs.Numbers.{told_by};
 ghost use Rattle.kernel_steps.specs.Serving.{CanServe, Serves};
 
 use crate::copies::twin_scalars;
+use crate::input::word_end_from;
 use crate::noting::did;
+use crate::numbers::next_number;
 use crate::state::Ready;
 use crate::{Reply, State, seats};
 use chill_base::{List, Scalars, Text};
@@ -62,6 +65,43 @@ pub fn put(s: &mut State, who: u32, ticks: u32, bytes: Text, ready: Ready) -> Re
         Answer::Done,
     );
     Reply::Now(Answer::Done)
+}
+
+// The input that was not taken.
+fn rest(s: &State) -> &[u8]
+    requires { IsKept s.now }
+    ensures { result.now ≡ (world_in s.now).input }
+{
+    &s.facts.input.as_slice()[s.read..]
+}
+
+// The answer that tells a number, or an exception.
+fn told(number: Result<i64, Exc>, buffer: Vec<i64>) -> Answer
+    requires empty { buffer.items ≡ [] }
+    requires room { 1 ≤ vec_capacity buffer }
+    ensures { result ≡ told_by number }
+{
+    match number {
+        Ok(number) => {
+            let mut buffer = buffer;
+            buffer.push_reserved(number);
+            Answer::Value(List::from_vec(buffer))
+        }
+        Err(exception) => Answer::Fail(exception),
+    }
+}
+
+/// GET_INT: the next number of the input. It takes no memory.
+pub fn get(s: &mut State, who: u32, ticks: u32, ready: Ready) -> Reply
+    requires { CanServe s.old who requests.Get ready }
+    ensures { Serves s.old s.new who ticks requests.Get result }
+{
+    let number = next_number(rest(s));
+    s.read = word_end_from(s.facts.input.as_slice(), s.read);
+    let noted = told(number, ready.first);
+    let handed = told(number, ready.second);
+    did(&mut s.journal, who, ticks, Request::Get, noted);
+    Reply::Now(handed)
 }
 
 // Whether as many instances are live as may be.
