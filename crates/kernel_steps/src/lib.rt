@@ -17,6 +17,7 @@ pub mod ranges;
 pub mod regions;
 mod reply;
 pub mod seats;
+pub mod signals;
 pub mod simple;
 mod state;
 pub mod waking;
