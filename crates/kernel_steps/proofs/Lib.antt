@@ -16,6 +16,7 @@ pub mod Served
 pub mod Plain
 pub mod Sleeping
 pub mod Signalling
+pub mod Sending
 pub mod Entering
 pub mod Fetching
 pub mod Pausing

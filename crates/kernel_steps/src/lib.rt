@@ -6,6 +6,7 @@
 #![tactic(auto)]
 
 pub mod answers;
+pub mod buffers;
 pub mod commits;
 pub mod copies;
 pub mod input;
