@@ -15,6 +15,8 @@ pub mod Ending
 pub mod Served
 pub mod Plain
 pub mod Sleeping
+pub mod Signalling
+pub mod Sending
 pub mod Entering
 pub mod Fetching
 pub mod Pausing

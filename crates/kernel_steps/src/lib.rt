@@ -6,6 +6,7 @@
 #![tactic(auto)]
 
 pub mod answers;
+pub mod buffers;
 pub mod commits;
 pub mod copies;
 pub mod input;
@@ -17,6 +18,7 @@ pub mod ranges;
 pub mod regions;
 mod reply;
 pub mod seats;
+pub mod signals;
 pub mod simple;
 mod state;
 pub mod waking;
