@@ -17,6 +17,7 @@ pub mod Plain
 pub mod Sleeping
 pub mod Signalling
 pub mod Sending
+pub mod Hearing
 pub mod Entering
 pub mod Fetching
 pub mod Pausing

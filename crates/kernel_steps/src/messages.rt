@@ -1,5 +1,5 @@
-// What SEND and RECEIVE share: answers that are handed over, and signals that are refused.
-ghost use Rattle.std.specs.Prelude.{◌≡◌, ◌≤◌, ◌<◌, ◌+◌, [], Some, vec_capacity};
+// What SEND and RECEIVE share: answers that are handed over, signals that are refused, and who asks.
+ghost use Rattle.std.specs.Prelude.{◌≡◌, ◌≤◌, ◌<◌, ◌+◌, [], Some, slice_index_or, vec_capacity};
 ghost use Rattle.world_model.specs.declared.world.World.{World};
 ghost use Rattle.world_model.specs.World as worlds;
 ghost use Rattle.kernel_steps.specs.Seated.{Seated, CanChoose, Hands};
@@ -49,5 +49,16 @@ fn refusal_at(s: &State, to: u32) -> Option<Exc>
     match s.seats.instances.phase(to) {
         Some(instance_table::Phase::Ended(_)) | None => Some(Exc::Extinct),
         Some(_) => None,
+    }
+}
+
+/// The process of which an instance is one. It only reads the table.
+pub fn process_of(s: &State, who: u32) -> u32
+    requires { 0 < who }
+    ensures { result ≡ slice_index_or s.now.seats.instances.processes who 0 }
+{
+    match s.seats.instances.process(who) {
+        Some(process) => process,
+        None => 0,
     }
 }
