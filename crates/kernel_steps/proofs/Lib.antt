@@ -18,6 +18,7 @@ pub mod Sleeping
 pub mod Signalling
 pub mod Sending
 pub mod Hearing
+pub mod NothingThere
 pub mod Entering
 pub mod Fetching
 pub mod Pausing

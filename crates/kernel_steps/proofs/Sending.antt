@@ -1,6 +1,6 @@
 -- SEND to a buffer, over the state.
 use Rattle.std.proofs.Common.{◌≡◌, ℕ, ◌+◌, ◌≤◌, ◌<◌, List, [], ◌∷◌, ◌++◌, ℤ, drop, length, length-set, refl, sym, ap, ◌∙◌, arith, subst, Option, Some, None, slice_get, slice_set}
-use Rattle.std.specs.Prelude.{Bool, IfSome, IsTrue, IsFalse, slice_index_or}
+use Rattle.std.specs.Prelude.{Bool, IfSome, IsTrue, IsFalse}
 use Rattle.kernel_base.specs.declared.request.Request.{Request}
 use Rattle.kernel_base.specs.declared.request.Request.TheVariants.{SendBuffer, ReceiveBuffer}
 use Rattle.kernel_base.specs.declared.answer.Answer.{Answer}
@@ -17,20 +17,18 @@ use Rattle.world_model.specs.Waiting.{phase_of, buffer_receiver}
 use Rattle.world_model.specs.World.{after, chosen, held_by, with_phase, with_next_send}
 use Rattle.world_model.specs.Allowed.{MustWait}
 use Rattle.buffers_signals.specs.declared.messages.Held.{Held}
-use Rattle.buffers_signals.specs.Lists.{sender_of, receiver_of, values_in}
 use Rattle.buffers_signals.specs.Buffers as buffers
 use Rattle.kernel_steps.specs.declared.reply.Reply.TheVariants.{Now, Later}
 use Rattle.kernel_steps.specs.declared.seats.Going.{Going}
 use Rattle.kernel_steps.specs.declared.state.Ready.{Ready}
 use Rattle.kernel_steps.specs.declared.state.State.{State}
-use Rattle.kernel_steps.specs.Queued.{sending_in, receiving_in}
 use Rattle.kernel_steps.specs.Seated.{Settles, Hands, waiting}
 use Rattle.kernel_steps.specs.Kept.{world_in, width_of, Rests}
 use Rattle.kernel_steps.specs.Serving.{CanServe, Serves, goes_of}
-use Rattle.kernel_steps.proofs.Keyed.{mirror_begin, mirror_stay, mirror_stop}
 use Rattle.kernel_steps.proofs.Queued.{sleeps_stay, hears_stay}
 use Rattle.kernel_steps.proofs.Quiet.{freed_keeps}
-use Rattle.kernel_steps.proofs.Trading.{stored_push, may_hand, nobody_receives, room_same}
+use Rattle.kernel_steps.proofs.Refilled.{trades_handed, trades_stored, trades_sends}
+use Rattle.kernel_steps.proofs.Trading.{may_hand, nobody_receives, room_same}
 use Rattle.kernel_steps.proofs.Served.{argues_same, seated_same, sleeps_same, hears_same, serves_now, serves_later}
 use Rattle.kernel_steps.proofs.Plain.{plain_serves}
 
@@ -69,13 +67,7 @@ stores_serves s s' who ticks buffer scalars priority r can w_in t_in o seats h j
     (record { processes = refl; phases = refl; occupants = refl; held = refl; facts = o.facts; widest = o.widest; ready = o.ready; seats = seats; taken = o.taken; events = journal; plain = refl })
     (record {
       sleeps = rw o.events (sleeps_same s.facts w w1 s.queues.events refl k.rests.sleeps);
-      trades = record {
-        lengths = o.lengths ∙ trades.lengths;
-        each = length-set w.stored buffer _ ∙ trades.each;
-        stored = stored_push w w1 s.queues.buffers.stored s'.queues.buffers.stored one low refl more trades.stored;
-        senders = rw h.senders trades.senders;
-        receivers = rw h.receivers trades.receivers;
-      };
+      trades = trades_stored s.facts w w1 s.queues.buffers s'.queues.buffers one low refl refl refl o.lengths more h.senders h.receivers trades;
       hears = rw o.signals (hears_same s.facts w w1 s.queues.signals refl refl refl k.rests.hears);
       sends = o.sends ∙ ap (λ n. n + 1) k.rests.sends;
       store = o.store ∙ k.rests.store;
@@ -120,13 +112,7 @@ hands_serves s s' who ticks buffer scalars priority p answer r going can w_in t_
       settles = subst (λ (x : World). Settles x s.seats s'.seats going) (sym world) settles;
       rests = subst (λ (x : World). Rests s.facts x s') (sym world) (record {
         sleeps = rw o.events (sleeps_stay s.facts w w1 s.queues.events p old new at refl refl refl (λ e. refl) (λ e. refl) k.rests.sleeps);
-        trades = record {
-          lengths = o.lengths ∙ trades.lengths;
-          each = trades.each;
-          stored = λ q. ap (λ (l : List Held). values_in l q) h.stored ∙ trades.stored q;
-          senders = rw h.senders (mirror_stay sender_of sending_in s.queues.buffers.senders w.phases p old new at refl refl trades.senders);
-          receivers = rw h.receivers (mirror_stop receiver_of (receiving_in w.processes) s.queues.buffers.receivers w.phases p old new at refl trades.receivers);
-        };
+        trades = trades_handed s.facts w w1 s.queues.buffers s'.queues.buffers p h.receiver.things t.otherwise t.send t.back new at refl refl refl refl refl o.lengths h.stored h.senders h.receivers trades;
         hears = rw o.signals (hears_stay s.facts w w1 s.queues.signals p old new at refl refl refl refl refl k.rests.hears);
         sends = o.sends ∙ ap (λ n. n + 1) k.rests.sends;
         store = o.store ∙ k.rests.store;
@@ -173,13 +159,7 @@ delays_serves s s' who ticks buffer scalars priority r going can w_in t_in o h j
       settles = settles;
       rests = record {
         sleeps = rw o.events (sleeps_stay s.facts w w1 s.queues.events who Active new active phases refl refl (λ e. refl) (λ e. refl) k.rests.sleeps);
-        trades = record {
-          lengths = o.lengths ∙ trades.lengths;
-          each = ap length same.stored ∙ trades.each;
-          stored = λ q. ap (λ (l : List Held). values_in l q) h.stored ∙ trades.stored q ∙ sym (ap (λ (all : List (List StoredValue)). slice_index_or all q []) same.stored);
-          senders = rw (phases, more) (mirror_begin sender_of sending_in s.queues.buffers.senders w.phases who Active new one active refl refl refl trades.senders);
-          receivers = rw (phases, same.processes, h.receivers) (mirror_stay receiver_of (receiving_in w.processes) s.queues.buffers.receivers w.phases who Active new active refl refl trades.receivers);
-        };
+        trades = trades_sends s.facts w w1 s.queues.buffers s'.queues.buffers buffer one.value back active phases same.processes same.stored o.lengths h.stored more h.receivers trades;
         hears = rw o.signals (hears_stay s.facts w w1 s.queues.signals who Active new active phases same.processes same.pending refl refl k.rests.hears);
         sends = o.sends ∙ ap (λ n. n + 1) k.rests.sends ∙ sym same.sends;
         store = o.store ∙ k.rests.store ∙ sym same.store;
