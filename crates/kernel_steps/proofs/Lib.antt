@@ -25,5 +25,4 @@ pub mod Fetching
 pub mod Pausing
 pub mod Numbered
 pub mod Starting
-pub mod Digits
 pub mod Freeing
