@@ -12,7 +12,6 @@ pub mod copies;
 pub mod input;
 pub mod messages;
 pub mod noting;
-pub mod numbers;
 pub mod opening;
 pub mod ranges;
 pub mod regions;
