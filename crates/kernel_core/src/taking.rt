@@ -7,8 +7,7 @@ use kernel_steps::messages::process_of;
 use kernel_steps::{New, State};
 use std::mem;
 
-fn take_arguments(arguments: &mut Vec<Scalars>, instance: u32) -> Scalars
-{
+fn take_arguments(arguments: &mut Vec<Scalars>, instance: u32) -> Scalars {
     let none = List::new(*arguments.allocator());
     mem::replace(&mut arguments[instance as usize], none)
 }

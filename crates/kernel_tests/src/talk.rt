@@ -116,9 +116,7 @@ const PLACE: Place = Place {
 };
 
 fn only(alloc: Global, thing: u32) -> Result<List<Alternative>, AllocError> {
-    Ok(List::from_vec(
-        vec![in alloc; Alternative { thing, number: 0 }]?,
-    ))
+    Ok(List::from_vec(vec![in alloc; Alternative { thing, number: 0 }]?))
 }
 
 /// The request; none for the calls that are none.
@@ -243,12 +241,7 @@ pub fn tell(alloc: Global, kernel: &mut Kernel, who: u32, ask: Ask) -> Result<To
 }
 
 /// The kernel of the facts, once each row was asked and told what it must tell.
-pub fn kernel_after(
-    rt: &impl Abort,
-    alloc: Global,
-    rows: &[Row],
-) -> Result<Kernel, Fail>
-{
+pub fn kernel_after(rt: &impl Abort, alloc: Global, rows: &[Row]) -> Result<Kernel, Fail> {
     let mut kernel = Kernel::new(alloc, facts(alloc, 10_000_000)?)?;
     for (i, row) in rows.iter().enumerate() {
         let told = tell(alloc, &mut kernel, row.0, row.1)?;
