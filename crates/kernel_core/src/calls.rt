@@ -118,6 +118,7 @@ impl Kernel {
     /// Each event of the journal is allowed in the world that those before it leave, from the opening of the facts on;
     /// of those that were chosen nobody is left who may go on; and each note of ticks is a whole burst.
     pub fn is_run(&self)
+        ensures sound { IsSound self.now.facts }
         ensures run { IsRun self.now.facts self.now.events }
         ensures idle { IsIdle (world_seen self.now) }
         ensures bursts { All IsWholeBurst self.now.events }
@@ -128,7 +129,8 @@ impl Kernel {
     /// Gives up the kernel for its journal. It takes no memory.
     pub fn into_events(self) -> Events
         ensures events { result ≡ self.events }
-        ensures run { IsRun self.facts result }
+        ensures sound { IsSound self.facts }
+        ensures run { IsRun self.facts self.events }
     {
         commits::is_run(&self.state);
         self.state.journal.into_events()

@@ -1,7 +1,8 @@
 // The room for one commit, over the kernel's state.
-ghost use Rattle.std.specs.Prelude.{◌≡◌, ◌≤◌, [], IfOk, OnOk, vec_capacity};
+ghost use Rattle.std.specs.Prelude.{◌≡◌, IfOk, OnOk};
 ghost use Rattle.kernel_steps.specs.Kept.{IsKept, IsPrepared, width_of};
 ghost use Rattle.kernel_steps.specs.View.{view_of, Keeps, IsReadyFor};
+ghost use Rattle.kernel_core.specs.Roomier.{SameSeats, SameQueues, SameState, SeatsHaveRoom, QueuesHaveRoom, PartsHaveRoom, IsReadyWith};
 
 use chill_base::{Item, Memory};
 use kernel_base::Request;
@@ -20,7 +21,10 @@ fn width(request: &Request) -> usize
     }
 }
 
-fn reserve_seats(seats: &mut Seats, changes: usize) -> Result<(), Memory> {
+fn reserve_seats(seats: &mut Seats, changes: usize) -> Result<(), Memory>
+    ensures same { SameSeats seats.old seats.new }
+    ensures room { OnOk result (SeatsHaveRoom changes seats.new) }
+{
     seats.instances.reserve(1)?;
     seats.regions.reserve(changes)?;
     seats.backs.reserve(1)?;
@@ -29,7 +33,10 @@ fn reserve_seats(seats: &mut Seats, changes: usize) -> Result<(), Memory> {
     Ok(())
 }
 
-fn reserve_queues(queues: &mut Queues) -> Result<(), Memory> {
+fn reserve_queues(queues: &mut Queues) -> Result<(), Memory>
+    ensures same { SameQueues queues.old queues.new }
+    ensures room { OnOk result (QueuesHaveRoom queues.new) }
+{
     queues.events.reserve(1)?;
     queues.buffers.reserve(1)?;
     queues.signals.reserve(1)?;
@@ -37,7 +44,12 @@ fn reserve_queues(queues: &mut Queues) -> Result<(), Memory> {
 }
 
 // A commit notes at most two events more than there are regions: an END frees each of them.
-fn reserve(s: &mut State) -> Result<(), Memory> {
+fn reserve(s: &mut State) -> Result<(), Memory>
+    ensures same { SameState s.old s.new }
+    ensures room { OnOk result (PartsHaveRoom s.new) }
+    ensures widest { s.new.widest ≡ s.old.widest }
+    ensures ready { s.new.ready ≡ s.old.ready }
+{
     let changes = s.facts.regions as usize + 2;
     s.journal.reserve(changes)?;
     reserve_seats(&mut s.seats, changes)?;
@@ -47,7 +59,14 @@ fn reserve(s: &mut State) -> Result<(), Memory> {
 }
 
 // A copy of the request, whose lists the parts keep, and two buffers as wide as any message.
-fn ready_for(alloc: Global, who: u32, request: &Request, widest: usize) -> Result<Ready, Memory> {
+fn ready_for(
+    alloc: Global,
+    who: u32,
+    request: &Request,
+    widest: usize,
+) -> Result<Ready, Memory>
+    ensures { IfOk result (IsReadyWith who request.now widest) }
+{
     Ok(Ready {
         who,
         request: request.copy()?,

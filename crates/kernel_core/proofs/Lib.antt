@@ -1,0 +1,3 @@
+pub mod Roomier
+pub mod Committed
+pub mod Taken
