@@ -19,6 +19,7 @@ pub mod Signalling
 pub mod Sending
 pub mod Hearing
 pub mod NothingThere
+pub mod Receiving
 pub mod Entering
 pub mod Fetching
 pub mod Pausing

@@ -8,7 +8,7 @@ ghost use Rattle.kernel_steps.specs.Serving.{CanServe, Serves, Refills};
 use crate::copies::twin;
 use crate::messages::{hand, process_of};
 use crate::noting::{did, goes, took, waits};
-use crate::ranges::answer_in_range;
+use crate::ranges::{answer_in_range, optional_in_range};
 use crate::seats::{choose, wait};
 use crate::state::Ready;
 use crate::{Copies, Going, Reply, Seats, State};
@@ -78,6 +78,7 @@ pub fn receive_buffer(s: &mut State, who: u32, ticks: u32, request: Request, rea
     match s.queues.buffers.receive(who, process, request) {
         Received::Got { answer, refill } => {
             answer_in_range(&answer);
+            optional_in_range(refill);
             let handed = twin(&answer, ready.first);
             let going = choose_sender(&mut s.seats, refill);
             took(&mut s.journal, who, ticks, ready.request, answer, refill);
