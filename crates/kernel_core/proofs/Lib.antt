@@ -1,3 +1,1 @@
 pub mod Roomier
-pub mod Committed
-pub mod Taken

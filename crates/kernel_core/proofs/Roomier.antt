@@ -1,9 +1,7 @@
 -- A state that is as before but for its room stands for the same world.
-use Rattle.std.proofs.Common.{◌≡◌, ◌≤◌, ℕ, ◌+◌, List, length, slice_get, refl, sym, ap, ◌∙◌, arith, subst, Option, None, Some}
-use Rattle.std.specs.Prelude.{IfSome}
+use Rattle.std.proofs.Common.{◌≡◌, ◌≤◌, ℕ, List, length, slice_get, refl, sym, ap, ◌∙◌, arith, subst, Option, None}
 use Rattle.std.proofs.lemmas.List.Elements.{All-weaker}
 use Rattle.kernel_base.specs.declared.facts.Facts.{Facts}
-use Rattle.kernel_base.specs.declared.request.Request.{Request}
 use Rattle.kernel_base.specs.declared.answer.Answer.{Answer}
 use Rattle.kernel_base.specs.declared.event.Event.{Event}
 use Rattle.kernel_base.specs.Facts.{IsSound}
@@ -22,10 +20,9 @@ use Rattle.kernel_steps.specs.declared.state.Ready.{Ready}
 use Rattle.kernel_steps.specs.declared.state.State.{State}
 use Rattle.kernel_steps.specs.Queued.{Sleeps, Trades, Hears}
 use Rattle.kernel_steps.specs.Seated.{Seated}
-use Rattle.kernel_steps.specs.Kept.{world_in, width_in, width_of, IsBook, Rests, HasRoom, IsKept}
-use Rattle.kernel_steps.specs.View.{view_of, Keeps}
+use Rattle.kernel_steps.specs.Kept.{world_in, width_in, IsBook, Rests, IsKept}
 use Rattle.kernel_steps.proofs.Served.{argues_same}
-use Rattle.kernel_core.specs.Roomier.{SameSeats, SameQueues, SameState, PartsHaveRoom, IsReadyWith}
+use Rattle.kernel_core.specs.Roomier.{SameSeats, SameQueues, SameState}
 
 seated_roomier : (w : World) (s t : Seats) → SameSeats s t → Seated w s → Seated w t
 seated_roomier w s t h k = record {
@@ -99,9 +96,6 @@ kept_roomier s t h k =
       rests = subst (λ (x : Facts). Rests x (world_in t) t) (sym h.facts) (subst (λ (x : World). Rests s.facts x t) (sym world) (rests_roomier s.facts (world_in s) s t h k.rests));
     }
 
-pub keeps_roomier : (s t : State) → SameState s t → Keeps (view_of s) (view_of t)
-keeps_roomier s t h = record { facts = h.facts; events = h.events; unfetched = h.seats.unfetched; taken = h.taken }
-
 -- wider buffers, and ready for something else
 pub same_wider : (s t : State) (wider : ℕ) (ready : Option Ready) → t.widest ≤ wider → SameState s t → SameState s (record t { widest = wider; ready = ready })
 same_wider s t wider ready up h = record {
@@ -128,23 +122,4 @@ same_unready s t h = record {
   arguments = h.arguments;
   taken = h.taken;
   widest = h.widest;
-}
-
-pub prepared_by : (t : State) (who : ℕ) (request : Request) (wider : ℕ) (r : Ready) → PartsHaveRoom t → IsReadyWith who request wider r → width_of request ≤ wider → HasRoom (record t { widest = wider; ready = Some r }) r
-prepared_by t who request wider r p h wide = record {
-  width = subst (λ (q : Request). width_of q ≤ wider) (sym h.request_is) wide;
-  first_empty = h.first_empty;
-  second_empty = h.second_empty;
-  first = h.first;
-  second = h.second;
-  journal = p.journal;
-  instances = p.seats.instances;
-  regions = p.seats.regions;
-  backs = p.seats.backs;
-  chosen = p.seats.chosen;
-  unfetched = p.seats.unfetched;
-  events = p.queues.events;
-  buffers = p.queues.buffers;
-  signals = p.queues.signals;
-  arguments = p.arguments;
 }

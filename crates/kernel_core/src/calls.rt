@@ -22,10 +22,14 @@ pub struct Kernel {
 }
 
 impl Model for Kernel {
+    ghost use Rattle.kernel_base.specs.contracts.value.Value as values;
     ghost use Rattle.kernel_steps.specs.Kept.{IsKept, IsPrepared};
     ghost use Rattle.kernel_steps.specs.View.{View, view_of};
+    ghost use Rattle.std.specs.Coded.{codes};
 
     ghost Value = { View };
+
+    ghost coded = { Prim.hlevel (codes, values.the_row.coded) };
 
     ghost view = { λ k. view_of k.state };
 

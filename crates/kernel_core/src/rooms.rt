@@ -59,12 +59,7 @@ fn reserve(s: &mut State) -> Result<(), Memory>
 }
 
 // A copy of the request, whose lists the parts keep, and two buffers as wide as any message.
-fn ready_for(
-    alloc: Global,
-    who: u32,
-    request: &Request,
-    widest: usize,
-) -> Result<Ready, Memory>
+fn ready_for(alloc: Global, who: u32, request: &Request, widest: usize) -> Result<Ready, Memory>
     ensures { IfOk result (IsReadyWith who request.now widest) }
 {
     Ok(Ready {
