@@ -2,14 +2,12 @@
 // here asks what each receives, and nothing else.
 use crate::expression_rows::EXPRESSION_ROWS;
 use crate::rows::Row;
-use chill_base::{Memory, Pos, Text};
+use chill_base::{Memory, Text};
 use chill_lexer::lex;
 use chill_parser::parse;
 use chill_tree::tree::{
-    BodyPart, Bracketed, Control, Expr, Item, Local, Name, Operator, ReceiveAlternative, Simple,
-    Statement, Tree,
+    BodyPart, Bracketed, Control, Item, Local, Name, ReceiveAlternative, Simple, Statement, Tree,
 };
-use diagnostics::Rule;
 use expr_rules::{Receiver, Walk, tell_wrong_number};
 use listing::diagnostics_text;
 use mode_rules::{Evaluation, Told};
@@ -217,18 +215,14 @@ fn set_counter(walk: &mut Walk<'_, '_>, counter: &Name, mode: Option<Rc<Mode>>) 
 
 fn tell_simple(walk: &Walk<'_, '_>, action: &Simple, told: &mut Told) -> Result<(), Memory> {
     match action {
-        Simple::Assign { target, value, .. } => {
-            let located = walk.target(target, told)?;
-            let _ = walk.value(value, located.receiver(), told)?;
-            Ok(())
-        }
+        Simple::Assign { target, value, .. } => walk.assignment(target, value, told),
         Simple::Update {
             target,
             operator,
             sign,
             value,
             ..
-        } => tell_update(walk, (target, value), *operator, *sign, told),
+        } => walk.update(target, *operator, *sign, value, told),
         Simple::Call { name, args, .. } => walk.call_action(name, args.as_slice(), told),
         Simple::Start { process, args, .. } => walk.start_action(process, args.as_slice(), told),
         Simple::Assert { condition, .. } => {
@@ -252,25 +246,6 @@ fn tell_simple(walk: &Walk<'_, '_>, action: &Simple, told: &mut Told) -> Result<
             Ok(())
         }
         _ => Ok(()),
-    }
-}
-
-fn tell_update(
-    walk: &Walk<'_, '_>,
-    (target, value): (&Expr, &Expr),
-    operator: Operator,
-    sign: Pos,
-    told: &mut Told,
-) -> Result<(), Memory> {
-    let located = walk.target(target, told)?;
-    let before = told.count();
-    let known = walk.value(value, Receiver::Nothing, told)?;
-    if told.count() > before {
-        return Ok(());
-    }
-    match walk.binary(operator, &located.known()?, &known)? {
-        Some(_) => Ok(()),
-        None => told.tell(Rule::S1, sign),
     }
 }
 
