@@ -1,9 +1,15 @@
-//! Tests of the rules on modes and constants: texts, and all that is told of each, by hand.
+//! Tests of the rules on modes, constants and statements: texts, and all that is told of each, by hand.
 //!
 //! It proves nothing of its own. Tests stand in a crate at the top because a crate with tests is proved twice.
 #![tactic(auto)]
 
 #[cfg(test)]
+mod marks;
+#[cfg(test)]
 mod modes_and_constants;
 #[cfg(test)]
 mod rows;
+#[cfg(test)]
+mod statement_rows;
+#[cfg(test)]
+mod statements;
