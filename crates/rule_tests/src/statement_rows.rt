@@ -1,7 +1,7 @@
 // Texts, and all that is told of their statements, by hand: each rule stands between `«` and `»` before the token at which
 // it is told.
 
-pub static ROWS: [&str; 83] = [
+pub static ROWS: [&str; 85] = [
     // the modes phase comes first
     "M: MODULE DCL x INT («M2»5:3); DCL y INT := TRUE; y := 'a'; END M;",
     "M: MODULE DCL x INT := 1; x := x + 1; PUT_INT(x); END M;",
@@ -19,7 +19,7 @@ pub static ROWS: [&str; 83] = [
     "M: MODULE SIGNAL s; SEND s TO «S2»1; SEND s TO THIS; SEND s TO NULL; SEND s TO «S2»TRUE PRIORITY 3; END M;",
     "M: MODULE DCL i INSTANCE; i := NULL; i := THIS; i := «S2»0; END M;",
     "M: MODULE DCL e EVENT, f EVENT; e := «S2»f; END M;",
-    "M: MODULE SYNMODE r = ARRAY (1:2) INT; DCL a r; a := r [1, «S2»TRUE]; a := [«S2»'a', 2]; a := [(*): «S2»NULL]; END M;",
+    "M: MODULE SYNMODE r = ARRAY (1:2) INT; DCL a r, x INT; a := r [x, «S2»TRUE]; a := [«S2»'a', 2]; a := [(*): «S2»NULL]; END M;",
     // S3
     "M: MODULE DCL x READ INT := 1; «S3»x := 2; «S3»x := «S2»TRUE; END M;",
     "M: MODULE SYN k = 1; NEWMODE c = SET (red, green); «S3»k := 2; «S3»red := green; «S3»TRUE := FALSE; END M;",
@@ -46,7 +46,7 @@ pub static ROWS: [&str; 83] = [
     "M: MODULE SIGNAL s, u = (INT), v = (INT, BOOL); SEND «S5»s(1); SEND s; SEND «S5»u; SEND «S5»u(TRUE, 1) TO «S2»TRUE; SEND u(1); SEND «S5»v([1]); END M;",
     "M: MODULE SIGNAL s, v = (INT, BOOL); RECEIVE CASE («S5»s IN a): ; («S5»v): ; ESAC; RECEIVE CASE (s): ; («S5»v IN a): ; ESAC; RECEIVE CASE (v IN a, b): ; ELSE ESAC; END M;",
     "M: MODULE DCL b, c BUFFER INT; RECEIVE CASE («S5»b): ; (c IN v): PUT_INT(v); ESAC; RECEIVE CASE («S5»b IN x, y): ; ESAC; END M;",
-    "M: MODULE DCL a ARRAY (1:3) INT; «S5»a(1, TRUE) := 2; END M;",
+    "M: MODULE DCL a ARRAY (1:3) INT, x INT; x := «S5»a(1, TRUE); a(«S2»TRUE) := a(x); a(«S5»a(1, 2)) := x; END M;",
     "M: MODULE «S5»PUT_INT(); «S5»PUT_INT(1, 2); «S5»PUT_NL(1); PUT_NL(); PUT_INT(1); END M;",
     // S6
     "M: MODULE SYN k = 1; p: PROC (a INT OUT, b BOOL INOUT); END p; DCL x INT, y BOOL, z READ INT := 1; p(x, y); p(«S6»1, «S6»TRUE); p(«S6»k, «S6»x); p(«S6»z, y); p(«S6»x + 1, y); END M;",
@@ -96,8 +96,10 @@ pub static ROWS: [&str; 83] = [
     "M: MODULE SYNMODE m = ARRAY (1:257) INT; p: PROC () RETURNS (m); DCL a m; RETURN «L6»a; END p; p(); END M;",
     // what isn't there is asked for nothing
     "M: MODULE DCL x INT; SEND x(1, TRUE); SEND x(x «S1»+ TRUE); RECEIVE CASE (x): ; (x IN v): PUT_INT(v); PUT_TEXT(v); ESAC; DELAY x; CONTINUE x; END M;",
-    "M: MODULE DCL i INSTANCE, a ARRAY (1:2) INSTANCE; DCL e EVENT; SIGNAL s; DELAY CASE SET a(«S2»TRUE) PRIORITY 3; (e): PUT_INT(1 «S1»+ a(1)); ESAC; RECEIVE CASE SET i; (s): ; ESAC; RECEIVE CASE SET «S5»a(1, 2); (s): ; ELSE i := «S2»1; ESAC; END M;",
+    "M: MODULE DCL i INSTANCE, a ARRAY (1:2) INSTANCE; DCL e EVENT; SIGNAL s; DELAY CASE SET a(«S2»TRUE) PRIORITY 3; (e): PUT_INT(1 «S1»+ a(1)); ESAC; RECEIVE CASE SET i; (s): ; ESAC; RECEIVE CASE SET a(«S2»i); (s): ; ELSE i := «S2»1; ESAC; END M;",
     "M: MODULE DCL e EVENT; DELAY CASE SET a(1); (e): ; ESAC; DCL a ARRAY (1:2) INT; END M;",
+    "M: MODULE DCL a ARRAY (1:3) INT; SYN k = SIZE(a(«S2»TRUE)); DCL b ARRAY (1:SIZE(a(«S2»'x'))) INT; SIGNAL s = (CHARS (UPPER(a)), INT (1:SIZE(a(«S2»TRUE)))); END M;",
+    "M: MODULE DCL a ARRAY (1:3) INT; p: PROC (x CHARS (SIZE(a(«S2»TRUE)))) RETURNS (INT (0:SIZE(a(«S2»NULL)))); DCL y STRUCT (f BOOL POS (SIZE(a(«S2»TRUE)), 0:0)); END p; END M;",
     "M: MODULE DCL x INT; f: PROC (); END f; x := «S10»f() + TRUE; IF «S10»f() THEN FI; CASE «S10»f() OF (TRUE): ; ESAC; DO FOR i := «S10»f() TO TRUE; PUT_INT(i); OD; END M;",
     "R: REGION GRANT p; DCL x INT := «S2»TRUE; p: PROC (a INT) RETURNS (INT); x := «S2»'a'; RETURN «S2»TRUE; END p; END R;",
 ];

@@ -10,10 +10,7 @@ use names_model::{Definition, Inside, Kind};
 const LOCALS: u64 = 512;
 
 // Where the outermost process is told of: it has no name.
-const OUTERMOST: Pos = Pos {
-    line: 1,
-    column: 1,
-};
+const OUTERMOST: Pos = Pos { line: 1, column: 1 };
 
 impl<'a, 'b> Statements<'a, 'b> {
     /// Tells of the bodies with too many local scalars: those of procedures and processes at their names, and that of the
@@ -56,14 +53,21 @@ impl<'a, 'b> Statements<'a, 'b> {
 
 // The modulion, procedure or process in which a definition is a local.
 fn body_of_local(own: &Definition) -> Option<u32> {
-    match (own.kind, own.inside) {
-        (Kind::Location, Inside::Body(body))
-        | (Kind::Location, Inside::Block(body))
-        | (Kind::Parameter, Inside::Body(body))
-        | (Kind::Counter, Inside::Block(body))
-        | (Kind::Received, Inside::Block(body)) => Some(body),
-        _ => None,
+    if !holds_values(own.kind) {
+        return None;
     }
+    match own.inside {
+        Inside::Body(body) | Inside::Block(body) => Some(body),
+        Inside::Outermost | Inside::Modulion(_) => None,
+    }
+}
+
+// Whether what has this kind holds a value.
+fn holds_values(kind: Kind) -> bool {
+    matches!(
+        kind,
+        Kind::Location | Kind::Parameter | Kind::Counter | Kind::Received
+    )
 }
 
 // Rule L4: more scalars than the locals of a body may have.

@@ -42,11 +42,7 @@ impl<'a, 'b> Statements<'a, 'b> {
         }
     }
 
-    fn tell_in_declaration(
-        &self,
-        own: &Declaration,
-        told: &mut Told,
-    ) -> Result<(), Memory> {
+    fn tell_in_declaration(&self, own: &Declaration, told: &mut Told) -> Result<(), Memory> {
         self.tell_in_mode(&own.mode, told)?;
         let (Some(initial), Some(name)) = (&own.initial, own.names.as_slice().first()) else {
             return Ok(());

@@ -54,12 +54,7 @@ impl<'a, 'b> Statements<'a, 'b> {
         }
     }
 
-    fn tell_assignment(
-        &self,
-        target: &Expr,
-        value: &Expr,
-        told: &mut Told,
-    ) -> Result<(), Memory> {
+    fn tell_assignment(&self, target: &Expr, value: &Expr, told: &mut Told) -> Result<(), Memory> {
         let target = self.walk.target(target, told)?;
         self.tell_value(value, target.receiver(), told)
     }
@@ -89,7 +84,11 @@ impl<'a, 'b> Statements<'a, 'b> {
         target: &Located,
         value: &Known,
     ) -> Result<bool, Memory> {
-        Ok(self.walk.binary(operator, &target.known()?, value)?.is_none())
+        Ok(
+            self.walk
+                .binary(operator, &target.known()?, value)?
+                .is_none(),
+        )
     }
 
     // What is sent, in brackets or without.
@@ -106,11 +105,7 @@ impl<'a, 'b> Statements<'a, 'b> {
     }
 
     // The instance that a signal is sent to.
-    fn tell_receiver(
-        &self,
-        receiver: &Option<Box<Expr>>,
-        told: &mut Told,
-    ) -> Result<(), Memory> {
+    fn tell_receiver(&self, receiver: &Option<Box<Expr>>, told: &mut Told) -> Result<(), Memory> {
         let instance = &self.walk.evaluation.plain.instance;
         self.tell_some_value(receiver, Receiver::Mode(Some(instance)), told)
     }

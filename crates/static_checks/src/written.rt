@@ -16,11 +16,7 @@ impl<'a, 'b> Statements<'a, 'b> {
     }
 
     /// What is told of the expressions in a mode, where there is one.
-    pub fn tell_in_some_mode(
-        &self,
-        mode: &Option<Mode>,
-        told: &mut Told,
-    ) -> Result<(), Memory> {
+    pub fn tell_in_some_mode(&self, mode: &Option<Mode>, told: &mut Told) -> Result<(), Memory> {
         match mode {
             None => Ok(()),
             Some(mode) => self.tell_in_mode(mode, told),
@@ -95,11 +91,7 @@ impl<'a, 'b> Statements<'a, 'b> {
         }
     }
 
-    fn tell_in_spread(
-        &self,
-        spread: &Option<Spread>,
-        told: &mut Told,
-    ) -> Result<(), Memory> {
+    fn tell_in_spread(&self, spread: &Option<Spread>, told: &mut Told) -> Result<(), Memory> {
         let Some(Spread::Step(step)) = spread else {
             return Ok(());
         };
