@@ -1,7 +1,7 @@
 // Texts, and all that is told of their expressions, by hand.
 use crate::rows::Row;
 
-pub static EXPRESSION_ROWS: [Row; 71] = [
+pub static EXPRESSION_ROWS: [Row; 72] = [
     Row {
         text: "M: MODULE DCL x INT; x := x + TRUE; x := TRUE - x; x := x - 1; END M;",
         told: "1:29: S1 operands do not fit\n1:47: S1 operands do not fit\n",
@@ -269,6 +269,10 @@ pub static EXPRESSION_ROWS: [Row; 71] = [
     Row {
         text: "M: MODULE DCL s STRUCT (x ARRAY (1:257) INT); DCL b ARRAY (1:257) INT; DCL t ARRAY (1:2) ARRAY (1:200) BOOL; DCL u ARRAY (1:200) BOOL; s := [b]; s := s; PUT_INT(s.x(1)); t := t; u := t(1); t := [u, u]; t(1) := u; DCL v ARRAY (1:257) INT := b; END M;",
         told: "1:142: L6 value of more than 256 scalars\n1:151: L6 value of more than 256 scalars\n1:176: L6 value of more than 256 scalars\n1:195: L6 value of more than 256 scalars\n1:241: L6 value of more than 256 scalars\n",
+    },
+    Row {
+        text: "M: MODULE DCL a ARRAY (1:257) INT; DCL x INT; PUT_INT(a); x +:= a; x := a + TRUE; NUM(a); END M;",
+        told: "1:47: S1 operands do not fit\n1:55: L6 value of more than 256 scalars\n1:61: S1 operands do not fit\n1:65: L6 value of more than 256 scalars\n1:73: L6 value of more than 256 scalars\n1:83: S1 operands do not fit\n1:87: L6 value of more than 256 scalars\n",
     },
     Row {
         text: "M: MODULE DO FOR i := 1 TO \"abc\"; PUT_INT(i + 1); i := 2; PUT_INT(i + TRUE); OD; CASE THIS OF (1): ; ESAC; END M;",
