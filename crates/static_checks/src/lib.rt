@@ -9,6 +9,7 @@
 mod checking;
 mod choices;
 mod handlers;
+mod heads;
 mod local_scalars;
 mod locals;
 mod loops;

@@ -2,10 +2,10 @@
 use crate::surroundings::{Returning, Surroundings};
 use crate::walk::Statements;
 use chill_base::{List, Memory, Pos};
-use chill_tree::tree::{Expr, Name, Operator, Simple};
+use chill_tree::tree::{Expr, Name, Simple};
 use diagnostics::Rule;
-use expr_rules::{Located, Receiver};
-use mode_rules::{Known, Told};
+use expr_rules::Receiver;
+use mode_rules::Told;
 
 impl<'a, 'b> Statements<'a, 'b> {
     /// What is told of an action that holds no others.
@@ -16,14 +16,14 @@ impl<'a, 'b> Statements<'a, 'b> {
         told: &mut Told,
     ) -> Result<(), Memory> {
         match action {
-            Simple::Assign { target, value, .. } => self.tell_assignment(target, value, told),
+            Simple::Assign { target, value, .. } => self.walk.assignment(target, value, told),
             Simple::Update {
                 target,
                 operator,
                 sign,
                 value,
                 ..
-            } => { self.tell_update(target, *operator, *sign, value, told) }
+            } => { self.walk.update(target, *operator, *sign, value, told) }
             Simple::Call { name, args, .. } => self.walk.call_action(name, args.as_slice(), told),
             Simple::Return { at, value } => self.tell_return(*at, value, around, told),
             Simple::Result { at, value } => self.tell_result(*at, value, around, told),
@@ -52,43 +52,6 @@ impl<'a, 'b> Statements<'a, 'b> {
             | Simple::Stop { .. }
             | Simple::Continue { .. } => Ok(()),
         }
-    }
-
-    fn tell_assignment(&self, target: &Expr, value: &Expr, told: &mut Told) -> Result<(), Memory> {
-        let target = self.walk.target(target, told)?;
-        self.tell_value(value, target.receiver(), told)
-    }
-
-    // An assignment with an operator, whose left operand is the target.
-    fn tell_update(
-        &self,
-        target: &Expr,
-        operator: Operator,
-        sign: Pos,
-        value: &Expr,
-        told: &mut Told,
-    ) -> Result<(), Memory> {
-        let target = self.walk.target(target, told)?;
-        let before = told.count();
-        let value = self.walk.value(value, Receiver::Nothing, told)?;
-        if told.count() == before && self.operands_do_not_fit(operator, &target, &value)? {
-            told.tell(Rule::S1, sign)?;
-        }
-        Ok(())
-    }
-
-    // Rule S1 of a target and a value with an operator between them.
-    fn operands_do_not_fit(
-        &self,
-        operator: Operator,
-        target: &Located,
-        value: &Known,
-    ) -> Result<bool, Memory> {
-        Ok(
-            self.walk
-                .binary(operator, &target.known()?, value)?
-                .is_none(),
-        )
     }
 
     // What is sent, in brackets or without.
