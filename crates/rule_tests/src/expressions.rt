@@ -277,7 +277,7 @@ fn same_constants(alloc: Global) -> Option<usize> {
     let mut told = Told::new(alloc);
     let evaluation = Evaluation::of(alloc, &tree, &names, &mut told).ok()?;
     let walk = Walk::new(&evaluation).ok()?;
-    let mut count = 0;
+    let mut count = 0_usize;
     for modulion in tree.modulions.as_slice() {
         for item in modulion.items.as_slice() {
             if let Item::Local(Local::Synonyms { synonyms, .. }) = item {
