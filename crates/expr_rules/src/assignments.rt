@@ -24,11 +24,7 @@ impl<'a, 'b> Walk<'a, 'b> {
         told: &mut Told,
     ) -> Result<(), Memory> {
         let located = self.target(target, told)?;
-        let before = told.count();
         let known = self.value(value, Receiver::Nothing, told)?;
-        if told.count() > before {
-            return Ok(());
-        }
         let found = self.binary(operator, &located.known()?, &known)?;
         let _ = tell_unfit(found, sign, told)?;
         Ok(())

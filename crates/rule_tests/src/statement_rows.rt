@@ -34,7 +34,7 @@ pub static ROWS: [&str; 86] = [
     // S1 of an assignment with an operator
     "M: MODULE DCL x INT, b BOOL, p POWERSET INT (0:7); x «S1»+:= TRUE; b «S1»*:= b; b OR:= b; p OR:= p; p -:= p; p «S1»+:= p; p XOR:= «S11»[1]; END M;",
     "M: MODULE DCL x INT, y INT; x +:= y «S1»+ TRUE; x «S1»AND:= 1; END M;",
-    "M: MODULE DCL p POWERSET INT (0:7), a ARRAY (1:257) INT; p OR:= «L6»a; p := p OR «L6»a; «S3»p(1) +:= TRUE; END M;",
+    "M: MODULE DCL p POWERSET INT (0:7), a ARRAY (1:257) INT; p := p OR «L6»a; p := «L6»a; «S3»p(1) +:= TRUE; END M;",
     // S4
     "M: MODULE DCL x INT; IF «S4»1 THEN ELSIF «S4»x THEN ELSIF x = 1 THEN FI; ASSERT «S4»\"a\"; ASSERT x > 1; DO WHILE «S4»x; OD; END M;",
     "M: MODULE DO FOR i := 1 TO 3 WHILE «S4»i; OD; DO FOR i := 1 TO 3 WHILE i < 3; OD; DCL p POWERSET CHAR ('a':'c'); DO FOR i IN p WHILE «S4»i; OD; END M;",
