@@ -38,12 +38,12 @@ impl Journal {
     }
 
     /// Makes room for `n` more events.
-    pub fn reserve(&mut self, n: u32) -> Result<(), Memory>
+    pub fn reserve(&mut self, n: usize) -> Result<(), Memory>
         ensures room { OnOk result (n ≤ self.new.spare) }
         ensures events { self.new.events ≡ self.old.events }
         ensures spare { self.old.spare ≤ self.new.spare }
     {
-        self.events.reserve(n as usize)?;
+        self.events.reserve(n)?;
         Ok(())
     }
 

@@ -1,4 +1,3 @@
 pub mod Buffers
 pub mod ListedThings
-pub mod Digits
 pub mod Fronts

@@ -1,3 +1,2 @@
 pub mod Receiving
-pub mod Numbers
 pub mod Journal

@@ -5,11 +5,10 @@ ghost use Rattle.kernel_base.specs.declared.ends.Exc.TheVariants.{Delayfail};
 ghost use Rattle.world_model.specs.Waiting as waiting;
 ghost use Rattle.world_model.specs.Allowed as events;
 
-use crate::numbers::gets;
 use crate::receiving::{nothing_to_take, receives_from_buffer};
 use kernel_base::{Alternative, Answer, Event, Exc, Facts, Request};
 use world_check::{
-    continues, event_in_range, fails_with, has_room, is_active, is_done, is_full, is_taken,
+    continues, event_in_range, fails_with, gets, has_room, is_active, is_done, is_full, is_taken,
     may_ask, may_enter, may_go, no_signal_pends, nobody_receives, reads, receives_signal,
     sends_signal, sends_to_buffer, starts,
 };

@@ -6,7 +6,6 @@
 
 mod asking;
 mod journals;
-mod numbers;
 mod offers;
 mod receiving;
 

@@ -19,10 +19,10 @@ pub mod Signalling
 pub mod Sending
 pub mod Hearing
 pub mod NothingThere
+pub mod Receiving
 pub mod Entering
 pub mod Fetching
 pub mod Pausing
 pub mod Numbered
 pub mod Starting
-pub mod Digits
 pub mod Freeing

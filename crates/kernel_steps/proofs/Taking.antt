@@ -143,7 +143,7 @@ by_candidate facts w b buffer v None may h = of_stored facts w b buffer v may h
 by_candidate facts w b buffer v (Some zero) may h = of_offered facts w b buffer v may h
 by_candidate facts w b buffer v (Some (suc n)) may h = of_stored facts w b buffer v may h
 
-same_length : (facts : Facts) (w : World) (b : SeenBuffers) (buffer : ℕ) → Trades facts w b → slice_index_or b.lengths buffer None ≡ buffer_length facts buffer
+pub same_length : (facts : Facts) (w : World) (b : SeenBuffers) (buffer : ℕ) → Trades facts w b → slice_index_or b.lengths buffer None ≡ buffer_length facts buffer
 same_length facts w b buffer h = ap (λ (l : List (Option ℕ)). slice_index_or l buffer None) h.lengths
 
 pub candidate_of : (facts : Facts) (w : World) (b : SeenBuffers) (held : Held) → IsCandidate b held → Trades facts w b → worlds.IsCandidate facts w held.buffer held.value

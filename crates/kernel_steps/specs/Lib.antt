@@ -4,4 +4,3 @@ pub mod Seated
 pub mod Kept
 pub mod View
 pub mod Serving
-pub mod Numbers

@@ -1,15 +1,18 @@
 -- One request that is served, over the state.
 use Rattle.std.specs.Prelude.{◌≡◌, ℕ, ◌<◌, ◌==◌, Bool, false, not, List, [], ◌∷◌, Some, None}
 use Rattle.std.specs.declared.option.Option.{Option}
+use Rattle.kernel_base.specs.declared.answer.Answer.TheVariants.{Stored}
 use Rattle.kernel_base.specs.declared.event.Event.{Event}
 use Rattle.kernel_base.specs.declared.event.Event.TheVariants.{Goes}
 use Rattle.kernel_steps.specs.declared.seats.Going.{Going}
+use Rattle.kernel_steps.specs.declared.seats.Seats.{Seats}
 use Rattle.kernel_base.specs.declared.request.Request.{Request}
 use Rattle.kernel_base.specs.Units.{units_of_all}
 use Rattle.world_model.specs.Ranges.{IsRequestInRange}
 use Rattle.kernel_steps.specs.declared.reply.Reply.{Reply}
 use Rattle.kernel_steps.specs.declared.state.Ready.{Ready}
 use Rattle.kernel_steps.specs.declared.state.State.{State}
+use Rattle.kernel_steps.specs.Seated.{Hands}
 use Rattle.kernel_steps.specs.Kept.{IsKept, HasRoom}
 use Rattle.kernel_steps.specs.View.{view_of, MayCommit, Served}
 
@@ -27,6 +30,11 @@ pub record Serves (old new : State) (who ticks : ℕ) (request : Request) (reply
   pub kept : IsKept new
   pub ready : new.ready ≡ old.ready
   pub served : Served (view_of old) (view_of new) who ticks request reply
+
+-- the sender whose value refills a buffer, if any, is chosen, and its value is stored
+abbrev pub Refills : Seats → Seats → Option ℕ → Option Going → Type 0
+Refills s new None going = (new ≡ s) × (going ≡ None)
+Refills s new (Some sender) going = Hands s new sender Stored going
 
 -- the event of the one that goes on, if any does
 abbrev pub goes_of : Option Going → List Event

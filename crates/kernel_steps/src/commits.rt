@@ -1,5 +1,5 @@
 // Who may commit, one pause, and the ends of a run.
-ghost use Rattle.std.specs.Prelude.{◌≡◌, ◌↔◌, IsTrue, None, All};
+ghost use Rattle.std.specs.Prelude.{◌≡◌, ◌≤◌, ◌^◌, ◌↔◌, IsTrue, None, All, length};
 ghost use Rattle.world_model.specs.Allowed.{IsRun};
 ghost use Rattle.world_model.specs.Waiting.{IsActive};
 ghost use Rattle.world_model.specs.Over.{over_of};
@@ -43,6 +43,15 @@ pub fn is_run(_s: &State)
     ensures run { IsRun _s.now.facts _s.now.journal.events }
     ensures idle { IsIdle (world_in _s.now) }
     ensures bursts { All IsWholeBurst _s.now.journal.events }
+{}
+
+/// Each instance has a process, arguments and a phase. Fewer than 2^32 were made: instance 0, which is none, is counted
+/// here.
+pub fn each_is_numbered(_s: &State)
+    requires { IsKept _s.now }
+    ensures processes { length (world_in _s.now).processes ≡ length (world_in _s.now).phases }
+    ensures arguments { length (world_in _s.now).arguments ≡ length (world_in _s.now).phases }
+    ensures few { length (world_in _s.now).phases ≤ 2 ^ 32 }
 {}
 
 /// Whether an instance is active, and has fetched its last answer.

@@ -2,7 +2,7 @@
 //!
 //! Each step meets `specs/Serving.antt`: it is answered as `world_model` allows, or waits where it must, and the state
 //! goes on standing for the world that its journal leaves (`specs/Kept.antt`). It stands on the six parts that hold what
-//! the journal leaves; `kernel_core` is to stand on it, with the steps that are owed (README.md).
+//! the journal leaves, and below `kernel_core`.
 #![tactic(auto)]
 
 pub mod answers;
@@ -12,7 +12,6 @@ pub mod copies;
 pub mod input;
 pub mod messages;
 pub mod noting;
-pub mod numbers;
 pub mod opening;
 pub mod ranges;
 pub mod regions;

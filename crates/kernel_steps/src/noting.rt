@@ -1,10 +1,10 @@
 // Events that are appended to the journal.
 ghost use Rattle.std.specs.Prelude.{◌≡◌, ◌+◌, ◌<◌, ◌≤◌, ◌++◌, ◌∷◌, [], None, IfSome};
 ghost use Rattle.kernel_base.specs.declared.event.Event.{Event};
-ghost use Rattle.world_model.specs.Ranges.{IsAnswerInRange, IsInRange};
+ghost use Rattle.world_model.specs.Ranges.{IsNumber, IsAnswerInRange, IsInRange};
 ghost use Rattle.kernel_steps.specs.Serving.{goes_of};
 
-use crate::ranges::{answer_in_range, number_in_range};
+use crate::ranges::{answer_in_range, number_in_range, optional_in_range};
 use crate::{Going, Reply};
 use journal_book::Journal;
 use kernel_base::{Answer, Event, Request};
@@ -23,6 +23,32 @@ pub fn did(journal: &mut Journal, who: u32, ticks: u32, request: Request, answer
         request,
         answer,
         refill: None,
+    });
+}
+
+/// Notes that a value was received from a buffer, and the sender that was chosen with it, if any.
+pub fn took(
+    journal: &mut Journal,
+    who: u32,
+    ticks: u32,
+    request: Request,
+    answer: Answer,
+    refill: Option<u32>,
+)
+    requires { 0 < journal.old.spare }
+    ensures events { journal.new.events ≡ journal.old.events ++ Event.Did who ticks request answer refill ∷ [] }
+    ensures spare { journal.old.spare ≤ journal.new.spare + 1 }
+    ensures in_range { IsAnswerInRange answer }
+    ensures refill { IfSome refill IsNumber }
+{
+    answer_in_range(&answer);
+    optional_in_range(refill);
+    journal.append(Event::Did {
+        who,
+        ticks,
+        request,
+        answer,
+        refill,
     });
 }
 

@@ -3,18 +3,18 @@ ghost use Rattle.std.specs.Prelude.{◌≡◌, ◌↔◌, ◌≤◌, ◌<◌, []
 ghost use Rattle.kernel_base.specs.declared.request.Request.TheVariants as requests;
 ghost use Rattle.world_model.specs.Waiting.{count_of_live};
 ghost use Rattle.world_model.specs.Allowed.{most_live};
+ghost use Rattle.world_check.specs.Numbers.{told_by};
 ghost use Rattle.kernel_steps.specs.Kept.{IsKept, world_in};
-ghost use Rattle.kernel_steps.specs.Numbers.{told_by};
 ghost use Rattle.kernel_steps.specs.Serving.{CanServe, Serves};
 
 use crate::copies::twin_scalars;
 use crate::input::word_end_from;
 use crate::noting::did;
-use crate::numbers::next_number;
 use crate::state::Ready;
 use crate::{Reply, State, seats};
 use chill_base::{List, Scalars, Text};
 use kernel_base::{Answer, Exc, Place, Request};
+use world_check::next_number;
 
 /// The scalars at a place of a shared location. It takes no memory.
 pub fn read(s: &mut State, who: u32, ticks: u32, place: Place, ready: Ready) -> Reply

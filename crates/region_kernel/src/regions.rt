@@ -63,15 +63,15 @@ impl Regions {
     }
 
     /// Makes room for `n` changes.
-    pub fn reserve(&mut self, n: u32) -> Result<(), Memory>
+    pub fn reserve(&mut self, n: usize) -> Result<(), Memory>
         ensures room { OnOk result (n ≤ self.new.spare) }
         ensures occupants { self.new.occupants ≡ self.old.occupants }
         ensures locks { self.new.locks ≡ self.old.locks }
         ensures queue { self.new.queue ≡ self.old.queue }
         ensures spare { self.old.spare ≤ self.new.spare }
     {
-        self.locks.reserve(n as usize)?;
-        self.queue.reserve(n as usize)?;
+        self.locks.reserve(n)?;
+        self.queue.reserve(n)?;
         Ok(())
     }
 

@@ -1,7 +1,7 @@
 // Texts, and all that is told of their statements, by hand: each rule stands between `«` and `»` before the token at which
 // it is told.
 
-pub static ROWS: [&str; 86] = [
+pub static ROWS: [&str; 89] = [
     // the modes phase comes first
     "M: MODULE DCL x INT («M2»5:3); DCL y INT := TRUE; y := 'a'; END M;",
     "M: MODULE DCL x INT := 1; x := x + 1; PUT_INT(x); END M;",
@@ -103,4 +103,8 @@ pub static ROWS: [&str; 86] = [
     "M: MODULE DCL a ARRAY (1:3) INT; p: PROC (x CHARS (SIZE(a(«S2»TRUE)))) RETURNS (INT (0:SIZE(a(«S2»NULL)))); DCL y STRUCT (f BOOL POS (SIZE(a(«S2»TRUE)), 0:0)); END p; END M;",
     "M: MODULE DCL x INT; f: PROC (); END f; x := «S10»f() + TRUE; IF «S10»f() THEN FI; CASE «S10»f() OF (TRUE): ; ESAC; DO FOR i := «S10»f() TO TRUE; PUT_INT(i); OD; END M;",
     "R: REGION GRANT p; DCL x INT := «S2»TRUE; p: PROC (a INT) RETURNS (INT); x := «S2»'a'; RETURN «S2»TRUE; END p; END R;",
+    // one of each, and mended
+    "M: MODULE DCL x INT; x := x «S1»+ TRUE; DCL y INT := «S2»TRUE; DO FOR i := 1 TO 3; «S3»i := 2; OD; IF «S4»x THEN x := 0; FI; END M;",
+    "M: MODULE DCL x INT; p: PROC (a, b INT); END p; «S5»p(1); q: PROC (a INT OUT); END q; q(«S6»3); CASE x OF («S7»TRUE): ; ESAC; DO FOR i := 1 TO «S8»'z'; OD; r: PROC (); «S9»RETURN 1; END r; DCL y INT := «S10»r(); DCL a ARRAY (1:3) INT := «S11»[1, 2]; r() ON (OVERFLOW): ; («S12 overflow»overflow): ; END; «L4»s: PROC (); DCL a, b ARRAY (1:300) INT; END s; DCL c, d ARRAY (1:300) INT; c := «L6»d; END M;",
+    "M: MODULE DCL x INT; x := x + 1; DCL z BOOL := TRUE; DO FOR i := 1 TO 3; x := i; OD; IF x /= 0 THEN x := 0; FI; p: PROC (a, b INT); END p; p(1, 2); q: PROC (a INT OUT); END q; q(x); CASE x OF (1): ; ESAC; DO FOR i := 'a' TO 'z'; OD; r: PROC () RETURNS (INT); RETURN 1; END r; DCL y INT := r(); DCL a ARRAY (1:3) INT := [1, 2, 3]; r() ON (OVERFLOW): ; (RANGEFAIL): ; END; DCL c, d ARRAY (1:300) INT; DO FOR i := 1 TO 300; c(i) := d(i); OD; END M;",
 ];

@@ -1,5 +1,5 @@
 //! The opening world in code, and the parts of the decision whether an event is allowed in a world: the ranges of its
-//! numbers, who may ask and go on, and the answers to each kind of request but the receipt from buffers and GET_INT.
+//! numbers, who may ask and go on, and the answers to each kind of request but the receipt from buffers.
 //!
 //! It decides what `world_model` defines. `journal_check` puts the decisions together.
 #![tactic(auto)]
@@ -8,6 +8,7 @@ mod choices;
 mod flat;
 mod going;
 mod laws;
+mod numbers;
 mod opening;
 mod pending;
 mod ranges;
@@ -16,6 +17,7 @@ mod requests;
 pub use choices::{continues, has_room, nobody_receives, sends_signal, sends_to_buffer};
 pub use going::{is_active, may_ask, may_go};
 pub use laws::sound_facts_law;
+pub use numbers::{gets, next_number};
 pub use opening::{have_few_members, opening_world};
 pub use pending::{Receipt, is_value, no_signal_pends, receives_signal};
 pub use ranges::event_in_range;

@@ -9,7 +9,7 @@ use Rattle.kernel_base.specs.declared.request.Request.TheVariants.{Get}
 use Rattle.world_model.specs.Input.{get_answer, input_behind}
 use Rattle.world_model.specs.Ranges.{IsAnswerInRange}
 use Rattle.kernel_steps.specs.Kept.{world_in, width_of}
-use Rattle.kernel_steps.specs.Numbers.{told_by}
+use Rattle.world_check.specs.Numbers.{told_by}
 use Rattle.kernel_steps.specs.View.{handed_by}
 use Rattle.kernel_steps.proofs.Served.{rests_same}
 use Rattle.kernel_steps.proofs.Plain.{plain_serves}

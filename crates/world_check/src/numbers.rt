@@ -1,11 +1,12 @@
-// What number GET_INT gives (our own choice). Digits have no bound: a number that is too large is read as one that is.
-ghost use Rattle.std.specs.Prelude.{◌≡◌, ◌+◌, ◌-◌, ◌*◌, ◌≤◌, not, pos, neg_ℤ};
+// What number GET_INT gives, and whether an answer tells it (our own choice). Digits have no bound: a number that is too large is read as one that is.
+ghost use Rattle.std.specs.Prelude.{◌≡◌, ◌+◌, ◌-◌, ◌*◌, ◌≤◌, ◌↔◌, IsTrue, not, pos, neg_ℤ};
 ghost use Rattle.std.specs.List.{list_all, take_while};
 ghost use Rattle.std.specs.Option.{option_map};
 ghost use Rattle.world_model.specs.Input as inputs;
-ghost use Rattle.kernel_steps.specs.Numbers as numbers;
+ghost use Rattle.world_check.specs.Numbers as numbers;
 
-use kernel_base::Exc;
+use crate::requests::{fails_with, tells_scalars};
+use kernel_base::{Answer, Exc};
 use world_model::{separators_len, word_len};
 
 // Above each number that may be answered, without its sign.
@@ -136,4 +137,20 @@ pub fn next_number(input: &[u8]) -> Result<i64, Exc>
         Some(number) => Ok(number),
         None => Err(Exc::Rangefail),
     }
+}
+
+fn tells(answer: &Answer, given: Result<i64, Exc>) -> bool
+    ensures { IsTrue result ↔ (answer.now ≡ numbers.told_by given) }
+{
+    match given {
+        Ok(number) => tells_scalars(answer, &[number]),
+        Err(exception) => fails_with(answer, exception),
+    }
+}
+
+/// Whether an answer is the one that GET_INT has to give.
+pub fn gets(input: &[u8], answer: &Answer) -> bool
+    ensures { IsTrue result ↔ (answer.now ≡ inputs.get_answer input.now) }
+{
+    tells(answer, next_number(input))
 }

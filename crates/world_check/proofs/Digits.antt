@@ -2,7 +2,7 @@
 use Rattle.std.proofs.Common.{◌≡◌, ℕ, ◌+◌, ◌-◌, ◌*◌, List, [], ◌∷◌, ◌++◌, refl, ap, ◌∙◌, arith, inl, inr}
 use Rattle.std.proofs.lemmas.Bool.{cases_lt}
 use Rattle.world_model.specs.Input.{value_from}
-use Rattle.kernel_steps.specs.Numbers.{limit, IsClipped}
+use Rattle.world_check.specs.Numbers.{limit, IsClipped}
 
 pub value_from-append : (read : ℕ) (digits : List ℕ) (digit : ℕ) → value_from read (digits ++ digit ∷ []) ≡ 10 * value_from read digits + (digit - 48)
 value_from-append read [] digit = refl

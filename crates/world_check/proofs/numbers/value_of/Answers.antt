@@ -1,9 +1,9 @@
 use Rattle.std.proofs.Common.{ℕ, ◌-◌, sym, ap, ◌∙◌, subst, take, get_or}
 use Rattle.std.proofs.lemmas.List.{take_more}
 use Rattle.world_model.specs.Input.{value_from}
-use Rattle.kernel_steps.specs.Numbers.{IsClipped}
-use Rattle.kernel_steps.proofs.Digits.{value_from-append, clipped_again}
-use Rattle.kernel_steps.proofs.numbers.value_of.Goals as goal
+use Rattle.world_check.specs.Numbers.{IsClipped}
+use Rattle.world_check.proofs.Digits.{value_from-append, clipped_again}
+use Rattle.world_check.proofs.numbers.value_of.Goals as goal
 
 pub loop-byte-preserved : goal.loop-byte-preserved
 loop-byte-preserved c =
