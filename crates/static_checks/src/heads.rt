@@ -66,7 +66,10 @@ impl<'a, 'b> Statements<'a, 'b> {
         told: &mut Told,
     ) -> Result<(), Memory> {
         for own in alternatives {
-            let names = own.received.as_ref().map_or(0, |names| names.len());
+            let names = match &own.received {
+                None => 0,
+                Some(names) => names.len(),
+            };
             if wrong_number_of_names(names, self.walk.number_of_parts(&own.source)) {
                 told.tell(Rule::S5, own.source.at)?;
             }
