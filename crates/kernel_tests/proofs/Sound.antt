@@ -1,8 +1,8 @@
 -- Facts with one shared INT of 32 bits are sound.
-use Rattle.std.proofs.Common.{◌≡◌, ℕ, zero, suc, ◌≤◌, ◌∷◌, [], ℤ, refl, sym, ap, ◌∙◌, arith, rules, subst, List, Option, None, Some, length, slice_get}
-use Rattle.std.specs.Prelude.{All, pos}
+use Rattle.std.proofs.Common.{◌≡◌, ℕ, zero, suc, ◌≤◌, true, ◌∷◌, [], ℤ, refl, sym, ap, ◌∙◌, arith, rules, subst, List, Option, None, Some, length, slice_get}
+use Rattle.std.specs.Prelude.{All, IfSome, ◌<◌, pos}
 use Rattle.std.proofs.lemmas.List.Elements.{All-cons, All-nil}
-use Rattle.std.proofs.Math.Option.{some-injective}
+use Rattle.std.proofs.lemmas.Option.{same_Some}
 use Rattle.chill_base.specs.declared.layout.Bits.{Bits}
 use Rattle.kernel_base.specs.declared.facts.Facts.{Facts}
 use Rattle.kernel_base.specs.declared.value.Value.{Value, fold-Value, fold-roll-Value}
@@ -22,7 +22,7 @@ abbrev pub whole : Bits
 whole = record { word = 0; start = 0; end = 31; signed = true }
 
 zero_within : (k : ℕ) (bits : Bits) (number : ℤ) → slice_get (whole ∷ []) k ≡ Some bits → slice_get (pos 0 ∷ []) k ≡ Some number → IsWithinBits bits number
-zero_within zero bits number b n = subst (λ (x : Bits). IsWithinBits x number) (some-injective _ _ b) (subst (λ (x : ℤ). IsWithinBits whole x) (some-injective _ _ n) (record { in_word = record { ordered = omega arith; within = omega arith }; fits = record { low = search rules; high = search rules } }))
+zero_within zero bits number b n = subst (λ (x : Bits). IsWithinBits x number) (same_Some _ _ b) (subst (λ (x : ℤ). IsWithinBits whole x) (same_Some _ _ n) (record { in_word = record { ordered = omega arith; within = omega arith }; fits = record { low = search rules; high = search rules } }))
 zero_within (suc k) bits number b n = absurd (let f : ⊥ = cc in f)
 
 zero_laid : IsLaidOut (Number (pos 0)) (whole ∷ [])
@@ -35,14 +35,14 @@ zero_laid = record {
 }
 
 laid_at : (location : ℕ) (value : Value) (layout : List Bits) → slice_get (Number (pos 0) ∷ []) location ≡ Some value → slice_get ((whole ∷ []) ∷ []) location ≡ Some layout → IsLaidOut value layout
-laid_at zero value layout v l = subst (λ (x : Value). IsLaidOut x layout) (some-injective _ _ v) (subst (λ (x : List Bits). IsLaidOut (Number (pos 0)) x) (some-injective _ _ l) zero_laid)
+laid_at zero value layout v l = subst (λ (x : Value). IsLaidOut x layout) (same_Some _ _ v) (subst (λ (x : List Bits). IsLaidOut (Number (pos 0)) x) (same_Some _ _ l) zero_laid)
 laid_at (suc location) value layout v l = absurd (let f : ⊥ = cc in f)
 
 pub one_int_sound : (facts : Facts) → facts.store ≡ Number (pos 0) ∷ [] → facts.layouts ≡ (whole ∷ []) ∷ [] → facts.signals ≡ None ∷ [] → 1 ≤ facts.units → facts.units ≤ 10000000 → IsSound facts
 one_int_sound facts store layouts signals least greatest = record {
   locations = rw (store, layouts) refl;
   laid_out = λ location value layout v l. laid_at location value layout (rw (← store) v) (rw (← layouts) l);
-  signals = rw signals (All-cons _ None [] tt (All-nil _));
+  signals = rw signals (All-cons (λ (to : Option ℕ). IfSome to (λ process. process < facts.processes)) None [] tt (All-nil _));
   least_budget = least;
   greatest_budget = greatest;
 }

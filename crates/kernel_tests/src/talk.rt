@@ -1,5 +1,5 @@
 // What is asked of a kernel and what it tells, as tables can hold it. Each message is one number.
-ghost use Rattle.std.specs.Prelude.{◌≡◌, ◌≤◌, IfOk};
+ghost use Rattle.std.specs.Prelude.{◌≡◌, ◌≤◌, ◌∷◌, [], true, IfOk};
 ghost use Rattle.kernel_base.specs.Facts.{IsSound};
 
 use chill_base::{Bits, List, Memory, Scalars};
@@ -65,7 +65,9 @@ pub enum Told {
 #[derive(Clone, Copy)]
 pub struct Row(pub u32, pub Ask, pub Told);
 
-fn word(alloc: Global) -> Result<List<Bits>, Memory> {
+fn word(alloc: Global) -> Result<List<Bits>, Memory>
+    ensures { IfOk result (λ layout. layout ≡ record { word = 0; start = 0; end = 31; signed = true } ∷ []) }
+{
     let mut layout = List::new(alloc);
     layout.push(Bits {
         word: 0,

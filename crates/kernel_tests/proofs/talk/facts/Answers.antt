@@ -1,0 +1,13 @@
+use Rattle.std.proofs.Common.{◌≡◌, ◌∷◌, [], ℤ, rules, List, Option, None}
+use Rattle.std.specs.Prelude.{pos}
+use Rattle.kernel_base.specs.declared.value.Value.{Value}
+use Rattle.kernel_base.specs.declared.value.Value.TheVariants.{Number}
+use Rattle.kernel_tests.proofs.Sound.{whole, one_int_sound}
+use Rattle.kernel_tests.proofs.talk.facts.Goals as goal
+
+pub returns : goal.returns
+returns c =
+    let store : c.push.new.self ≡ Number (pos 0) ∷ [] = search rules in
+    let layouts : c.push-2.new.self ≡ (whole ∷ []) ∷ [] = search rules in
+    let signals : c.push-7.new.self ≡ None ∷ [] = search rules in
+    one_int_sound _ store layouts signals c.requires.least c.requires.greatest
