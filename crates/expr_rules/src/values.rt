@@ -117,7 +117,7 @@ impl<'a, 'b> Walk<'a, 'b> {
         told: &mut Told,
     ) -> Result<Known, Memory> {
         let before = told.count();
-        self.tell_in_indices(args, base, told)?;
+        (&*self).tell_in_indices(args, &*base, told)?;
         if told.count() > before {
             return Ok(Known::varying());
         }
