@@ -4,7 +4,7 @@ mod locations;
 mod operators;
 mod tuples;
 
-use crate::machine::{Turn, turns_made};
+use crate::machine::{Start, Turn, turns_made};
 use crate::steps::{Step, built, target};
 use checked_program::{Body, Checked, LocalRow, Parameter, Passing, Sort};
 use chill_base::List;
@@ -294,7 +294,11 @@ fn made(alloc: Global, case: &Case) -> Result<usize, Fail> {
     put_body(alloc, &bodies[1], CODE_OF_F, &mut draft)?;
     put_body(alloc, &bodies[2], CODE_OF_G, &mut draft)?;
     put_body(alloc, &bodies[3], CODE_OF_P, &mut draft)?;
-    turns_made(alloc, draft.code, case.3)
+    let start = Start {
+        process: 0,
+        arguments: &[],
+    };
+    turns_made(alloc, draft.code, &start, case.3)
 }
 
 /// Each case is played to its end.

@@ -7,6 +7,8 @@
 #[cfg(test)]
 mod expressions;
 #[cfg(test)]
+mod facts;
+#[cfg(test)]
 mod machine;
 #[cfg(test)]
 mod steps;

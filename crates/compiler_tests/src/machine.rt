@@ -2,8 +2,8 @@
 ghost use Rattle.std.specs.Prelude.{IfOk};
 ghost use Rattle.code_machine.specs.Running.{RunsOn};
 
-use crate::tables::{Asked, Given, answer_of, request_of};
-use chill_base::{Item, List};
+use crate::tables::{Asked, Given, answer_of, request_of, scalars_of};
+use chill_base::Item;
 use code_guard::{Guarded, guard};
 use code_machine::{Machine, Stop};
 use code_types::Code;
@@ -96,24 +96,31 @@ fn makes_turn(
     }
 }
 
-/// A machine of instance 5 at the first instruction of body 0.
-fn started(alloc: Global, guarded: &Guarded) -> Result<Machine, Fail>
+/// The process that is played, and its arguments.
+#[derive(Drop)]
+pub struct Start {
+    pub process: u32,
+    pub arguments: &'static [i64],
+}
+
+/// A machine of instance 5 at the first instruction of a process.
+fn started(alloc: Global, guarded: &Guarded, start: &Start) -> Result<Machine, Fail>
     ensures { IfOk result (RunsOn guarded.now) }
 {
-    let scalars = List::new(alloc);
-    if !Machine::can_start(guarded, 0, &scalars) {
+    let scalars = scalars_of(alloc, start.arguments)?;
+    if !Machine::can_start(guarded, start.process, &scalars) {
         return Err(Fail::from("a process that can't start"));
     }
-    Ok(Machine::start(alloc, guarded, 5, 0, scalars)?)
+    Ok(Machine::start(alloc, guarded, 5, start.process, scalars)?)
 }
 
 /// The number of turns that are made up to the first that isn't. The guard has to accept the code.
-pub fn turns_made(alloc: Global, code: Code, turns: &[Turn]) -> Result<usize, Fail> {
+pub fn turns_made(alloc: Global, code: Code, start: &Start, turns: &[Turn]) -> Result<usize, Fail> {
     let guarded = match guard(alloc, code) {
         Ok(guarded) => guarded,
         Err(_) => return Err(Fail::from("a code that isn't guarded")),
     };
-    let mut machine = started(alloc, &guarded)?;
+    let mut machine = started(alloc, &guarded, start)?;
     for (i, turn) in turns.iter().enumerate() {
         if !makes_turn(alloc, &guarded, &mut machine, turn)? {
             return Ok(i);
