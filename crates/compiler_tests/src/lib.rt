@@ -11,6 +11,8 @@ mod facts;
 #[cfg(test)]
 mod machine;
 #[cfg(test)]
+mod programs;
+#[cfg(test)]
 mod steps;
 #[cfg(test)]
 mod tables;
