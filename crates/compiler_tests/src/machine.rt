@@ -116,13 +116,22 @@ fn started(alloc: Global, guarded: &Guarded, start: &Start) -> Result<Machine, F
 
 /// The number of turns that are made up to the first that isn't. The guard has to accept the code.
 pub fn turns_made(alloc: Global, code: Code, start: &Start, turns: &[Turn]) -> Result<usize, Fail> {
-    let guarded = match guard(alloc, code) {
-        Ok(guarded) => guarded,
-        Err(_) => return Err(Fail::from("a code that isn't guarded")),
-    };
-    let mut machine = started(alloc, &guarded, start)?;
+    match guard(alloc, code) {
+        Ok(guarded) => turns_of(alloc, &guarded, start, turns),
+        Err(_) => Err(Fail::from("a code that isn't guarded")),
+    }
+}
+
+/// The number of turns that a code makes up to the first that isn't made.
+pub fn turns_of(
+    alloc: Global,
+    guarded: &Guarded,
+    start: &Start,
+    turns: &[Turn],
+) -> Result<usize, Fail> {
+    let mut machine = started(alloc, guarded, start)?;
     for (i, turn) in turns.iter().enumerate() {
-        if !makes_turn(alloc, &guarded, &mut machine, turn)? {
+        if !makes_turn(alloc, guarded, &mut machine, turn)? {
             return Ok(i);
         }
     }

@@ -7,16 +7,13 @@ mod regions;
 mod surroundings;
 mod waiting;
 
-use crate::machine::{Start, Turn, turns_made};
+use crate::machine::{Start, Turn, turns_of};
 use checked_program::Checked;
 use chill_lexer::lex;
 use chill_parser::parse;
-use chill_tree::tree::Tree;
-use code_gen::compile;
-use code_guard::guard;
-use code_types::Code;
+use code_gen::{CodeRefusal, compile};
+use code_guard::{Guarded, guard};
 use elaboration::elaborate;
-use names_model::Names;
 use std::alloc::Global;
 use std::process::Abort;
 use std::test::Fail;
@@ -31,71 +28,94 @@ pub enum Program {
     Other(&'static str, u32, &'static [i64], &'static [Turn]),
 }
 
-fn tree_of(alloc: Global, text: &str) -> Result<Tree, Fail> {
+/// What a text has no more.
+#[derive(Clone, Copy, Debug, PartialEq, Eq)]
+enum Missing {
+    Tokens,
+    Tree,
+    Names,
+    Program,
+    Code(CodeRefusal),
+    Guard,
+}
+
+fn program_of(alloc: Global, text: &str) -> Result<Checked, Missing> {
     let Ok(tokens) = lex(alloc, text.as_bytes()) else {
-        return Err(Fail::from("a text without tokens"));
+        return Err(Missing::Tokens);
     };
-    match parse(alloc, &tokens) {
-        Ok(tree) => Ok(tree),
-        Err(_) => Err(Fail::from("a text without a tree")),
-    }
-}
-
-fn names_of(alloc: Global, tree: &Tree) -> Result<Names, Fail> {
-    match resolve(alloc, tree) {
-        Ok(names) => Ok(names),
-        Err(_) => Err(Fail::from("a text whose names aren't resolved")),
-    }
-}
-
-fn program_of(alloc: Global, text: &str) -> Result<Checked, Fail> {
-    let tree = tree_of(alloc, text)?;
-    let names = names_of(alloc, &tree)?;
+    let Ok(tree) = parse(alloc, tokens.as_slice()) else {
+        return Err(Missing::Tree);
+    };
+    let Ok(names) = resolve(alloc, &tree) else {
+        return Err(Missing::Names);
+    };
     match elaborate(alloc, &tree, &names) {
         Ok(program) => Ok(program),
-        Err(_) => Err(Fail::from("a text that isn't elaborated")),
+        Err(_) => Err(Missing::Program),
     }
 }
 
-fn code_of(alloc: Global, text: &str) -> Result<Code, Fail> {
+// The code of a text, which the guard accepts.
+fn guarded_of(alloc: Global, text: &str) -> Result<Guarded, Missing> {
     let program = program_of(alloc, text)?;
     match compile(alloc, &program) {
-        Ok(code) => Ok(code),
-        Err(_) => Err(Fail::from("a program without code")),
+        Ok(code) => match guard(alloc, code) {
+            Ok(guarded) => Ok(guarded),
+            Err(_) => Err(Missing::Guard),
+        },
+        Err(refusal) => Err(Missing::Code(refusal)),
     }
 }
 
-// How many turns of a program are made up to the first that isn't, and how many there are.
-fn played(alloc: Global, program: &Program) -> Result<(usize, usize), Fail> {
-    match program {
-        Program::Main(text, turns) => {
-            let start = Start {
+// What a text has no more, or how many turns are made up to the first that isn't, where that isn't all of them.
+#[derive(Clone, Copy, Debug, PartialEq, Eq)]
+enum Failing {
+    Without(Missing),
+    After(usize),
+}
+
+// Why a program isn't played to its end.
+fn failing(alloc: Global, program: &Program) -> Result<Option<Failing>, Fail> {
+    let (text, start, turns) = match program {
+        Program::Main(text, turns) => (
+            *text,
+            Start {
                 process: 0,
                 arguments: &[],
-            };
-            let code = code_of(alloc, text)?;
-            Ok((turns_made(alloc, code, &start, turns)?, turns.len()))
-        }
-        Program::Other(text, process, arguments, turns) => {
-            let start = Start {
+            },
+            *turns,
+        ),
+        Program::Other(text, process, arguments, turns) => (
+            *text,
+            Start {
                 process: *process,
                 arguments,
-            };
-            let code = code_of(alloc, text)?;
-            Ok((turns_made(alloc, code, &start, turns)?, turns.len()))
+            },
+            *turns,
+        ),
+    };
+    match guarded_of(alloc, text) {
+        Err(missing) => Ok(Some(Failing::Without(missing))),
+        Ok(guarded) => {
+            let made = turns_of(alloc, &guarded, &start, turns)?;
+            Ok(if made == turns.len() {
+                None
+            } else {
+                Some(Failing::After(made))
+            })
         }
     }
 }
 
 /// Each program is played to its end.
 fn all_programs(rt: &impl Abort, alloc: Global, programs: &[Program]) -> Result<(), Fail> {
+    let mut found = Vec::new(alloc);
     for (i, program) in programs.iter().enumerate() {
-        let (made, wanted) = match played(alloc, program) {
-            Ok(played) => played,
-            Err(_) => (0, 1000),
-        };
-        assert_eq!(rt; made, wanted, "program {i}");
+        if let Some(why) = failing(alloc, program)? {
+            found.push((i, why))?;
+        }
     }
+    assert!(rt; found.is_empty(), "{found:?}");
     Ok(())
 }
 
@@ -108,12 +128,6 @@ fn surrounded(
     let (before, behind) = *surroundings;
     let definitions = surroundings::DEFINITIONS;
     Ok(format!(in alloc; "M: MODULE {definitions} {before} {construct} {behind} END M;")?)
-}
-
-// Whether the guard accepts the code of a text.
-fn is_guarded(alloc: Global, text: &str) -> Result<bool, Fail> {
-    let code = code_of(alloc, text)?;
-    Ok(guard(alloc, code).is_ok())
 }
 
 #[test]
@@ -194,15 +208,15 @@ fn signals_are_sent_and_received(rt: HostRuntime) -> Result<(), Fail> {
 #[test]
 fn each_construct_is_guarded_in_all_surroundings(rt: HostRuntime) -> Result<(), Fail> {
     let alloc = rt.alloc();
+    let mut found = Vec::new(alloc);
     for (i, construct) in surroundings::CONSTRUCTS.iter().enumerate() {
         for (k, around) in surroundings::SURROUNDINGS.iter().enumerate() {
             let text = surrounded(alloc, construct, around)?;
-            let holds = match is_guarded(alloc, &text) {
-                Ok(holds) => holds,
-                Err(_) => false,
-            };
-            assert!(rt; holds, "construct {i} in surroundings {k}");
+            if let Err(missing) = guarded_of(alloc, &text) {
+                found.push((i, k, missing))?;
+            }
         }
     }
+    assert!(rt; found.is_empty(), "{found:?}");
     Ok(())
 }
