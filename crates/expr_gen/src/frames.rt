@@ -1,0 +1,72 @@
+// Where things stand in the frame of a body: its locals, its result, and the scratch locals behind them.
+use crate::refusal::PartRefusal;
+use checked_program::{Body, Checked, LocalRow, Passing};
+use modes::number_of_scalars;
+
+/// Where a part of a program stands.
+#[derive(Clone, Copy)]
+pub struct Site<'a> {
+    pub program: &'a Checked,
+    pub body: &'a Body,
+}
+
+/// The body of this number, or Unsound where there is none.
+pub fn body_of(program: &Checked, number: u32) -> Result<&Body, PartRefusal> {
+    match program.bodies.as_slice().get(number as usize) {
+        Some(body) => Ok(body),
+        None => Err(PartRefusal::Unsound),
+    }
+}
+
+/// The local of this number of a body, or Unsound where there is none.
+pub fn local_of(body: &Body, number: u32) -> Result<&LocalRow, PartRefusal> {
+    match body.locals.as_slice().get(number as usize) {
+        Some(local) => Ok(local),
+        None => Err(PartRefusal::Unsound),
+    }
+}
+
+/// How many scalars the parameters of a body have, or those of its locals up to some number of them.
+pub fn scalars_until(body: &Body, number: usize) -> u32 {
+    let mut scalars = 0u32;
+    for local in body.locals.as_slice().iter().take(number) {
+        scalars = scalars.saturating_add(local.count);
+    }
+    scalars
+}
+
+/// How many scalars the parameters of a body have, which are its first locals.
+pub fn parameter_scalars(body: &Body) -> u32 {
+    scalars_until(body, body.parameters.len())
+}
+
+/// How many scalars the locals of a body have that the program declares. The result stands behind them.
+pub fn declared_scalars(body: &Body) -> u32 {
+    scalars_until(body, body.locals.len())
+}
+
+/// How many scalars the result of a body has; none without RETURNS.
+pub fn result_scalars(body: &Body) -> u32 {
+    match &body.result {
+        Some(mode) => number_of_scalars(mode),
+        None => 0,
+    }
+}
+
+/// The first scratch local of a body, behind its locals and its result.
+pub fn first_free(body: &Body) -> u32 {
+    declared_scalars(body).saturating_add(result_scalars(body))
+}
+
+/// How many scalars a call of the body gives back: the result, and the OUT and INOUT parameters.
+pub fn call_results(body: &Body) -> u32 {
+    let mut scalars = result_scalars(body);
+    let locals = body.locals.as_slice().iter();
+    for (parameter, local) in body.parameters.as_slice().iter().zip(locals) {
+        match parameter.passing {
+            Passing::In => {}
+            Passing::Out | Passing::InOut => scalars = scalars.saturating_add(local.count),
+        }
+    }
+    scalars
+}

@@ -1,0 +1,95 @@
+// Locations: contents and assignment, where the place stands on the stack if it has an offset.
+use crate::building::Draft;
+use crate::frames::{Site, local_of};
+use crate::refusal::PartRefusal;
+use checked_program::{Base, Location, Part};
+use code_types::Instr;
+use modes::Bounds;
+
+/// Whether there is an index among the parts.
+pub fn has_index(parts: &[Part]) -> bool {
+    let mut found = false;
+    for part in parts {
+        match part {
+            Part::Field { .. } => {}
+            Part::Element { .. } => found = true,
+        }
+    }
+    found
+}
+
+/// The number of the first scalar that the fields among the parts lead to.
+pub fn first_of_parts(parts: &[Part]) -> u32 {
+    let mut first = 0u32;
+    for part in parts {
+        match part {
+            Part::Field { first: own, .. } => first = first.saturating_add(*own),
+            Part::Element { .. } => {}
+        }
+    }
+    first
+}
+
+/// Whether the place of a location is an offset on the stack: that of every shared location, and of a local with an index.
+/// Else it is nothing.
+pub fn has_offset(location: &Location) -> bool {
+    match location.base {
+        Base::Shared(_) => true,
+        Base::Local(_) => has_index(location.parts.as_slice()),
+    }
+}
+
+/// The place once more, where it stands on top.
+pub fn put_again(location: &Location, draft: &mut Draft) -> Result<(), PartRefusal> {
+    if has_offset(location) {
+        draft.put(Instr::Copy(1))
+    } else {
+        Ok(())
+    }
+}
+
+/// The contents of a location, whose place stands on top.
+pub fn put_contents(
+    location: &Location,
+    site: &Site,
+    draft: &mut Draft,
+) -> Result<(), PartRefusal> {
+    let count = location.count;
+    match location.base {
+        Base::Shared(number) => draft.put(Instr::Read(number, 0, count)),
+        Base::Local(number) => {
+            let first = local_of(site.body, number)?.first;
+            let parts = location.parts.as_slice();
+            if has_index(parts) {
+                draft.put(Instr::LocalAt(first, count))
+            } else {
+                draft.put(Instr::Local(first.saturating_add(first_of_parts(parts)), count))
+            }
+        }
+    }
+}
+
+/// Assigns the value on top to a location, whose place stands below it.
+pub fn put_store(location: &Location, site: &Site, draft: &mut Draft) -> Result<(), PartRefusal> {
+    let count = location.count;
+    match location.base {
+        Base::Shared(number) => draft.put(Instr::Write(number, 0, count)),
+        Base::Local(number) => {
+            let first = local_of(site.body, number)?.first;
+            let parts = location.parts.as_slice();
+            if has_index(parts) {
+                draft.put(Instr::SetLocalAt(first, count))
+            } else {
+                draft.put(Instr::SetLocal(first.saturating_add(first_of_parts(parts)), count))
+            }
+        }
+    }
+}
+
+/// The test of the value on top, where what takes it has bounds.
+pub fn put_check(bounds: Option<Bounds>, draft: &mut Draft) -> Result<(), PartRefusal> {
+    match bounds {
+        Some(bounds) => draft.put(Instr::Check(bounds.low, bounds.high)),
+        None => Ok(()),
+    }
+}

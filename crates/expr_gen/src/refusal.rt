@@ -1,0 +1,23 @@
+// Why a part of a program has no code.
+use chill_base::Memory;
+
+/// Why a part of a program has no code.
+#[derive(Clone, Copy, Debug, PartialEq, Eq)]
+pub enum PartRefusal {
+    /// The part is of no program that breaks no rule: it names a body, a parameter or a local that isn't there.
+    Unsound,
+    /// No memory was to be had.
+    Memory,
+}
+
+impl From<Memory> for PartRefusal {
+    ghost use Rattle.expr_gen.specs.declared.refusal.PartRefusal.TheVariants.{Memory};
+
+    ghost from_gives = { λ _ e. e ≡ Memory };
+
+    ghost use Rattle.std.specs.Prelude.{◌≡◌};
+
+    fn from(_: Memory) -> PartRefusal {
+        PartRefusal::Memory
+    }
+}

@@ -1,0 +1,81 @@
+// Modules and regions at their places.
+use crate::again::{put_again, raised_between};
+use crate::around::Around;
+use crate::statements::{put_handler, put_statement, put_statements};
+use checked_program::{Action, Handler, Statement};
+use code_types::Instr;
+use expr_gen::{Draft, PartRefusal};
+
+/// Appends the code of what the outermost process does: statements, modules and regions in their order.
+#[cycle(item)]
+pub fn put_items(
+    items: &[Statement],
+    around: &Around,
+    draft: &mut Draft,
+) -> Result<(), PartRefusal> {
+    for item in items {
+        put_item(item, around, draft)?;
+    }
+    Ok(())
+}
+
+// A modulion with its handler, or a statement.
+#[cycle(item)]
+fn put_item(item: &Statement, around: &Around, draft: &mut Draft) -> Result<(), PartRefusal> {
+    match &*item.action {
+        Action::Module { actions } => put_module(actions.as_slice(), &item.handler, around, draft),
+        Action::Region { region, actions } => {
+            let initialisations = actions.as_slice();
+            put_region(*region, initialisations, &item.handler, around, draft)
+        }
+        _ => put_statement(item, around, draft),
+    }
+}
+
+// A module with its handler.
+#[cycle(item)]
+fn put_module(
+    items: &[Statement],
+    handler: &Option<Box<Handler>>,
+    around: &Around,
+    draft: &mut Draft,
+) -> Result<(), PartRefusal> {
+    let from = draft.place();
+    put_items(items, around, draft)?;
+    put_some_handler(handler, from, around, draft)
+}
+
+// The handler of what stands from this place up to the present one, where it has one.
+fn put_some_handler(
+    handler: &Option<Box<Handler>>,
+    from: u32,
+    around: &Around,
+    draft: &mut Draft,
+) -> Result<(), PartRefusal> {
+    match handler {
+        Some(handler) => put_handler(handler, from, around, draft),
+        None => Ok(()),
+    }
+}
+
+// The initialisations of a region with its handler. The region is released behind them, also where an exception goes out
+// of them.
+fn put_region(
+    region: u32,
+    initialisations: &[Statement],
+    handler: &Option<Box<Handler>>,
+    around: &Around,
+    draft: &mut Draft,
+) -> Result<(), PartRefusal> {
+    draft.put(Instr::Enter(region))?;
+    let from = draft.place();
+    put_statements(initialisations, around, draft)?;
+    put_some_handler(handler, from, around, draft)?;
+    let until = draft.place();
+    let raised = raised_between(from, until, around.site.program, draft)?;
+    let count = (raised.len() as u64).min(u32::MAX as u64) as u32;
+    let behind = draft.place_behind(count.saturating_mul(2).saturating_add(2));
+    draft.put(Instr::Leave(region))?;
+    draft.put(Instr::Jump(behind))?;
+    put_again(raised.as_slice(), from, until, region, draft)
+}

@@ -1,0 +1,171 @@
+// Actions that hold no statements.
+use crate::around::Around;
+use crate::assigning::{
+    Change, assign_size, declare_size, lowest_size, put_assign, put_declare, put_lowest_of,
+    put_result, put_return, put_update, result_size, return_size, update_size,
+};
+use crate::requests::{put_delay, put_send, send_size};
+use checked_program::{Action, Body, Call, Expr, Routine, Start};
+use code_types::Instr;
+use expr_gen::{
+    Draft, PartRefusal, body_of, call_size, expr_size, put_call, put_expr, put_routine, put_start,
+    received_sizes, result_scalars, routine_size,
+};
+
+/// The number of ASSERTFAIL.
+const ASSERTFAIL: u32 = 3;
+
+/// Appends the code of an action that holds no statements. A modulion is none.
+pub fn put_plain(action: &Action, around: &Around, draft: &mut Draft) -> Result<(), PartRefusal> {
+    match action {
+        Action::Nothing => Ok(()),
+        Action::Declare { names, value } => put_declare(names.as_slice(), value, around, draft),
+        Action::Lowest { locals, value } => {
+            put_lowest_of(locals.as_slice(), value.as_slice(), around, draft)
+        }
+        Action::Assign { target, value } => put_assign(target, value, around, draft),
+        Action::Update {
+            target,
+            operator,
+            value,
+            bounds,
+        } => {
+            let change = Change {
+                operator: *operator,
+                value: &**value,
+                bounds: *bounds,
+            };
+            put_update(target, change, around, draft)
+        }
+        Action::Exit { outwards } => put_exit(*outwards, around, draft),
+        Action::Return { value } => put_return(value, around, draft),
+        Action::Result { value } => put_result(value, around, draft),
+        Action::Assert(condition) => put_assert(condition, around, draft),
+        Action::Cause { exception } => draft.put(Instr::Raise(*exception)),
+        Action::Stop => draft.put(Instr::Stop),
+        _ => put_asking(action, around, draft),
+    }
+}
+
+// Appends the code of an action that calls, asks or puts.
+fn put_asking(action: &Action, around: &Around, draft: &mut Draft) -> Result<(), PartRefusal> {
+    match action {
+        Action::Call(call) => put_dropped_call(call, around, draft),
+        Action::Routine { routine, argument } => {
+            put_dropped_routine(*routine, argument, around, draft)
+        }
+        Action::Evaluate(value) => put_dropped(value, around, draft),
+        Action::PutInt(value) => put_used(value, Instr::PutInt, around, draft),
+        Action::PutText(value) => put_used(value, Instr::PutText(value.count), around, draft),
+        Action::PutLine => draft.put(Instr::PutLine),
+        Action::Start(start) => put_dropped_start(start, around, draft),
+        Action::Delay { event, priority } => put_delay(*event, *priority, draft),
+        Action::Continue { event } => draft.put(Instr::Continue(*event)),
+        Action::Send { sent, priority } => put_send(sent, *priority, around, draft),
+        _ => Err(PartRefusal::Unsound),
+    }
+}
+
+/// How many instructions an action that holds no statements has. A modulion has none here.
+pub fn plain_size(action: &Action, body: &Body) -> u32 {
+    match action {
+        Action::Declare { names, value } => declare_size(names.as_slice(), value),
+        Action::Lowest { locals, value } => lowest_size(locals.as_slice(), value.as_slice()),
+        Action::Assign { target, value } => assign_size(target, value),
+        Action::Update {
+            target,
+            operator,
+            value,
+            bounds,
+        } => {
+            let change = Change {
+                operator: *operator,
+                value: &**value,
+                bounds: *bounds,
+            };
+            update_size(target, change)
+        }
+        Action::Return { value } => return_size(value, body),
+        Action::Result { value } => result_size(value),
+        Action::Assert(condition) => expr_size(condition).saturating_add(3),
+        Action::Exit { .. } | Action::Cause { .. } | Action::Stop => 1,
+        _ => asking_size(action),
+    }
+}
+
+fn asking_size(action: &Action) -> u32 {
+    match action {
+        Action::Call(call) => call_size(call).saturating_add(1),
+        Action::Routine { routine, argument } => expr_size(argument)
+            .saturating_add(routine_size(*routine))
+            .saturating_add(1),
+        Action::Evaluate(value) | Action::PutInt(value) | Action::PutText(value) => {
+            expr_size(value).saturating_add(1)
+        }
+        Action::Start(start) => received_sizes(start.arguments.as_slice()).saturating_add(2),
+        Action::Delay { .. } => 4,
+        Action::PutLine | Action::Continue { .. } => 1,
+        Action::Send { sent, .. } => send_size(sent),
+        _ => 0,
+    }
+}
+
+// EXIT of the labelled statement that is so many outwards.
+fn put_exit(outwards: u32, around: &Around, draft: &mut Draft) -> Result<(), PartRefusal> {
+    let exits = around.exits;
+    let outwards = outwards as usize;
+    if outwards < exits.len() {
+        draft.put(Instr::Jump(exits[exits.len() - 1 - outwards]))
+    } else {
+        Err(PartRefusal::Unsound)
+    }
+}
+
+// ASSERT.
+fn put_assert(condition: &Expr, around: &Around, draft: &mut Draft) -> Result<(), PartRefusal> {
+    put_expr(condition, &around.site, around.free, draft)?;
+    draft.put(Instr::Not)?;
+    draft.put(Instr::Unless(draft.place_behind(2)))?;
+    draft.put(Instr::Raise(ASSERTFAIL))
+}
+
+// A call whose result is dropped.
+fn put_dropped_call(call: &Call, around: &Around, draft: &mut Draft) -> Result<(), PartRefusal> {
+    let callee = body_of(around.site.program, call.body)?;
+    put_call(call, &around.site, around.free, draft)?;
+    draft.put(Instr::Pop(result_scalars(callee)))
+}
+
+// A routine whose value is dropped.
+fn put_dropped_routine(
+    routine: Routine,
+    argument: &Expr,
+    around: &Around,
+    draft: &mut Draft,
+) -> Result<(), PartRefusal> {
+    put_expr(argument, &around.site, around.free, draft)?;
+    put_routine(routine, draft)?;
+    draft.put(Instr::Pop(1))
+}
+
+// An expression whose value is dropped.
+fn put_dropped(value: &Expr, around: &Around, draft: &mut Draft) -> Result<(), PartRefusal> {
+    put_used(value, Instr::Pop(value.count), around, draft)
+}
+
+// An expression, and an instruction that takes its value.
+fn put_used(
+    value: &Expr,
+    instr: Instr,
+    around: &Around,
+    draft: &mut Draft,
+) -> Result<(), PartRefusal> {
+    put_expr(value, &around.site, around.free, draft)?;
+    draft.put(instr)
+}
+
+// START of a process, whose instance is dropped.
+fn put_dropped_start(start: &Start, around: &Around, draft: &mut Draft) -> Result<(), PartRefusal> {
+    put_start(start, &around.site, around.free, draft)?;
+    draft.put(Instr::Pop(1))
+}
