@@ -12,6 +12,7 @@ use std::alloc::Global;
 use std::test::Fail;
 
 /// What a machine has to do.
+#[derive(Drop)]
 pub enum Turn {
     /// A burst makes so many ticks and asks this request, and this answer fits and is given.
     Asks(u32, Asked, Given),

@@ -14,6 +14,7 @@ use chill_parser::parse;
 use code_gen::{CodeRefusal, compile};
 use code_guard::{Guarded, guard};
 use elaboration::elaborate;
+use kernel_base::How;
 use std::alloc::Global;
 use std::process::Abort;
 use std::test::Fail;
@@ -218,5 +219,49 @@ fn each_construct_is_guarded_in_all_surroundings(rt: HostRuntime) -> Result<(), 
         }
     }
     assert!(rt; found.is_empty(), "{found:?}");
+    Ok(())
+}
+
+// A text of so many calls of PUT_INT. Its size is 16, and 12 for each of them.
+fn many_puts(alloc: Global, count: usize) -> Result<String, Fail> {
+    let mut text = String::new(alloc);
+    text.push_str("M: MODULE ")?;
+    for _ in 0..count {
+        text.push_str("PUT_INT(1); ")?;
+    }
+    text.push_str("END M;")?;
+    Ok(text)
+}
+
+#[test]
+fn the_greatest_text_becomes_code(rt: HostRuntime) -> Result<(), Fail> {
+    let alloc = rt.alloc();
+    let text = many_puts(alloc, 5460)?;
+    let mut turns = Vec::new(alloc);
+    for _ in 0..5460 {
+        turns.push(Turn::Puts("1"))?;
+    }
+    turns.push(Turn::Ends(0, How::Normal))?;
+    let start = Start {
+        process: 0,
+        arguments: &[],
+    };
+    let made = match guarded_of(alloc, &text) {
+        Ok(guarded) => Ok(turns_of(alloc, &guarded, &start, &turns)?),
+        Err(missing) => Err(missing),
+    };
+    assert_eq!(rt; made, Ok(5461));
+    Ok(())
+}
+
+#[test]
+fn a_greater_text_becomes_none(rt: HostRuntime) -> Result<(), Fail> {
+    let alloc = rt.alloc();
+    let text = many_puts(alloc, 5461)?;
+    let refused = match guarded_of(alloc, &text) {
+        Ok(_) => None,
+        Err(missing) => Some(missing),
+    };
+    assert_eq!(rt; refused, Some(Missing::Code(CodeRefusal::CodeTooLong)));
     Ok(())
 }
