@@ -7,16 +7,14 @@ mod regions;
 mod surroundings;
 mod waiting;
 
-use crate::machine::{Start, Turn, turns_made};
+use crate::machine::{Played, Start, Turn, turns_made};
 use checked_program::Checked;
 use chill_lexer::lex;
 use chill_parser::parse;
 use chill_tree::tree::Tree;
 use code_gen::compile;
-use code_guard::guard;
 use code_types::Code;
 use elaboration::elaborate;
-use names_model::Names;
 use std::alloc::Global;
 use std::process::Abort;
 use std::test::Fail;
@@ -31,70 +29,65 @@ pub enum Program {
     Other(&'static str, u32, &'static [i64], &'static [Turn]),
 }
 
-fn tree_of(alloc: Global, text: &str) -> Result<Tree, Fail> {
+const OUTERMOST: Start = Start {
+    process: 0,
+    arguments: &[],
+};
+
+fn tree_of(alloc: Global, text: &str) -> Result<Tree, Played> {
     let Ok(tokens) = lex(alloc, text.as_bytes()) else {
-        return Err(Fail::from("a text without tokens"));
+        return Err(Played::Unread);
     };
-    match parse(alloc, &tokens) {
+    match parse(alloc, tokens.as_slice()) {
         Ok(tree) => Ok(tree),
-        Err(_) => Err(Fail::from("a text without a tree")),
+        Err(_) => Err(Played::Unread),
     }
 }
 
-fn names_of(alloc: Global, tree: &Tree) -> Result<Names, Fail> {
-    match resolve(alloc, tree) {
-        Ok(names) => Ok(names),
-        Err(_) => Err(Fail::from("a text whose names aren't resolved")),
-    }
-}
-
-fn program_of(alloc: Global, text: &str) -> Result<Checked, Fail> {
+fn program_of(alloc: Global, text: &str) -> Result<Checked, Played> {
     let tree = tree_of(alloc, text)?;
-    let names = names_of(alloc, &tree)?;
+    let Ok(names) = resolve(alloc, &tree) else {
+        return Err(Played::Unread);
+    };
     match elaborate(alloc, &tree, &names) {
         Ok(program) => Ok(program),
-        Err(_) => Err(Fail::from("a text that isn't elaborated")),
+        Err(_) => Err(Played::Unelaborated),
     }
 }
 
-fn code_of(alloc: Global, text: &str) -> Result<Code, Fail> {
+fn code_of(alloc: Global, text: &str) -> Result<Code, Played> {
     let program = program_of(alloc, text)?;
     match compile(alloc, &program) {
         Ok(code) => Ok(code),
-        Err(_) => Err(Fail::from("a program without code")),
+        Err(_) => Err(Played::Uncompiled),
     }
 }
 
-// How many turns of a program are made up to the first that isn't, and how many there are.
-fn played(alloc: Global, program: &Program) -> Result<(usize, usize), Fail> {
-    match program {
-        Program::Main(text, turns) => {
-            let start = Start {
-                process: 0,
-                arguments: &[],
-            };
-            let code = code_of(alloc, text)?;
-            Ok((turns_made(alloc, code, &start, turns)?, turns.len()))
-        }
-        Program::Other(text, process, arguments, turns) => {
-            let start = Start {
-                process: *process,
-                arguments,
-            };
-            let code = code_of(alloc, text)?;
-            Ok((turns_made(alloc, code, &start, turns)?, turns.len()))
-        }
+// How far a process of a text comes.
+fn played(alloc: Global, text: &str, start: &Start, turns: &[Turn]) -> Result<Played, Fail> {
+    match code_of(alloc, text) {
+        Ok(code) => turns_made(alloc, code, start, turns),
+        Err(played) => Ok(played),
     }
 }
 
 /// Each program is played to its end.
 fn all_programs(rt: &impl Abort, alloc: Global, programs: &[Program]) -> Result<(), Fail> {
     for (i, program) in programs.iter().enumerate() {
-        let (made, wanted) = match played(alloc, program) {
-            Ok(played) => played,
-            Err(_) => (0, 1000),
-        };
-        assert_eq!(rt; made, wanted, "program {i}");
+        match program {
+            Program::Main(text, turns) => {
+                let played = played(alloc, text, &OUTERMOST, turns)?;
+                assert_eq!(rt; played, Played::Turns(turns.len()), "program {i}");
+            }
+            Program::Other(text, process, arguments, turns) => {
+                let start = Start {
+                    process: *process,
+                    arguments,
+                };
+                let played = played(alloc, text, &start, turns)?;
+                assert_eq!(rt; played, Played::Turns(turns.len()), "program {i}");
+            }
+        }
     }
     Ok(())
 }
@@ -110,10 +103,9 @@ fn surrounded(
     Ok(format!(in alloc; "M: MODULE {definitions} {before} {construct} {behind} END M;")?)
 }
 
-// Whether the guard accepts the code of a text.
-fn is_guarded(alloc: Global, text: &str) -> Result<bool, Fail> {
-    let code = code_of(alloc, text)?;
-    Ok(guard(alloc, code).is_ok())
+// How far the code of a text comes, of which no turn is asked.
+fn guarded(alloc: Global, text: &str) -> Result<Played, Fail> {
+    played(alloc, text, &OUTERMOST, &[])
 }
 
 #[test]
@@ -197,11 +189,12 @@ fn each_construct_is_guarded_in_all_surroundings(rt: HostRuntime) -> Result<(), 
     for (i, construct) in surroundings::CONSTRUCTS.iter().enumerate() {
         for (k, around) in surroundings::SURROUNDINGS.iter().enumerate() {
             let text = surrounded(alloc, construct, around)?;
-            let holds = match is_guarded(alloc, &text) {
-                Ok(holds) => holds,
-                Err(_) => false,
-            };
-            assert!(rt; holds, "construct {i} in surroundings {k}");
+            let played = guarded(alloc, &text)?;
+            assert_eq!(rt;
+                played,
+                Played::Turns(0),
+                "construct {i} in surroundings {k}"
+            );
         }
     }
     Ok(())
