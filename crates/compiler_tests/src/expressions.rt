@@ -4,7 +4,7 @@ mod locations;
 mod operators;
 mod tuples;
 
-use crate::machine::{Start, Turn, turns_made};
+use crate::machine::{Played, Start, Turn, turns_made};
 use crate::steps::{Step, built, target};
 use checked_program::{Body, Checked, LocalRow, Parameter, Passing, Sort};
 use chill_base::List;
@@ -278,8 +278,8 @@ fn put_outermost(alloc: Global, case: &Case, site: &Site, draft: &mut Draft) -> 
     }))
 }
 
-// How many turns of a case are made up to the first that isn't.
-fn made(alloc: Global, case: &Case) -> Result<usize, Fail> {
+// How far a case comes.
+fn made(alloc: Global, case: &Case) -> Result<Played, Fail> {
     let program = program(alloc)?;
     let mut draft = Draft::new(alloc);
     let bodies = program.bodies.as_slice();
@@ -305,7 +305,7 @@ fn made(alloc: Global, case: &Case) -> Result<usize, Fail> {
 fn all_cases(rt: &impl Abort, alloc: Global, cases: &[Case]) -> Result<(), Fail> {
     for (i, case) in cases.iter().enumerate() {
         let made = made(alloc, case)?;
-        assert_eq!(rt; made, case.3.len(), "case {i}");
+        assert_eq!(rt; made, Played::Turns(case.3.len()), "case {i}");
     }
     Ok(())
 }

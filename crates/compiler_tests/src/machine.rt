@@ -12,6 +12,7 @@ use std::alloc::Global;
 use std::test::Fail;
 
 /// What a machine has to do.
+#[derive(Drop)]
 pub enum Turn {
     /// A burst makes so many ticks and asks this request, and this answer fits and is given.
     Asks(u32, Asked, Given),
@@ -96,6 +97,18 @@ fn makes_turn(
     }
 }
 
+/// How far a program or a part of one came.
+#[derive(Clone, Copy, Debug, PartialEq, Eq)]
+pub enum Played {
+    /// The text has no tokens, no tree, or names that aren't resolved.
+    Unread,
+    Unelaborated,
+    Uncompiled,
+    Unguarded,
+    /// The number of turns that were made up to the first that wasn't.
+    Turns(usize),
+}
+
 /// The process that is played, and its arguments.
 #[derive(Drop)]
 pub struct Start {
@@ -114,26 +127,22 @@ fn started(alloc: Global, guarded: &Guarded, start: &Start) -> Result<Machine, F
     Ok(Machine::start(alloc, guarded, 5, start.process, scalars)?)
 }
 
-/// The number of turns that are made up to the first that isn't. The guard has to accept the code.
-pub fn turns_made(alloc: Global, code: Code, start: &Start, turns: &[Turn]) -> Result<usize, Fail> {
-    match guard(alloc, code) {
-        Ok(guarded) => turns_of(alloc, &guarded, start, turns),
-        Err(_) => Err(Fail::from("a code that isn't guarded")),
-    }
-}
-
-/// The number of turns that a code makes up to the first that isn't made.
-pub fn turns_of(
+/// How many turns a process of the code makes, which the guard has to accept.
+pub fn turns_made(
     alloc: Global,
-    guarded: &Guarded,
+    code: Code,
     start: &Start,
     turns: &[Turn],
-) -> Result<usize, Fail> {
-    let mut machine = started(alloc, guarded, start)?;
+) -> Result<Played, Fail> {
+    let guarded = match guard(alloc, code) {
+        Ok(guarded) => guarded,
+        Err(_) => return Ok(Played::Unguarded),
+    };
+    let mut machine = started(alloc, &guarded, start)?;
     for (i, turn) in turns.iter().enumerate() {
-        if !makes_turn(alloc, guarded, &mut machine, turn)? {
-            return Ok(i);
+        if !makes_turn(alloc, &guarded, &mut machine, turn)? {
+            return Ok(Played::Turns(i));
         }
     }
-    Ok(turns.len())
+    Ok(Played::Turns(turns.len()))
 }

@@ -7,13 +7,15 @@ mod regions;
 mod surroundings;
 mod waiting;
 
-use crate::machine::{Start, Turn, turns_of};
+use crate::machine::{Played, Start, Turn, turns_made};
 use checked_program::Checked;
 use chill_lexer::lex;
 use chill_parser::parse;
+use chill_tree::tree::Tree;
 use code_gen::{CodeRefusal, compile};
-use code_guard::{Guarded, guard};
+use code_types::Code;
 use elaboration::elaborate;
+use kernel_base::How;
 use std::alloc::Global;
 use std::process::Abort;
 use std::test::Fail;
@@ -28,94 +30,66 @@ pub enum Program {
     Other(&'static str, u32, &'static [i64], &'static [Turn]),
 }
 
-/// What a text has no more.
-#[derive(Clone, Copy, Debug, PartialEq, Eq)]
-enum Missing {
-    Tokens,
-    Tree,
-    Names,
-    Program,
-    Code(CodeRefusal),
-    Guard,
+const OUTERMOST: Start = Start {
+    process: 0,
+    arguments: &[],
+};
+
+fn tree_of(alloc: Global, text: &str) -> Result<Tree, Played> {
+    let Ok(tokens) = lex(alloc, text.as_bytes()) else {
+        return Err(Played::Unread);
+    };
+    match parse(alloc, tokens.as_slice()) {
+        Ok(tree) => Ok(tree),
+        Err(_) => Err(Played::Unread),
+    }
 }
 
-fn program_of(alloc: Global, text: &str) -> Result<Checked, Missing> {
-    let Ok(tokens) = lex(alloc, text.as_bytes()) else {
-        return Err(Missing::Tokens);
-    };
-    let Ok(tree) = parse(alloc, tokens.as_slice()) else {
-        return Err(Missing::Tree);
-    };
+fn program_of(alloc: Global, text: &str) -> Result<Checked, Played> {
+    let tree = tree_of(alloc, text)?;
     let Ok(names) = resolve(alloc, &tree) else {
-        return Err(Missing::Names);
+        return Err(Played::Unread);
     };
     match elaborate(alloc, &tree, &names) {
         Ok(program) => Ok(program),
-        Err(_) => Err(Missing::Program),
+        Err(_) => Err(Played::Unelaborated),
     }
 }
 
-// The code of a text, which the guard accepts.
-fn guarded_of(alloc: Global, text: &str) -> Result<Guarded, Missing> {
+fn code_of(alloc: Global, text: &str) -> Result<Code, Played> {
     let program = program_of(alloc, text)?;
     match compile(alloc, &program) {
-        Ok(code) => match guard(alloc, code) {
-            Ok(guarded) => Ok(guarded),
-            Err(_) => Err(Missing::Guard),
-        },
-        Err(refusal) => Err(Missing::Code(refusal)),
+        Ok(code) => Ok(code),
+        Err(_) => Err(Played::Uncompiled),
     }
 }
 
-// What a text has no more, or how many turns are made up to the first that isn't, where that isn't all of them.
-#[derive(Clone, Copy, Debug, PartialEq, Eq)]
-enum Failing {
-    Without(Missing),
-    After(usize),
-}
-
-// Why a program isn't played to its end.
-fn failing(alloc: Global, program: &Program) -> Result<Option<Failing>, Fail> {
-    let (text, start, turns) = match program {
-        Program::Main(text, turns) => (
-            *text,
-            Start {
-                process: 0,
-                arguments: &[],
-            },
-            *turns,
-        ),
-        Program::Other(text, process, arguments, turns) => (
-            *text,
-            Start {
-                process: *process,
-                arguments,
-            },
-            *turns,
-        ),
-    };
-    match guarded_of(alloc, text) {
-        Err(missing) => Ok(Some(Failing::Without(missing))),
-        Ok(guarded) => {
-            let made = turns_of(alloc, &guarded, &start, turns)?;
-            Ok(if made == turns.len() {
-                None
-            } else {
-                Some(Failing::After(made))
-            })
-        }
+// How far a process of a text comes.
+fn played(alloc: Global, text: &str, start: &Start, turns: &[Turn]) -> Result<Played, Fail> {
+    match code_of(alloc, text) {
+        Ok(code) => turns_made(alloc, code, start, turns),
+        Err(played) => Ok(played),
     }
 }
 
 /// Each program is played to its end.
 fn all_programs(rt: &impl Abort, alloc: Global, programs: &[Program]) -> Result<(), Fail> {
-    let mut found = Vec::new(alloc);
     for (i, program) in programs.iter().enumerate() {
-        if let Some(why) = failing(alloc, program)? {
-            found.push((i, why))?;
+        match program {
+            Program::Main(text, turns) => {
+                let played = played(alloc, text, &OUTERMOST, turns)?;
+                assert_eq!(rt; played, Played::Turns(turns.len()), "program {i}");
+            }
+            Program::Other(text, process, arguments, turns) => {
+                let start = Start {
+                    process: *process,
+                    arguments,
+                };
+                let played = played(alloc, text, &start, turns)?;
+                assert_eq!(rt; played, Played::Turns(turns.len()), "program {i}");
+            }
         }
     }
-    assert!(rt; found.is_empty(), "{found:?}");
     Ok(())
 }
 
@@ -128,6 +102,11 @@ fn surrounded(
     let (before, behind) = *surroundings;
     let definitions = surroundings::DEFINITIONS;
     Ok(format!(in alloc; "M: MODULE {definitions} {before} {construct} {behind} END M;")?)
+}
+
+// How far the code of a text comes, of which no turn is asked.
+fn guarded(alloc: Global, text: &str) -> Result<Played, Fail> {
+    played(alloc, text, &OUTERMOST, &[])
 }
 
 #[test]
@@ -208,15 +187,50 @@ fn signals_are_sent_and_received(rt: HostRuntime) -> Result<(), Fail> {
 #[test]
 fn each_construct_is_guarded_in_all_surroundings(rt: HostRuntime) -> Result<(), Fail> {
     let alloc = rt.alloc();
-    let mut found = Vec::new(alloc);
     for (i, construct) in surroundings::CONSTRUCTS.iter().enumerate() {
         for (k, around) in surroundings::SURROUNDINGS.iter().enumerate() {
             let text = surrounded(alloc, construct, around)?;
-            if let Err(missing) = guarded_of(alloc, &text) {
-                found.push((i, k, missing))?;
-            }
+            let played = guarded(alloc, &text)?;
+            assert_eq!(rt;
+                played,
+                Played::Turns(0),
+                "construct {i} in surroundings {k}"
+            );
         }
     }
-    assert!(rt; found.is_empty(), "{found:?}");
+    Ok(())
+}
+
+// A text of so many calls of PUT_INT. Its size is 16, and 12 for each of them.
+fn many_puts(alloc: Global, count: usize) -> Result<String, Fail> {
+    let mut text = String::new(alloc);
+    text.push_str("M: MODULE ")?;
+    for _ in 0..count {
+        text.push_str("PUT_INT(1); ")?;
+    }
+    text.push_str("END M;")?;
+    Ok(text)
+}
+
+// Why a text has no code.
+fn refusal_of(alloc: Global, text: &str) -> Option<CodeRefusal> {
+    match program_of(alloc, text) {
+        Ok(program) => compile(alloc, &program).err(),
+        Err(_) => None,
+    }
+}
+
+#[test]
+fn the_greatest_text_becomes_code(rt: HostRuntime) -> Result<(), Fail> {
+    let alloc = rt.alloc();
+    let mut turns = Vec::new(alloc);
+    for _ in 0..5460 {
+        turns.push(Turn::Puts("1"))?;
+    }
+    turns.push(Turn::Ends(0, How::Normal))?;
+    let played = played(alloc, &many_puts(alloc, 5460)?, &OUTERMOST, &turns)?;
+    assert_eq!(rt; played, Played::Turns(5461));
+    let refusal = refusal_of(alloc, &many_puts(alloc, 5461)?);
+    assert_eq!(rt; refusal, Some(CodeRefusal::CodeTooLong));
     Ok(())
 }
