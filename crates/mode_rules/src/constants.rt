@@ -32,10 +32,7 @@ impl<'a> Evaluation<'a> {
     pub fn known(&self, expr: &Expr, told: &mut Told) -> Result<Known, Memory> {
         match expr {
             Expr::Whole { at, value } => self.whole(*at, *value, told),
-            Expr::Char { value, .. } => {
-                let class = Class::Derived(self.plain.char.clone()?);
-                Ok(Known::constant(class, single(self.alloc, i64::from(*value))?))
-            }
+            Expr::Char { value, .. } => self.character(*value),
             Expr::Text { value, .. } => self.text(value),
             Expr::This { .. } | Expr::Receive { .. } => Ok(Known::varying()),
             Expr::Paren { inner, .. } => self.known(inner, told),
@@ -83,8 +80,8 @@ impl<'a> Evaluation<'a> {
         }
     }
 
-    // A literal, which is one of INT.
-    fn whole(&self, at: Pos, value: u64, told: &mut Told) -> Result<Known, Memory> {
+    /// A literal, which is one of INT.
+    pub fn whole(&self, at: Pos, value: u64, told: &mut Told) -> Result<Known, Memory> {
         match i64::try_from(value) {
             Ok(number) if number <= GREATEST => self.int(number),
             _ => {
@@ -94,8 +91,8 @@ impl<'a> Evaluation<'a> {
         }
     }
 
-    // A literal behind a minus, which makes one number with it.
-    fn negative(&self, at: Pos, value: u64, told: &mut Told) -> Result<Known, Memory> {
+    /// A literal behind a minus, which makes one number with it.
+    pub fn negative(&self, at: Pos, value: u64, told: &mut Told) -> Result<Known, Memory> {
         match i64::try_from(value) {
             Ok(number) if number <= GREATEST + 1 => self.int(-number),
             _ => {
@@ -111,7 +108,14 @@ impl<'a> Evaluation<'a> {
         Ok(Known::constant(class, single(self.alloc, number)?))
     }
 
-    fn text(&self, value: &Text) -> Result<Known, Memory> {
+    /// A character.
+    pub fn character(&self, value: u8) -> Result<Known, Memory> {
+        let class = Class::Derived(self.plain.char.clone()?);
+        Ok(Known::constant(class, single(self.alloc, i64::from(value))?))
+    }
+
+    /// A text.
+    pub fn text(&self, value: &Text) -> Result<Known, Memory> {
         let length = u32::try_from(value.len()).unwrap_or(u32::MAX);
         let mode = Rc::new(self.alloc, Mode::Chars { length })?;
         let mut scalars = Scalars::new(self.alloc);
@@ -123,12 +127,14 @@ impl<'a> Evaluation<'a> {
 
     // A name alone: a synonym, an element, TRUE, FALSE and NULL are constants.
     fn name(&self, name: &Name) -> Result<Known, Memory> {
-        let Some(number) = self.used_at(name.at) else {
-            return Ok(Known::varying());
-        };
-        if !self.is_constant_name(number) {
-            return Ok(Known::varying());
+        match self.used_at(name.at) {
+            Some(number) if self.is_constant_name(number) => self.constant_name(number),
+            _ => Ok(Known::varying()),
         }
+    }
+
+    /// What is known of a definition that is one of a constant.
+    pub fn constant_name(&self, number: u32) -> Result<Known, Memory> {
         let mut known = Known::broken();
         if let Some(entry) = self.entry(number) {
             known.class = match &entry.class {

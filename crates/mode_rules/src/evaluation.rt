@@ -2,13 +2,13 @@
 use crate::known::Known;
 use crate::numbers::single;
 use crate::order::in_order;
-use crate::origin::{Element, Origin, Origins, Owner};
+use crate::origin::{Element, Origin, Origins, Owner, origins};
 use crate::predefined::Predefined;
 use crate::told::Told;
 use crate::uses::{number_at, places};
 use crate::written::Standing;
 use chill_base::{Item, List, Memory, Pos, Scalars};
-use chill_tree::tree::{Declaration, ModeDefinition, Name, Signal, Synonym};
+use chill_tree::tree::{Declaration, ModeDefinition, Name, Signal, Synonym, Tree};
 use diagnostics::Rule;
 use modes::{Class, Mode, holds_read};
 use names_model::{Names, Resolved};
@@ -16,7 +16,6 @@ use std::alloc::Global;
 use std::rc::Rc;
 
 /// What is known of a definition. Each is none where there is none, or where something that it needs is broken.
-#[derive(Drop)]
 pub struct Entry {
     /// The mode of a mode, location or parameter, of a synonym's names, or of what a procedure returns.
     pub mode: Option<Rc<Mode>>,
@@ -26,6 +25,22 @@ pub struct Entry {
     pub value: Option<Scalars>,
     /// The modes of a signal's parts.
     pub parts: List<Option<Rc<Mode>>>,
+}
+
+// Dropped by hand, so that whoever drops one makes one call.
+impl Drop for Entry {
+    fn drop(self) {
+        let Entry {
+            mode,
+            class,
+            value,
+            parts,
+        } = self;
+        drop(mode);
+        drop(class);
+        drop(value);
+        drop(parts);
+    }
 }
 
 impl Entry {
@@ -41,7 +56,6 @@ impl Entry {
 }
 
 /// The modes that every program has.
-#[derive(Drop)]
 pub struct Plain {
     pub int: Rc<Mode>,
     pub bool: Rc<Mode>,
@@ -49,46 +63,51 @@ pub struct Plain {
     pub instance: Rc<Mode>,
 }
 
+// Dropped by hand, so that whoever drops one makes one call.
+impl Drop for Plain {
+    fn drop(self) {
+        let Plain {
+            int,
+            bool,
+            char,
+            instance,
+        } = self;
+        drop(int);
+        drop(bool);
+        drop(char);
+        drop(instance);
+    }
+}
+
 /// A program whose definitions are evaluated.
-#[derive(Drop)]
 pub struct Evaluation<'a> {
     pub alloc: Global,
     pub names: &'a Names,
+    /// What each definition is defined by, by its number.
     pub origins: Origins<'a>,
     /// The places of the definitions.
     pub defined: List<Resolved>,
+    /// What is known of each definition, by its number.
     pub entries: Vec<Entry>,
     pub plain: Plain,
 }
 
-/// Evaluates all definitions, and tells which rules on modes and constants they break.
-pub fn evaluate<'a>(
-    alloc: Global,
-    names: &'a Names,
-    origins: Origins<'a>,
-    told: &mut Told,
-) -> Result<Evaluation<'a>, Memory> {
-    let mut entries = Vec::new(alloc);
-    for _ in origins.as_slice() {
-        entries.push(Entry::unknown(alloc))?;
+// Dropped by hand, so that whoever drops one makes one call.
+impl<'a> Drop for Evaluation<'a> {
+    fn drop(self) {
+        let Evaluation {
+            alloc: _,
+            names: _,
+            origins,
+            defined,
+            entries,
+            plain,
+        } = self;
+        drop(origins);
+        drop(defined);
+        drop(entries);
+        drop(plain);
     }
-    let order = in_order(alloc, names, &origins)?;
-    let defined = places(alloc, names.definitions.as_slice())?;
-    let mut evaluation = Evaluation {
-        alloc,
-        names,
-        origins,
-        defined,
-        entries,
-        plain: plain_modes(alloc)?,
-    };
-    for number in order.as_slice() {
-        let entry = evaluation.entry_of(*number, told)?;
-        if let Some(own) = evaluation.entries.get_mut(*number as usize) {
-            *own = entry;
-        }
-    }
-    Ok(evaluation)
 }
 
 fn plain_modes(alloc: Global) -> Result<Plain, Memory> {
@@ -119,6 +138,42 @@ pub fn copied(class: &Class) -> Result<Class, Memory> {
 }
 
 impl<'a> Evaluation<'a> {
+    /// Evaluates all definitions of a program with its names, and tells which rules on modes and constants they break.
+    pub fn of(
+        alloc: Global,
+        tree: &'a Tree,
+        names: &'a Names,
+        told: &mut Told,
+    ) -> Result<Evaluation<'a>, Memory> {
+        let mut evaluation = Evaluation::unknown(alloc, tree, names)?;
+        let order = in_order(alloc, names, &evaluation.origins)?;
+        for number in order.as_slice() {
+            let entry = evaluation.entry_of(*number, told)?;
+            if let Some(own) = evaluation.entries.get_mut(*number as usize) {
+                *own = entry;
+            }
+        }
+        Ok(evaluation)
+    }
+
+    // A program of whose definitions nothing is known yet.
+    fn unknown(alloc: Global, tree: &'a Tree, names: &'a Names) -> Result<Evaluation<'a>, Memory> {
+        let origins = origins(alloc, tree)?;
+        let mut entries = Vec::new(alloc);
+        for _ in origins.as_slice() {
+            entries.push(Entry::unknown(alloc))?;
+        }
+        let defined = places(alloc, names.definitions.as_slice())?;
+        Ok(Evaluation {
+            alloc,
+            names,
+            origins,
+            defined,
+            entries,
+            plain: plain_modes(alloc)?,
+        })
+    }
+
     /// What a definition is defined by.
     pub fn origin(&self, number: u32) -> Option<Origin<'a>> {
         self.origins.as_slice().get(number as usize).copied()
@@ -319,8 +374,9 @@ impl<'a> Evaluation<'a> {
         let mut entry = Entry::unknown(self.alloc);
         let Some(written) = &own.mode else {
             if let Some(known) = self.needed(&own.value, told)? {
-                entry.class = known.class;
-                entry.value = known.value;
+                let (class, value) = known.into_parts();
+                entry.class = class;
+                entry.value = value;
             }
             return Ok(entry);
         };
@@ -353,7 +409,7 @@ impl<'a> Evaluation<'a> {
             told.tell(Rule::M12, at)?;
             return Ok(None);
         }
-        Ok(known.value)
+        Ok(known.into_parts().1)
     }
 }
 

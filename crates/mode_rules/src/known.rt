@@ -4,7 +4,6 @@ use modes::{Bounds, Class, Form, Mode, bounds, form_of, goes_with, number_of_val
 
 /// What is known of an expression: its class and, where it is a constant, its value. Each is none where there is none, or
 /// where something in the expression or in what it uses is broken.
-#[derive(Drop)]
 pub struct Known {
     pub class: Option<Class>,
     pub value: Option<Scalars>,
@@ -12,7 +11,29 @@ pub struct Known {
     pub is_constant: bool,
 }
 
+// Dropped by hand, so that whoever drops one makes one call.
+impl Drop for Known {
+    fn drop(self) {
+        let Known {
+            class,
+            value,
+            is_constant: _,
+        } = self;
+        drop(class);
+        drop(value);
+    }
+}
+
 impl Known {
+    /// What isn't constant, of a class.
+    pub fn of_class(class: Class) -> Known {
+        Known {
+            class: Some(class),
+            value: None,
+            is_constant: false,
+        }
+    }
+
     /// What has the form of a constant, but nothing else.
     pub fn broken() -> Known {
         Known {
@@ -47,6 +68,16 @@ impl Known {
             value: None,
             is_constant: self.is_constant,
         }
+    }
+
+    /// Its class and its value.
+    pub fn into_parts(self) -> (Option<Class>, Option<Scalars>) {
+        let Known {
+            class,
+            value,
+            is_constant: _,
+        } = self;
+        (class, value)
     }
 
     /// The value of a constant of a discrete mode.

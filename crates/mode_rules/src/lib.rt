@@ -3,7 +3,8 @@
 //!
 //! It stands on `visibility`'s names, on `modes`, whose tests it asks, and on `layout_map`; the checks of statements and
 //! of processes and the elaborated program stand on it. What is known of a definition or an expression is none where
-//! something that it needs is broken, so nothing is told twice for one fault.
+//! something that it needs is broken, so nothing is told twice for one fault. What they share is public: the evaluated
+//! definitions, what is told, and the class and value of each operator and routine on constants.
 #![tactic(auto)]
 
 mod constants;
@@ -22,4 +23,14 @@ mod tuples;
 mod uses;
 mod written;
 
+pub use evaluation::{Entry, Evaluation, Plain, copied, shared};
+pub use known::{Known, form_in, member_count, mode_in};
+pub use numbers::{add_members, empty_set, single};
+pub use operators::{Computed, Operands};
+pub use origin::{Element, Origin, Origins, Owner};
 pub use phase::told_of_modes;
+pub use predefined::{PREDEFINED, Predefined};
+pub use routines::Measured;
+pub use told::Told;
+pub use tuples::{bare, has_parts, is_measuring, is_value_routine};
+pub use written::Standing;

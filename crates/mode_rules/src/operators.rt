@@ -15,11 +15,49 @@ use std::cmp::Ordering;
 use std::rc::Rc;
 
 /// What is known of two operands, and whether no rule is broken in them.
-#[derive(Drop)]
 pub struct Operands {
     pub left: Known,
     pub right: Known,
     pub is_whole: bool,
+}
+
+// Dropped by hand, so that whoever drops one makes one call.
+impl Drop for Operands {
+    fn drop(self) {
+        let Operands {
+            left,
+            right,
+            is_whole: _,
+        } = self;
+        drop(left);
+        drop(right);
+    }
+}
+
+/// What comes of an operator or a routine on constants.
+#[derive(Drop)]
+pub enum Computed {
+    /// What is known of the result: nothing where nothing is known of an operand.
+    Known(Known),
+    /// The operands don't fit.
+    Misfit,
+    /// An exception would be raised.
+    OutOfRange,
+}
+
+/// What is known of a result; at an operator or routine that is told what came of it.
+pub fn told_of_computed(computed: Computed, at: Pos, told: &mut Told) -> Result<Known, Memory> {
+    match computed {
+        Computed::Known(known) => Ok(known),
+        Computed::Misfit => {
+            told.tell(Rule::M10, at)?;
+            Ok(Known::broken())
+        }
+        Computed::OutOfRange => {
+            told.tell(Rule::M11, at)?;
+            Ok(Known::broken())
+        }
+    }
 }
 
 impl<'a> Evaluation<'a> {
@@ -42,27 +80,28 @@ impl<'a> Evaluation<'a> {
         if !*is_whole {
             return Ok(Known::broken());
         }
+        let computed = self.computed_binary(operator, left, right)?;
+        told_of_computed(computed, sign, told)
+    }
+
+    /// What comes of an operator between two constants.
+    pub fn computed_binary(
+        &self,
+        operator: Operator,
+        left: &Known,
+        right: &Known,
+    ) -> Result<Computed, Memory> {
         let (Some(one), Some(other)) = (&left.class, &right.class) else {
-            return Ok(Known::broken());
+            return Ok(Computed::Known(Known::broken()));
         };
         let Some(class) = self.class_of_binary(operator, one, other)? else {
-            told.tell(Rule::M10, sign)?;
-            return Ok(Known::broken());
+            return Ok(Computed::Misfit);
         };
         let (Some(mine), Some(theirs)) = (&left.value, &right.value) else {
-            return Ok(Known {
-                class: Some(class),
-                value: None,
-                is_constant: true,
-            });
+            return Ok(without_value(class));
         };
-        match self.value_of_binary(operator, other, mine, theirs)? {
-            None => {
-                told.tell(Rule::M11, sign)?;
-                Ok(Known::broken())
-            }
-            Some(value) => Ok(Known::constant(class, value)),
-        }
+        let value = self.value_of_binary(operator, other, mine, theirs)?;
+        Ok(with_value(class, value))
     }
 
     /// What is known of an operand with an operator before it.
@@ -76,27 +115,23 @@ impl<'a> Evaluation<'a> {
         if !operand.is_constant {
             return Ok(Known::varying());
         }
+        let computed = self.computed_unary(operator, operand)?;
+        told_of_computed(computed, at, told)
+    }
+
+    /// What comes of an operator before a constant.
+    pub fn computed_unary(&self, operator: Prefix, operand: &Known) -> Result<Computed, Memory> {
         let Some(own) = &operand.class else {
-            return Ok(Known::broken());
+            return Ok(Computed::Known(Known::broken()));
         };
         let Some(class) = self.class_of_unary(operator, own)? else {
-            told.tell(Rule::M10, at)?;
-            return Ok(Known::broken());
+            return Ok(Computed::Misfit);
         };
         let Some(value) = &operand.value else {
-            return Ok(Known {
-                class: Some(class),
-                value: None,
-                is_constant: true,
-            });
+            return Ok(without_value(class));
         };
-        match self.value_of_unary(operator, own, value)? {
-            None => {
-                told.tell(Rule::M11, at)?;
-                Ok(Known::broken())
-            }
-            Some(value) => Ok(Known::constant(class, value)),
-        }
+        let value = self.value_of_unary(operator, own, value)?;
+        Ok(with_value(class, value))
     }
 
     /// The class of the result of an operator between two operands, or none where they don't fit it.
@@ -243,6 +278,23 @@ impl<'a> Evaluation<'a> {
             None => Ok(None),
             Some(number) => Ok(Some(single(self.alloc, number)?)),
         }
+    }
+}
+
+// A result of a class, whose value isn't known.
+pub(crate) fn without_value(class: Class) -> Computed {
+    Computed::Known(Known {
+        class: Some(class),
+        value: None,
+        is_constant: true,
+    })
+}
+
+// A result of a class, with its value where it has one.
+pub(crate) fn with_value(class: Class, value: Option<Scalars>) -> Computed {
+    match value {
+        None => Computed::OutOfRange,
+        Some(value) => Computed::Known(Known::constant(class, value)),
     }
 }
 

@@ -4,15 +4,15 @@ ghost use Rattle.std.specs.Prelude.{IfOk};
 ghost use Rattle.std.specs.List.Sorted.{IsStrictlySortedBy};
 ghost use Rattle.diagnostics.specs.Order.{diagnostic_cmp};
 
-use crate::evaluation::{Evaluation, evaluate};
-use crate::origin::{Origin, origins};
+use crate::evaluation::Evaluation;
+use crate::origin::Origin;
 use crate::told::Told;
-use chill_base::{List, Memory, Pos};
+use chill_base::{Memory, Pos};
 use chill_tree::tree::{
     BodyPart, Bracketed, Control, Expr, Handler, Item, Local, Modulion, NamedAlternative, Simple,
     Statement, Tree, ValueRange,
 };
-use diagnostics::{Diagnostics, Rule, list_once, listed_law};
+use diagnostics::{Diagnostics, Rule};
 use modes::number_of_scalars;
 use names_model::{Definition, Inside, Kind, Names};
 use std::alloc::Global;
@@ -25,26 +25,21 @@ pub fn told_of_modes(alloc: Global, tree: &Tree, names: &Names) -> Result<Diagno
     ensures { IfOk result (λ list. IsStrictlySortedBy diagnostic_cmp list) }
 {
     let mut told = Told::new(alloc);
-    let origins = origins(alloc, tree)?;
-    let evaluation = evaluate(alloc, names, origins, &mut told)?;
-    for modulion in tree.modulions.as_slice() {
-        evaluation.tell_in_modulion(modulion, &mut told)?;
-    }
-    evaluation.tell_too_many_shared(&mut told)?;
-    Ok(list_of(told))
-}
-
-// The one list of what is told.
-fn list_of(told: Told) -> Diagnostics
-    ensures { IsStrictlySortedBy diagnostic_cmp result }
-{
-    listed_law();
-    let mut list = told.into_diagnostics().into_vec();
-    list_once(&mut list);
-    Diagnostics::from_vec(list)
+    let evaluation = Evaluation::of(alloc, tree, names, &mut told)?;
+    evaluation.tell_of_program(tree, &mut told)?;
+    Ok(told.into_list())
 }
 
 impl<'a> Evaluation<'a> {
+    /// Tells all rules on modes and constants that the expressions of a program break, and rule L7. Those that its
+    /// definitions break were told as they were evaluated.
+    pub fn tell_of_program(&self, tree: &Tree, told: &mut Told) -> Result<(), Memory> {
+        for modulion in tree.modulions.as_slice() {
+            self.tell_in_modulion(modulion, told)?;
+        }
+        self.tell_too_many_shared(told)
+    }
+
     // Rule L7: the location with which the scalars of all shared locations become too many.
     fn tell_too_many_shared(&self, told: &mut Told) -> Result<(), Memory> {
         let mut sum = 0_u64;

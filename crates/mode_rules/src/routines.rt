@@ -2,6 +2,7 @@
 use crate::evaluation::{Evaluation, copied, shared};
 use crate::known::{Known, form_in, member_count, mode_in};
 use crate::numbers::{GREATEST, count, greatest, least, of_int};
+use crate::operators::{Computed, told_of_computed, with_value, without_value};
 use crate::origin::Origin;
 use crate::predefined::Predefined;
 use crate::told::Told;
@@ -58,55 +59,54 @@ impl<'a> Evaluation<'a> {
         args: &[Expr],
         told: &mut Told,
     ) -> Result<Known, Memory> {
+        let [arg] = args else {
+            return self.wrong_number(at, own, args, told);
+        };
         let before = told.count();
-        let mut only = Known::broken();
-        let mut is_constant = true;
-        for arg in args {
-            only = self.known(arg, told)?;
-            is_constant = is_constant && only.is_constant;
-        }
-        if !is_constant {
+        let known = self.known(arg, told)?;
+        if !known.is_constant {
             return Ok(Known::varying());
         }
         if told.count() > before {
             return Ok(Known::broken());
         }
-        if args.len() != 1 {
-            told.tell(Rule::M10, at)?;
-            return Ok(Known::broken());
-        }
-        self.called(at, own, &only, told)
+        let computed = self.computed_routine(own, &known)?;
+        told_of_computed(computed, at, told)
     }
 
-    // A routine of one value, which is a constant.
-    fn called(
+    // A routine that doesn't have exactly one argument.
+    #[cycle(expr)]
+    fn wrong_number(
         &self,
         at: Pos,
         own: Predefined,
-        arg: &Known,
+        args: &[Expr],
         told: &mut Told,
     ) -> Result<Known, Memory> {
+        let before = told.count();
+        let varying = self.varying_parts(args, told)?;
+        if !self.are_arguments(own, args) {
+            return Ok(varying);
+        }
+        if told.count() == before {
+            told.tell(Rule::M10, at)?;
+        }
+        Ok(Known::broken())
+    }
+
+    /// What comes of a routine of one value, which is a constant.
+    pub fn computed_routine(&self, own: Predefined, arg: &Known) -> Result<Computed, Memory> {
         let Some(of) = &arg.class else {
-            return Ok(Known::broken());
+            return Ok(Computed::Known(Known::broken()));
         };
         let Some(class) = self.class_of_routine(own, of)? else {
-            told.tell(Rule::M10, at)?;
-            return Ok(Known::broken());
+            return Ok(Computed::Misfit);
         };
         let Some(value) = &arg.value else {
-            return Ok(Known {
-                class: Some(class),
-                value: None,
-                is_constant: true,
-            });
+            return Ok(without_value(class));
         };
-        match self.some_single(value_of_routine(own, of, value))? {
-            None => {
-                told.tell(Rule::M11, at)?;
-                Ok(Known::broken())
-            }
-            Some(value) => Ok(Known::constant(class, value)),
-        }
+        let value = self.some_single(value_of_routine(own, of, value))?;
+        Ok(with_value(class, value))
     }
 
     /// The class of the result of a routine of one value, or none where the argument doesn't fit.
@@ -138,7 +138,7 @@ impl<'a> Evaluation<'a> {
         told: &mut Told,
     ) -> Result<Known, Memory> {
         let [arg] = args else {
-            return self.value_routine(at, own, args, told);
+            return self.wrong_number(at, own, args, told);
         };
         let before = told.count();
         let measured = match self.measured(arg)? {
@@ -147,7 +147,7 @@ impl<'a> Evaluation<'a> {
                 if !known.is_constant {
                     return Ok(Known::varying());
                 }
-                of_class(&known.class)?
+                of_value(&known)
             }
             own => {
                 let _ = self.known(arg, told)?;
@@ -298,12 +298,11 @@ fn of_mode(mode: Option<Rc<Mode>>) -> Measured {
     }
 }
 
-// The mode of a value's class.
-fn of_class(class: &Option<Class>) -> Result<Measured, Memory> {
-    match class {
-        None => Ok(Measured::Broken),
-        Some(Class::Value(mode)) | Some(Class::Derived(mode)) => Ok(Measured::Mode(mode.clone()?)),
-        Some(Class::Null) | Some(Class::Nothing) => Ok(Measured::Misfit),
+// A value, which is no mode and no location.
+fn of_value(known: &Known) -> Measured {
+    match &known.class {
+        None => Measured::Broken,
+        Some(_) => Measured::Misfit,
     }
 }
 

@@ -1,12 +1,22 @@
 // What is told of a text, in the order in which it is found.
+ghost use Rattle.std.specs.List.Sorted.{IsStrictlySortedBy};
+ghost use Rattle.diagnostics.specs.Order.{diagnostic_cmp};
+
 use chill_base::{List, Memory, Pos, Text};
-use diagnostics::{Diagnostic, Diagnostics, Rule};
+use diagnostics::{Diagnostic, Diagnostics, Rule, list_once, listed_law};
 use std::alloc::Global;
 
 /// The diagnostics of a phase, as they are found.
-#[derive(Drop)]
 pub struct Told {
     diagnostics: Diagnostics,
+}
+
+// Dropped by hand, so that whoever drops one makes one call.
+impl Drop for Told {
+    fn drop(self) {
+        let Told { diagnostics } = self;
+        drop(diagnostics);
+    }
 }
 
 impl Told {
@@ -51,9 +61,14 @@ impl Told {
         })
     }
 
-    /// All of them.
-    pub fn into_diagnostics(self) -> Diagnostics {
+    /// All of them in order, each once.
+    pub fn into_list(self) -> Diagnostics
+        ensures { IsStrictlySortedBy diagnostic_cmp result }
+    {
+        listed_law();
         let Told { diagnostics } = self;
-        diagnostics
+        let mut list = diagnostics.into_vec();
+        list_once(&mut list);
+        Diagnostics::from_vec(list)
     }
 }

@@ -381,9 +381,9 @@ impl<'a> Evaluation<'a> {
         true
     }
 
-    // Whether all arguments of a routine have the form of constants, or may be measured.
+    /// Whether all arguments of a routine of values have the form of constants, or may be measured.
     #[cycle(form)]
-    fn are_arguments(&self, own: Predefined, args: &[Expr]) -> bool {
+    pub fn are_arguments(&self, own: Predefined, args: &[Expr]) -> bool {
         if !is_value_routine(own) {
             return false;
         }
@@ -419,8 +419,8 @@ impl<'a> Evaluation<'a> {
     }
 }
 
-// Whether a routine gives a value of its arguments alone.
-fn is_value_routine(own: Predefined) -> bool {
+/// Whether a routine gives a value of its arguments alone.
+pub fn is_value_routine(own: Predefined) -> bool {
     match own {
         Predefined::Num
         | Predefined::Succ
@@ -433,16 +433,16 @@ fn is_value_routine(own: Predefined) -> bool {
     }
 }
 
-// Whether a routine measures a mode.
-fn is_measuring(own: Predefined) -> bool {
+/// Whether a routine measures a mode.
+pub fn is_measuring(own: Predefined) -> bool {
     matches!(
         own,
         Predefined::Upper | Predefined::Lower | Predefined::Size
     )
 }
 
-// Whether a tuple has so many parts, none of which is a range.
-fn has_parts(parts: &[ValueRange], count: u64) -> bool {
+/// Whether a tuple has so many parts, none of which is a range.
+pub fn has_parts(parts: &[ValueRange], count: u64) -> bool {
     for part in parts {
         if part.last.is_some() {
             return false;
