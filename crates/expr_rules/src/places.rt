@@ -1,0 +1,206 @@
+// Locations: what they are of, their modes, and whether they can be written (Z.200, chapter on locations).
+use crate::receiving::Receiver;
+use crate::surroundings::Walk;
+use chill_base::Memory;
+use chill_tree::tree::{Expr, Name};
+use diagnostics::Rule;
+use mode_rules::{Known, Origin, Told};
+use modes::{Form, Mode, form_of, holds_read, is_read};
+use std::rc::Rc;
+
+/// What may be done with what stands where a location is needed.
+#[derive(Clone, Copy, PartialEq, Eq)]
+pub enum Access {
+    /// It is a location or parameter, or a part of one, and can be written.
+    Free,
+    /// It is one, and is only read: its own mode, that of what it is a part of, or that of a part of it is READ.
+    ReadOnly,
+    /// It is a counter, a received name, no location, or a part that doesn't fit.
+    NoLocation,
+}
+
+/// What stands where a location is needed.
+pub struct Located {
+    /// The number of the definition that it begins with.
+    pub definition: Option<u32>,
+    /// Its mode, also that of a counter or received name with its parts; none of anything else, and where something in it
+    /// is broken.
+    pub mode: Option<Rc<Mode>>,
+    pub access: Access,
+}
+
+// Dropped by hand, so that whoever drops one makes one call.
+impl Drop for Located {
+    fn drop(self) {
+        let Located {
+            definition: _,
+            mode,
+            access: _,
+        } = self;
+        drop(mode);
+    }
+}
+
+impl Located {
+    /// What receives a value for it.
+    pub fn receiver(&self) -> Receiver<'_> {
+        Receiver::Mode(self.mode.as_ref())
+    }
+
+    /// Its class: the value of its mode, for an operator with it.
+    pub fn known(&self) -> Result<Known, Memory> {
+        match &self.mode {
+            None => Ok(Known::varying()),
+            Some(mode) => Ok(Known::of_class(modes::Class::Value(mode.clone()?))),
+        }
+    }
+
+    // The part of this mode, none where it doesn't fit. What is part of something READ is only read.
+    fn part(self, mode: Option<Rc<Mode>>) -> Located {
+        let access = match (&mode, self.access) {
+            (None, _) | (_, Access::NoLocation) => Access::NoLocation,
+            (Some(part), Access::Free) if !is_read(part) => Access::Free,
+            _ => Access::ReadOnly,
+        };
+        Located {
+            definition: self.definition,
+            mode,
+            access,
+        }
+    }
+}
+
+impl<'a, 'b> Walk<'a, 'b> {
+    /// What stands where a value is to be put; tells what its indices break, and rule S3.
+    pub fn target(&self, expr: &Expr, told: &mut Told) -> Result<Located, Memory> {
+        let before = told.count();
+        let located = self.location(expr, told)?;
+        if told.count() == before && target_cannot_be_written(&located) {
+            told.tell(Rule::S3, expr.at())?;
+        }
+        Ok(located)
+    }
+
+    /// What stands where a location is needed; tells what its indices break. Its mode is none where they break something.
+    pub fn location(&self, expr: &Expr, told: &mut Told) -> Result<Located, Memory> {
+        let before = told.count();
+        let _ = self.indices(expr, told)?;
+        let mut located = self.place(expr)?;
+        if told.count() > before {
+            located.mode = None;
+        }
+        Ok(located)
+    }
+
+    // What the indices of a location break, and what is known of it. Brackets behind a name call nothing here.
+    #[cycle(location)]
+    fn indices(&self, expr: &Expr, told: &mut Told) -> Result<Known, Memory> {
+        match expr {
+            Expr::Name(name) => self.name(name),
+            Expr::Apply { of, args, .. } => {
+                let base = self.indices(of, told)?;
+                self.indexed(args.as_slice(), of.at(), &base, told)
+            }
+            Expr::Field { of, field, .. } => {
+                let base = self.indices(of, told)?;
+                self.field(&base, field.text.as_slice())
+            }
+            _ => Ok(Known::varying()),
+        }
+    }
+
+    /// What an expression is as a location. It tells nothing.
+    pub fn place(&self, expr: &Expr) -> Result<Located, Memory> {
+        let mut located = self.path(expr)?;
+        if let (Some(mode), Access::Free) = (&located.mode, located.access) {
+            if holds_read(mode) {
+                located.access = Access::ReadOnly;
+            }
+        }
+        Ok(located)
+    }
+
+    // The same, where the modes of its own parts aren't asked.
+    fn path(&self, expr: &Expr) -> Result<Located, Memory> {
+        match expr {
+            Expr::Name(name) => self.place_of_name(name),
+            Expr::Apply { of, .. } => {
+                let base = self.path(of)?;
+                let mode = self.element_mode(&base.mode)?;
+                Ok(base.part(mode))
+            }
+            Expr::Field { of, field, .. } => {
+                let base = self.path(of)?;
+                let mode = field_mode(&base.mode, field.text.as_slice())?;
+                Ok(base.part(mode))
+            }
+            _ => Ok(no_location(None)),
+        }
+    }
+
+    fn place_of_name(&self, name: &Name) -> Result<Located, Memory> {
+        let Some(number) = self.evaluation.used_at(name.at) else {
+            return Ok(no_location(None));
+        };
+        let Some(mode) = self.mode_of(number) else {
+            return Ok(no_location(Some(number)));
+        };
+        let access = match self.evaluation.origin(number) {
+            Some(Origin::Location { .. }) | Some(Origin::Parameter { .. }) => {
+                if is_read(mode) {
+                    Access::ReadOnly
+                } else {
+                    Access::Free
+                }
+            }
+            _ => Access::NoLocation,
+        };
+        Ok(Located {
+            definition: Some(number),
+            mode: Some(mode.clone()?),
+            access,
+        })
+    }
+
+    // The mode of an element, where there is one.
+    fn element_mode(&self, of: &Option<Rc<Mode>>) -> Result<Option<Rc<Mode>>, Memory> {
+        let Some(of) = of else {
+            return Ok(None);
+        };
+        match form_of(of) {
+            Form::Array { element, .. } => Ok(Some(element.clone()?)),
+            Form::Chars(_) => Ok(Some(self.evaluation.plain.char.clone()?)),
+            _ => Ok(None),
+        }
+    }
+}
+
+// The mode of a field, where there is one of that name.
+fn field_mode(of: &Option<Rc<Mode>>, name: &[u8]) -> Result<Option<Rc<Mode>>, Memory> {
+    let Some(of) = of else {
+        return Ok(None);
+    };
+    let Form::Struct { fields, .. } = form_of(of) else {
+        return Ok(None);
+    };
+    for field in fields.as_slice() {
+        if field.name.as_slice() == name {
+            return Ok(Some(field.mode.clone()?));
+        }
+    }
+    Ok(None)
+}
+
+// What is no location.
+fn no_location(definition: Option<u32>) -> Located {
+    Located {
+        definition,
+        mode: None,
+        access: Access::NoLocation,
+    }
+}
+
+// Rule S3: the target is only read, a counter, a received name, or no location.
+fn target_cannot_be_written(target: &Located) -> bool {
+    target.access != Access::Free
+}
