@@ -5,10 +5,9 @@ ghost use Rattle.process_checks.specs.Answers.{TellsInOrder};
 
 use crate::walk::Checks;
 use chill_tree::tree::Tree;
-use diagnostics::{Diagnostics, list_once, listed_law};
-use mode_rules::evaluation::evaluate;
-use mode_rules::origin::origins;
-use mode_rules::told::Told;
+use diagnostics::Diagnostics;
+use expr_rules::Walk;
+use mode_rules::{Evaluation, Told};
 use names_model::Names;
 use std::alloc::Global;
 use visibility::Refusal;
@@ -18,25 +17,18 @@ use visibility::Refusal;
 pub fn check_processes(alloc: Global, tree: &Tree, names: &Names) -> Result<(), Refusal>
     ensures { TellsInOrder result }
 {
-    // What is told here was told by the phase of modes, of which nothing is left.
+    // The phase of modes and constants told what is told here, which is nothing.
     let mut told_before = Told::new(alloc);
-    let evaluation = evaluate(alloc, names, origins(alloc, tree)?, &mut told_before)?;
-    let checks = Checks { evaluation };
+    let evaluation = Evaluation::of(alloc, tree, names, &mut told_before)?;
+    let checks = Checks {
+        evaluation: &evaluation,
+        locations: Walk::new(&evaluation)?,
+    };
     let mut told = Told::new(alloc);
     for modulion in tree.modulions.as_slice() {
         checks.tell_in_modulion(modulion, &mut told)?;
     }
-    answer(list_of(told))
-}
-
-// The one list of what is told.
-fn list_of(told: Told) -> Diagnostics
-    ensures { IsStrictlySortedBy diagnostic_cmp result }
-{
-    listed_law();
-    let mut list = told.into_diagnostics().into_vec();
-    list_once(&mut list);
-    Diagnostics::from_vec(list)
+    answer(told.into_list())
 }
 
 // No rule is broken where the list is empty.

@@ -2,7 +2,7 @@
 use crate::walk::Checks;
 use chill_base::Pos;
 use chill_tree::tree::Name;
-use mode_rules::origin::Origin;
+use mode_rules::Origin;
 use modes::Mode;
 
 /// What a name stands for that processes meet at, or another location.
@@ -34,7 +34,7 @@ pub fn meeting_of(mode: &Mode) -> Meeting {
     }
 }
 
-impl<'a> Checks<'a> {
+impl<'a, 'b> Checks<'a, 'b> {
     /// What processes meet at under the name used at a place, or none where that isn't known.
     pub fn met_at(&self, name: &Name) -> Option<Meeting> {
         let number = self.evaluation.used_at(name.at)?;

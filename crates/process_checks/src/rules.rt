@@ -1,10 +1,10 @@
 // The rules on processes, each in one function that is given what the rule speaks of (Z.200, chapter on concurrent
 // execution; the limits of priorities are our own choice).
 use crate::listed::Listed;
-use crate::located::Located;
 use crate::meeting::Meeting;
 use chill_tree::tree::{ModulionKind, Name};
-use mode_rules::known::Known;
+use expr_rules::{Access, Located};
+use mode_rules::Known;
 use modes::{Form, Mode, form_of};
 use std::collections::HashSet;
 
@@ -58,11 +58,7 @@ pub fn is_a_location_of_the_region(locations: &HashSet<Vec<u8>>, granted: &Name)
 }
 
 /// Rule P5: an action lists a definition again, or a buffer behind a signal or the other way round.
-pub fn is_listed_twice_or_mixed(
-    earlier: &Listed,
-    definition: u32,
-    named: Option<Meeting>,
-) -> bool {
+pub fn is_listed_twice_or_mixed(earlier: &Listed, definition: u32, named: Option<Meeting>) -> bool {
     let is_of_the_other_sort = match named {
         Some(Meeting::Buffer) => earlier.has_signal,
         Some(Meeting::Signal) => earlier.has_buffer,
@@ -81,10 +77,11 @@ pub fn is_priority_out_of_limits(priority: &Known, int: &Mode) -> bool {
 
 /// Rule P7: what is to be set is no location of an instance, or none that can be written.
 pub fn is_no_instance_location(set: &Located) -> bool {
-    match &set.mode {
-        None => true,
-        Some(mode) => !matches!(form_of(mode), Form::Instance) || set.is_only_read,
-    }
+    let is_of_instances = match &set.mode {
+        None => false,
+        Some(mode) => matches!(form_of(mode), Form::Instance),
+    };
+    !is_of_instances || set.access != Access::Free
 }
 
 /// Rule P8: a location that is declared in a body is an event or a buffer.

@@ -8,9 +8,9 @@ use chill_tree::tree::{
     Statement,
 };
 use diagnostics::Rule;
-use mode_rules::told::Told;
+use mode_rules::Told;
 
-impl<'a> Checks<'a> {
+impl<'a, 'b> Checks<'a, 'b> {
     /// What is told in a body.
     #[cycle(statement)]
     pub fn tell_in_body(&self, body: &[BodyPart], told: &mut Told) -> Result<(), Memory> {
@@ -258,12 +258,7 @@ impl<'a> Checks<'a> {
     }
 
     // Rule P5 of a name, behind those that are listed.
-    fn tell_listed(
-        &self,
-        name: &Name,
-        listed: &mut Listed,
-        told: &mut Told,
-    ) -> Result<(), Memory> {
+    fn tell_listed(&self, name: &Name, listed: &mut Listed, told: &mut Told) -> Result<(), Memory> {
         let Some(definition) = self.evaluation.used_at(name.at) else {
             return Ok(());
         };

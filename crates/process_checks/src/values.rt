@@ -4,13 +4,11 @@ use crate::rules::{
 };
 use crate::walk::Checks;
 use chill_base::Memory;
-use chill_tree::tree::{
-    Base, Discrete, Expr, Field, Index, Mode, Name, Place, Spread, ValueRange,
-};
+use chill_tree::tree::{Base, Discrete, Expr, Field, Index, Mode, Name, Place, Spread, ValueRange};
 use diagnostics::Rule;
-use mode_rules::told::Told;
+use mode_rules::Told;
 
-impl<'a> Checks<'a> {
+impl<'a, 'b> Checks<'a, 'b> {
     /// Rule P3 of a name that stands in an action of a purpose.
     pub fn tell_misfit(
         &self,
@@ -40,8 +38,10 @@ impl<'a> Checks<'a> {
         if told.count() > before {
             return Ok(());
         }
-        let known = self.known(priority)?;
-        if is_priority_out_of_limits(&known, self.int()) {
+        // The phase of modes and constants told what is told here, which is nothing.
+        let mut told_before = Told::new(self.evaluation.alloc);
+        let known = self.evaluation.known(priority, &mut told_before)?;
+        if is_priority_out_of_limits(&known, &self.evaluation.plain.int) {
             return told.tell(Rule::P6, priority.at());
         }
         Ok(())
@@ -57,7 +57,7 @@ impl<'a> Checks<'a> {
         if told.count() > before {
             return Ok(());
         }
-        let located = self.located(set)?;
+        let located = self.locations.place(set)?;
         if is_no_instance_location(&located) {
             return told.tell(Rule::P7, set.at());
         }

@@ -9,17 +9,27 @@ use chill_tree::tree::{
     Process, Signal, Statement, Synonym,
 };
 use diagnostics::Rule;
-use mode_rules::evaluation::Evaluation;
-use mode_rules::told::Told;
+use mode_rules::{Evaluation, Told};
 use std::collections::HashSet;
 
-/// What the rules are asked of: a program whose definitions are evaluated.
-#[derive(Drop)]
-pub struct Checks<'a> {
-    pub evaluation: Evaluation<'a>,
+/// What the rules are asked against: the evaluated definitions of a program, and what stands at its locations.
+pub struct Checks<'a, 'b> {
+    pub evaluation: &'b Evaluation<'a>,
+    pub locations: expr_rules::Walk<'a, 'b>,
 }
 
-impl<'a> Checks<'a> {
+// Dropped by hand, so that whoever drops one makes one call.
+impl<'a, 'b> Drop for Checks<'a, 'b> {
+    fn drop(self) {
+        let Checks {
+            evaluation: _,
+            locations,
+        } = self;
+        drop(locations);
+    }
+}
+
+impl<'a, 'b> Checks<'a, 'b> {
     /// What is told in a modulion.
     #[cycle(item)]
     pub fn tell_in_modulion(&self, own: &Modulion, told: &mut Told) -> Result<(), Memory> {
@@ -50,12 +60,7 @@ impl<'a> Checks<'a> {
     }
 
     // Rule P2: an action or a modulion in a region, at its first token.
-    fn tell_place(
-        &self,
-        around: ModulionKind,
-        item: &Item,
-        told: &mut Told,
-    ) -> Result<(), Memory> {
+    fn tell_place(&self, around: ModulionKind, item: &Item, told: &mut Told) -> Result<(), Memory> {
         match item {
             Item::Statement(statement) if is_not_allowed_in_a_region(around) => {
                 told.tell(Rule::P2, first_place(statement))
@@ -225,8 +230,7 @@ fn tell_granted(
 // The place of a statement's first token.
 fn first_place(statement: &Statement) -> Pos {
     match statement {
-        Statement::Empty { at }
-        | Statement::Simple { at, .. }
-        | Statement::Bracketed { at, .. } => *at,
+        Statement::Empty { at } | Statement::Simple { at, .. } | Statement::Bracketed { at, .. } =>
+            *at,
     }
 }
