@@ -146,7 +146,7 @@ fn tell_of_tree(alloc: Global, tree: &Tree) -> Result<Told, Memory>
 {
     match resolve(alloc, tree) {
         Ok(names) => tell_of_form(alloc, tree, &names),
-        Err(Refusal::Broken(told)) => Ok(Told::Broken(told)),
+        Err(Refusal::Broken(misnamed)) => Ok(Told::Broken(misnamed)),
         Err(Refusal::Memory) => Err(Memory),
     }
 }
