@@ -73,11 +73,11 @@ impl<'a, 'b> Walk<'a, 'b> {
             told.tell(Rule::S10, at)?;
         }
         if args.len() != number_of_arguments(own) {
-            tell_wrong_number(args.len(), number_of_arguments(own), at, told)?;
+            told.tell(Rule::S5, at)?;
             return Ok(Known::varying());
         }
-        let result = self.routine(own, args, &known)?;
-        tell_unfit(result, at, told)
+        let found = self.routine(own, args, &known)?;
+        tell_unfit(found, at, told)
     }
 
     // What is told in a routine's arguments, and what is known of the last.
@@ -133,7 +133,8 @@ impl<'a, 'b> Walk<'a, 'b> {
         }
     }
 
-    // A call of a routine that stands as an action.
+    // A call of a routine that stands as an action. Rule S1 goes by the argument's class, which is there also where the
+    // argument has too many scalars for a value.
     fn routine_action(
         &self,
         name: &Name,
@@ -141,16 +142,12 @@ impl<'a, 'b> Walk<'a, 'b> {
         args: &[Expr],
         told: &mut Told,
     ) -> Result<(), Memory> {
-        let before = told.count();
         let known = self.routine_arguments(args, own, told)?;
         if args.len() != number_of_arguments(own) {
-            return tell_wrong_number(args.len(), number_of_arguments(own), name.at, told);
+            return told.tell(Rule::S5, name.at);
         }
-        if told.count() > before {
-            return Ok(());
-        }
-        let result = self.routine(own, args, &known)?;
-        let _ = tell_unfit(result, name.at, told)?;
+        let found = self.routine(own, args, &known)?;
+        let _ = tell_unfit(found, name.at, told)?;
         Ok(())
     }
 

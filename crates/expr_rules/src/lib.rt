@@ -8,6 +8,7 @@
 //! it only where nothing was told in or at it.
 #![tactic(auto)]
 
+mod assignments;
 mod calls;
 mod formals;
 mod places;

@@ -1,11 +1,12 @@
 // Locations: what they are of, their modes, and whether they can be written (Z.200, chapter on locations).
 use crate::receiving::Receiver;
+use crate::results::field_in;
 use crate::surroundings::Walk;
 use chill_base::Memory;
 use chill_tree::tree::{Expr, Name};
 use diagnostics::Rule;
 use mode_rules::{Known, Origin, Told};
-use modes::{Form, Mode, form_of, holds_read, is_read};
+use modes::{Class, Mode, holds_read, is_read};
 use std::rc::Rc;
 
 /// What may be done with what stands where a location is needed.
@@ -51,7 +52,7 @@ impl Located {
     pub fn known(&self) -> Result<Known, Memory> {
         match &self.mode {
             None => Ok(Known::varying()),
-            Some(mode) => Ok(Known::of_class(modes::Class::Value(mode.clone()?))),
+            Some(mode) => Ok(Known::of_class(Class::Value(mode.clone()?))),
         }
     }
 
@@ -126,12 +127,18 @@ impl<'a, 'b> Walk<'a, 'b> {
             Expr::Name(name) => self.place_of_name(name),
             Expr::Apply { of, .. } => {
                 let base = self.path(of)?;
-                let mode = self.element_mode(&base.mode)?;
+                let mode = match &base.mode {
+                    None => None,
+                    Some(own) => shared_mode(self.element_in(own))?,
+                };
                 Ok(base.part(mode))
             }
             Expr::Field { of, field, .. } => {
                 let base = self.path(of)?;
-                let mode = field_mode(&base.mode, field.text.as_slice())?;
+                let mode = match &base.mode {
+                    None => None,
+                    Some(own) => shared_mode(field_in(own, field.text.as_slice()))?,
+                };
                 Ok(base.part(mode))
             }
             _ => Ok(no_location(None)),
@@ -161,34 +168,14 @@ impl<'a, 'b> Walk<'a, 'b> {
             access,
         })
     }
-
-    // The mode of an element, where there is one.
-    fn element_mode(&self, of: &Option<Rc<Mode>>) -> Result<Option<Rc<Mode>>, Memory> {
-        let Some(of) = of else {
-            return Ok(None);
-        };
-        match form_of(of) {
-            Form::Array { element, .. } => Ok(Some(element.clone()?)),
-            Form::Chars(_) => Ok(Some(self.evaluation.plain.char.clone()?)),
-            _ => Ok(None),
-        }
-    }
 }
 
-// The mode of a field, where there is one of that name.
-fn field_mode(of: &Option<Rc<Mode>>, name: &[u8]) -> Result<Option<Rc<Mode>>, Memory> {
-    let Some(of) = of else {
-        return Ok(None);
-    };
-    let Form::Struct { fields, .. } = form_of(of) else {
-        return Ok(None);
-    };
-    for field in fields.as_slice() {
-        if field.name.as_slice() == name {
-            return Ok(Some(field.mode.clone()?));
-        }
+// The same mode once more, where there is one.
+fn shared_mode(mode: Option<&Rc<Mode>>) -> Result<Option<Rc<Mode>>, Memory> {
+    match mode {
+        None => Ok(None),
+        Some(mode) => Ok(Some(mode.clone()?)),
     }
-    Ok(None)
 }
 
 // What is no location.

@@ -4,9 +4,9 @@ use crate::surroundings::Walk;
 use chill_base::{Item, Memory};
 use chill_tree::tree::{Expr, Name, Operator, Prefix, Procedure};
 use mode_rules::{
-    Computed, Known, Measured, Origin, Predefined, form_in, is_measuring, is_value_routine,
+    Computed, Known, Measured, Origin, Predefined, form_in, is_measuring, is_value_routine, mode_in,
 };
-use modes::{Class, Form, Mode};
+use modes::{Class, Form, Mode, form_of};
 use std::rc::Rc;
 
 /// What a name with brackets behind it calls, if it does.
@@ -73,40 +73,46 @@ impl<'a, 'b> Walk<'a, 'b> {
 
     /// The mode that an index of something has to go with, where it has elements.
     pub fn index_mode<'k>(&'k self, of: &'k Known) -> Option<&'k Rc<Mode>> {
-        match form_in(of.class.as_ref()?)? {
+        self.index_in(mode_in(of.class.as_ref()?)?)
+    }
+
+    /// An element of something: no value where it has none.
+    pub fn element(&self, of: &Known) -> Result<Known, Memory> {
+        match &of.class {
+            None => Ok(Known::varying()),
+            Some(class) => match mode_in(class) {
+                None => Ok(Known::of_class(Class::Nothing)),
+                Some(mode) => part(self.element_in(mode)),
+            },
+        }
+    }
+
+    /// A field of something: no value where it has none of that name.
+    pub fn field(&self, of: &Known, name: &[u8]) -> Result<Known, Memory> {
+        match &of.class {
+            None => Ok(Known::varying()),
+            Some(class) => match mode_in(class) {
+                None => Ok(Known::of_class(Class::Nothing)),
+                Some(mode) => part(field_in(mode, name)),
+            },
+        }
+    }
+
+    // The mode that the indices of an array or a text have to go with.
+    fn index_in<'k>(&'k self, of: &'k Mode) -> Option<&'k Rc<Mode>> {
+        match form_of(of) {
             Form::Array { index, .. } => Some(index),
             Form::Chars(_) => Some(&self.evaluation.plain.int),
             _ => None,
         }
     }
 
-    /// An element of something: no value where it has none.
-    pub fn element(&self, of: &Known) -> Result<Known, Memory> {
-        let Some(class) = &of.class else {
-            return Ok(Known::varying());
-        };
-        match form_in(class) {
-            Some(Form::Array { element, .. }) => of_mode(Some(element)),
-            Some(Form::Chars(_)) => of_mode(Some(&self.evaluation.plain.char)),
-            _ => Ok(Known::of_class(Class::Nothing)),
-        }
-    }
-
-    /// A field of something: no value where it has none of that name.
-    pub fn field(&self, of: &Known, name: &[u8]) -> Result<Known, Memory> {
-        let Some(class) = &of.class else {
-            return Ok(Known::varying());
-        };
-        match form_in(class) {
-            Some(Form::Struct { fields, .. }) => {
-                for field in fields.as_slice() {
-                    if field.name.as_slice() == name {
-                        return of_mode(Some(&field.mode));
-                    }
-                }
-                Ok(Known::of_class(Class::Nothing))
-            }
-            _ => Ok(Known::of_class(Class::Nothing)),
+    // The mode of the elements of an array or a text.
+    pub(crate) fn element_in<'k>(&'k self, of: &'k Mode) -> Option<&'k Rc<Mode>> {
+        match form_of(of) {
+            Form::Array { element, .. } => Some(element),
+            Form::Chars(_) => Some(&self.evaluation.plain.char),
+            _ => None,
         }
     }
 
@@ -165,8 +171,8 @@ impl<'a, 'b> Walk<'a, 'b> {
         }
     }
 
-    /// A routine of arguments of which so many are as they should be, or none where they don't fit. What is known of the
-    /// one argument is that of the first.
+    /// What a routine gives of as many arguments as it has, or none where they don't fit. Of its one argument, where it has
+    /// one, this is known.
     pub fn routine(
         &self,
         own: Predefined,
@@ -212,6 +218,27 @@ impl<'a, 'b> Walk<'a, 'b> {
                 Some(_) => None,
             }),
         }
+    }
+}
+
+// The mode of the field of that name of a structure.
+pub(crate) fn field_in<'k>(of: &'k Mode, name: &[u8]) -> Option<&'k Rc<Mode>> {
+    let Form::Struct { fields, .. } = form_of(of) else {
+        return None;
+    };
+    for field in fields.as_slice() {
+        if field.name.as_slice() == name {
+            return Some(&field.mode);
+        }
+    }
+    None
+}
+
+// A part of this mode: no value where it doesn't fit what it is a part of.
+fn part(mode: Option<&Rc<Mode>>) -> Result<Known, Memory> {
+    match mode {
+        None => Ok(Known::of_class(Class::Nothing)),
+        Some(mode) => Ok(Known::of_class(Class::Value(mode.clone()?))),
     }
 }
 

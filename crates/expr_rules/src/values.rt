@@ -5,8 +5,8 @@ use crate::surroundings::Walk;
 use chill_base::{Memory, Pos};
 use chill_tree::tree::{Expr, Name, Operator, Prefix};
 use diagnostics::Rule;
-use mode_rules::{Known, Told, form_in, mode_in};
-use modes::{Form, number_of_scalars};
+use mode_rules::{Known, Told, mode_in};
+use modes::number_of_scalars;
 
 // How many scalars a value may have.
 const SCALARS: u32 = 256;
@@ -121,7 +121,7 @@ impl<'a, 'b> Walk<'a, 'b> {
         if told.count() > before {
             return Ok(Known::varying());
         }
-        if wrong_number_of_indices(base, args.len()) {
+        if self.wrong_number_of_indices(base, args.len()) {
             told.tell(Rule::S5, at)?;
             return Ok(Known::varying());
         }
@@ -145,6 +145,11 @@ impl<'a, 'b> Walk<'a, 'b> {
             let _ = self.value(arg, Receiver::Mode(mode), told)?;
         }
         Ok(())
+    }
+
+    // Rule S5 of an array or a text: not exactly one index.
+    fn wrong_number_of_indices(&self, base: &Known, count: usize) -> bool {
+        self.index_mode(base).is_some() && count != 1
     }
 
     // A field of something.
@@ -212,16 +217,5 @@ fn value_has_too_many_scalars(value: &Known) -> bool {
     match value.class.as_ref().and_then(|class| mode_in(class)) {
         None => false,
         Some(mode) => number_of_scalars(mode) > SCALARS,
-    }
-}
-
-// Rule S5 of an array or a text: not exactly one index.
-fn wrong_number_of_indices(base: &Known, count: usize) -> bool {
-    let Some(class) = &base.class else {
-        return false;
-    };
-    match form_in(class) {
-        Some(Form::Array { .. }) | Some(Form::Chars(_)) => count != 1,
-        _ => false,
     }
 }

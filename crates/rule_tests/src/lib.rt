@@ -4,6 +4,10 @@
 #![tactic(auto)]
 
 #[cfg(test)]
+mod expression_rows;
+#[cfg(test)]
+mod expressions;
+#[cfg(test)]
 mod modes_and_constants;
 #[cfg(test)]
 mod rows;

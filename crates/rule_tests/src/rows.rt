@@ -6,7 +6,7 @@ pub struct Row {
     pub told: &'static str,
 }
 
-pub static ROWS: [Row; 63] = [
+pub static ROWS: [Row; 65] = [
     Row {
         text: "M: MODULE DCL x INT := 1; SYN n = 3; DCL a ARRAY (1:n) INT; END M;",
         told: "",
@@ -258,5 +258,13 @@ pub static ROWS: [Row; 63] = [
     Row {
         text: "M: MODULE DCL a ARRAY (2:5) INT; DCL b ARRAY (LOWER(a):UPPER(a)) INT; DCL c ARRAY (6:UPPER(a)) INT; SYN k = UPPER(CHAR); DCL d CHAR ('a':k); END M;",
         told: "1:84: M2 bounds in the wrong order\n",
+    },
+    Row {
+        text: "M: MODULE DCL x INT; f: PROC () RETURNS (INT); END f; SYN a = SIZE(INT, INT); SYN b = NUM(1, 2); SYN c = SIZE(x, x); x := UPPER(); x := LOWER(x, BOOL); SYN d = SIZE(x, f()); SYN e = CARD(); x := NUM(x, 1); END M;",
+        told: "1:63: M10 constant operands do not fit\n1:87: M10 constant operands do not fit\n1:106: M10 constant operands do not fit\n1:123: M10 constant operands do not fit\n1:137: M10 constant operands do not fit\n1:161: M1 constant needed\n1:183: M10 constant operands do not fit\n",
+    },
+    Row {
+        text: "M: MODULE SYN k = 3; NEWMODE colour = SET (red, green); DCL x INT; x := SIZE(1); x := UPPER(k); x := LOWER(red); x := UPPER(TRUE) + 1; x := SIZE(x + 1); x := NUM(UPPER(colour)); x := SIZE(1 / 0); END M;",
+        told: "1:73: M10 constant operands do not fit\n1:87: M10 constant operands do not fit\n1:102: M10 constant operands do not fit\n1:119: M10 constant operands do not fit\n1:191: M11 constant out of range\n",
     },
 ];
