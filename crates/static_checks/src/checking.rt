@@ -1,0 +1,54 @@
+// The phases of modes and of statements.
+ghost use Rattle.std.specs.List.Sorted.{IsStrictlySortedBy};
+ghost use Rattle.diagnostics.specs.Order.{diagnostic_cmp};
+ghost use Rattle.static_checks.specs.Answers.{TellsInOrder};
+
+use crate::walk::Statements;
+use chill_base::Memory;
+use chill_tree::tree::Tree;
+use diagnostics::Diagnostics;
+use expr_rules::Walk;
+use mode_rules::{Evaluation, Told};
+use names_model::Names;
+use std::alloc::Global;
+use visibility::Refusal;
+
+/// The rules on modes and constants that a program breaks, M1 to M14, L5 and L7; or where it breaks none of them the rules
+/// on statements, S1 to S12, L4 and L6: in order, each once.
+pub fn check_statements(alloc: Global, tree: &Tree, names: &Names) -> Result<(), Refusal>
+    ensures { TellsInOrder result }
+{
+    let mut told = Told::new(alloc);
+    let evaluation = Evaluation::of(alloc, tree, names, &mut told)?;
+    evaluation.tell_of_program(tree, &mut told)?;
+    if told.count() == 0 {
+        tell_statements(&evaluation, tree, &mut told)?;
+    }
+    answer(told.into_list())
+}
+
+// All rules on statements that a program breaks.
+fn tell_statements(
+    evaluation: &Evaluation<'_>,
+    tree: &Tree,
+    told: &mut Told,
+) -> Result<(), Memory> {
+    let mut statements = Statements {
+        walk: Walk::new(evaluation)?,
+    };
+    for modulion in tree.modulions.as_slice() {
+        statements.tell_in_modulion(modulion, told)?;
+    }
+    statements.tell_local_scalars(told)
+}
+
+// No rule is broken where nothing is told.
+fn answer(list: Diagnostics) -> Result<(), Refusal>
+    requires { IsStrictlySortedBy diagnostic_cmp list }
+    ensures { TellsInOrder result }
+{
+    if list.is_empty() {
+        return Ok(());
+    }
+    Err(Refusal::Broken(list))
+}
