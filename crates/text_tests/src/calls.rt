@@ -185,7 +185,8 @@ const CHECKED: [(&str, &str); 7] = [
 fn what_a_check_writes(rt: HostRuntime) -> Result<(), Fail> {
     let alloc = rt.alloc();
     let words = words_of(alloc, "check f")?;
-    for (text, lines) in &CHECKED {
+    for row in &CHECKED {
+        let (text, lines) = *row;
         let mut library = library(alloc, text, 0)?;
         let mut out = MemorySink::new(alloc, 100, 100, fault(alloc, 0)?)?;
         let mut err = MemorySink::new(alloc, 100, 100, fault(alloc, 0)?)?;
