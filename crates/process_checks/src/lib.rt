@@ -6,6 +6,7 @@
 //! function of `rules`; one walk calls them.
 #![tactic(auto)]
 
+mod actions;
 mod checking;
 mod listed;
 mod meeting;
