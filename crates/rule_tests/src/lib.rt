@@ -1,4 +1,4 @@
-//! Tests of the rules on modes, constants and statements: texts, and all that is told of each, by hand.
+//! Tests of the rules on modes, constants, statements and processes: texts, and all that is told of each, by hand.
 //!
 //! It proves nothing of its own. Tests stand in a crate at the top because a crate with tests is proved twice.
 #![tactic(auto)]
@@ -11,6 +11,10 @@ mod expressions;
 mod marks;
 #[cfg(test)]
 mod modes_and_constants;
+#[cfg(test)]
+mod process_rows;
+#[cfg(test)]
+mod processes;
 #[cfg(test)]
 mod rows;
 #[cfg(test)]
