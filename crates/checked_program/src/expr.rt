@@ -23,26 +23,47 @@ pub enum Operation {
     /// The contents of a location.
     Contents(Box<Location>),
     /// A part of another value than a location's contents.
-    PartOf { of: Box<Expr>, parts: List<Part> },
+    PartOf {
+        of: Box<Expr>,
+        parts: List<Part>,
+    },
     /// A value that is received from the buffer of this number.
-    Receive { buffer: u32 },
+    Receive {
+        buffer: u32,
+    },
     /// The instance of a process that is started.
     Start(Box<Start>),
     /// The result of a procedure.
     Call(Box<Call>),
     /// A powerset of the members that these ranges tell, each tested against the member mode's bounds. The offset of a
     /// member is counted from `bounds.low`.
-    Powerset { bounds: Bounds, members: List<Range> },
+    Powerset {
+        bounds: Bounds,
+        members: List<Range>,
+    },
     /// The elements of an array or the fields of a structure, in order.
     Parts(List<Received>),
     /// An array of so many elements, which all have one value that is evaluated once.
-    Uniform { elements: u32, value: Received },
+    Uniform {
+        elements: u32,
+        value: Received,
+    },
     /// A predefined routine with its argument.
-    Routine { routine: Routine, argument: Box<Expr> },
+    Routine {
+        routine: Routine,
+        argument: Box<Expr>,
+    },
     /// GET_INT.
     GetInt,
-    Prefixed { operator: Prefix, operand: Box<Expr> },
-    Binary { operator: Binary, left: Box<Expr>, right: Box<Expr> },
+    Prefixed {
+        operator: Prefix,
+        operand: Box<Expr>,
+    },
+    Binary {
+        operator: Binary,
+        left: Box<Expr>,
+        right: Box<Expr>,
+    },
 }
 
 /// A value of one number, or the values from one to another, which may be none: a part of a powerset's tuple.
@@ -86,7 +107,10 @@ pub enum Base {
 #[cycle(expression)]
 pub enum Part {
     /// A field: the number of its first scalar in its structure, and how many it has.
-    Field { first: u32, count: u32 },
+    Field {
+        first: u32,
+        count: u32,
+    },
     /// An element of an array or a character of a text: its index, with the bounds outside of which RANGEFAIL is raised,
     /// and how many scalars an element has.
     Element {

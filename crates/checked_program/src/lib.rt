@@ -9,8 +9,8 @@ mod program;
 mod statement;
 
 pub use expr::{
-    Argument, Base, Binary, Call, Expr, Location, Operation, Part, Prefix, Range, Received, Routine,
-    Start,
+    Argument, Base, Binary, Call, Expr, Location, Operation, Part, Prefix, Range, Received,
+    Routine, Start,
 };
 pub use program::{
     Body, BufferRow, Checked, Definition, EventRow, Inside, LocalRow, LocationRow, ModulionRow,

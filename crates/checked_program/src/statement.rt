@@ -24,9 +24,14 @@ pub enum Action {
         value: Received,
     },
     /// The declaration of locals without initialisation, which are set to the lowest value of their mode.
-    Lowest { locals: Numbers, value: List<i64> },
+    Lowest {
+        locals: Numbers,
+        value: List<i64>,
+    },
     /// A module. Its handler is the statement's.
-    Module { actions: List<Statement> },
+    Module {
+        actions: List<Statement>,
+    },
     /// The initialisations of a region, which is locked for them and released behind them. Its handler is the
     /// statement's.
     Region {
@@ -48,26 +53,45 @@ pub enum Action {
     /// A call, whose result is dropped.
     Call(Box<Call>),
     /// A value routine that stands as an action, whose value is dropped.
-    Routine { routine: Routine, argument: Box<Expr> },
+    Routine {
+        routine: Routine,
+        argument: Box<Expr>,
+    },
     /// GET_INT, or UPPER, LOWER or SIZE, whose value is dropped: the expression is evaluated.
     Evaluate(Box<Expr>),
     PutInt(Box<Expr>),
     PutText(Box<Expr>),
     PutLine,
     /// EXIT: leaves a labelled statement around it in its body, the innermost of which has number 0.
-    Exit { outwards: u32 },
+    Exit {
+        outwards: u32,
+    },
     /// RETURN, which sets the result where it has a value.
-    Return { value: Option<Received> },
+    Return {
+        value: Option<Received>,
+    },
     /// RESULT, which sets the result.
-    Result { value: Received },
+    Result {
+        value: Received,
+    },
     Assert(Box<Expr>),
     /// CAUSE of the exception of this number.
-    Cause { exception: u32 },
+    Cause {
+        exception: u32,
+    },
     Stop,
     Start(Box<Start>),
-    Delay { event: u32, priority: u32 },
-    Continue { event: u32 },
-    Send { sent: Box<Sent>, priority: u32 },
+    Delay {
+        event: u32,
+        priority: u32,
+    },
+    Continue {
+        event: u32,
+    },
+    Send {
+        sent: Box<Sent>,
+        priority: u32,
+    },
     If {
         choices: List<Choice>,
         otherwise: List<Statement>,
@@ -82,7 +106,9 @@ pub enum Action {
         control: Box<Control>,
         actions: List<Statement>,
     },
-    Begin { actions: List<Statement> },
+    Begin {
+        actions: List<Statement>,
+    },
     /// DELAY CASE. `set` is the location that gets the instance that continued the process.
     DelayCase {
         set: Option<Box<Location>>,
@@ -107,7 +133,10 @@ pub enum Action {
 #[derive(Drop)]
 pub enum Sent {
     /// A value to the buffer of this number.
-    ToBuffer { buffer: u32, value: Received },
+    ToBuffer {
+        buffer: u32,
+        value: Received,
+    },
     /// The signal of this number with its parts, to an instance or to any.
     Signal {
         signal: u32,
