@@ -93,20 +93,16 @@ fn all_programs(rt: &impl Abort, alloc: Global, programs: &[Program]) -> Result<
     Ok(())
 }
 
-// The text with a construct in its surroundings.
-fn surrounded(
-    alloc: Global,
-    construct: &str,
-    surroundings: &(&'static str, &'static str),
-) -> Result<String, Fail> {
-    let (before, behind) = *surroundings;
+// A text with a construct in all surroundings, each in a module of its own.
+fn surrounded(alloc: Global, construct: &str) -> Result<String, Fail> {
     let definitions = surroundings::DEFINITIONS;
-    Ok(format!(in alloc; "M: MODULE {definitions} {before} {construct} {behind} END M;")?)
-}
-
-// How far the code of a text comes, of which no turn is asked.
-fn guarded(alloc: Global, text: &str) -> Result<Played, Fail> {
-    played(alloc, text, &OUTERMOST, &[])
+    let mut text = format!(in alloc; "M: MODULE {definitions} ")?;
+    for (k, (before, behind)) in surroundings::SURROUNDINGS.iter().enumerate() {
+        let own = format!(in alloc; "N{k}: MODULE SEIZE ALL; {before} {construct} {behind} END; ")?;
+        text.push_str(&own)?;
+    }
+    text.push_str("END M;")?;
+    Ok(text)
 }
 
 #[test]
@@ -188,15 +184,9 @@ fn signals_are_sent_and_received(rt: HostRuntime) -> Result<(), Fail> {
 fn each_construct_is_guarded_in_all_surroundings(rt: HostRuntime) -> Result<(), Fail> {
     let alloc = rt.alloc();
     for (i, construct) in surroundings::CONSTRUCTS.iter().enumerate() {
-        for (k, around) in surroundings::SURROUNDINGS.iter().enumerate() {
-            let text = surrounded(alloc, construct, around)?;
-            let played = guarded(alloc, &text)?;
-            assert_eq!(rt;
-                played,
-                Played::Turns(0),
-                "construct {i} in surroundings {k}"
-            );
-        }
+        let text = surrounded(alloc, construct)?;
+        let played = played(alloc, &text, &OUTERMOST, &[])?;
+        assert_eq!(rt; played, Played::Turns(0), "construct {i}");
     }
     Ok(())
 }
