@@ -1,0 +1,3 @@
+pub mod Retiming
+pub mod Following
+pub mod Births

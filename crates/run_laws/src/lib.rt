@@ -1,0 +1,9 @@
+//! Laws of the runs of a code: how far a talk has come, that an instance which a machine follows follows the code, and how
+//! instances are born.
+//!
+//! The crate has definitions and laws. It stands on `code_types`, and below the pool of workers.
+#![tactic(auto)]
+
+mod laws;
+
+pub use laws::{births_law, code_run_law, follows_law, reached_law};
