@@ -86,7 +86,7 @@ function put(bytes, part) {
 
 function finish() {
     if (begun == 0) return
-    if (text == "") fault("a row without a text")
+    if (texts == 0) fault("a row without a text")
     if (status == "") fault("a row without a status")
     rows++
     put(text, "chill")
