@@ -129,7 +129,7 @@ impl<'a, 'b> Walk<'a, 'b> {
                 let base = self.path(of)?;
                 let mode = match &base.mode {
                     None => None,
-                    Some(own) => shared_mode(self.element_in(own))?,
+                    Some(own) => shared_mode((&*self).element_in(own))?,
                 };
                 Ok(base.part(mode))
             }

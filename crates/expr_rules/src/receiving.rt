@@ -60,8 +60,8 @@ impl<'a, 'b> Walk<'a, 'b> {
                 (Rule::S6, argument_does_not_fit(&self.place(expr)?, mode))
             }
             Receiver::Condition => (Rule::S4, condition_is_not_boolean(known)),
-            Receiver::Selector => (Rule::S7, value_is_not_discrete(known)),
-            Receiver::Bound => (Rule::S8, value_is_not_discrete(known)),
+            Receiver::Selector => (Rule::S7, selector_is_not_discrete(known)),
+            Receiver::Bound => (Rule::S8, bound_is_not_discrete(known)),
             Receiver::Members => (Rule::S8, value_is_no_powerset(known)),
         };
         Ok(if is_broken { Some(rule) } else { None })
@@ -84,11 +84,21 @@ fn condition_is_not_boolean(condition: &Known) -> bool {
     }
 }
 
-// Rules S7 and S8 of a selector and of a bound: its mode isn't discrete.
-fn value_is_not_discrete(value: &Known) -> bool {
+// Rule S7 of a selector: its mode isn't discrete.
+fn selector_is_not_discrete(selector: &Known) -> bool {
+    selector.class.is_some() && !is_discrete_value(selector)
+}
+
+// Rule S8 of a bound by itself: its mode isn't discrete.
+fn bound_is_not_discrete(bound: &Known) -> bool {
+    bound.class.is_some() && !is_discrete_value(bound)
+}
+
+// Whether a value is known to be discrete.
+fn is_discrete_value(value: &Known) -> bool {
     match &value.class {
         None => false,
-        Some(class) => !is_of_discrete(class),
+        Some(class) => is_of_discrete(class),
     }
 }
 

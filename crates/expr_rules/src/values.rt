@@ -3,7 +3,7 @@ use crate::receiving::Receiver;
 use crate::results::Callee;
 use crate::surroundings::Walk;
 use chill_base::{Memory, Pos};
-use chill_tree::tree::{Expr, Name, Operator, Prefix};
+use chill_tree::tree::{Expr, Name, Prefix};
 use diagnostics::Rule;
 use mode_rules::{Known, Told, mode_in};
 use modes::number_of_scalars;
@@ -75,34 +75,32 @@ impl<'a, 'b> Walk<'a, 'b> {
                 ..
             } => self.uniform(value, mode, *bracket, receiver, told),
             Expr::Name(name) => self.name(name),
-            Expr::Apply { of, args, .. } => self.applied(of, args.as_slice(), told),
+            Expr::Apply { .. } => self.applied(expr, told),
             Expr::Field { of, field, .. } => self.field_of(of, field, told),
             Expr::Prefixed {
                 at,
                 operator,
                 operand,
             } => self.prefixed(operand, *operator, *at, told),
-            Expr::Binary {
-                left,
-                operator,
-                sign,
-                right,
-                ..
-            } => self.operands(left, right, *operator, *sign, told),
+            Expr::Binary { .. } => self.operands(expr, told),
         }
     }
 
-    // A call, or an element.
+    // A call, or an element: brackets behind an expression, which is handed down whole, since both it and what is in the
+    // brackets are parts.
     #[cycle(expr)]
-    fn applied(&self, of: &Expr, args: &[Expr], told: &mut Told) -> Result<Known, Memory> {
+    fn applied(&self, expr: &Expr, told: &mut Told) -> Result<Known, Memory> {
+        let Expr::Apply { of, args, .. } = expr else {
+            return Ok(Known::varying());
+        };
         match self.callee(of) {
             Callee::Procedure { number, procedure } => {
-                self.called(args, of.at(), number, procedure, told)
+                self.called(args.as_slice(), of.at(), number, procedure, told)
             }
-            Callee::Routine(own) => self.routine_called(args, of.at(), own, told),
+            Callee::Routine(own) => self.routine_called(args.as_slice(), of.at(), own, told),
             Callee::Nothing => {
                 let base = self.node(of, Receiver::Nothing, told)?;
-                self.indexed(args, of.at(), &base, told)
+                self.indexed(args.as_slice(), of.at(), &base, told)
             }
         }
     }
@@ -117,7 +115,7 @@ impl<'a, 'b> Walk<'a, 'b> {
         told: &mut Told,
     ) -> Result<Known, Memory> {
         let before = told.count();
-        self.tell_in_indices(args, base, told)?;
+        (&*self).tell_in_indices(args, &*base, told)?;
         if told.count() > before {
             return Ok(Known::varying());
         }
@@ -180,24 +178,27 @@ impl<'a, 'b> Walk<'a, 'b> {
         tell_unfit(result, at, told)
     }
 
-    // Two operands with an operator between them.
+    // Two operands with an operator between them: an expression that is handed down whole, since both are its parts.
     #[cycle(expr)]
-    fn operands(
-        &self,
-        left: &Expr,
-        right: &Expr,
-        operator: Operator,
-        sign: Pos,
-        told: &mut Told,
-    ) -> Result<Known, Memory> {
+    fn operands(&self, expr: &Expr, told: &mut Told) -> Result<Known, Memory> {
+        let Expr::Binary {
+            left,
+            operator,
+            sign,
+            right,
+            ..
+        } = expr
+        else {
+            return Ok(Known::varying());
+        };
         let before = told.count();
         let one = self.own_value(left, Receiver::Nothing, told)?;
         let other = self.own_value(right, Receiver::Nothing, told)?;
         if told.count() > before {
             return Ok(Known::varying());
         }
-        let result = self.binary(operator, &one, &other)?;
-        tell_unfit(result, sign, told)
+        let found = self.binary(*operator, &one, &other)?;
+        tell_unfit(found, *sign, told)
     }
 }
 

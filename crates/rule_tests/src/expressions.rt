@@ -6,7 +6,8 @@ use chill_base::{Memory, Text};
 use chill_lexer::lex;
 use chill_parser::parse;
 use chill_tree::tree::{
-    BodyPart, Bracketed, Control, Item, Local, Name, ReceiveAlternative, Simple, Statement, Tree,
+    BodyPart, Bracketed, Control, Item, Local, Name, ReceiveAlternative, Simple, Statement,
+    Synonym, Tree,
 };
 use expr_rules::{Receiver, Walk, tell_wrong_number};
 use listing::diagnostics_text;
@@ -261,5 +262,55 @@ fn expressions_are_told_what_they_break(rt: HostRuntime) -> Result<(), Fail> {
     for row in &EXPRESSION_ROWS {
         assert!(rt; is_told(rt.alloc(), row), "{}", row.text);
     }
+    Ok(())
+}
+
+// Synonyms of every form of a constant.
+static CONSTANTS: &str =
+    "M: MODULE NEWMODE colour = SET (red, green, blue); SYNMODE small = INT (2:9), pair = STRUCT (x INT, y BOOL); SYNMODE row = ARRAY (1:3) INT, tones = POWERSET colour, grid = ARRAY (1:2) row, digits = POWERSET small; DCL r row; DCL s STRUCT (a CHARS (3), b row); SYN a = 1 + 2 * 3 - 7 MOD 4, b = -5, c = 'x', d = \"abc\", e = NULL, f = TRUE ANDIF NOT FALSE, g = green, h = SUCC(red), i = NUM(blue) REM 2, j = 3 IN digits [3, 5:7], k = CARD(tones [red, blue]), l = row [a, b, a * b], m = grid [[1, 2, 3], row [(*): a]], n = pair [a, f], o = digits [3, 5:7, 9] - digits [6], p = MIN(o), q = NOT tones [red:green], t = UPPER(r), u = SIZE(s.b), v = LOWER(small), w = ABS(b) / 2, x = d < \"abd\", y = red <= blue, z = l = row [(*): 1]; SYN aa row = [1, 2, 3], bb row = ([(*): a]), cc grid = [l, [(*): b]], dd tones = [red, blue], ee tones = [], ff pair = [3, x], gg small = a, hh INT = -2147483648; END M;";
+
+// Whether each synonym of a text has the value that the phase of modes found, as a constant.
+fn same_constants(alloc: Global) -> Option<usize> {
+    let tokens = lex(alloc, CONSTANTS.as_bytes()).ok()?;
+    let tree = parse(alloc, tokens.as_slice()).ok()?;
+    let names = resolve(alloc, &tree).ok()?;
+    let mut told = Told::new(alloc);
+    let evaluation = Evaluation::of(alloc, &tree, &names, &mut told).ok()?;
+    let walk = Walk::new(&evaluation).ok()?;
+    let mut count = 0_usize;
+    for modulion in tree.modulions.as_slice() {
+        for item in modulion.items.as_slice() {
+            if let Item::Local(Local::Synonyms { synonyms, .. }) = item {
+                for synonym in synonyms.as_slice() {
+                    if is_same_constant(&walk, synonym, &mut told)? {
+                        count = count.saturating_add(1);
+                    }
+                }
+            }
+        }
+    }
+    if told.count() > 0 {
+        return None;
+    }
+    Some(count)
+}
+
+fn is_same_constant(walk: &Walk<'_, '_>, synonym: &Synonym, told: &mut Told) -> Option<bool> {
+    let name = synonym.names.as_slice().first()?;
+    let entry = walk.evaluation.entry(walk.evaluation.defined_at(name.at)?)?;
+    let receiver = match &entry.mode {
+        None => Receiver::Nothing,
+        mode => Receiver::Mode(mode.as_ref()),
+    };
+    let known = walk.value(&synonym.value, receiver, told).ok()?;
+    let (Some(value), Some(found)) = (&entry.value, &known.value) else {
+        return Some(false);
+    };
+    Some(value.as_slice() == found.as_slice())
+}
+
+#[test]
+fn constants_have_one_value(rt: HostRuntime) -> Result<(), Fail> {
+    assert!(rt; same_constants(rt.alloc()) == Some(32));
     Ok(())
 }
