@@ -3,7 +3,7 @@ use crate::elaborator::Elaborator;
 use crate::numbering::Number;
 use crate::operations::{binary_of, routine_of};
 use crate::refusal::Refusal;
-use checked_program::{Action, Received, Sent};
+use checked_program::{Action, Expr, Received, Sent};
 use chill_tree::tree::{Expr as WrittenExpr, Name, Operator, Simple};
 use expr_rules::Callee;
 use mode_rules::Predefined;
@@ -197,21 +197,44 @@ impl<'a, 'b> Elaborator<'a, 'b> {
         args: &[WrittenExpr],
         receiver: &Option<Box<WrittenExpr>>,
     ) -> Result<Box<Sent>, Refusal> {
+        match self.used(target.at) {
+            Number::Buffer(buffer) => self.sent_to_buffer(target, args, buffer),
+            Number::Signal(signal) => {
+                let receiver = self.some_value(receiver)?;
+                self.signal(target, args, signal, receiver)
+            }
+            _ => Err(Refusal::NotAccepted),
+        }
+    }
+
+    fn sent_to_buffer(
+        &self,
+        target: &Name,
+        args: &[WrittenExpr],
+        buffer: u32,
+    ) -> Result<Box<Sent>, Refusal> {
+        let (Some(mode), [arg]) = (self.walk.element_of_buffer(target), args) else {
+            return Err(Refusal::NotAccepted);
+        };
+        let value = self.received(arg, mode)?;
+        Ok(Box::new(self.alloc, Sent::ToBuffer { buffer, value })?)
+    }
+
+    fn signal(
+        &self,
+        target: &Name,
+        args: &[WrittenExpr],
+        signal: u32,
+        receiver: Option<Box<Expr>>,
+    ) -> Result<Box<Sent>, Refusal> {
         let Some(formals) = self.walk.formals_of_message(target)? else {
             return Err(Refusal::NotAccepted);
         };
-        let mut parts = self.all_received(args, formals.as_slice())?;
-        let sent = match self.used(target.at) {
-            Number::Buffer(buffer) => match parts.pop() {
-                None => return Err(Refusal::NotAccepted),
-                Some(value) => Sent::ToBuffer { buffer, value },
-            },
-            Number::Signal(signal) => Sent::Signal {
-                signal,
-                parts,
-                receiver: self.some_value(receiver)?,
-            },
-            _ => return Err(Refusal::NotAccepted),
+        let parts = self.all_received(args, formals.as_slice())?;
+        let sent = Sent::Signal {
+            signal,
+            parts,
+            receiver,
         };
         Ok(Box::new(self.alloc, sent)?)
     }

@@ -165,7 +165,7 @@ impl Numbering {
         else {
             return Number::Nothing;
         };
-        match meeting(mode) {
+        match meeting_of(mode) {
             None => Number::Shared(taken(&mut self.counts.shared)),
             Some(Meeting::Event { .. }) => Number::Event(taken(&mut self.counts.events)),
             Some(Meeting::Buffer { .. }) => Number::Buffer(taken(&mut self.counts.buffers)),
@@ -204,14 +204,14 @@ fn taken(count: &mut u32) -> u32 {
 }
 
 /// What processes meet at where a location has the mode, names looked through.
-pub fn meeting(mode: &Mode) -> Option<Meeting<'_>> {
+pub fn meeting_of(mode: &Mode) -> Option<Meeting<'_>> {
     match mode {
         Mode::Event { length } => Some(Meeting::Event { length: *length }),
         Mode::Buffer { length, element } => Some(Meeting::Buffer {
             length: *length,
             element,
         }),
-        Mode::Read { of } | Mode::Named { of, .. } => meeting(of),
+        Mode::Read { of } | Mode::Named { of, .. } => meeting_of(of),
         Mode::Int
         | Mode::Bool
         | Mode::Char

@@ -1,7 +1,7 @@
 // The rows of a program: what each definition of the text is.
 use crate::elaborator::Elaborator;
 use crate::extents::{Extents, used_from_outside};
-use crate::numbering::{Meeting, Number, meeting};
+use crate::numbering::{Meeting, Number, meeting_of};
 use crate::refusal::Refusal;
 use checked_program::{
     BufferRow, Definition as DefinitionRow, EventRow, Inside as InsideRow, LocalRow, LocationRow,
@@ -121,7 +121,7 @@ impl<'a, 'b> Elaborator<'a, 'b> {
 
     fn event_row(&self, definition: u32, own: &Definition) -> Result<EventRow, Refusal> {
         let mode = self.mode_of(definition)?;
-        let Some(Meeting::Event { length }) = meeting(&mode) else {
+        let Some(Meeting::Event { length }) = meeting_of(&mode) else {
             return Err(Refusal::NotAccepted);
         };
         Ok(EventRow {
@@ -133,7 +133,7 @@ impl<'a, 'b> Elaborator<'a, 'b> {
 
     fn buffer_row(&self, definition: u32, own: &Definition) -> Result<BufferRow, Refusal> {
         let mode = self.mode_of(definition)?;
-        let Some(Meeting::Buffer { length, element }) = meeting(&mode) else {
+        let Some(Meeting::Buffer { length, element }) = meeting_of(&mode) else {
             return Err(Refusal::NotAccepted);
         };
         let element = element.clone()?;
