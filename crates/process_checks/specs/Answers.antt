@@ -1,5 +1,5 @@
 -- What is answered of the processes of a program.
-use Rattle.std.specs.Prelude.{◌≢◌, Unit, List, [], Result, Ok, Err}
+use Rattle.std.specs.Prelude.{◌≢◌, [], Result, Ok, Err}
 use Rattle.std.specs.List.Sorted.{IsStrictlySortedBy}
 use Rattle.diagnostics.specs.declared.diagnostic.Diagnostic.{Diagnostic}
 use Rattle.diagnostics.specs.Order.{diagnostic_cmp}
