@@ -4,17 +4,9 @@ use Rattle.std.specs.Prelude.{None, Some, Ok, Err}
 use Rattle.std.specs.declared.result.Result.{Result}
 use Rattle.chill_base.specs.declared.memory.Memory.{Memory}
 use Rattle.diagnostics.specs.declared.diagnostic.Diagnostic.{Diagnostic}
-use Rattle.rules_model.specs.Diagnoses.{IsShort, plain, too_long, no_token, too_deep, no_program}
-use Rattle.chill_top.specs.Telling.{Sums, IsLeftToChecks, Breaks, Refuses, broken, misnamed, misused, breaks, not_built, Tells}
-use Rattle.chill_top.specs.declared.told.Told.{Told}
-use Rattle.chill_top.specs.declared.told.Told.TheVariants as tellings
-use Rattle.chill_top.specs.declared.plan.Command.{Command}
-use Rattle.chill_top.specs.declared.plan.Command.TheVariants.{Run, Check}
-use Rattle.rules_model.specs.TokensCut.{first_place}
-use Rattle.diagnostics.specs.declared.rule.Rule.TheVariants as rules
-use Rattle.std.specs.declared.alloc.Global.{Global}
-use Rattle.std.specs.declared.vec.Vec.{Vec}
-use Rattle.chill_top.specs.Plan.{IsTextOf, IsReadingOf, IsPlanFor, sums_plan, accepted_plan, refusal_plan}
+use Rattle.rules_model.specs.Diagnoses.{IsShort, too_long, no_token, too_deep, no_program}
+use Rattle.chill_top.specs.Telling.{Sums, Refuses, broken, misnamed, not_built}
+use Rattle.chill_top.specs.Plan.{IsTextOf, IsReadingOf, IsPlanFor, sums_plan, refusal_plan}
 use Rattle.chill_top.specs.declared.plan.Plan.{Plan}
 use Rattle.std.specs.declared.option.Option.{Option}
 use Rattle.outside_ports.specs.Library.{Gives}
@@ -71,53 +63,23 @@ reading-long text read of long = omega (arith, long, ap length of.front, length-
 pub Sums-reading : (text read sums : List ℕ) → IsReadingOf text read → Sums read sums → Sums text sums
 Sums-reading text read sums of s = subst (λ (t : List ℕ). Sums t sums) (reading-short text read of s.has.short) s
 
-Left-reading : (text read : List ℕ) → IsReadingOf text read → IsLeftToChecks read → IsLeftToChecks text
-Left-reading text read of left = subst (λ (t : List ℕ). IsLeftToChecks t) (reading-short text read of left.has.short) left
+Refuses-short : (text read : List ℕ) (told : List Diagnostic) → IsReadingOf text read → IsShort read → Refuses read told → Refuses text told
+Refuses-short text read told of short r = subst (λ (t : List ℕ). Refuses t told) (reading-short text read of short) r
 
-Breaks-short : (text read : List ℕ) (told : List Diagnostic) → IsReadingOf text read → IsShort read → Breaks read told → Breaks text told
-Breaks-short text read told of short r = subst (λ (t : List ℕ). Breaks t told) (reading-short text read of short) r
+pub Refuses-reading : (text read : List ℕ) (told : List Diagnostic) → IsReadingOf text read → Refuses read told → Refuses text told
+Refuses-reading text read told of (broken (too_long long)) = broken (too_long (reading-long text read of long))
+Refuses-reading text read told of (broken (no_token {at = at} short bad)) = Refuses-short text read _ of short (broken (no_token short bad))
+Refuses-reading text read told of (broken (too_deep {at = at} short are deep)) = Refuses-short text read _ of short (broken (too_deep short are deep))
+Refuses-reading text read told of (broken (no_program {at = at} short are shallow none place)) =
+    Refuses-short text read _ of short (broken (no_program short are shallow none place))
+Refuses-reading text read told of (misnamed has some) = Refuses-short text read _ of has.short (misnamed has some)
+Refuses-reading text read told of (not_built has named none) = Refuses-short text read _ of has.short (not_built has named none)
 
-Breaks-reading : (text read : List ℕ) (told : List Diagnostic) → IsReadingOf text read → Breaks read told → Breaks text told
-Breaks-reading text read told of (broken (too_long long)) = broken (too_long (reading-long text read of long))
-Breaks-reading text read told of (broken (no_token {at = at} short bad)) = Breaks-short text read _ of short (broken (no_token short bad))
-Breaks-reading text read told of (broken (too_deep {at = at} short are deep)) = Breaks-short text read _ of short (broken (too_deep short are deep))
-Breaks-reading text read told of (broken (no_program {at = at} short are shallow none place)) =
-    Breaks-short text read _ of short (broken (no_program short are shallow none place))
-Breaks-reading text read told of (misnamed has some) = Breaks-short text read _ of has.short (misnamed has some)
-Breaks-reading text read told of (misused left order) = misused (Left-reading text read of left) order
+-- the plan for a text whose sums were read, or that is refused
+pub ok-plan-sums : (read sums : List ℕ) (made : Result Plan Memory) → Sums read sums → IfOk made (λ plan. plan ≡ sums_plan sums) → IfOk made (λ plan. (text : List ℕ) → IsReadingOf text read → IsPlanFor text plan)
+ok-plan-sums read sums (Ok plan) s is = λ text of. inl (sums, Sums-reading text read sums of s, is)
+ok-plan-sums read sums (Err e) s is = tt
 
-Tells-reading : (text read : List ℕ) (told : Told) → IsReadingOf text read → Tells read told → Tells text told
-Tells-reading text read (tellings.Sums sums) of tells = Sums-reading text read sums.items of tells
-Tells-reading text read (tellings.Broken told) of tells = Breaks-reading text read told of tells
-Tells-reading text read tellings.NotBuilt of tells = Left-reading text read of tells
-
--- the plan for what was read is the plan for the text
-pub ok-plan-read : (read : List ℕ) (command : Command) (told : Told) (made : Result Plan Memory) → Tells read told
-    → IfOk made (λ plan. (text : List ℕ) → Tells text told → IsPlanFor command text plan)
-    → IfOk made (λ plan. (text : List ℕ) → IsReadingOf text read → IsPlanFor command text plan)
-ok-plan-read read command told (Ok plan) tells is = λ text of. is text (Tells-reading text read told of tells)
-ok-plan-read read command told (Err e) tells is = tt
-
--- the plans by what is told
-pub ok-run-sums : (sums : Vec ℕ Global) (made : Result Plan Memory) → IfOk made (λ plan. plan ≡ sums_plan sums.items) → IfOk made (λ plan. (text : List ℕ) → Tells text (tellings.Sums sums) → IsPlanFor Run text plan)
-ok-run-sums sums (Ok plan) is = λ text tells. inl (sums.items, tells, is)
-ok-run-sums sums (Err e) is = tt
-
-pub ok-run-broken : (told : List Diagnostic) (made : Result Plan Memory) → IfOk made (λ plan. plan ≡ refusal_plan told) → IfOk made (λ plan. (text : List ℕ) → Tells text (tellings.Broken told) → IsPlanFor Run text plan)
-ok-run-broken told (Ok plan) is = λ text tells. inr (told, breaks tells, is)
-ok-run-broken told (Err e) is = tt
-
-pub ok-run-not_built : (told : List Diagnostic) (made : Result Plan Memory) → told ≡ plain first_place rules.B1 ∷ [] → IfOk made (λ plan. plan ≡ refusal_plan told)
-    → IfOk made (λ plan. (text : List ℕ) → Tells text tellings.NotBuilt → IsPlanFor Run text plan)
-ok-run-not_built told (Ok plan) b1 is = λ text tells. inr (told, subst (λ (l : List Diagnostic). Refuses text l) (sym b1) (not_built tells), is)
-ok-run-not_built told (Err e) b1 is = tt
-
-pub ok-check-broken : (told : List Diagnostic) (made : Result Plan Memory) → IfOk made (λ plan. plan ≡ refusal_plan told) → IfOk made (λ plan. (text : List ℕ) → Tells text (tellings.Broken told) → IsPlanFor Check text plan)
-ok-check-broken told (Ok plan) is = λ text tells. inr (told, tells, is)
-ok-check-broken told (Err e) is = tt
-
-pub check-sums : (sums : Vec ℕ Global) (text : List ℕ) (plan : Plan) → plan ≡ accepted_plan → Tells text (tellings.Sums sums) → IsPlanFor Check text plan
-check-sums sums text plan is tells = inl (record { tree = tells.tree; has = tells.has; named = tells.named }, is)
-
-pub check-not_built : (text : List ℕ) (plan : Plan) → plan ≡ accepted_plan → Tells text tellings.NotBuilt → IsPlanFor Check text plan
-check-not_built text plan is tells = inl (record { tree = tells.tree; has = tells.has; named = tells.checked.named }, is)
+pub ok-plan-refused : (read : List ℕ) (told : List Diagnostic) (made : Result Plan Memory) → Refuses read told → IfOk made (λ plan. plan ≡ refusal_plan told) → IfOk made (λ plan. (text : List ℕ) → IsReadingOf text read → IsPlanFor text plan)
+ok-plan-refused read told (Ok plan) r is = λ text of. inr (told, Refuses-reading text read told of r, is)
+ok-plan-refused read told (Err e) r is = tt

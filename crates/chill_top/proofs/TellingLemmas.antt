@@ -21,7 +21,7 @@ use Rattle.chill_parser.proofs.ItemTaken.{program_is}
 use Rattle.chill_parser.proofs.Parsing.{no_tree}
 use Rattle.chill_top.specs.Sums.{sums_of}
 use Rattle.names_model.specs.Resolving.{broken_names, level_of}
-use Rattle.chill_top.specs.Telling.{Sums, IsLeftToChecks, Breaks, Refuses, broken, misnamed, misused, breaks, not_built, SameButForPlace, BreaksTree, TellsTree, Tells}
+use Rattle.chill_top.specs.Telling.{Sums, Refuses, broken, misnamed, not_built, SameButForPlace, RefusesTree, TellsTree, Tells}
 use Rattle.chill_top.specs.declared.told.Told.{Told}
 use Rattle.chill_top.specs.declared.told.Told.TheVariants as tellings
 
@@ -55,16 +55,12 @@ one_sums text sums others s t =
 same_names : (text : List ℕ) (tree other : ProgramTree) → HasTree text tree → HasTree text other → broken_names (level_of tree) ≡ broken_names (level_of other)
 same_names text tree other has has' = ap (λ (t : ProgramTree). broken_names (level_of t)) (one_tree_of_text text tree other has has')
 
--- a text with sums isn't left to the checks
-sums_or_left : (text sums : List ℕ) → Sums text sums → IsLeftToChecks text → ⊥
-sums_or_left text sums s left = none_some (sym s.are ∙ ap sums_of (one_tree_of_text text s.tree left.tree s.has left.has) ∙ left.checked.form)
-
 -- a text with sums isn't refused
 pub sums_or_refused : (text sums : List ℕ) (told : List Diagnostic) → Sums text sums → Refuses text told → ⊥
-sums_or_refused text sums _ s (breaks (broken {diagnostic = told} breaking)) = has_no_tree text s.tree told s.has breaking
-sums_or_refused text sums _ s (breaks (misnamed {tree = tree} has some)) = some (same_names text tree s.tree has s.has ∙ s.named)
-sums_or_refused text sums _ s (breaks (misused left order)) = sums_or_left text sums s left
-sums_or_refused text sums _ s (not_built left) = sums_or_left text sums s left
+sums_or_refused text sums _ s (broken {diagnostic = told} breaks) = has_no_tree text s.tree told s.has breaks
+sums_or_refused text sums _ s (misnamed {tree = tree} has some) = some (same_names text tree s.tree has s.has ∙ s.named)
+sums_or_refused text sums _ s (not_built {tree = tree} has named none) =
+    none_some (sym s.are ∙ ap sums_of (one_tree_of_text text s.tree tree s.has has) ∙ none)
 
 -- one diagnostic is told, or both tell that no tree exists
 abbrev OneButForPlace : Diagnostic → Diagnostic → Type 0
@@ -98,21 +94,17 @@ alone : (told other : Diagnostic) → OneButForPlace told other → SameButForPl
 alone told other (inl is) = inl (ap (λ (d : Diagnostic). d ∷ []) is)
 alone told other (inr (is, is')) = inr ((told.at, ap (λ (d : Diagnostic). d ∷ []) is), (other.at, ap (λ (d : Diagnostic). d ∷ []) is'))
 
--- one list tells the rules that a text breaks, unless it is left to the checks
-one_breaking : (text : List ℕ) (told other : List Diagnostic) → Breaks text told → Breaks text other → SameButForPlace told other ⊎ IsLeftToChecks text
-one_breaking text _ _ (broken {diagnostic = told} breaking) (broken {diagnostic = other} breaking') = inl (alone told other (one_broken text told other breaking breaking'))
-one_breaking text _ _ (broken {diagnostic = told} breaking) (misnamed {tree = tree} has some) = absurd (has_no_tree text tree told has breaking)
-one_breaking text _ _ (broken {diagnostic = told} breaking) (misused left order) = inr left
-one_breaking text _ _ (misnamed {tree = tree} has some) (broken {diagnostic = other} breaking) = absurd (has_no_tree text tree other has breaking)
-one_breaking text _ _ (misnamed {tree = tree} has some) (misnamed {tree = other} has' some') = inl (inl (same_names text tree other has has'))
-one_breaking text _ _ (misnamed {tree = tree} has some) (misused left order) = inr left
-one_breaking text _ _ (misused left order) other = inr left
-
--- one list of diagnostics is told of a text that isn't run, unless it is left to the checks
-pub one_refusal : (text : List ℕ) (told other : List Diagnostic) → Refuses text told → Refuses text other → SameButForPlace told other ⊎ IsLeftToChecks text
-one_refusal text told other (breaks breaking) (breaks breaking') = one_breaking text told other breaking breaking'
-one_refusal text told _ (breaks breaking) (not_built left) = inr left
-one_refusal text _ other (not_built left) refused = inr left
+-- one list of diagnostics is told of a text that isn't run
+pub one_refusal : (text : List ℕ) (told other : List Diagnostic) → Refuses text told → Refuses text other → SameButForPlace told other
+one_refusal text _ _ (broken {diagnostic = told} breaks) (broken {diagnostic = other} breaks') = alone told other (one_broken text told other breaks breaks')
+one_refusal text _ _ (broken {diagnostic = told} breaks) (misnamed {tree = tree} has some) = absurd (has_no_tree text tree told has breaks)
+one_refusal text _ _ (broken {diagnostic = told} breaks) (not_built {tree = tree} has named none) = absurd (has_no_tree text tree told has breaks)
+one_refusal text _ _ (misnamed {tree = tree} has some) (broken {diagnostic = other} breaks) = absurd (has_no_tree text tree other has breaks)
+one_refusal text _ _ (misnamed {tree = tree} has some) (misnamed {tree = other} has' some') = inl (same_names text tree other has has')
+one_refusal text _ _ (misnamed {tree = tree} has some) (not_built {tree = other} has' named none) = absurd (some (same_names text tree other has has' ∙ named))
+one_refusal text _ _ (not_built {tree = tree} has named none) (broken {diagnostic = other} breaks) = absurd (has_no_tree text tree other has breaks)
+one_refusal text _ _ (not_built {tree = tree} has named none) (misnamed {tree = other} has' some) = absurd (some (same_names text other tree has' has ∙ named))
+one_refusal text _ _ (not_built has named none) (not_built has' named' none') = inl refl
 
 -- each text has sums or is refused
 abbrev IsAnswered : List ℕ → Type 0
@@ -120,7 +112,7 @@ IsAnswered text = ((sums : List ℕ) × Sums text sums) ⊎ ((told : List Diagno
 
 form_answered : (text : List ℕ) (tree : ProgramTree) (o : Option (List ℕ)) → sums_of tree ≡ o → broken_names (level_of tree) ≡ [] → HasTree text tree → IsAnswered text
 form_answered text tree (Some sums) is named has = inl (sums, record { tree = tree; has = has; named = named; are = is })
-form_answered text tree None is named has = inr (plain first_place rules.B1 ∷ [], not_built (record { tree = tree; has = has; checked = record { named = named; form = is } }))
+form_answered text tree None is named has = inr (plain first_place rules.B1 ∷ [], not_built has named is)
 
 -- a list isn't empty that has a first
 not_none : (told : Diagnostic) (others list : List Diagnostic) → list ≡ told ∷ others → list ≢ []
@@ -128,24 +120,24 @@ not_none told others list is none = cc
 
 tree_answered : (text : List ℕ) (tree : ProgramTree) (list : List Diagnostic) → broken_names (level_of tree) ≡ list → HasTree text tree → IsAnswered text
 tree_answered text tree [] named has = form_answered text tree (sums_of tree) refl named has
-tree_answered text tree (told ∷ others) is has = inr (broken_names (level_of tree), breaks (misnamed has (not_none told others (broken_names (level_of tree)) is)))
+tree_answered text tree (told ∷ others) is has = inr (broken_names (level_of tree), misnamed has (not_none told others (broken_names (level_of tree)) is))
 
 read_answered : (text : List ℕ) (tokens : List Token) (r : Result ProgramTree Fault) → program_at 64 tokens ≡ r → IsShort text → AreTokensOf text tokens → first_deep 65 tokens ≡ None → IsAnswered text
 read_answered text tokens (Ok tree) is short are shallow =
     tree_answered text tree (broken_names (level_of tree)) refl (record { tokens = tokens; short = short; are = are; shallow = shallow; tree_of = program_is 64 tokens tree is })
 read_answered text tokens (Err fault) is short are shallow =
-    inr (plain (behind_all first_place text) rules.T2 ∷ [], breaks (broken (no_program short are shallow (no_tree tokens fault shallow is) (inr refl))))
+    inr (plain (behind_all first_place text) rules.T2 ∷ [], broken (no_program short are shallow (no_tree tokens fault shallow is) (inr refl)))
 
 tokens_answered : (text : List ℕ) (tokens : List Token) (o : Option Pos) → first_deep 65 tokens ≡ o → IsShort text → AreTokensOf text tokens → IsAnswered text
-tokens_answered text tokens (Some at) deep short are = inr (plain at rules.L2 ∷ [], breaks (broken (too_deep short are deep)))
+tokens_answered text tokens (Some at) deep short are = inr (plain at rules.L2 ∷ [], broken (too_deep short are deep))
 tokens_answered text tokens None shallow short are = read_answered text tokens (program_at 64 tokens) refl short are shallow
 
 short_answered : (text : List ℕ) → IsShort text → ((tokens : List Token) × AreTokensOf text tokens) ⊎ ((at : Pos) × IsBadAt text at) → IsAnswered text
 short_answered text short (inl h) = tokens_answered text h.0 (first_deep 65 h.0) refl short h.1
-short_answered text short (inr h) = inr (plain h.0 rules.T1 ∷ [], breaks (broken (no_token short h.1)))
+short_answered text short (inr h) = inr (plain h.0 rules.T1 ∷ [], broken (no_token short h.1))
 
 some_answer_by : (text : List ℕ) → (262144 < length text) ⊎ (length text ≤ 262144) → IsAnswered text
-some_answer_by text (inl long) = inr (plain first_place rules.L1 ∷ [], breaks (broken (too_long long)))
+some_answer_by text (inl long) = inr (plain first_place rules.L1 ∷ [], broken (too_long long))
 some_answer_by text (inr short) = short_answered text short (some_reading text)
 
 pub some_answer : (text : List ℕ) → IsAnswered text
@@ -155,11 +147,11 @@ some_answer text = some_answer_by text (cases_lt 262144 (length text))
 
 -- what is made tells one diagnostic
 abbrev TellsOne : Diagnostic → Result Told Memory → Type 0
-TellsOne told made = IfOk made (λ t. t ≡ tellings.Broken (told ∷ []))
+TellsOne told made = IfOk made (λ t. t ≡ tellings.Refused (told ∷ []))
 
 refused_by : (text : List ℕ) (told : Diagnostic) (made : Result Told Memory) → Diagnoses text told → TellsOne told made → IfOk made (λ t. Tells text t)
-refused_by text told (Ok t) breaking is = subst (λ (x : Told). Tells text x) (sym is) (broken breaking)
-refused_by text told (Err e) breaking is = tt
+refused_by text told (Ok t) breaks is = subst (λ (x : Told). Tells text x) (sym is) (broken breaks)
+refused_by text told (Err e) breaks is = tt
 
 pub long_refused : (text : List ℕ) (made : Result Told Memory) → 262144 < length text → TellsOne (plain first_place rules.L1) made → IfOk made (λ t. Tells text t)
 long_refused text made long is = refused_by text (plain first_place rules.L1) made (too_long long) is
@@ -180,17 +172,15 @@ nowhere_refused text tokens at made short are shallow none place is = refused_by
 pub place_of_token : (text : List ℕ) (tokens : List Token) (at : Pos) → TokenAt tokens at → IsPlaceIn text tokens at
 place_of_token text tokens at h = inl (h.index, h.token, h.here, h.place)
 
-tree_broken : (text : List ℕ) (tree : ProgramTree) (told : List Diagnostic) → HasTree text tree → BreaksTree tree told → Breaks text told
-tree_broken text tree told has (inl (is, some)) =
-    subst (λ (l : List Diagnostic). Breaks text l) (sym is) (misnamed has (λ (none : broken_names (level_of tree) ≡ []). some (is ∙ none)))
-tree_broken text tree told has (inr (checked, order)) = misused (record { tree = tree; has = has; checked = checked }) order
+tree_refused : (text : List ℕ) (tree : ProgramTree) (told : List Diagnostic) → HasTree text tree → RefusesTree tree told → Refuses text told
+tree_refused text tree told has (inl (is, some)) =
+    subst (λ (l : List Diagnostic). Refuses text l) (sym is) (misnamed has (λ (none : broken_names (level_of tree) ≡ []). some (is ∙ none)))
+tree_refused text tree told has (inr (named, none, is)) = subst (λ (l : List Diagnostic). Refuses text l) (sym is) (not_built has named none)
 
 pub tree_told : (text : List ℕ) (tokens : List Token) (tree : ProgramTree) (made : Result Told Memory) → IsShort text → AreTokensOf text tokens → first_deep 65 tokens ≡ None → IsTreeOf tokens tree
     → IfOk made (λ t. TellsTree tree t) → IfOk made (λ t. Tells text t)
 tree_told text tokens tree (Ok (tellings.Sums sums)) short are shallow tree_of h =
     record { tree = tree; has = record { tokens = tokens; short = short; are = are; shallow = shallow; tree_of = tree_of }; named = h.0; are = h.1 }
-tree_told text tokens tree (Ok (tellings.Broken told)) short are shallow tree_of h =
-    tree_broken text tree told (record { tokens = tokens; short = short; are = are; shallow = shallow; tree_of = tree_of }) h
-tree_told text tokens tree (Ok tellings.NotBuilt) short are shallow tree_of h =
-    record { tree = tree; has = record { tokens = tokens; short = short; are = are; shallow = shallow; tree_of = tree_of }; checked = h }
+tree_told text tokens tree (Ok (tellings.Refused told)) short are shallow tree_of h =
+    tree_refused text tree told (record { tokens = tokens; short = short; are = are; shallow = shallow; tree_of = tree_of }) h
 tree_told text tokens tree (Err e) short are shallow tree_of h = tt

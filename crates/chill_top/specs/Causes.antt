@@ -7,48 +7,35 @@ use Rattle.kernel_base.specs.declared.ends.Over.{Over}
 use Rattle.kernel_base.specs.declared.ends.Over.TheVariants.{AllEnded}
 use Rattle.kernel_base.specs.declared.event.Event.{Event}
 use Rattle.diagnostics.specs.declared.diagnostic.Diagnostic.{Diagnostic}
-use Rattle.chill_top.specs.Telling.{Sums, Accepts}
+use Rattle.chill_top.specs.Telling.{Sums, Refuses}
 use Rattle.chill_top.specs.Run.{run_of}
-use Rattle.chill_top.specs.Plan.{Said, said, IsTextOf, RefusesBy}
+use Rattle.chill_top.specs.Plan.{IsTextNamed, file_of}
 use Rattle.chill_top.specs.declared.plan.Plan.{Plan}
-use Rattle.chill_top.specs.declared.plan.Command.TheVariants.{Run, Check}
 
 -- done, usage, refused, a fault of reading, a fault of writing, or no memory
 abbrev pub IsStatus : ℕ → Type 0
 IsStatus status = (status ≡ 0) ⊎ (status ≡ 2) ⊎ (status ≡ 3) ⊎ (status ≡ 4) ⊎ (status ≡ 5) ⊎ (status ≡ 8)
 
--- the words ask for a run, and the events are the run of the text that they name, to its end
+-- the events are the run of the text that the words name, to its end
 pub record IsRunOf (words : List (List ℕ)) (bytes : List ℕ → Option (List ℕ)) (events : List Event) (over : Over) : Type 0 where
-  pub file : List ℕ
-  pub named : said words ≡ Some (record { command = Run; file = file })
   pub text : List ℕ
-  pub told : IsTextOf (bytes file) text
+  pub named : IsTextNamed words bytes text
   pub sums : List ℕ
   pub form : Sums text sums
   pub run : events ≡ run_of sums
   pub ended : over ≡ AllEnded
 
--- the words ask for a check, and the text that they name is accepted
-pub record IsAccepted (words : List (List ℕ)) (bytes : List ℕ → Option (List ℕ)) : Type 0 where
-  pub file : List ℕ
-  pub named : said words ≡ Some (record { command = Check; file = file })
+-- the diagnostics are told of the text that the words name
+pub record IsRefused (words : List (List ℕ)) (bytes : List ℕ → Option (List ℕ)) (told : List Diagnostic) : Type 0 where
   pub text : List ℕ
-  pub told : IsTextOf (bytes file) text
-  pub accepted : Accepts text
-
--- the diagnostics are told of the text that the words name, by the command that they say
-pub record IsRefused (words : List (List ℕ)) (bytes : List ℕ → Option (List ℕ)) (diagnostics : List Diagnostic) : Type 0 where
-  pub what : Said
-  pub named : said words ≡ Some what
-  pub text : List ℕ
-  pub told : IsTextOf (bytes what.file) text
-  pub refused : RefusesBy what.command text diagnostics
+  pub named : IsTextNamed words bytes text
+  pub refused : Refuses text told
 
 -- the library's count for the file that the words name rose
 pub record IsReadFault (words : List (List ℕ)) (before now : List ℕ → ℕ) : Type 0 where
-  pub what : Said
-  pub named : said words ≡ Some what
-  pub rose : Rose (before what.file) (now what.file)
+  pub file : List ℕ
+  pub named : file_of words ≡ Some file
+  pub rose : Rose (before file) (now file)
 
 -- a sink took a proper front of a text
 pub record AppendsFront (old new : Option (List ℕ)) (text : List ℕ) : Type 0 where

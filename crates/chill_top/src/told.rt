@@ -1,11 +1,10 @@
-// What is told of a text: its sums, or the rules that it breaks, or that it breaks none and isn't run yet.
+// What is told of a text: its sums, or the rules that it breaks, or that it isn't built yet.
 ghost use Rattle.std.specs.Prelude.{◌≡◌, ◌-◌, ◌<◌, ◌^◌, [], ◌∷◌, IfOk};
 ghost use Rattle.rules_model.specs.TokensCut.{AreTokensOf, behind, behind_all, first_place};
 ghost use Rattle.rules_model.specs.Diagnoses.{IsShort, plain};
 ghost use Rattle.chill_tree.specs.ItemTree.{program_tree};
 ghost use Rattle.names_model.specs.Resolving.{broken_names, level_of};
-ghost use Rattle.diagnostics.specs.declared.rule.Rule.TheVariants as rules;
-ghost use Rattle.chill_top.specs.Telling.{IsChecked, IsInOrder, Tells, TellsTree};
+ghost use Rattle.chill_top.specs.Telling.{Tells, TellsTree};
 ghost use Rattle.chill_top.specs.declared.told.Told.TheVariants as tellings;
 
 use crate::read::MAX_BYTES;
@@ -16,9 +15,6 @@ use chill_parser::{ParseRefusal, parse};
 use chill_tree::Token;
 use chill_tree::tree::Tree;
 use diagnostics::{Diagnostic, Diagnostics, Rule};
-use names_model::Names;
-use process_checks::check_processes;
-use static_checks::check_statements;
 use std::alloc::Global;
 use visibility::{Refusal, resolve};
 
@@ -30,52 +26,30 @@ const FIRST_PLACE: Pos = Pos { line: 1, column: 1 };
 pub(crate) enum Told {
     /// The sums of its tree.
     Sums(Vec<u32>),
-    /// The rules that it breaks.
-    Broken(Diagnostics),
-    /// It breaks none, and its tree isn't of the form.
-    NotBuilt,
-}
-
-// The list of one diagnostic.
-fn only(alloc: Global, told: Diagnostic) -> Result<Diagnostics, Memory>
-    ensures { IfOk result (λ list. list ≡ told ∷ []) }
-{
-    let mut list = Diagnostics::new(alloc);
-    list.push(told)?;
-    Ok(list)
-}
-
-// A rule at a place, that tells no names.
-fn plainly(alloc: Global, at: Pos, rule: Rule) -> Diagnostic
-    ensures { result ≡ plain at rule }
-{
-    Diagnostic {
-        at,
-        rule,
-        first: Text::new(alloc),
-        second: Text::new(alloc),
-    }
-}
-
-/// What is told of a text that breaks no rule and isn't run.
-pub(crate) fn not_built(alloc: Global) -> Result<Diagnostics, Memory>
-    ensures { IfOk result (λ list. list ≡ plain first_place rules.B1 ∷ []) }
-{
-    only(alloc, plainly(alloc, FIRST_PLACE, Rule::B1))
+    /// Why it isn't run.
+    Refused(Diagnostics),
 }
 
 // One diagnostic is told.
 fn refuse(alloc: Global, told: Diagnostic) -> Result<Told, Memory>
-    ensures { IfOk result (λ t. t ≡ tellings.Broken (told ∷ [])) }
+    ensures { IfOk result (λ t. t ≡ tellings.Refused (told ∷ [])) }
 {
-    Ok(Told::Broken(only(alloc, told)?))
+    let mut list = Diagnostics::new(alloc);
+    list.push(told)?;
+    Ok(Told::Refused(list))
 }
 
 // A rule is told that tells no names.
 fn refuse_plainly(alloc: Global, at: Pos, rule: Rule) -> Result<Told, Memory>
-    ensures { IfOk result (λ t. t ≡ tellings.Broken (plain at rule ∷ [])) }
+    ensures { IfOk result (λ t. t ≡ tellings.Refused (plain at rule ∷ [])) }
 {
-    refuse(alloc, plainly(alloc, at, rule))
+    let told = Diagnostic {
+        at,
+        rule,
+        first: Text::new(alloc),
+        second: Text::new(alloc),
+    };
+    refuse(alloc, told)
 }
 
 // The place behind a byte.
@@ -109,34 +83,14 @@ fn end_of(text: &[u8]) -> Pos
     at
 }
 
-// What the checks of modes, constants and statements tell, and where that is nothing what the checks of processes tell.
-fn check(alloc: Global, tree: &Tree, names: &Names) -> Result<(), Refusal>
-    ensures { IsInOrder result }
-{
-    check_statements(alloc, tree, names)?;
-    check_processes(alloc, tree, names)
-}
-
-// What is told of a tree that breaks no rule on names and isn't of the form.
-fn tell_of_checks(alloc: Global, tree: &Tree, names: &Names) -> Result<Told, Memory>
-    requires { IsChecked (program_tree tree.now) }
-    ensures { IfOk result (λ told. TellsTree (program_tree tree.now) told) }
-{
-    match check(alloc, tree, names) {
-        Ok(()) => Ok(Told::NotBuilt),
-        Err(Refusal::Broken(told)) => Ok(Told::Broken(told)),
-        Err(Refusal::Memory) => Err(Memory),
-    }
-}
-
-// What is told of a tree that breaks no rule on names. One of the form breaks no other rule either.
-fn tell_of_form(alloc: Global, tree: &Tree, names: &Names) -> Result<Told, Memory>
+// What is told of a tree that breaks no rule on names.
+fn tell_of_form(alloc: Global, tree: &Tree) -> Result<Told, Memory>
     requires { broken_names (level_of (program_tree tree.now)) ≡ [] }
     ensures { IfOk result (λ told. TellsTree (program_tree tree.now) told) }
 {
     match sums_of(alloc, tree)? {
         Some(sums) => Ok(Told::Sums(sums)),
-        None => tell_of_checks(alloc, tree, names),
+        None => refuse_plainly(alloc, FIRST_PLACE, Rule::B1),
     }
 }
 
@@ -145,8 +99,8 @@ fn tell_of_tree(alloc: Global, tree: &Tree) -> Result<Told, Memory>
     ensures { IfOk result (λ told. TellsTree (program_tree tree.now) told) }
 {
     match resolve(alloc, tree) {
-        Ok(names) => tell_of_form(alloc, tree, &names),
-        Err(Refusal::Broken(misnamed)) => Ok(Told::Broken(misnamed)),
+        Ok(_) => tell_of_form(alloc, tree),
+        Err(Refusal::Broken(told)) => Ok(Told::Refused(told)),
         Err(Refusal::Memory) => Err(Memory),
     }
 }

@@ -4,8 +4,8 @@ ghost use Rattle.std.specs.Bool.{OnTrue, OnFalse};
 ghost use Rattle.std.specs.Io.KnownBytes.{Appends, Keeps};
 ghost use Rattle.diagnostics.specs.declared.diagnostic.Diagnostic.{Diagnostic};
 ghost use Rattle.listing.specs.Diagnostics.{lines_of};
-ghost use Rattle.chill_top.specs.Causes.{IsStatus, IsRunOf, IsAccepted, IsRefused, IsReadFault, IsOutBroken, IsErrBroken};
-ghost use Rattle.chill_top.specs.Plan.{IsPlan, said, usage_line};
+ghost use Rattle.chill_top.specs.Causes.{IsStatus, IsRunOf, IsRefused, IsReadFault, IsOutBroken, IsErrBroken};
+ghost use Rattle.chill_top.specs.Plan.{IsPlan, file_of, usage_line};
 ghost use Rattle.chill_top.specs.Run.{output_of};
 ghost use Rattle.chill_top.specs.declared.plan.Plan.{Plan};
 
@@ -40,7 +40,7 @@ fn carry_out<O: Sink, E: Sink>(plan: &Plan, out: &mut O, err: &mut E) -> bool
     write_all(err, plan.err.as_slice()).is_ok()
 }
 
-/// Carries out the command that the words name: `run FILE` or `check FILE`.
+/// Runs the command that the words name: `run FILE`.
 pub fn chill<L: Library, O: Sink, E: Sink>(
     alloc: Global,
     words: &[String],
@@ -57,13 +57,13 @@ pub fn chill<L: Library, O: Sink, E: Sink>(
     // One journal: the run of the text to its end.
     ensures journal { IfSome result.over (IsRunOf (map string_bytes words.now) (L.bytes library.old) result.events) }
     ensures no_journal { IsNone result.over → result.events ≡ [] }
-    ensures ended { result.status ≡ 0 → IsSome result.over ⊎ IsAccepted (map string_bytes words.now) (L.bytes library.old) }
+    ensures ended { result.status ≡ 0 → IsSome result.over }
     ensures not_ended { (result.status ≡ 2) ⊎ (result.status ≡ 3) ⊎ (result.status ≡ 4) ⊎ (result.status ≡ 8) → result.over ≡ None }
 
-    // Exactly the run's output, and nothing else. Without a run that is nothing.
+    // Exactly the run's output, and nothing else.
     ensures output { result.status ≡ 0 → Appends (O.taken out.old) (O.taken out.new) (output_of result.events) × Keeps (E.taken err.old) (E.taken err.new) }
 
-    ensures usage { result.status ≡ 2 → (said (map string_bytes words.now) ≡ None)
+    ensures usage { result.status ≡ 2 → (file_of (map string_bytes words.now) ≡ None)
         × Keeps (O.taken out.old) (O.taken out.new) × Appends (E.taken err.old) (E.taken err.new) usage_line }
     ensures read_fault { result.status ≡ 4 → IsReadFault (map string_bytes words.now) (L.faults library.old) (L.faults library.new) }
 

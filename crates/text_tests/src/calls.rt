@@ -158,47 +158,6 @@ fn statuses_and_what_was_written(rt: HostRuntime) -> Result<(), Fail> {
     Ok(())
 }
 
-// Texts, and what a check writes of them.
-const CHECKED: [(&str, &str); 7] = [
-    (TEXT, ""),
-    ("M: MODULE DCL x INT := 1; x := x + 1; END M;", ""),
-    ("M: MODULE # END M;", "1:11: T1 no token\n"),
-    (
-        "M: MODULE x := 1; END M;",
-        "1:11: N2 name x is not seen here\n",
-    ),
-    (
-        "M: MODULE DCL x INT := 1 + 2147483648; END M;",
-        "1:28: M11 constant out of range\n",
-    ),
-    (
-        "M: MODULE DCL x INT := TRUE; END M;",
-        "1:24: S2 value does not go with the mode\n",
-    ),
-    (
-        "R: REGION DCL x INT; GRANT x; END R;",
-        "1:28: P4 region location x is granted\n",
-    ),
-];
-
-#[test]
-fn what_a_check_writes(rt: HostRuntime) -> Result<(), Fail> {
-    let alloc = rt.alloc();
-    let words = words_of(alloc, "check f")?;
-    for row in &CHECKED {
-        let (text, lines) = *row;
-        let mut library = library(alloc, text, 0)?;
-        let mut out = MemorySink::new(alloc, 100, 100, fault(alloc, 0)?)?;
-        let mut err = MemorySink::new(alloc, 100, 100, fault(alloc, 0)?)?;
-        let outcome = chill(alloc, &words, &mut library, &mut out, &mut err);
-        let status = if lines.is_empty() { 0 } else { 3 };
-        assert_eq!(rt; outcome.status, status, "{text}");
-        assert_eq!(rt; out.taken(), b"".as_slice(), "{text}");
-        assert_eq!(rt; err.taken(), lines.as_bytes(), "{text}");
-    }
-    Ok(())
-}
-
 fn words_of(alloc: Global, text: &str) -> Result<Vec<String>, AllocError> {
     let mut words = Vec::new(alloc);
     for word in text.split(' ') {
@@ -225,9 +184,6 @@ fn other_words_are_usage(rt: HostRuntime) -> Result<(), Fail> {
     answers_usage(&rt, alloc, words_of(alloc, "run")?)?;
     answers_usage(&rt, alloc, words_of(alloc, "run f f")?)?;
     answers_usage(&rt, alloc, words_of(alloc, "runs f")?)?;
-    answers_usage(&rt, alloc, words_of(alloc, "check")?)?;
-    answers_usage(&rt, alloc, words_of(alloc, "check f f")?)?;
-    answers_usage(&rt, alloc, words_of(alloc, "checks f")?)?;
     Ok(())
 }
 
