@@ -1,7 +1,7 @@
 // Texts, and all that is told of their expressions, by hand.
 use crate::rows::Row;
 
-pub static EXPRESSION_ROWS: [Row; 72] = [
+pub static OPERATOR_ROWS: [Row; 36] = [
     Row {
         text: "M: MODULE DCL x INT; x := x + TRUE; x := TRUE - x; x := x - 1; END M;",
         told: "1:29: S1 operands do not fit\n1:47: S1 operands do not fit\n",
@@ -146,6 +146,9 @@ pub static EXPRESSION_ROWS: [Row; 72] = [
         text: "M: MODULE DCL a READ ARRAY (1:2) INT := [1, 2]; a(1) := 2; a := [1, 2]; a(1) := TRUE; PUT_INT(a(1)); END M;",
         told: "1:49: S3 not a location that can be written\n1:60: S3 not a location that can be written\n1:73: S3 not a location that can be written\n1:81: S2 value does not go with the mode\n",
     },
+];
+
+pub static PLACE_ROWS: [Row; 36] = [
     Row {
         text: "M: MODULE DCL x INT; p: PROC (); END p; x.f := [1]; p := [1, 2]; x(1) := [1]; x(1) := TRUE; p := 1 + THIS; END M;",
         told: "1:41: S3 not a location that can be written\n1:53: S3 not a location that can be written\n1:66: S3 not a location that can be written\n1:79: S3 not a location that can be written\n1:93: S3 not a location that can be written\n1:100: S1 operands do not fit\n",

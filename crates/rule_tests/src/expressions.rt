@@ -1,6 +1,6 @@
 // What is told of the expressions of texts that break no rule on names, modes and constants. The walk over statements
 // here asks what each receives, and nothing else.
-use crate::expression_rows::EXPRESSION_ROWS;
+use crate::expression_rows::{OPERATOR_ROWS, PLACE_ROWS};
 use crate::rows::Row;
 use chill_base::{Memory, Text};
 use chill_lexer::lex;
@@ -258,8 +258,16 @@ fn is_told(alloc: Global, row: &Row) -> bool {
 }
 
 #[test]
-fn expressions_are_told_what_they_break(rt: HostRuntime) -> Result<(), Fail> {
-    for row in &EXPRESSION_ROWS {
+fn operators_are_told_what_they_break(rt: HostRuntime) -> Result<(), Fail> {
+    for row in &OPERATOR_ROWS {
+        assert!(rt; is_told(rt.alloc(), row), "{}", row.text);
+    }
+    Ok(())
+}
+
+#[test]
+fn places_are_told_what_they_break(rt: HostRuntime) -> Result<(), Fail> {
+    for row in &PLACE_ROWS {
         assert!(rt; is_told(rt.alloc(), row), "{}", row.text);
     }
     Ok(())
