@@ -1,0 +1,119 @@
+// The bodies of a program.
+use checked_program::{Body, Checked, Sort};
+use chill_base::{Item, Numbers, Scalars};
+use code_types::Instr;
+use expr_gen::{
+    Draft, Head, PartRefusal, Site, call_results, declared_scalars, first_free, parameter_scalars,
+    put_scalars,
+};
+use modes::{Mode, add_lowest};
+use stmt_gen::{
+    Around, critical_region, put_again, put_handler, put_items, put_way_out, raised_between,
+};
+
+/// Appends the bodies of a program in the order of their numbers.
+pub fn put_bodies(program: &Checked, draft: &mut Draft) -> Result<(), PartRefusal> {
+    if program.bodies.is_empty() {
+        return Err(PartRefusal::Unsound);
+    }
+    for body in program.bodies.as_slice() {
+        put_body(Site { program, body }, draft)?;
+    }
+    Ok(())
+}
+
+// A body and its row.
+fn put_body(site: Site, draft: &mut Draft) -> Result<(), PartRefusal> {
+    let first = draft.place();
+    draft.begin_body(first_free(site.body));
+    put_lowest_values(site.body, draft)?;
+    put_inside(site, draft)?;
+    draft.end_body(Head {
+        first,
+        params: parameter_scalars(site.body),
+        results: results_of(site.body),
+        listed: site.body.listed.copy()?,
+    })
+}
+
+// How many scalars a call of the body gives back. A process gives none.
+fn results_of(body: &Body) -> u32 {
+    match body.sort {
+        Sort::Outermost | Sort::Process => 0,
+        Sort::Procedure => call_results(body),
+    }
+}
+
+// The locals behind the parameters and the result get their lowest values.
+fn put_lowest_values(body: &Body, draft: &mut Draft) -> Result<(), PartRefusal> {
+    for local in body.locals.as_slice().iter().skip(body.parameters.len()) {
+        put_lowest_value(&local.mode, local.first, draft)?;
+    }
+    match &body.result {
+        Some(mode) => put_lowest_value(mode, declared_scalars(body), draft),
+        None => Ok(()),
+    }
+}
+
+// The locals from the first on get the lowest value of a mode. They are 0 already.
+fn put_lowest_value(mode: &Mode, first: u32, draft: &mut Draft) -> Result<(), PartRefusal> {
+    let mut lowest = Scalars::new(draft.allocator());
+    add_lowest(mode, &mut lowest)?;
+    if lowest.as_slice().iter().all(|scalar| *scalar == 0) {
+        return Ok(());
+    }
+    let count = (lowest.len() as u64).min(u32::MAX as u64) as u32;
+    put_scalars(lowest.as_slice(), draft)?;
+    draft.put(Instr::SetLocal(first, count))
+}
+
+// What a body does, and its way out. A critical procedure enters its region before and leaves it behind.
+fn put_inside(site: Site, draft: &mut Draft) -> Result<(), PartRefusal> {
+    let body = site.body;
+    match critical_region(body) {
+        Some(region) => put_critical(site, region, draft),
+        None if body.critical => Err(PartRefusal::Unsound),
+        None => {
+            put_handled(site, draft)?;
+            put_way_out(body, draft)
+        }
+    }
+}
+
+// The statements of a body with their handler.
+fn put_handled(site: Site, draft: &mut Draft) -> Result<(), PartRefusal> {
+    let from = draft.place();
+    let around = Around {
+        site,
+        free: first_free(site.body),
+        exits: &[],
+    };
+    put_items(site.body.statements.as_slice(), &around, draft)?;
+    match &site.body.handler {
+        Some(handler) => put_handler(handler, from, &around, draft),
+        None => Ok(()),
+    }
+}
+
+// A critical procedure. An exception that it lists is raised again behind the release of the region.
+fn put_critical(site: Site, region: u32, draft: &mut Draft) -> Result<(), PartRefusal> {
+    draft.put(Instr::Enter(region))?;
+    let from = draft.place();
+    put_handled(site, draft)?;
+    let until = draft.place();
+    put_way_out(site.body, draft)?;
+    let raised = raised_between(from, until, site.program, draft)?;
+    let listed = listed_of(&raised, &site.body.listed)?;
+    put_again(listed.as_slice(), from, until, region, draft)
+}
+
+// Those of the raised exceptions that are listed.
+fn listed_of(raised: &Numbers, listed: &Numbers) -> Result<Numbers, PartRefusal> {
+    let mut both = Numbers::new(raised.allocator());
+    for exception in raised.as_slice() {
+        if listed.as_slice().contains(exception) {
+            both.push(*exception)?;
+        }
+    }
+    Ok(both)
+}

@@ -1,0 +1,22 @@
+// The code of a program.
+use crate::bodies::put_bodies;
+use crate::refusal::{CodeRefusal, refusal_of};
+use checked_program::Checked;
+use code_types::Code;
+use expr_gen::Draft;
+use std::alloc::Global;
+
+/// The greatest size of a text that has a code.
+const GREATEST_SIZE: u32 = 65_536;
+
+/// The code of a program. `CodeTooLong` comes exactly where the size of the text is above 65,536.
+pub fn compile(alloc: Global, program: &Checked) -> Result<Code, CodeRefusal> {
+    if program.size > GREATEST_SIZE {
+        return Err(CodeRefusal::CodeTooLong);
+    }
+    let mut draft = Draft::new(alloc);
+    match put_bodies(program, &mut draft) {
+        Ok(()) => Ok(draft.code),
+        Err(refusal) => Err(refusal_of(refusal)),
+    }
+}
