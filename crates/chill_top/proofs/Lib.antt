@@ -1,3 +1,4 @@
 pub mod Pieces
-pub mod TellingLemmas
-pub mod SumsLemmas
+pub mod InputLemmas
+pub mod PlanLemmas
+pub mod AnswerLemmas

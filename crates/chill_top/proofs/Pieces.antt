@@ -1,12 +1,15 @@
 -- Texts that are read and written piece by piece.
-use Rattle.std.proofs.Common.{◌≡◌, ℕ, ◌+◌, ◌-◌, ◌<◌, ◌≤◌, List, ◌++◌, length, take, drop, refl, sym, ap, ◌∙◌, subst, inl, inr, arith, append_assoc, length-append, length-take, IfOk}
+use Rattle.std.proofs.Common.{◌≡◌, ℕ, ◌+◌, ◌-◌, ◌<◌, ◌≤◌, List, ◌++◌, length, take, drop, refl, sym, ap, ◌∙◌, subst, arith, append_assoc, length-append, length-take, IfOk}
 use Rattle.std.specs.Prelude.{None, Some, Ok, Err}
 use Rattle.std.specs.declared.result.Result.{Result}
-use Rattle.chill_base.specs.declared.memory.Memory.{Memory}
 use Rattle.diagnostics.specs.declared.diagnostic.Diagnostic.{Diagnostic}
 use Rattle.rules_model.specs.Diagnoses.{IsShort, too_long, no_token, too_deep, no_program}
-use Rattle.chill_top.specs.Telling.{Sums, Refuses, broken, misnamed, not_built}
-use Rattle.chill_top.specs.Plan.{IsTextOf, IsReadingOf, IsPlanFor, sums_plan, refusal_plan}
+use Rattle.text_to_code.specs.Telling.{IsResolved, Breaks, Refuses, broken, misnamed, breaks, later, Tells}
+use Rattle.text_to_code.specs.declared.told.Told.{Told}
+use Rattle.text_to_code.specs.declared.told.Told.TheVariants as tellings
+use Rattle.chill_top.specs.declared.plan.Command.{Command}
+use Rattle.chill_top.specs.declared.read.ReadRefusal.{ReadRefusal}
+use Rattle.chill_top.specs.Plan.{IsTextOf, IsReadingOf, IsPlanFor}
 use Rattle.chill_top.specs.declared.plan.Plan.{Plan}
 use Rattle.std.specs.declared.option.Option.{Option}
 use Rattle.outside_ports.specs.Library.{Gives}
@@ -60,26 +63,38 @@ pub reading-long : (text read : List ℕ) → IsReadingOf text read → 262144 <
 reading-long text read of long = omega (arith, long, ap length of.front, length-take 262145 text)
 
 -- what is told of what was read is told of the text
-pub Sums-reading : (text read sums : List ℕ) → IsReadingOf text read → Sums read sums → Sums text sums
-Sums-reading text read sums of s = subst (λ (t : List ℕ). Sums t sums) (reading-short text read of s.has.short) s
+Resolved-reading : (text read : List ℕ) → IsReadingOf text read → IsResolved read → IsResolved text
+Resolved-reading text read of resolved = subst (λ (t : List ℕ). IsResolved t) (reading-short text read of resolved.has.short) resolved
 
-Refuses-short : (text read : List ℕ) (told : List Diagnostic) → IsReadingOf text read → IsShort read → Refuses read told → Refuses text told
-Refuses-short text read told of short r = subst (λ (t : List ℕ). Refuses t told) (reading-short text read of short) r
+Breaks-short : (text read : List ℕ) (told : List Diagnostic) → IsReadingOf text read → IsShort read → Breaks read told → Breaks text told
+Breaks-short text read told of short r = subst (λ (t : List ℕ). Breaks t told) (reading-short text read of short) r
 
-pub Refuses-reading : (text read : List ℕ) (told : List Diagnostic) → IsReadingOf text read → Refuses read told → Refuses text told
-Refuses-reading text read told of (broken (too_long long)) = broken (too_long (reading-long text read of long))
-Refuses-reading text read told of (broken (no_token {at = at} short bad)) = Refuses-short text read _ of short (broken (no_token short bad))
-Refuses-reading text read told of (broken (too_deep {at = at} short are deep)) = Refuses-short text read _ of short (broken (too_deep short are deep))
-Refuses-reading text read told of (broken (no_program {at = at} short are shallow none place)) =
-    Refuses-short text read _ of short (broken (no_program short are shallow none place))
-Refuses-reading text read told of (misnamed has some) = Refuses-short text read _ of has.short (misnamed has some)
-Refuses-reading text read told of (not_built has named none) = Refuses-short text read _ of has.short (not_built has named none)
+Breaks-reading : (text read : List ℕ) (told : List Diagnostic) → IsReadingOf text read → Breaks read told → Breaks text told
+Breaks-reading text read told of (broken (too_long long)) = broken (too_long (reading-long text read of long))
+Breaks-reading text read told of (broken (no_token {at = at} short bad)) = Breaks-short text read _ of short (broken (no_token short bad))
+Breaks-reading text read told of (broken (too_deep {at = at} short are deep)) = Breaks-short text read _ of short (broken (too_deep short are deep))
+Breaks-reading text read told of (broken (no_program {at = at} short are shallow none place)) =
+    Breaks-short text read _ of short (broken (no_program short are shallow none place))
+Breaks-reading text read told of (misnamed has some) = Breaks-short text read _ of has.short (misnamed has some)
 
--- the plan for a text whose sums were read, or that is refused
-pub ok-plan-sums : (read sums : List ℕ) (made : Result Plan Memory) → Sums read sums → IfOk made (λ plan. plan ≡ sums_plan sums) → IfOk made (λ plan. (text : List ℕ) → IsReadingOf text read → IsPlanFor text plan)
-ok-plan-sums read sums (Ok plan) s is = λ text of. inl (sums, Sums-reading text read sums of s, is)
-ok-plan-sums read sums (Err e) s is = tt
+Refuses-reading : (text read : List ℕ) (told : List Diagnostic) → IsReadingOf text read → Refuses read told → Refuses text told
+Refuses-reading text read told of (breaks breaking) = breaks (Breaks-reading text read told of breaking)
+Refuses-reading text read told of (later resolved may) = later (Resolved-reading text read of resolved) may
 
-pub ok-plan-refused : (read : List ℕ) (told : List Diagnostic) (made : Result Plan Memory) → Refuses read told → IfOk made (λ plan. plan ≡ refusal_plan told) → IfOk made (λ plan. (text : List ℕ) → IsReadingOf text read → IsPlanFor text plan)
-ok-plan-refused read told (Ok plan) r is = λ text of. inr (told, Refuses-reading text read told of r, is)
-ok-plan-refused read told (Err e) r is = tt
+pub Tells-reading : (text read : List ℕ) (told : Told) → IsReadingOf text read → Tells read told → Tells text told
+Tells-reading text read (tellings.Refused told) of tells = Refuses-reading text read told of tells
+Tells-reading text read (tellings.Accepted built) of tells = Resolved-reading text read of tells
+
+-- the plan for what was read is the plan for the text
+pub ok-plan-read : (read : List ℕ) (command : Command) (feed : Option (List ℕ)) (told : Told) (made : Result Plan ReadRefusal) → Tells read told
+    → IfOk made (λ plan. (text : List ℕ) → Tells text told → IsPlanFor command text feed plan)
+    → IfOk made (λ plan. (text : List ℕ) → IsReadingOf text read → IsPlanFor command text feed plan)
+ok-plan-read read command feed told (Ok plan) tells is = λ text of. is text (Tells-reading text read told of tells)
+ok-plan-read read command feed told (Err e) tells is = tt
+
+-- the plan for a file is the one for its text
+pub ok-plan-file : (told : Option (List ℕ)) (read : List ℕ) (command : Command) (feed : Option (List ℕ)) (made : Result Plan ReadRefusal) → ((text : List ℕ) × IsTextOf told text × IsReadingOf text read)
+    → IfOk made (λ plan. (text : List ℕ) → IsReadingOf text read → IsPlanFor command text feed plan)
+    → IfOk made (λ plan. (text : List ℕ) × IsTextOf told text × IsPlanFor command text feed plan)
+ok-plan-file told read command feed (Ok plan) found is = (found.0, found.1, is found.0 found.2)
+ok-plan-file told read command feed (Err e) found is = tt

@@ -1,6 +1,5 @@
-pub mod Sums
 pub mod Reading
-pub mod Telling
-pub mod Run
+pub mod Runs
 pub mod Plan
 pub mod Causes
+pub mod Outcomes

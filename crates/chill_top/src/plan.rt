@@ -1,113 +1,171 @@
-// What a call has to answer and to write.
-ghost use Rattle.std.specs.Prelude.{◌≡◌, ℕ, List, IfOk, IsErrOf, map, string_bytes};
-ghost use Rattle.chill_top.specs.Plan.{IsPlan, IsPlanFor, IsReadingOf, IsTextOf, usage_plan, refusal_plan, sums_plan};
-ghost use Rattle.chill_top.specs.Causes.{IsReadFault};
+// What comes of words, of the text that they name and of the input.
+ghost use Rattle.std.specs.Prelude.{◌≡◌, ◌⊎◌, ℕ, List, [], None, OnOk, IfOk, IsErrOf, MatchBool, map, string_bytes};
 ghost use Rattle.outside_ports.specs.Faults.{Rose};
-ghost use Rattle.listing.specs.Diagnostics.{lines_of};
+ghost use Rattle.chill_top.specs.Causes.{IsReadFault, IsFeedFault};
+ghost use Rattle.chill_top.specs.Plan.{IsPlan, IsPlanFor, IsReadingOf, IsRunning, IsTextOf, said};
+ghost use Rattle.chill_top.specs.Reading.{IsInputRead};
+ghost use Rattle.text_to_code.specs.Telling.{IsResolved, Tells};
+ghost use Rattle.chill_top.specs.declared.plan.Command.TheVariants as commands;
 
+use crate::input::{MAX_INPUT, read_input};
 use crate::read::{ReadRefusal, read_text};
-use crate::run::{output, run};
-use crate::told::{Told, tell};
+use crate::run::{Attempt, run};
 use chill_base::{Memory, Text};
 use diagnostics::Diagnostics;
-use kernel_base::{Events, Over};
-use listing::diagnostics_text;
-use outside_ports::Library;
+use outside_ports::{Feed, Library};
+use serial_run::Driven;
 use std::alloc::Global;
+use text_to_code::{Built, Told, not_built, tell};
+use word_reader::{Command as Words, WordRefusal, read_words};
 
-// The line for words that are no command.
-const USAGE: &str =
-    "usage: chill run FILE [--workers N] [--units N] [--watch] | check FILE | list FILE | format FILE | make N\n";
+/// What is done with a text.
+#[derive(Clone, Copy)]
+pub(crate) enum Command {
+    /// It is run, with a budget.
+    Run { units: u64 },
+    Check,
+}
 
-/// A status, the run that it comes from, and what is to be written with it.
+/// A run, and the program and the code that it is of.
 #[derive(Drop)]
-pub struct Plan {
-    pub status: u8,
-    pub over: Option<Over>,
-    pub events: Events,
-    pub out: Text,
-    pub err: Text,
+pub struct Ran {
+    pub built: Box<Built>,
+    pub driven: Box<Driven>,
 }
 
-fn text_of(alloc: Global, text: &str) -> Result<Text, Memory>
-    ensures { IfOk result (λ copy. copy ≡ text.now) }
-{
-    Ok(Text::from_vec(text.as_bytes().to_vec(alloc)?))
+/// What comes of words and of the text that they name.
+#[derive(Drop)]
+pub enum Plan {
+    /// The words are no command.
+    Usage,
+    /// The text is refused.
+    Refused(Diagnostics),
+    /// The text is accepted, and isn't to be run.
+    Accepted,
+    /// The input is too long.
+    InputTooLong,
+    /// The text was run.
+    Ran(Ran),
 }
 
-fn plan_for_usage(alloc: Global) -> Result<Plan, Memory>
-    ensures { IfOk result (λ plan. plan ≡ usage_plan) }
+// The input of a program: what is read where it reads one, and else none.
+fn input_of<I: Feed>(alloc: Global, built: &Built, feed: &mut I) -> Result<Text, ReadRefusal>
+    ensures input { IfOk result (λ input. MatchBool built.now.program.checked.value.reads_input (IsInputRead (I.bytes feed.old) input) (input ≡ [])) }
+    ensures stays { OnOk result (I.faults feed.new ≡ I.faults feed.old) }
+    ensures fault { IsErrOf result ReadRefusal.Fault → Rose (I.faults feed.old) (I.faults feed.new) }
 {
-    Ok(Plan {
-        status: 2,
-        over: None,
-        events: Events::new(alloc),
-        out: Text::new(alloc),
-        err: text_of(alloc, USAGE)?,
-    })
+    if !built.program.checked().reads_input {
+        return Ok(Text::new(alloc));
+    }
+    let input = read_input(alloc, feed)?;
+    Ok(Text::from_vec(input))
 }
 
-fn plan_for_refusal(alloc: Global, told: &Diagnostics) -> Result<Plan, Memory>
-    ensures { IfOk result (λ plan. plan ≡ refusal_plan told.now) }
+// The plan of `run` for a program.
+fn plan_for_run<I: Feed>(
+    alloc: Global,
+    built: Box<Built>,
+    units: u64,
+    feed: &mut I,
+) -> Result<Plan, ReadRefusal>
+    ensures plan { IfOk result (λ plan. (text : List ℕ) → IsResolved text → IsPlanFor (commands.Run units) text (I.bytes feed.old) plan) }
+    ensures stays { OnOk result (I.faults feed.new ≡ I.faults feed.old) }
+    ensures fault { IsErrOf result ReadRefusal.Fault → Rose (I.faults feed.old) (I.faults feed.new) }
 {
-    Ok(Plan {
-        status: 3,
-        over: None,
-        events: Events::new(alloc),
-        out: Text::new(alloc),
-        err: diagnostics_text(alloc, told)?,
-    })
-}
-
-fn plan_for_sums(alloc: Global, sums: &[u32]) -> Result<Plan, Memory>
-    ensures { IfOk result (λ plan. plan ≡ sums_plan sums.now) }
-{
-    let events = run(alloc, sums)?;
-    let out = output(alloc, &events)?;
-    Ok(Plan {
-        status: 0,
-        over: Some(Over::AllEnded),
-        events,
-        out,
-        err: Text::new(alloc),
-    })
-}
-
-// The plan for what was read of a text.
-fn plan_for_text(alloc: Global, read: &[u8]) -> Result<Plan, Memory>
-    ensures { IfOk result (λ plan. (text : List ℕ) → IsReadingOf text read.now → IsPlanFor text plan) }
-{
-    match tell(alloc, read)? {
-        Told::Sums(sums) => plan_for_sums(alloc, &sums),
-        Told::Refused(told) => plan_for_refusal(alloc, &told),
+    let input = input_of(alloc, &built, feed)?;
+    if input.len() > MAX_INPUT {
+        return Ok(Plan::InputTooLong);
+    }
+    match run(alloc, &built, input, units)? {
+        Attempt::Driven(driven) => Ok(Plan::Ran(Ran { built, driven })),
+        Attempt::NotBuilt => Ok(Plan::Refused(not_built(alloc)?)),
     }
 }
 
-fn plan_for_file<L: Library>(
+// The plan for a text of which this is told.
+fn plan_for_told<I: Feed>(
     alloc: Global,
-    library: &mut L,
-    file: &str,
+    command: Command,
+    told: Told,
+    feed: &mut I,
 ) -> Result<Plan, ReadRefusal>
-    ensures plan { IfOk result (λ plan. (text : List ℕ) × IsTextOf (L.bytes library.old file.now) text × IsPlanFor text plan) }
-    ensures fault { IsErrOf result ReadRefusal.Fault → Rose (L.faults library.old file.now) (L.faults library.new file.now) }
+    ensures plan { IfOk result (λ plan. (text : List ℕ) → Tells text told → IsPlanFor command text (I.bytes feed.old) plan) }
+    ensures stays { OnOk result (I.faults feed.new ≡ I.faults feed.old) }
+    ensures fault { IsErrOf result ReadRefusal.Fault → IsRunning command × Rose (I.faults feed.old) (I.faults feed.new) }
+{
+    match told {
+        Told::Refused(told) => Ok(Plan::Refused(told)),
+        Told::Accepted(built) => match command {
+            Command::Run { units } => plan_for_run(alloc, built, units, feed),
+            Command::Check => Ok(Plan::Accepted),
+        },
+    }
+}
+
+// The plan for what was read of a text.
+fn plan_for_text<I: Feed>(
+    alloc: Global,
+    command: Command,
+    read: &[u8],
+    feed: &mut I,
+) -> Result<Plan, ReadRefusal>
+    ensures plan { IfOk result (λ plan. (text : List ℕ) → IsReadingOf text read.now → IsPlanFor command text (I.bytes feed.old) plan) }
+    ensures stays { OnOk result (I.faults feed.new ≡ I.faults feed.old) }
+    ensures fault { IsErrOf result ReadRefusal.Fault → IsRunning command × Rose (I.faults feed.old) (I.faults feed.new) }
+{
+    let told = tell(alloc, read)?;
+    plan_for_told(alloc, command, told, feed)
+}
+
+fn plan_for_file<L: Library, I: Feed>(
+    alloc: Global,
+    command: Command,
+    file: &str,
+    library: &mut L,
+    feed: &mut I,
+) -> Result<Plan, ReadRefusal>
+    ensures plan { IfOk result (λ plan. (text : List ℕ) × IsTextOf (L.bytes library.old file.now) text × IsPlanFor command text (I.bytes feed.old) plan) }
+    ensures stays { OnOk result (I.faults feed.new ≡ I.faults feed.old) }
+    ensures kept { OnOk result ((n : List ℕ) → L.faults library.new n ≡ L.faults library.old n) }
+    ensures fault { IsErrOf result ReadRefusal.Fault → Rose (L.faults library.old file.now) (L.faults library.new file.now)
+        ⊎ (IsRunning command × Rose (I.faults feed.old) (I.faults feed.new)) }
 {
     let read = read_text(alloc, library, file)?;
-    Ok(plan_for_text(alloc, &read)?)
+    plan_for_text(alloc, command, &read, feed)
 }
 
 /// The plan for these words.
-pub(crate) fn make_plan<L: Library>(
+pub(crate) fn make_plan<L: Library, I: Feed>(
     alloc: Global,
     words: &[String],
     library: &mut L,
+    feed: &mut I,
 ) -> Result<Plan, ReadRefusal>
-    ensures plan { IfOk result (λ plan. IsPlan (map string_bytes words.now) (L.bytes library.old) plan) }
-    ensures fault { IsErrOf result ReadRefusal.Fault → IsReadFault (map string_bytes words.now) (L.faults library.old) (L.faults library.new) }
+    ensures plan { IfOk result (IsPlan (map string_bytes words.now) (L.bytes library.old) (I.bytes feed.old)) }
+    ensures stays { OnOk result (I.faults feed.new ≡ I.faults feed.old) }
+    ensures kept { OnOk result ((n : List ℕ) → L.faults library.new n ≡ L.faults library.old n) }
+    ensures untouched { said (map string_bytes words.now) ≡ None → (library.new ≡ library.old) × (feed.new ≡ feed.old) }
+    ensures fault { IsErrOf result ReadRefusal.Fault → IsReadFault (map string_bytes words.now) (L.faults library.old) (L.faults library.new)
+        ⊎ IsFeedFault (map string_bytes words.now) (I.faults feed.old) (I.faults feed.new) }
 {
-    match words {
-        [command, file] if command.as_str() == "run" => {
-            plan_for_file(alloc, library, file.as_str())
+    match read_words(alloc, words) {
+        Ok(
+            Words::Run {
+                file,
+                units,
+                watch,
+                ..
+            },
+        ) => {
+            if watch {
+                return Ok(Plan::Usage);
+            }
+            plan_for_file(alloc, Command::Run { units }, file.as_str(), library, feed)
         }
-        _ => Ok(plan_for_usage(alloc)?),
+        Ok(Words::Check { file }) => {
+            plan_for_file(alloc, Command::Check, file.as_str(), library, feed)
+        }
+        Ok(_) | Err(WordRefusal::Usage) => Ok(Plan::Usage),
+        Err(WordRefusal::Memory) => Err(ReadRefusal::Memory),
     }
 }

@@ -10,8 +10,8 @@ use chill_base::Memory;
 use outside_ports::{Library, PortFault};
 use std::alloc::{AllocError, Global};
 
-/// A text has at most this many bytes.
-pub(crate) const MAX_BYTES: usize = 262_144;
+// A text has at most this many bytes.
+const MAX_BYTES: usize = 262_144;
 
 // A longer text is read this far.
 const MAX_READ: usize = MAX_BYTES + 1;
@@ -56,6 +56,7 @@ pub(crate) fn read_text<L: Library>(
     library: &mut L,
     name: &str,
 ) -> Result<Vec<u8>, ReadRefusal>
+    ensures kept { OnOk result ((n : List ℕ) → L.faults library.new n ≡ L.faults library.old n) }
     ensures text { IfOk result (λ read. (text : List ℕ) × IsTextOf (L.bytes library.old name.now) text × IsReadingOf text read.items) }
     ensures fault { IsErrOf result ReadRefusal.Fault → Rose (L.faults library.old name.now) (L.faults library.new name.now) }
 {
@@ -70,8 +71,8 @@ pub(crate) fn read_text<L: Library>(
     Ok(text)
 }
 
-// A buffer of so many bytes.
-fn buffer(alloc: Global, size: usize) -> Result<Vec<u8>, Memory>
+/// A buffer of so many bytes.
+pub(crate) fn buffer(alloc: Global, size: usize) -> Result<Vec<u8>, Memory>
     ensures { IfOk result (λ buffer. length buffer.items ≡ size) }
 {
     Ok(vec![in alloc; 0u8; size]?)
@@ -92,7 +93,7 @@ fn read_piece<L: Library>(
     ensures end { IfOk result (λ more. OnFalse more (IsTextOf (L.bytes library.old name.now) text.new.items)) }
     ensures kept { IfOk result (λ more. OnFalse more (text.new.items ≡ text.old.items)) }
     ensures same { (n : List ℕ) → L.bytes library.new n ≡ L.bytes library.old n }
-    ensures later { (n : List ℕ) → L.faults library.old n ≤ L.faults library.new n }
+    ensures stays { OnOk result ((n : List ℕ) → L.faults library.new n ≡ L.faults library.old n) }
     ensures fault { IsErrOf result ReadRefusal.Fault → Rose (L.faults library.old name.now) (L.faults library.new name.now) }
 {
     let count = library.read(name, text.len() as u64, piece)?;

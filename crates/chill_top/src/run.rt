@@ -1,62 +1,47 @@
-// The run of a text of sums: its events, and its output.
-ghost use Rattle.std.specs.Prelude.{◌≡◌, IfOk};
-ghost use Rattle.std.specs.Fmt.{decimal};
-ghost use Rattle.chill_top.specs.Run.{done_event, run_of, output_of};
+// The run of a program with an input.
+ghost use Rattle.std.specs.Prelude.{IfOk};
+ghost use Rattle.chill_top.specs.Runs.{IsAttempt, IsAttemptFrom};
 
 use chill_base::{Memory, Text};
-use kernel_base::{Answer, Event, Events, How, Request};
+use code_gen::facts_of;
+use code_guard::Guarded;
+use expr_gen::PartRefusal;
+use kernel_base::Facts;
+use serial_run::{Driven, RunRefusal, attempt};
+use sound_facts::are_sound;
 use std::alloc::Global;
+use text_to_code::Built;
 
-// The outermost process.
-const OUTERMOST: u32 = 1;
+/// What comes of an attempt to run a program.
+#[derive(Drop)]
+pub(crate) enum Attempt {
+    /// The run.
+    Driven(Box<Driven>),
+    /// The facts don't suit the code. This comes of no program that breaks no rule.
+    NotBuilt,
+}
 
-// A request that the outermost process made, and that was done at once.
-fn done(request: Request) -> Event
-    ensures { result ≡ done_event request }
+/// Runs a program with an input and a budget.
+pub(crate) fn run(alloc: Global, built: &Built, input: Text, units: u64) -> Result<Attempt, Memory>
+    ensures { IfOk result (λ a. IsAttempt units built.now.code input a) }
 {
-    Event::Did {
-        who: OUTERMOST,
-        ticks: 0,
-        request,
-        answer: Answer::Done,
-        refill: None,
+    match facts_of(alloc, built.program.checked(), input, units) {
+        Ok(facts) => run_from(alloc, &built.code, facts),
+        Err(PartRefusal::Memory) => Err(Memory),
+        Err(PartRefusal::Unsound) => Ok(Attempt::NotBuilt),
     }
 }
 
-// The decimal digits of a number.
-fn digits(alloc: Global, number: u32) -> Result<Text, Memory>
-    ensures { IfOk result (λ text. text ≡ decimal number) }
+// Runs a code from facts.
+fn run_from(alloc: Global, code: &Guarded, facts: Facts) -> Result<Attempt, Memory>
+    ensures { IfOk result (λ a. IsAttemptFrom code.now facts a) }
 {
-    let text = format!(in alloc; "{number}")?;
-    Ok(Text::from_vec(text.into_bytes()))
-}
-
-/// The events of the run on these sums.
-pub(crate) fn run(alloc: Global, sums: &[u32]) -> Result<Events, Memory>
-    ensures { IfOk result (λ events. events ≡ run_of sums.now) }
-{
-    let mut events = Events::new(alloc);
-    for sum in sums {
-        let bytes = digits(alloc, *sum)?;
-        events.push(done(Request::Put { bytes }))?;
+    if !are_sound(alloc, &facts)? {
+        return Ok(Attempt::NotBuilt);
     }
-    events.push(done(Request::End { how: How::Normal }))?;
-    Ok(events)
-}
-
-/// The output of a run: the bytes of its puts in order.
-pub(crate) fn output(alloc: Global, events: &Events) -> Result<Text, Memory>
-    ensures { IfOk result (λ text. text ≡ output_of events.now) }
-{
-    let mut output = Vec::new(alloc);
-    for event in events.as_slice() {
-        if let Event::Did {
-            request: Request::Put { bytes },
-            ..
-        } = event
-        {
-            output.extend_from_slice(bytes.as_slice())?;
-        }
+    match attempt(alloc, code, facts) {
+        Ok(driven) => Ok(Attempt::Driven(Box::new(alloc, driven)?)),
+        Err(RunRefusal::Misfit) => Ok(Attempt::NotBuilt),
+        Err(RunRefusal::Memory) => Err(Memory),
     }
-    Ok(Text::from_vec(output))
 }

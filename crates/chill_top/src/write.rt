@@ -1,5 +1,5 @@
 // A text is written by as many puts as it takes.
-ghost use Rattle.std.specs.Prelude.{◌≤◌, OnOk, OnErr};
+ghost use Rattle.std.specs.Prelude.{◌≡◌, OnOk, OnErr};
 ghost use Rattle.std.specs.Io.KnownBytes.{Appends};
 ghost use Rattle.outside_ports.specs.Faults.{Rose};
 ghost use Rattle.chill_top.specs.Causes.{AppendsFront};
@@ -10,6 +10,7 @@ use outside_ports::{PortFault, Sink};
 pub(crate) fn write_all<S: Sink>(sink: &mut S, text: &[u8]) -> Result<(), PortFault>
     ensures ok { OnOk result (Appends (S.taken sink.old) (S.taken sink.new) text.now) }
     ensures front { OnErr result (AppendsFront (S.taken sink.old) (S.taken sink.new) text.now) }
+    ensures stays { OnOk result (S.faults sink.new ≡ S.faults sink.old) }
     ensures fault { OnErr result (Rose (S.faults sink.old) (S.faults sink.new)) }
 {
     let mut done = 0;

@@ -1,4 +1,6 @@
 // The facts of a program: the lowest values and the layouts of its shared locations, its counts and lengths.
+ghost use Rattle.std.specs.Prelude.{◌≡◌, IfOk};
+
 use checked_program::{Body, BufferRow, Checked, EventRow, LocationRow, SignalRow, Sort};
 use chill_base::{Layouts, Lengths, List, Memory, Text};
 use expr_gen::PartRefusal;
@@ -14,7 +16,9 @@ pub fn facts_of(
     program: &Checked,
     input: Text,
     units: u64,
-) -> Result<Facts, PartRefusal> {
+) -> Result<Facts, PartRefusal>
+    ensures given { IfOk result (λ facts. (facts.input ≡ input) × (facts.units ≡ units)) }
+{
     let store = values_of(alloc, program.locations.as_slice())?;
     let layouts = layouts_of(alloc, program.locations.as_slice())?;
     let events = event_lengths(alloc, program.events.as_slice())?;

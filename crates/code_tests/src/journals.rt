@@ -2,16 +2,17 @@
 ghost use Rattle.std.specs.Prelude.{All, IfOk};
 ghost use Rattle.world_check.specs.Opening.{HasFewMembersEach};
 
-use crate::tables::Asked::{
-    Continue, Delay, End, Enter, Get, ReceiveBuffer, ReceiveSignal, SendBuffer, SendSignal, Start,
-};
-use crate::tables::Given::{Chose, Done, Fail, Got, Instance, Stored, Value};
-use crate::tables::{Asked, Given, answer_of, few_facts, request_of};
+use crate::tables::few_facts;
 use chill_base::Memory;
 use journal_check::allowed;
 use kernel_base::Exc::{Empty, Extinct, Rangefail};
 use kernel_base::How::Normal;
 use kernel_base::{Alternative, Event, Facts};
+use played_turns::Asked::{
+    Continue, Delay, End, Enter, Get, ReceiveBuffer, ReceiveSignal, SendBuffer, SendSignal, Start,
+};
+use played_turns::Given::{Chose, Done, Fail, Got, Instance, Stored, Value};
+use played_turns::{Asked, Given, answer_of, request_of};
 use std::alloc::{AllocError, Global};
 use std::process::Abort;
 use std::test::Fail as Failure;

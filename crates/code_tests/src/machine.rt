@@ -8,12 +8,12 @@ mod operators;
 mod raising;
 mod requests;
 
-use crate::tables::{Asked, Body, Given, Range, Shape, answer_of, code_of, request_of, scalars_of};
-use chill_base::Item;
+use crate::tables::{Body, Range, Shape, code_of};
 use code_guard::{Guarded, guard};
-use code_machine::{Machine, Stop};
+use code_machine::Machine;
 use code_types::Instr;
-use kernel_base::{Answer, Exc, How};
+use kernel_base::{Exc, How};
+use played_turns::{Asked, Given, Turn, does, ends, scalars_of, started, turns_made};
 use std::alloc::Global;
 use std::process::Abort;
 use std::test::Fail;
@@ -27,22 +27,6 @@ pub const OUTERMOST: Body = Body {
     height: 16,
     listed: &[],
 };
-
-/// What is done with a machine, and what it has to do.
-pub enum Turn {
-    /// A burst makes so many ticks and asks this request.
-    Asks(u32, Asked),
-    /// It asks to put this text, which is done.
-    Puts(u32, &'static str),
-    /// It asks to end, which is done, and it has ended.
-    Ends(u32, How),
-    /// A burst of so many ticks makes them all and asks nothing.
-    Pauses(u32),
-    /// The answer doesn't fit.
-    Refuses(Given),
-    /// The answer fits and is given.
-    Takes(Given),
-}
 
 /// A code, and the turns of its outermost process, which is instance 5.
 pub struct Scene(pub Shape, pub &'static [Turn]);
@@ -61,162 +45,39 @@ fn guarded_of(alloc: Global, shape: &Shape) -> Result<Guarded, Fail> {
     }
 }
 
-/// Whether a burst makes so many ticks and asks this request.
-fn asks(
-    alloc: Global,
-    guarded: &Guarded,
-    machine: &mut Machine,
-    ticks: u32,
-    asked: &Asked,
-) -> Result<bool, Fail>
-    requires { RunsOn guarded.now machine.old }
-    ensures { RunsOn guarded.now machine.new }
-{
-    if !machine.can_burst() {
-        return Ok(false);
-    }
-    let wanted = request_of(alloc, asked)?;
-    match machine.burst(guarded, u32::MAX)? {
-        Stop::Asks {
-            ticks: made,
-            request,
-        } => Ok(made == ticks && request.equals(&wanted)),
-        Stop::Paused { .. } => Ok(false),
-    }
+/// The number of turns that are made up to the first that isn't.
+fn scene_turns(alloc: Global, scene: &Scene) -> Result<usize, Fail> {
+    let guarded = guarded_of(alloc, &scene.0)?;
+    Ok(turns_made(alloc, &guarded, 0, scene.1)?)
 }
 
-/// Whether a burst of so many ticks makes them all and asks nothing.
-fn pauses(guarded: &Guarded, machine: &mut Machine, most: u32) -> Result<bool, Fail>
-    requires { RunsOn guarded.now machine.old }
-    ensures { RunsOn guarded.now machine.new }
-{
-    if most == 0 || !machine.can_burst() {
-        return Ok(false);
-    }
-    match machine.burst(guarded, most)? {
-        Stop::Asks { .. } => Ok(false),
-        Stop::Paused { ticks } => Ok(ticks == most),
-    }
-}
-
-/// Whether the answer doesn't fit.
-fn refuses(alloc: Global, machine: &Machine, given: &Given) -> Result<bool, Fail> {
-    Ok(!machine.can_answer(&answer_of(alloc, given)?))
-}
-
-/// Whether the answer fits, which is given then.
-fn takes(
-    alloc: Global,
-    guarded: &Guarded,
-    machine: &mut Machine,
-    given: &Given,
-) -> Result<bool, Fail>
-    requires { RunsOn guarded.now machine.old }
-    ensures { RunsOn guarded.now machine.new }
-{
-    let answer = answer_of(alloc, given)?;
-    if !machine.can_answer(&answer) {
-        return Ok(false);
-    }
-    machine.answer(answer);
-    Ok(true)
-}
-
-/// Whether a burst makes so many ticks and asks this request, which is done then.
-fn does(
-    alloc: Global,
-    guarded: &Guarded,
-    machine: &mut Machine,
-    ticks: u32,
-    asked: &Asked,
-) -> Result<bool, Fail>
-    requires { RunsOn guarded.now machine.old }
-    ensures { RunsOn guarded.now machine.new }
-{
-    if asks(alloc, guarded, machine, ticks, asked)? {
-        takes(alloc, guarded, machine, &Given::Done)
-    } else {
-        Ok(false)
-    }
-}
-
-/// Whether a burst makes so many ticks and asks to end, and the machine has ended then.
-fn ends(
-    alloc: Global,
-    guarded: &Guarded,
-    machine: &mut Machine,
-    ticks: u32,
-    how: How,
-) -> Result<bool, Fail>
-    requires { RunsOn guarded.now machine.old }
-    ensures { RunsOn guarded.now machine.new }
-{
-    if !does(alloc, guarded, machine, ticks, &Asked::End(how))? {
-        return Ok(false);
-    }
-    Ok(!machine.can_burst() && !machine.can_answer(&Answer::Done))
-}
-
-/// Whether the machine makes the turn.
-fn makes_turn(
-    alloc: Global,
-    guarded: &Guarded,
-    machine: &mut Machine,
-    turn: &Turn,
-) -> Result<bool, Fail>
-    requires { RunsOn guarded.now machine.old }
-    ensures { RunsOn guarded.now machine.new }
-{
-    match turn {
-        Turn::Asks(ticks, asked) => asks(alloc, guarded, machine, *ticks, asked),
-        Turn::Puts(ticks, text) => does(alloc, guarded, machine, *ticks, &Asked::Put(text)),
-        Turn::Ends(ticks, how) => ends(alloc, guarded, machine, *ticks, *how),
-        Turn::Pauses(most) => pauses(guarded, machine, *most),
-        Turn::Refuses(given) => refuses(alloc, machine, given),
-        Turn::Takes(given) => takes(alloc, guarded, machine, given),
-    }
-}
-
-/// A machine of instance 5 at the first instruction of a body that has as many parameters.
-fn started(alloc: Global, guarded: &Guarded, process: u32, numbers: &[i64]) -> Result<Machine, Fail>
+/// A machine of the outermost process of a code of one body.
+fn started_on(alloc: Global, guarded: &Guarded) -> Result<Machine, Fail>
     ensures { IfOk result (RunsOn guarded.now) }
 {
-    let scalars = scalars_of(alloc, numbers)?;
-    if !Machine::can_start(guarded, process, &scalars) {
-        return Err(Fail::from("a process that can't start"));
+    match started(alloc, guarded, 0, &[])? {
+        Some(machine) => Ok(machine),
+        None => Err(Fail::from("a process that can't start")),
     }
-    Ok(Machine::start(alloc, guarded, 5, process, scalars)?)
-}
-
-/// The number of turns that are made up to the first that isn't.
-fn turns_made(alloc: Global, scene: &Scene) -> Result<usize, Fail> {
-    let guarded = guarded_of(alloc, &scene.0)?;
-    let mut machine = started(alloc, &guarded, 0, &[])?;
-    for (i, turn) in scene.1.iter().enumerate() {
-        if !makes_turn(alloc, &guarded, &mut machine, turn)? {
-            return Ok(i);
-        }
-    }
-    Ok(scene.1.len())
 }
 
 /// Whether the instructions put these texts and end.
 fn puts_all(alloc: Global, instrs: &'static [Instr], texts: &[&'static str]) -> Result<bool, Fail> {
     let guarded = guarded_of(alloc, &Shape(instrs, &[], &[OUTERMOST]))?;
-    let mut machine = started(alloc, &guarded, 0, &[])?;
+    let mut machine = started_on(alloc, &guarded)?;
     for text in texts {
         if !does(alloc, &guarded, &mut machine, 0, &Asked::Put(text))? {
             return Ok(false);
         }
     }
-    ends(alloc, &guarded, &mut machine, 0, How::Normal)
+    Ok(ends(alloc, &guarded, &mut machine, 0, How::Normal)?)
 }
 
 /// Whether the instructions end with the exception.
 fn raises(alloc: Global, instrs: &'static [Instr], exception: Exc) -> Result<bool, Fail> {
     let guarded = guarded_of(alloc, &Shape(instrs, &[], &[OUTERMOST]))?;
-    let mut machine = started(alloc, &guarded, 0, &[])?;
-    ends(alloc, &guarded, &mut machine, 0, How::Raised(exception))
+    let mut machine = started_on(alloc, &guarded)?;
+    Ok(ends(alloc, &guarded, &mut machine, 0, How::Raised(exception))?)
 }
 
 /// Each row holds.
@@ -234,7 +95,7 @@ fn all_rows(rt: &impl Abort, alloc: Global, rows: &[Row]) -> Result<(), Fail> {
 /// Each scene is played to its end.
 fn all_scenes(rt: &impl Abort, alloc: Global, scenes: &[Scene]) -> Result<(), Fail> {
     for (i, scene) in scenes.iter().enumerate() {
-        let made = turns_made(alloc, scene)?;
+        let made = scene_turns(alloc, scene)?;
         assert_eq!(rt; made, scene.1.len(), "scene {i}");
     }
     Ok(())
@@ -341,7 +202,9 @@ fn a_process_starts_with_its_scalars(rt: HostRuntime) -> Result<(), Fail> {
     let guarded = guarded_of(alloc, &frames::TAKES_TWO)?;
     assert!(rt; !Machine::can_start(&guarded, 2, &scalars_of(alloc, &[8, 9])?));
     assert!(rt; !Machine::can_start(&guarded, 1, &scalars_of(alloc, &[8])?));
-    let mut machine = started(alloc, &guarded, 1, &[8, 9])?;
+    let Some(mut machine) = started(alloc, &guarded, 1, &[8, 9])? else {
+        return Err(Fail::from("a process that can't start"));
+    };
     for text in ["0", "0", "9", "8"] {
         assert!(rt; does(alloc, &guarded, &mut machine, 0, &Asked::Put(text))?);
     }

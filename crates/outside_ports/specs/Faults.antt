@@ -1,5 +1,5 @@
 -- Counts of faults, which never fall.
-use Rattle.std.specs.Prelude.{ℕ, ◌+◌, ◌-◌, ◌^◌, ◌≤◌, min, OnErr}
+use Rattle.std.specs.Prelude.{◌≡◌, ℕ, ◌+◌, ◌-◌, ◌^◌, ◌≤◌, min, OnOk, OnErr}
 use Rattle.std.specs.declared.result.Result.{Result}
 
 -- a count after one more, which stays at the end of its type
@@ -10,7 +10,8 @@ count_after n = min (n + 1) (2 ^ 64 - 1)
 abbrev pub Rose : ℕ → ℕ → Type 0
 Rose before now = count_after before ≤ now
 
--- the count hasn't fallen, and a fault is answered only where it rose
+-- the count hasn't fallen; a fault is answered only where it rose, and else it stays
 pub record HasCause {T E : Type 0} (before now : ℕ) (result : Result T E) : Type 0 where
   pub later : before ≤ now
   pub failed : OnErr result (Rose before now)
+  pub stays : OnOk result (now ≡ before)

@@ -3,3 +3,5 @@ pub mod Library
 pub mod Sink
 pub mod MemoryLibrary
 pub mod MemorySink
+pub mod Feed
+pub mod MemoryFeed

@@ -1,16 +1,20 @@
-//! Where the program's texts come from and where its output goes: libraries of files and sinks of bytes.
+//! Where the program's texts and its input come from and where its output goes: libraries of files, feeds and sinks of bytes.
 //!
 //! A port tells its content or not, and always counts its faults, so that a caller can be told exactly when a
 //! fault may be answered. It stands on `chill_base`; the top call is generic over these ports, and the program
 //! puts real files and streams behind them.
 #![tactic(auto)]
 
+mod feed;
 mod library;
+mod memory_feed;
 mod memory_library;
 mod memory_sink;
 mod sink;
 
+pub use feed::Feed;
 pub use library::{Library, PortFault};
+pub use memory_feed::MemoryFeed;
 pub use memory_library::{File, Files, MemoryLibrary};
 pub use memory_sink::MemorySink;
 pub use sink::Sink;

@@ -1,5 +1,5 @@
 // A library of files, which are read in pieces.
-ghost use Rattle.std.specs.Prelude.{◌≡◌, ◌≤◌, ℕ, List, length};
+ghost use Rattle.std.specs.Prelude.{◌≡◌, ◌≤◌, ℕ, List, OnOk, length};
 ghost use Rattle.std.specs.declared.option.Option.{Option};
 ghost use Rattle.std.specs.Io.{ReadsAtMost};
 ghost use Rattle.outside_ports.specs.Faults.{HasCause};
@@ -24,5 +24,6 @@ pub trait Library {
         ensures gives { Gives (bytes self.old name.now) at result into.new }
         ensures same { (n : List ℕ) → bytes self.new n ≡ bytes self.old n }
         ensures later { (n : List ℕ) → faults self.old n ≤ faults self.new n }
+        ensures stays { (n : List ℕ) → OnOk result (faults self.new n ≡ faults self.old n) }
         ensures cause { HasCause (faults self.old name.now) (faults self.new name.now) result };
 }

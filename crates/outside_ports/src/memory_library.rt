@@ -1,5 +1,5 @@
 // A library in memory, whose faults are chosen beforehand.
-ghost use Rattle.std.specs.Prelude.{◌≡◌, ◌≤◌, ◌↔◌, ◌⊎◌, ◌+◌, ◌^◌, ℕ, List, Contains, IsErr, IsTrue, None, Some, MatchOption, length, min};
+ghost use Rattle.std.specs.Prelude.{◌≡◌, ◌≤◌, ◌↔◌, ◌⊎◌, ◌+◌, ◌^◌, ℕ, List, Contains, IsErr, IsTrue, None, Some, MatchOption, OnOk, length, min};
 ghost use Rattle.std.specs.Io.{ReadsAtMost};
 ghost use Rattle.outside_ports.specs.Faults.{HasCause};
 ghost use Rattle.outside_ports.specs.Library.{Copies, Gives};
@@ -92,6 +92,7 @@ impl Library for MemoryLibrary {
         ensures gives { Gives (bytes_of self.old.files name.now) at result into.new }
         ensures same { (n : List ℕ) → bytes_of self.new.files n ≡ bytes_of self.old.files n }
         ensures later { (n : List ℕ) → self.old.faults ≤ self.new.faults }
+        ensures stays { (n : List ℕ) → OnOk result (self.new.faults ≡ self.old.faults) }
         ensures cause { HasCause self.old.faults self.new.faults result }
         ensures fails { IsErr result ↔ FailsAt self.old name.now }
         ensures counted { self.new ≡ library_after self.old result }

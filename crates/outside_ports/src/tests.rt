@@ -1,5 +1,5 @@
 // Ports in memory give and take what they are asked, with ample memory.
-use crate::{File, Files, Library, MemoryLibrary, MemorySink, PortFault, Sink};
+use crate::{Feed, File, Files, Library, MemoryFeed, MemoryLibrary, MemorySink, PortFault, Sink};
 use chill_base::{Memory, Numbers, Text};
 use std::alloc::Global;
 use std::test::Fail;
@@ -52,5 +52,20 @@ fn a_sink_takes_pieces_as_long_as_there_is_room(rt: HostRuntime) -> Result<(), F
         assert_eq!(rt; sink.put(piece.as_bytes()), count, "{piece}");
     }
     assert_eq!(rt; sink.taken(), b"hello".as_slice());
+    Ok(())
+}
+
+#[test]
+fn a_feed_gives_what_is_left(rt: HostRuntime) -> Result<(), Fail> {
+    let alloc = rt.alloc();
+    let mut fails = Numbers::new(alloc);
+    fails.push(2)?;
+    let mut feed = MemoryFeed::new(text(alloc, b"hello")?, fails);
+    let mut into = [0u8; 4];
+    // what each take gives
+    for count in [Ok(4), Err(PortFault), Ok(1), Ok(0)] {
+        assert_eq!(rt; feed.take(&mut into), count);
+    }
+    assert_eq!(rt; into, *b"oell");
     Ok(())
 }

@@ -2,7 +2,7 @@
 use chill_base::{Item, Memory, Numbers, Text};
 use chill_top::chill;
 use kernel_base::{Answer, Event, Events, How, Over, Request};
-use outside_ports::{File, Files, MemoryLibrary, MemorySink};
+use outside_ports::{File, Files, MemoryFeed, MemoryLibrary, MemorySink};
 use std::alloc::{AllocError, Global};
 use std::process::Abort;
 use std::test::Fail;
@@ -27,6 +27,11 @@ fn library(alloc: Global, bytes: &str, fails: u32) -> Result<MemoryLibrary, Memo
         bytes: text(alloc, bytes)?,
     })?;
     Ok(MemoryLibrary::new(files, fault(alloc, fails)?))
+}
+
+// A feed of no bytes.
+fn no_input(alloc: Global) -> MemoryFeed {
+    MemoryFeed::new(Text::new(alloc), Numbers::new(alloc))
 }
 
 struct Case {
@@ -97,12 +102,12 @@ const CASES: [Case; 12] = [
         err: "1:11: N2 name x is not seen here\n1:16: N2 name y is not seen here\n",
     },
     Case {
-        text: "M: MODULE ; END M;",
+        text: "M: MODULE DCL x INT := 2147483647; x := x + 1; END M;",
         read: 0,
         put: 0,
-        status: 3,
+        status: 1,
         out: "",
-        err: "1:1: B1 not built yet\n",
+        err: "process 1 OUTER: exception OVERFLOW\n",
     },
     Case {
         text: TEXT,
@@ -149,11 +154,54 @@ fn statuses_and_what_was_written(rt: HostRuntime) -> Result<(), Fail> {
         let mut library = library(alloc, case.text, case.read)?;
         let mut out = MemorySink::new(alloc, 1, 100, fault(alloc, case.put)?)?;
         let mut err = MemorySink::new(alloc, 7, 100, fault(alloc, 0)?)?;
-        let outcome = chill(alloc, &words, &mut library, &mut out, &mut err);
+        let mut input = no_input(alloc);
+        let outcome = chill(alloc, &words, &mut library, &mut input, &mut out, &mut err);
         let text = case.text;
         assert_eq!(rt; outcome.status, case.status, "{text}");
         assert_eq!(rt; out.taken(), case.out.as_bytes(), "{text}");
         assert_eq!(rt; err.taken(), case.err.as_bytes(), "{text}");
+    }
+    Ok(())
+}
+
+// Texts, and what a check writes of them.
+const CHECKED: [(&str, &str); 7] = [
+    (TEXT, ""),
+    ("M: MODULE DCL x INT := 1; x := x + 1; END M;", ""),
+    ("M: MODULE # END M;", "1:11: T1 no token\n"),
+    (
+        "M: MODULE x := 1; END M;",
+        "1:11: N2 name x is not seen here\n",
+    ),
+    (
+        "M: MODULE DCL x INT := 1 + 2147483648; END M;",
+        "1:28: M11 constant out of range\n",
+    ),
+    (
+        "M: MODULE DCL x INT := TRUE; END M;",
+        "1:24: S2 value does not go with the mode\n",
+    ),
+    (
+        "R: REGION DCL x INT; GRANT x; END R;",
+        "1:28: P4 region location x is granted\n",
+    ),
+];
+
+#[test]
+fn what_a_check_writes(rt: HostRuntime) -> Result<(), Fail> {
+    let alloc = rt.alloc();
+    let words = words_of(alloc, "check f")?;
+    for row in &CHECKED {
+        let (text, lines) = *row;
+        let mut library = library(alloc, text, 0)?;
+        let mut out = MemorySink::new(alloc, 100, 100, fault(alloc, 0)?)?;
+        let mut err = MemorySink::new(alloc, 100, 100, fault(alloc, 0)?)?;
+        let mut input = no_input(alloc);
+        let outcome = chill(alloc, &words, &mut library, &mut input, &mut out, &mut err);
+        let status = if lines.is_empty() { 0 } else { 3 };
+        assert_eq!(rt; outcome.status, status, "{text}");
+        assert_eq!(rt; out.taken(), b"".as_slice(), "{text}");
+        assert_eq!(rt; err.taken(), lines.as_bytes(), "{text}");
     }
     Ok(())
 }
@@ -170,7 +218,8 @@ fn answers_usage(rt: &impl Abort, alloc: Global, words: Vec<String>) -> Result<(
     let mut library = library(alloc, TEXT, 0)?;
     let mut out = MemorySink::new(alloc, 100, 100, fault(alloc, 0)?)?;
     let mut err = MemorySink::new(alloc, 200, 200, fault(alloc, 0)?)?;
-    let outcome = chill(alloc, &words, &mut library, &mut out, &mut err);
+    let mut input = no_input(alloc);
+    let outcome = chill(alloc, &words, &mut library, &mut input, &mut out, &mut err);
     assert_eq!(rt; outcome.status, 2);
     assert_eq!(rt; out.taken(), b"".as_slice());
     assert!(rt; err.taken().starts_with(b"usage: chill run FILE "));
@@ -184,6 +233,9 @@ fn other_words_are_usage(rt: HostRuntime) -> Result<(), Fail> {
     answers_usage(&rt, alloc, words_of(alloc, "run")?)?;
     answers_usage(&rt, alloc, words_of(alloc, "run f f")?)?;
     answers_usage(&rt, alloc, words_of(alloc, "runs f")?)?;
+    answers_usage(&rt, alloc, words_of(alloc, "check")?)?;
+    answers_usage(&rt, alloc, words_of(alloc, "check f f")?)?;
+    answers_usage(&rt, alloc, words_of(alloc, "checks f")?)?;
     Ok(())
 }
 
@@ -208,7 +260,8 @@ fn the_journal_of_a_run(rt: HostRuntime) -> Result<(), Fail> {
     let mut library = library(alloc, TEXT, 0)?;
     let mut out = MemorySink::new(alloc, 100, 100, fault(alloc, 0)?)?;
     let mut err = MemorySink::new(alloc, 100, 100, fault(alloc, 0)?)?;
-    let outcome = chill(alloc, &words, &mut library, &mut out, &mut err);
+    let mut input = no_input(alloc);
+    let outcome = chill(alloc, &words, &mut library, &mut input, &mut out, &mut err);
     let all_ended = outcome.over == Some(Over::AllEnded);
     assert!(rt; all_ended);
     let mut wanted = Events::new(alloc);

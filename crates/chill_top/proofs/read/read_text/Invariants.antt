@@ -2,7 +2,7 @@ use Rattle.std.proofs.Common.{◌≡◌, ◌≤◌, ◌-◌, ℕ, List, length, 
 use Rattle.chill_top.specs.Reading.{IsFront}
 use Rattle.chill_top.proofs.read.read_text.Given as goal
 
--- the text so far is a front of the file
+-- the text so far is a front of the file, and no count rose
 abbrev pub invariant-pieces : goal.invariant-pieces
 invariant-pieces g l =
     let library = g.L.Library in
@@ -10,7 +10,7 @@ invariant-pieces g l =
       front : IsFront (library.bytes l.library l.name) l.text.items;
       fits : length l.text.items ≤ 262145;
       same : (n : List ℕ) → library.bytes l.library n ≡ library.bytes l.fn.library n;
-      later : (n : List ℕ) → library.faults l.fn.library n ≤ library.faults l.library n;
+      stays : (n : List ℕ) → library.faults l.library n ≡ library.faults l.fn.library n;
       room : length l.piece.items ≡ 65536;
     }
 

@@ -1,0 +1,49 @@
+-- The run of a program.
+use Rattle.std.specs.Prelude.{◌≡◌, ℕ, List, [], ◌∷◌, if◌then◌else◌, Bool, true, false}
+use Rattle.kernel_base.specs.declared.ends.How.{How}
+use Rattle.kernel_base.specs.declared.ends.How.TheVariants.{Normal, Stopped, Raised}
+use Rattle.kernel_base.specs.declared.ends.Over.{Over}
+use Rattle.kernel_base.specs.declared.ends.Over.TheVariants.{AllEnded, Still, Spent}
+use Rattle.kernel_base.specs.declared.request.Request.{Request}
+use Rattle.kernel_base.specs.declared.request.Request.TheVariants.{End}
+use Rattle.kernel_base.specs.declared.event.Event.{Event}
+use Rattle.kernel_base.specs.declared.event.Event.TheVariants.{Did}
+use Rattle.kernel_base.specs.declared.facts.Facts.{Facts}
+use Rattle.code_types.specs.declared.code.Code.{Code}
+use Rattle.serial_run.specs.declared.serial.Driven.{Driven}
+use Rattle.serial_run.specs.Driven.{IsDriven}
+use Rattle.chill_top.specs.declared.run.Attempt.{Attempt}
+use Rattle.chill_top.specs.declared.run.Attempt.TheVariants as attempts
+
+-- the run of a code, from facts with this input and budget
+pub record IsRunWith (units : ℕ) (code : Code) (input : List ℕ) (driven : Driven) : Type 0 where
+  pub facts : Facts
+  pub reads : facts.input ≡ input
+  pub budget : facts.units ≡ units
+  pub run : IsDriven code facts driven
+
+-- what comes of an attempt from facts is a run from them, where it is one
+abbrev pub IsAttemptFrom : Code → Facts → Attempt → Type 0
+IsAttemptFrom code facts (attempts.Driven driven) = IsDriven code facts driven.value
+IsAttemptFrom code facts attempts.NotBuilt = Unit {0}
+
+-- what comes of an attempt is the run with this input, where it is one
+abbrev pub IsAttempt : ℕ → Code → List ℕ → Attempt → Type 0
+IsAttempt units code input (attempts.Driven driven) = IsRunWith units code input driven.value
+IsAttempt units code input attempts.NotBuilt = Unit {0}
+
+-- a process ended with an exception
+abbrev pub is_raised : Event → Bool
+is_raised (Did who ticks (End (Raised exception)) answer refill) = true
+is_raised event = false
+
+-- some process did
+abbrev pub is_some_raised : List Event → Bool
+is_some_raised [] = false
+is_some_raised (event ∷ events) = if is_raised event then true else is_some_raised events
+
+-- the status of a run that is over: done, raised, stuck or spent
+abbrev pub status_of_run : Over → List Event → ℕ
+status_of_run AllEnded events = if is_some_raised events then 1 else 0
+status_of_run Still events = 6
+status_of_run Spent events = 7

@@ -1,4 +1,0 @@
-use Rattle.code_tests.proofs.machine.takes.Goals as goal
-
-pub returns : goal.returns
-returns c = c.answer.ensures.runs c.args.guarded.now c.requires

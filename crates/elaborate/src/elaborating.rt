@@ -1,0 +1,65 @@
+// The elaborated program.
+ghost use Rattle.std.specs.Prelude.{IfOk};
+ghost use Rattle.program_ranges.specs.ProgramRanges.{AreInRange};
+
+use crate::bodies::fill_bodies;
+use crate::elaboration::Elaboration;
+use crate::program::Program;
+use checked_program::Checked;
+use chill_base::Memory;
+use chill_tree::tree::Tree;
+use expr_rules::Walk;
+use mode_rules::{Evaluation, Told};
+use names_model::Names;
+use program_numbers::{ElaborationRefusal, Numbering};
+use program_ranges::are_in_range;
+use std::alloc::Global;
+use value_elaboration::Values;
+
+/// The elaborated program of a text that breaks no rule, of its tree and its names: all its numbers are in range. `Unsound`
+/// comes of no such text.
+pub fn elaborate(alloc: Global, tree: &Tree, names: &Names) -> Result<Program, ElaborationRefusal>
+    ensures in_range { IfOk result (λ p. AreInRange p.checked.value) }
+{
+    let evaluation = evaluated(alloc, tree, names)?;
+    in_range(elaborated(&evaluation, tree)?)
+}
+
+// The program, whose numbers have to be in range.
+fn in_range(program: Box<Checked>) -> Result<Program, ElaborationRefusal>
+    ensures { IfOk result (λ p. AreInRange p.checked.value) }
+{
+    if !are_in_range(&program) {
+        return Err(ElaborationRefusal::Unsound);
+    }
+    Ok(Program { checked: program })
+}
+
+// The evaluated definitions of a program, which breaks no rule on them.
+fn evaluated<'a>(
+    alloc: Global,
+    tree: &'a Tree,
+    names: &'a Names,
+) -> Result<Evaluation<'a>, Memory> {
+    let mut told = Told::new(alloc);
+    Evaluation::of(alloc, tree, names, &mut told)
+}
+
+// The elaborated program of evaluated definitions.
+fn elaborated(
+    evaluation: &Evaluation<'_>,
+    tree: &Tree,
+) -> Result<Box<Checked>, ElaborationRefusal> {
+    let mut walk = Walk::new(evaluation)?;
+    let numbering = Numbering::of(&mut walk, tree)?;
+    let elaboration = Elaboration {
+        values: Values {
+            walk: &walk,
+            numbering: &numbering,
+        },
+    };
+    let insides = elaboration.insides(tree)?;
+    let mut program = numbering.into_rows();
+    fill_bodies(&mut program, insides)?;
+    Ok(program)
+}

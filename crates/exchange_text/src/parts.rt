@@ -1,0 +1,77 @@
+// The parts of the text that are the same for every number of subscribers.
+ghost use Rattle.std.specs.Prelude.{◌≡◌};
+ghost use Rattle.exchange_text.specs.Parts as parts;
+
+/// The region of the trunks, and the module of the exchange up to the number of subscribers.
+#[tactic(auto, unfolding(crate::specs::Parts::opening))]
+pub(crate) fn opening() -> &'static [u8]
+    ensures { result.now ≡ parts.opening }
+{
+    b"trunks: REGION
+GRANT seize_trunk, free_trunk;
+SYN lines = 4;
+DCL used INT := 0;
+DCL idle EVENT;
+seize_trunk: PROC ();
+DO WHILE used = lines; DELAY idle; OD;
+used +:= 1;
+END seize_trunk;
+free_trunk: PROC ();
+used -:= 1;
+CONTINUE idle;
+END free_trunk;
+END trunks;
+exchange: MODULE
+SEIZE seize_trunk, free_trunk;
+GRANT subscriber, charges, n;
+SYN n = "
+}
+
+/// The rest of the module of the exchange.
+#[tactic(auto, unfolding(crate::specs::Parts::exchange))]
+pub(crate) fn exchange() -> &'static [u8]
+    ensures { result.now ≡ parts.exchange }
+{
+    b";
+NEWMODE charge = STRUCT (line INT, cost INT);
+SIGNAL off_hook, dial = (INT), clear;
+DCL charges BUFFER (8) charge;
+talk: PROCESS (number INT);
+DCL digits INT;
+RECEIVE CASE (off_hook): ESAC;
+RECEIVE CASE (dial IN d): digits := d; ESAC;
+seize_trunk();
+SEND charges ([number, digits MOD 7 + 1]);
+free_trunk();
+RECEIVE CASE (clear): ESAC;
+END talk;
+subscriber: PROCESS (number INT);
+DCL i INSTANCE;
+i := START talk(number);
+SEND off_hook TO i;
+SEND dial (number * 3) TO i;
+SEND clear TO i;
+END subscriber;
+END exchange;
+"
+}
+
+/// The module that adds up the charges.
+#[tactic(auto, unfolding(crate::specs::Parts::report))]
+pub(crate) fn report() -> &'static [u8]
+    ensures { result.now ≡ parts.report }
+{
+    b"report: MODULE
+SEIZE charges, n;
+DCL calls ARRAY (1:7) INT;
+DCL sum INT;
+DO FOR k := 1 TO n;
+RECEIVE CASE (charges IN c): calls(c.cost) +:= 1; sum +:= c.cost; ESAC;
+OD;
+DO FOR u := 1 TO 7;
+PUT_INT(u); PUT_TEXT(\" \"); PUT_INT(calls(u)); PUT_NL();
+OD;
+PUT_TEXT(\"total \"); PUT_INT(sum); PUT_NL();
+END report;
+"
+}

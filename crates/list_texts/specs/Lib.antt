@@ -1,0 +1,4 @@
+pub mod Instructions
+pub mod Code
+pub mod Paths
+pub mod Layouts

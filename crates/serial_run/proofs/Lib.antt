@@ -1,0 +1,12 @@
+pub mod Coming
+pub mod Owing
+pub mod Open
+pub mod Made
+pub mod Served
+pub mod Leading
+pub mod Taken
+pub mod Spending
+pub mod Finishing
+pub mod Fetching
+pub mod Committing
+pub mod Turning

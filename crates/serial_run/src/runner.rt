@@ -1,0 +1,73 @@
+// Instances with the machines that run them.
+ghost use Rattle.std.specs.Prelude.{◌≡◌, IfOk, IfSome, IsSomeAnd, OnOk, slice_get};
+ghost use Rattle.code_types.specs.declared.code.Code.{Code};
+ghost use Rattle.machine_steps.specs.Views.{state_of};
+ghost use Rattle.code_machine.specs.Running.{IsUp};
+ghost use Rattle.serial_run.specs.Standing.{Stands, AllStand, FetchedBy, KeepsJournal, HaveFetched};
+
+use crate::Misfit;
+use chill_base::List;
+use code_machine::Machine;
+use kernel_core::Kernel;
+
+/// An instance, and the machine that runs it.
+#[derive(Drop)]
+pub struct Runner {
+    pub instance: u32,
+    pub machine: Machine,
+}
+
+/// The machines of a run, in the order of their instances.
+pub type Machines = List<Runner>;
+
+impl Runner {
+    /// Fetches the answer for which the machine waits, where it has come, and hands it over. It takes no memory.
+    pub fn fetch(&mut self, kernel: &mut Kernel) -> Result<(), Misfit>
+        ensures instance { self.new.instance ≡ self.old.instance }
+        ensures fetched { FetchedBy kernel.old kernel.new self.old.instance }
+        ensures stands { OnOk result ((code : Code) → Stands code kernel.old self.old → Stands code kernel.new self.new) }
+    {
+        match kernel.fetch(self.instance) {
+            Some(answer) => {
+                if !self.machine.can_answer(&answer) {
+                    return Err(Misfit);
+                }
+                self.machine.answer(answer);
+                Ok(())
+            }
+            None => Ok(()),
+        }
+    }
+}
+
+/// Fetches each answer that has come. It takes no memory.
+pub fn fetch_all(kernel: &mut Kernel, runners: &mut [Runner]) -> Result<(), Misfit>
+    ensures journal { KeepsJournal kernel.old kernel.new }
+    ensures stand { OnOk result ((code : Code) → AllStand code kernel.old runners.old → AllStand code kernel.new runners.new) }
+    ensures fetched { OnOk result (HaveFetched kernel.new runners.new) }
+{
+    for k in 0..runners.len() {
+        runners[k].fetch(kernel)?;
+    }
+    Ok(())
+}
+
+/// The place of the first machine from a place on that can make a burst; it and those before it fetch their answers first. It
+/// takes no memory.
+pub fn next_from(
+    kernel: &mut Kernel,
+    runners: &mut [Runner],
+    from: usize,
+) -> Result<Option<usize>, Misfit>
+    ensures journal { KeepsJournal kernel.old kernel.new }
+    ensures stand { IfOk result (λ place. (code : Code) → AllStand code kernel.old runners.old → AllStand code kernel.new runners.new) }
+    ensures found { IfOk result (λ place. IfSome place (λ k. IsSomeAnd (slice_get runners.new k) (λ r. IsUp (state_of r.machine).mode))) }
+{
+    for k in from..runners.len() {
+        runners[k].fetch(kernel)?;
+        if runners[k].machine.can_burst() {
+            return Ok(Some(k));
+        }
+    }
+    Ok(None)
+}

@@ -1,0 +1,126 @@
+// The serial run of a code.
+ghost use Rattle.std.specs.Prelude.{◌≡◌, IfOk, OnOk, IfSome, IsSomeAnd, Some, slice_get};
+ghost use Rattle.kernel_base.specs.Facts.{IsSound};
+ghost use Rattle.world_model.specs.Over.{over_of};
+ghost use Rattle.code_types.specs.declared.code.Code.{Code};
+ghost use Rattle.machine_steps.specs.Views.{state_of};
+ghost use Rattle.code_machine.specs.Running.{IsUp};
+ghost use Rattle.serial_run.specs.Driven.{IsDriven};
+ghost use Rattle.serial_run.specs.Standing.{AllStand, IsAllTaken, KeepsJournal, Spends};
+
+use crate::runner::{fetch_all, next_from};
+use crate::serving::serve;
+use crate::taking::take_all;
+use crate::{Machines, Misfit, RunRefusal, Runner};
+use chill_base::List;
+use code_guard::Guarded;
+use kernel_base::{Events, Facts, Over};
+use kernel_core::Kernel;
+use std::alloc::Global;
+
+/// A run that is over: its journal, the machine of each instance where the journal leaves it, and how the run was over.
+#[derive(Drop)]
+pub struct Driven {
+    pub events: Events,
+    pub machines: Machines,
+    pub over: Over,
+}
+
+// The place of the next machine from a place on that can make a burst, or else from the first on.
+fn next_turn(
+    kernel: &mut Kernel,
+    runners: &mut [Runner],
+    from: usize,
+) -> Result<Option<usize>, Misfit>
+    ensures journal { KeepsJournal kernel.old kernel.new }
+    ensures stand { IfOk result (λ place. (code : Code) → AllStand code kernel.old runners.old → AllStand code kernel.new runners.new) }
+    ensures found { IfOk result (λ place. IfSome place (λ k. IsSomeAnd (slice_get runners.new k) (λ r. IsUp (state_of r.machine).mode))) }
+{
+    match next_from(kernel, runners, from)? {
+        Some(k) => Ok(Some(k)),
+        None => next_from(kernel, runners, 0),
+    }
+}
+
+// The run that is over, once each machine has had its answers.
+fn finish(
+    guarded: &Guarded,
+    kernel: Kernel,
+    runners: Vec<Runner>,
+    over: Over,
+) -> Result<Driven, Misfit>
+    requires stand { AllStand guarded.now kernel runners.items }
+    requires all { IsAllTaken kernel }
+    requires over { over_of kernel.facts kernel.events ≡ Some over }
+    ensures { IfOk result (IsDriven guarded.now kernel.facts) }
+{
+    let mut kernel = kernel;
+    let mut runners = runners;
+    let _code = guarded.code();
+    fetch_all(&mut kernel, &mut runners)?;
+    kernel.is_run();
+    Ok(Driven {
+        events: kernel.into_events(),
+        machines: List::from_vec(runners),
+        over,
+    })
+}
+
+// One turn: the next process that can go makes a burst, which is committed. It gives the place from which the next one is
+// looked for.
+fn make_turn(
+    guarded: &Guarded,
+    kernel: &mut Kernel,
+    runners: &mut [Runner],
+    from: usize,
+) -> Result<usize, RunRefusal>
+    requires { AllStand guarded.now kernel.old runners.old }
+    ensures stand { OnOk result (AllStand guarded.now kernel.new runners.new) }
+    ensures spends { OnOk result (Spends kernel.old kernel.new) }
+{
+    // The count fits its type, and so does each place behind one.
+    let _count = runners.len();
+    match next_turn(kernel, runners, from)? {
+        Some(k) => {
+            serve(guarded, kernel, &mut runners[k])?;
+            Ok(k + 1)
+        }
+        None => Err(RunRefusal::Misfit),
+    }
+}
+
+// Turns up to the end of the run.
+fn make_turns(
+    alloc: Global,
+    guarded: &Guarded,
+    kernel: &mut Kernel,
+    runners: &mut Vec<Runner>,
+) -> Result<Over, RunRefusal>
+    requires { AllStand guarded.now kernel.old runners.old.items }
+    ensures stand { OnOk result (AllStand guarded.now kernel.new runners.new.items) }
+    ensures all { OnOk result (IsAllTaken kernel.new) }
+    ensures over { IfOk result (λ over. over_of kernel.new.facts kernel.new.events ≡ Some over) }
+    ensures facts { OnOk result (kernel.new.facts ≡ kernel.old.facts) }
+{
+    let mut from = 0;
+    'turns: loop {
+        take_all(alloc, guarded, kernel, runners)?;
+        if let Some(over) = kernel.over() {
+            return Ok(over);
+        }
+        from = make_turn(guarded, kernel, runners, from)?;
+    }
+}
+
+/// Runs a code from facts: one burst of 256 ticks at most after another, each by the next process that can go. It is refused
+/// as a misfit where the code doesn't suit the facts.
+pub fn attempt(alloc: Global, guarded: &Guarded, facts: Facts) -> Result<Driven, RunRefusal>
+    requires { IsSound facts }
+    ensures { IfOk result (IsDriven guarded.now facts) }
+{
+    let mut kernel = Kernel::new(alloc, facts)?;
+    let mut runners = Vec::new(alloc);
+    let over = make_turns(alloc, guarded, &mut kernel, &mut runners)?;
+    let driven = finish(guarded, kernel, runners, over)?;
+    Ok(driven)
+}

@@ -1,0 +1,2 @@
+pub mod PowersetLemmas
+pub mod PlaceLemmas

@@ -1,0 +1,67 @@
+-- What is told of a text: that it is accepted, or why it is refused.
+use Rattle.std.specs.Prelude.{◌≡◌, ◌≢◌, ◌⊎◌, ℕ, List, [], ◌∷◌, Some, None, Result, Ok, Err}
+use Rattle.std.specs.List.Sorted.{IsStrictlySortedBy}
+use Rattle.chill_base.specs.declared.pos.Pos.{Pos}
+use Rattle.diagnostics.specs.Order.{diagnostic_cmp}
+use Rattle.diagnostics.specs.declared.diagnostic.Diagnostic.{Diagnostic}
+use Rattle.diagnostics.specs.declared.rule.Rule.TheVariants as rules
+use Rattle.chill_tree.specs.ItemTree.{ProgramTree}
+use Rattle.rules_model.specs.TokensCut.{first_place}
+use Rattle.rules_model.specs.Diagnoses.{HasTree, Diagnoses, plain}
+use Rattle.names_model.specs.Resolving.{broken_names, level_of}
+use Rattle.visibility.specs.declared.refusal.Refusal.{Refusal}
+use Rattle.visibility.specs.declared.refusal.Refusal.TheVariants as refusals
+use Rattle.text_to_code.specs.declared.told.Told.{Told}
+use Rattle.text_to_code.specs.declared.told.Told.TheVariants as tellings
+
+-- the text has a tree that breaks no rule on names
+pub record IsResolved (text : List ℕ) : Type 0 where
+  pub tree : ProgramTree
+  pub has : HasTree text tree
+  pub named : broken_names (level_of tree) ≡ []
+
+-- the rules on tokens, grammar and names that a text breaks, as they are told
+pub data Breaks : List ℕ → List Diagnostic → Type 0 where
+  -- it has no tree, by the first of the rules that it breaks
+  broken : {text : List ℕ} {diagnostic : Diagnostic} → Diagnoses text diagnostic → Breaks text (diagnostic ∷ [])
+  -- it has a tree, which breaks rules on names: exactly these
+  misnamed : {text : List ℕ} {tree : ProgramTree} → HasTree text tree → broken_names (level_of tree) ≢ [] → Breaks text (broken_names (level_of tree))
+
+-- what the checks tell: some, in order and each once
+pub record AreInOrder (told : List Diagnostic) : Type 0 where
+  pub sorted : IsStrictlySortedBy diagnostic_cmp told
+  pub some : told ≢ []
+
+-- the same of what the checks answer
+abbrev pub IsInOrder : Result Unit Refusal → Type 0
+IsInOrder (Ok done) = Unit {0}
+IsInOrder (Err (refusals.Broken told)) = AreInOrder told
+IsInOrder (Err refusals.Memory) = Unit {0}
+
+-- what may be told of a tree that breaks no rule on names: what the checks tell, that the text is too large, or that it isn't
+-- built. That these are the rules which it breaks isn't said here.
+abbrev pub MayTell : List Diagnostic → Type 0
+MayTell told = AreInOrder told ⊎ (told ≡ plain first_place rules.L8 ∷ []) ⊎ (told ≡ plain first_place rules.B1 ∷ [])
+
+-- the diagnostics of a text that is refused
+pub data Refuses : List ℕ → List Diagnostic → Type 0 where
+  breaks : {text : List ℕ} {told : List Diagnostic} → Breaks text told → Refuses text told
+  later : {text : List ℕ} {told : List Diagnostic} → IsResolved text → MayTell told → Refuses text told
+
+-- the two are one, or both tell that no tree exists, whose place is free
+abbrev pub SameButForPlace : List Diagnostic → List Diagnostic → Type 0
+SameButForPlace told other = (told ≡ other) ⊎ (((at : Pos) × (told ≡ plain at rules.T2 ∷ [])) × ((at : Pos) × (other ≡ plain at rules.T2 ∷ [])))
+
+-- the diagnostics of a tree: those of the rules on names, exactly; or it breaks none of these
+abbrev pub RefusesTree : ProgramTree → List Diagnostic → Type 0
+RefusesTree tree told = ((told ≡ broken_names (level_of tree)) × (told ≢ [])) ⊎ ((broken_names (level_of tree) ≡ []) × MayTell told)
+
+-- what is told of a text by its tree alone
+abbrev pub TellsTree : ProgramTree → Told → Type 0
+TellsTree tree (tellings.Refused told) = RefusesTree tree told
+TellsTree tree (tellings.Accepted built) = broken_names (level_of tree) ≡ []
+
+-- what the code tells of a text
+abbrev pub Tells : List ℕ → Told → Type 0
+Tells text (tellings.Refused told) = Refuses text told
+Tells text (tellings.Accepted built) = IsResolved text

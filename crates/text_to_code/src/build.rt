@@ -1,0 +1,61 @@
+// The code of a program that breaks no rule on names, modes, statements and processes.
+use checked_program::Checked;
+use chill_tree::tree::Tree;
+use code_gen::{CodeRefusal, compile};
+use code_guard::{GuardRefusal, Guarded, guard};
+use code_types::Code;
+use elaborate::{Program, elaborate};
+use names_model::Names;
+use program_numbers::ElaborationRefusal;
+use std::alloc::Global;
+
+/// A program and its code.
+#[derive(Drop)]
+pub struct Built {
+    pub program: Program,
+    pub code: Guarded,
+}
+
+/// Why a program has no code.
+#[derive(Drop)]
+pub(crate) enum BuildRefusal {
+    /// Its text is too large.
+    TooLong,
+    /// The compiler doesn't take it, or the guard doesn't take its code. This comes of no program that breaks no rule.
+    NotBuilt,
+    /// No memory was to be had.
+    Memory,
+}
+
+/// The code of a program.
+pub(crate) fn build(alloc: Global, tree: &Tree, names: &Names) -> Result<Built, BuildRefusal> {
+    let program = elaborated(alloc, tree, names)?;
+    let code = compiled(alloc, program.checked())?;
+    let code = guarded(alloc, code)?;
+    Ok(Built { program, code })
+}
+
+fn elaborated(alloc: Global, tree: &Tree, names: &Names) -> Result<Program, BuildRefusal> {
+    match elaborate(alloc, tree, names) {
+        Ok(program) => Ok(program),
+        Err(ElaborationRefusal::Memory) => Err(BuildRefusal::Memory),
+        Err(ElaborationRefusal::Unsound) => Err(BuildRefusal::NotBuilt),
+    }
+}
+
+fn compiled(alloc: Global, program: &Checked) -> Result<Code, BuildRefusal> {
+    match compile(alloc, program) {
+        Ok(code) => Ok(code),
+        Err(CodeRefusal::CodeTooLong) => Err(BuildRefusal::TooLong),
+        Err(CodeRefusal::Memory) => Err(BuildRefusal::Memory),
+        Err(CodeRefusal::Unsound) => Err(BuildRefusal::NotBuilt),
+    }
+}
+
+fn guarded(alloc: Global, code: Code) -> Result<Guarded, BuildRefusal> {
+    match guard(alloc, code) {
+        Ok(code) => Ok(code),
+        Err(GuardRefusal::Disagrees(_)) => Err(BuildRefusal::NotBuilt),
+        Err(GuardRefusal::Memory) => Err(BuildRefusal::Memory),
+    }
+}

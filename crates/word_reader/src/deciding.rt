@@ -1,0 +1,148 @@
+// Which command words are: by the first word, and by what the others say (our own choice).
+ghost use Rattle.std.specs.Prelude.{◌≡◌, true, false, IfOk, option_map, option_and_then, map, string_bytes};
+ghost use Rattle.word_reader.specs.Reading.{read_by, word_at as text_at};
+ghost use Rattle.word_reader.specs.Said.{command_of, run_of, file_of, made_of, check_of, list_of, format_of, said};
+
+use crate::command::{Command, FileName};
+use crate::number::number;
+use crate::reading::walk;
+use std::alloc::{AllocError, Global};
+
+/// A command whose file is named by one of the words.
+#[derive(Clone, Copy)]
+pub enum Wording<'a> {
+    Run {
+        file: &'a str,
+        workers: u32,
+        units: u64,
+        watch: bool,
+    },
+    Check {
+        file: &'a str,
+    },
+    List {
+        file: &'a str,
+    },
+    Format {
+        file: &'a str,
+    },
+    Make {
+        subscribers: u32,
+    },
+}
+
+impl Wording<'_> {
+    /// The command, with a copy of its file's name.
+    pub fn command(self, alloc: Global) -> Result<Command, AllocError>
+        ensures { IfOk result (λ c. c ≡ command_of self.entry) }
+    {
+        match self {
+            Wording::Run {
+                file,
+                workers,
+                units,
+                watch,
+            } => Ok(Command::Run {
+                file: FileName::new(alloc, file)?,
+                workers,
+                units,
+                watch,
+            }),
+            Wording::Check { file } => Ok(Command::Check {
+                file: FileName::new(alloc, file)?,
+            }),
+            Wording::List { file } => Ok(Command::List {
+                file: FileName::new(alloc, file)?,
+            }),
+            Wording::Format { file } => Ok(Command::Format {
+                file: FileName::new(alloc, file)?,
+            }),
+            Wording::Make { subscribers } => Ok(Command::Make { subscribers }),
+        }
+    }
+}
+
+/// The command that the words mean.
+pub fn decide(words: &[String]) -> Option<Wording<'_>>
+    ensures { option_map command_of result ≡ said (map string_bytes words.entry.now) }
+{
+    match words {
+        [] => None,
+        [verb, rest @ ..] => {
+            let verb = verb.as_str();
+            if verb == "run" {
+                run(rest)
+            } else if verb == "check" {
+                check(rest)
+            } else if verb == "list" {
+                list(rest)
+            } else if verb == "format" {
+                format(rest)
+            } else if verb == "make" {
+                make(rest)
+            } else {
+                None
+            }
+        }
+    }
+}
+
+fn word_at(words: &[String], i: usize) -> &str
+    ensures { result.now ≡ text_at words.entry.now i }
+{
+    match words.get(i) {
+        Some(word) => word.as_str(),
+        None => "",
+    }
+}
+
+fn run(words: &[String]) -> Option<Wording<'_>>
+    ensures { option_map command_of result ≡ option_and_then run_of (read_by true words.entry.now) }
+{
+    let reading = walk(true, words)?;
+    let place = reading.place?;
+    Some(Wording::Run {
+        file: word_at(words, place),
+        workers: reading.workers.unwrap_or(4),
+        units: reading.units.unwrap_or(1_000_000) as u64,
+        watch: reading.watch,
+    })
+}
+
+// The one word of a command without options.
+fn only_word(words: &[String]) -> Option<&str>
+    ensures { option_map (λ word. word.now) result ≡ option_and_then file_of (read_by false words.entry.now) }
+{
+    let reading = walk(false, words)?;
+    let place = reading.place?;
+    Some(word_at(words, place))
+}
+
+fn check(words: &[String]) -> Option<Wording<'_>>
+    ensures { option_map command_of result ≡ option_and_then check_of (read_by false words.entry.now) }
+{
+    let file = only_word(words)?;
+    Some(Wording::Check { file })
+}
+
+fn list(words: &[String]) -> Option<Wording<'_>>
+    ensures { option_map command_of result ≡ option_and_then list_of (read_by false words.entry.now) }
+{
+    let file = only_word(words)?;
+    Some(Wording::List { file })
+}
+
+fn format(words: &[String]) -> Option<Wording<'_>>
+    ensures { option_map command_of result ≡ option_and_then format_of (read_by false words.entry.now) }
+{
+    let file = only_word(words)?;
+    Some(Wording::Format { file })
+}
+
+fn make(words: &[String]) -> Option<Wording<'_>>
+    ensures { option_map command_of result ≡ option_and_then made_of (read_by false words.entry.now) }
+{
+    let word = only_word(words)?;
+    let subscribers = number(1, 200, word.as_bytes())?;
+    Some(Wording::Make { subscribers })
+}
