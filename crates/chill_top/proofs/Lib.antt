@@ -1,4 +1,4 @@
 pub mod Pieces
 pub mod InputLemmas
-pub mod PlanLemmas
+pub mod StageLemmas
 pub mod AnswerLemmas

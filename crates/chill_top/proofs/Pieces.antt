@@ -1,17 +1,15 @@
 -- Texts that are read and written piece by piece.
-use Rattle.std.proofs.Common.{◌≡◌, ℕ, ◌+◌, ◌-◌, ◌<◌, ◌≤◌, List, ◌++◌, length, take, drop, refl, sym, ap, ◌∙◌, subst, arith, append_assoc, length-append, length-take, IfOk}
+use Rattle.std.proofs.Common.{◌≡◌, inl, inr, ℕ, ◌+◌, ◌-◌, ◌<◌, ◌≤◌, List, ◌++◌, length, take, drop, refl, sym, ap, ◌∙◌, subst, arith, append_assoc, length-append, length-take, IfOk}
 use Rattle.std.specs.Prelude.{None, Some, Ok, Err}
 use Rattle.std.specs.declared.result.Result.{Result}
 use Rattle.diagnostics.specs.declared.diagnostic.Diagnostic.{Diagnostic}
-use Rattle.rules_model.specs.Diagnoses.{IsShort, too_long, no_token, too_deep, no_program}
-use Rattle.text_to_code.specs.Telling.{IsResolved, Breaks, Refuses, broken, misnamed, breaks, later, Tells}
+use Rattle.rules_model.specs.Diagnoses.{Diagnoses, IsShort, too_long, no_token, too_deep, no_program}
+use Rattle.text_to_code.specs.Telling.{IsAccepted, IsUnread, IsCanonicalOf, Breaks, Refuses, broken, misnamed, breaks, later, Tells}
 use Rattle.text_to_code.specs.declared.told.Told.{Told}
 use Rattle.text_to_code.specs.declared.told.Told.TheVariants as tellings
-use Rattle.chill_top.specs.declared.plan.Command.{Command}
-use Rattle.chill_top.specs.declared.read.ReadRefusal.{ReadRefusal}
-use Rattle.chill_top.specs.Plan.{IsTextOf, IsReadingOf, IsPlanFor}
-use Rattle.chill_top.specs.declared.plan.Plan.{Plan}
 use Rattle.std.specs.declared.option.Option.{Option}
+use Rattle.chill_top.specs.Commands.{IsTextOf}
+use Rattle.chill_top.specs.Reading.{IsReadingOf}
 use Rattle.outside_ports.specs.Library.{Gives}
 use Rattle.outside_ports.specs.declared.library.PortFault.{PortFault}
 use Rattle.chill_top.specs.Reading.{IsFront}
@@ -45,56 +43,59 @@ IsFront-next told told' read now piece at n same place front gives le is =
     rw (same, is) (front_goes_on told read piece n front (rw place at gives) le)
 
 -- what was read to the end of a file is the file's text
-pub reading-whole : (told : Option (List ℕ)) (read : List ℕ) → length read ≤ 262145 → IsTextOf told read → (text : List ℕ) × IsTextOf told text × IsReadingOf text read
-reading-whole told read short is = (read, is, record { front = sym (take_all 262145 read short) })
+pub reading-whole : (told : Option (List ℕ)) (read : List ℕ) → IsTextOf told read → (text : List ℕ) × IsTextOf told text × IsReadingOf text read
+reading-whole told read is = (read, is, inl refl)
 
 -- what was read as far as it goes is the front of a file's text
 pub reading-front : (told : Option (List ℕ)) (read : List ℕ) → length read ≡ 262145 → IsFront told read → (text : List ℕ) × IsTextOf told text × IsReadingOf text read
-reading-front None read long front = (read, tt, record { front = sym (take_all 262145 read (omega (arith, long))) })
-reading-front (Some text) read long front = (text, refl, record { front = sym front ∙ ap (λ (n : ℕ). take n text) long })
+reading-front None read long front = (read, tt, inl refl)
+reading-front (Some text) read long front = (text, refl, inr (sym front ∙ ap (λ (n : ℕ). take n text) long))
 
 -- what is no longer than a text may be was read whole
 pub reading-short : (text read : List ℕ) → IsReadingOf text read → length read ≤ 262144 → read ≡ text
-reading-short text read of short =
-    of.front ∙ take_all 262145 text (omega (arith, short, ap length of.front, length-take 262145 text))
+reading-short text read (inl is) short = is
+reading-short text read (inr front) short = front ∙ take_all 262145 text (omega (arith, short, ap length front, length-take 262145 text))
 
 -- what is longer is the front of a longer text
 pub reading-long : (text read : List ℕ) → IsReadingOf text read → 262144 < length read → 262144 < length text
-reading-long text read of long = omega (arith, long, ap length of.front, length-take 262145 text)
+reading-long text read (inl is) long = omega (arith, long, ap length is)
+reading-long text read (inr front) long = omega (arith, long, ap length front, length-take 262145 text)
 
 -- what is told of what was read is told of the text
-Resolved-reading : (text read : List ℕ) → IsReadingOf text read → IsResolved read → IsResolved text
-Resolved-reading text read of resolved = subst (λ (t : List ℕ). IsResolved t) (reading-short text read of resolved.has.short) resolved
+Refuses-short : (text read : List ℕ) (told : List Diagnostic) → read ≡ text → Refuses read told → Refuses text told
+Refuses-short text read told same refuses = subst (λ (t : List ℕ). Refuses t told) same refuses
+
+Accepted-reading : (text read : List ℕ) → IsReadingOf text read → IsAccepted read → IsAccepted text
+Accepted-reading text read of accepted = subst (λ (t : List ℕ). IsAccepted t) (reading-short text read of accepted.resolved.has.short) accepted
+
+Diagnoses-short : (text read : List ℕ) (told : Diagnostic) → IsReadingOf text read → IsShort read → Diagnoses read told → Diagnoses text told
+Diagnoses-short text read told of short r = subst (λ (t : List ℕ). Diagnoses t told) (reading-short text read of short) r
+
+Diagnoses-reading : (text read : List ℕ) (told : Diagnostic) → IsReadingOf text read → Diagnoses read told → Diagnoses text told
+Diagnoses-reading text read told of (too_long long) = too_long (reading-long text read of long)
+Diagnoses-reading text read told of (no_token {at = at} short bad) = Diagnoses-short text read _ of short (no_token short bad)
+Diagnoses-reading text read told of (too_deep {at = at} short are deep) = Diagnoses-short text read _ of short (too_deep short are deep)
+Diagnoses-reading text read told of (no_program {at = at} short are shallow none place) =
+    Diagnoses-short text read _ of short (no_program short are shallow none place)
 
 Breaks-short : (text read : List ℕ) (told : List Diagnostic) → IsReadingOf text read → IsShort read → Breaks read told → Breaks text told
 Breaks-short text read told of short r = subst (λ (t : List ℕ). Breaks t told) (reading-short text read of short) r
 
 Breaks-reading : (text read : List ℕ) (told : List Diagnostic) → IsReadingOf text read → Breaks read told → Breaks text told
-Breaks-reading text read told of (broken (too_long long)) = broken (too_long (reading-long text read of long))
-Breaks-reading text read told of (broken (no_token {at = at} short bad)) = Breaks-short text read _ of short (broken (no_token short bad))
-Breaks-reading text read told of (broken (too_deep {at = at} short are deep)) = Breaks-short text read _ of short (broken (too_deep short are deep))
-Breaks-reading text read told of (broken (no_program {at = at} short are shallow none place)) =
-    Breaks-short text read _ of short (broken (no_program short are shallow none place))
+Breaks-reading text read told of (broken {diagnostic = one} breaking) = broken (Diagnoses-reading text read one of breaking)
 Breaks-reading text read told of (misnamed has some) = Breaks-short text read _ of has.short (misnamed has some)
 
 Refuses-reading : (text read : List ℕ) (told : List Diagnostic) → IsReadingOf text read → Refuses read told → Refuses text told
 Refuses-reading text read told of (breaks breaking) = breaks (Breaks-reading text read told of breaking)
-Refuses-reading text read told of (later resolved may) = later (Resolved-reading text read of resolved) may
+Refuses-reading text read told of (later resolved may) = Refuses-short text read told (reading-short text read of resolved.has.short) (later resolved may)
 
 pub Tells-reading : (text read : List ℕ) (told : Told) → IsReadingOf text read → Tells read told → Tells text told
 Tells-reading text read (tellings.Refused told) of tells = Refuses-reading text read told of tells
-Tells-reading text read (tellings.Accepted built) of tells = Resolved-reading text read of tells
+Tells-reading text read (tellings.Accepted built) of tells = Accepted-reading text read of tells
 
--- the plan for what was read is the plan for the text
-pub ok-plan-read : (read : List ℕ) (command : Command) (feed : Option (List ℕ)) (told : Told) (made : Result Plan ReadRefusal) → Tells read told
-    → IfOk made (λ plan. (text : List ℕ) → Tells text told → IsPlanFor command text feed plan)
-    → IfOk made (λ plan. (text : List ℕ) → IsReadingOf text read → IsPlanFor command text feed plan)
-ok-plan-read read command feed told (Ok plan) tells is = λ text of. is text (Tells-reading text read told of tells)
-ok-plan-read read command feed told (Err e) tells is = tt
+pub Unread-reading : (text read : List ℕ) (told : List Diagnostic) → IsReadingOf text read → IsUnread read told → IsUnread text told
+Unread-reading text read told of unread =
+    record { diagnostic = unread.diagnostic; diagnoses = Diagnoses-reading text read unread.diagnostic of unread.diagnoses; only = unread.only }
 
--- the plan for a file is the one for its text
-pub ok-plan-file : (told : Option (List ℕ)) (read : List ℕ) (command : Command) (feed : Option (List ℕ)) (made : Result Plan ReadRefusal) → ((text : List ℕ) × IsTextOf told text × IsReadingOf text read)
-    → IfOk made (λ plan. (text : List ℕ) → IsReadingOf text read → IsPlanFor command text feed plan)
-    → IfOk made (λ plan. (text : List ℕ) × IsTextOf told text × IsPlanFor command text feed plan)
-ok-plan-file told read command feed (Ok plan) found is = (found.0, found.1, is found.0 found.2)
-ok-plan-file told read command feed (Err e) found is = tt
+pub Canonical-reading : (text read canonical : List ℕ) → IsReadingOf text read → IsCanonicalOf read canonical → IsCanonicalOf text canonical
+Canonical-reading text read canonical of is = subst (λ (t : List ℕ). IsCanonicalOf t canonical) (reading-short text read of is.has.short) is

@@ -1,82 +1,195 @@
--- What a call hands back, and what its ports are like before and behind it.
-use Rattle.std.specs.Prelude.{◌≡◌, ◌≢◌, ◌⊎◌, ℕ, List, [], None, Some}
+-- What a call hands back, and what its ports and watchers are like before and behind it.
+use Rattle.std.specs.Prelude.{◌≡◌, ◌⊎◌, ℕ, Bool, true, false, List, [], ◌++◌, if◌then◌else◌, None, Some, Ok, Err}
+use Rattle.std.specs.List.{flat_map}
 use Rattle.std.specs.declared.option.Option.{Option}
+use Rattle.std.specs.declared.result.Result.{Result}
 use Rattle.std.specs.Io.KnownBytes.{Appends, Keeps}
 use Rattle.checked_program.specs.declared.program.Checked.{Checked}
 use Rattle.code_types.specs.declared.code.Code.{Code}
+use Rattle.diagnostics.specs.declared.diagnostic.Diagnostic.{Diagnostic}
 use Rattle.kernel_base.specs.declared.ends.Over.{Over}
-use Rattle.text_to_code.specs.Telling.{IsResolved}
-use Rattle.chill_top.specs.Plan.{said, IsTextOf, IsPlan, IsRunOf, status_of, out_of, err_of}
+use Rattle.kernel_base.specs.declared.event.Event.{Event}
+use Rattle.listing.specs.Diagnostics.{lines_of}
+use Rattle.outside_ports.specs.Watcher.{Watching, told}
+use Rattle.run_texts.specs.Report.{report_of}
+use Rattle.text_to_code.specs.Telling.{IsAccepted, IsUnread, Refuses}
+use Rattle.watchers.specs.Shown.{stayed, places, IsLeft}
+use Rattle.word_reader.specs.declared.command.Command.{Command}
+use Rattle.world_model.specs.Journal.{output_of}
+use Rattle.chill_top.specs.Commands.{task_of, is_watched, IsTextBy}
+use Rattle.chill_top.specs.Runs.{status_of_run}
+use Rattle.chill_top.specs.Plan.{IsPlan, IsRunOf, status_of, out_of, err_of}
 use Rattle.chill_top.specs.Causes.{IsReadFault, IsFeedFault, IsOutBroken, IsErrBroken}
-use Rattle.chill_top.specs.declared.plan.Command.TheVariants.{Run}
 use Rattle.chill_top.specs.declared.plan.Plan.{Plan}
 use Rattle.chill_top.specs.declared.plan.Plan.TheVariants as plans
+use Rattle.chill_top.specs.declared.read.ReadRefusal.{ReadRefusal}
+use Rattle.chill_top.specs.declared.read.ReadRefusal.TheVariants as refusals
+use Rattle.chill_top.specs.declared.task.Task.{Task}
+use Rattle.chill_top.specs.declared.task.Task.TheVariants.{Format, Build}
+use Rattle.chill_top.specs.declared.task.Purpose.TheVariants.{Run}
 use Rattle.chill_top.specs.declared.top.Outcome.{Outcome}
 
 -- an outcome without a run
 abbrev pub without_run : ℕ → Outcome
-without_run status = record { status = status; over = None; events = []; code = None; machines = [] }
+without_run status = record { status = status; over = None; events = []; code = None; machines = []; dropped = [] }
 
--- the outcome of a plan with a status: its run, where it has one
-abbrev pub outcome_with : Plan → ℕ → Outcome
-outcome_with (plans.Ran ran) status = record { status = status; over = Some ran.driven.value.over; events = ran.driven.value.events; code = Some ran.built.value.code; machines = ran.driven.value.machines }
-outcome_with plans.Usage status = without_run status
-outcome_with (plans.Refused told) status = without_run status
-outcome_with plans.Accepted status = without_run status
-outcome_with plans.InputTooLong status = without_run status
+-- the outcome of a plan with a status, and with the watchers that were dropped: its run and its code, where it has them
+abbrev pub outcome_with : Plan → ℕ → List ℕ → Outcome
+outcome_with plans.Usage status dropped = without_run status
+outcome_with (plans.Refused told) status dropped = without_run status
+outcome_with plans.Accepted status dropped = without_run status
+outcome_with (plans.Listed built) status dropped = record { status = status; over = None; events = []; code = Some built.value.code; machines = []; dropped = [] }
+outcome_with (plans.Formatted canonical) status dropped = without_run status
+outcome_with plans.InputTooLong status dropped = without_run status
+outcome_with (plans.Ran ran) status dropped = record {
+  status = status;
+  over = Some ran.driven.value.over;
+  events = ran.driven.value.events;
+  code = Some ran.built.value.code;
+  machines = ran.driven.value.machines;
+  dropped = dropped;
+}
 
--- the counts of faults of the ports, and what the sinks have taken, where they tell it
-pub record Ports : Type 0 where
-  pub library : List ℕ → ℕ
-  pub feed : ℕ
+-- ---- the watchers
+
+-- the events that the watchers are shown: those of a run that is watched
+abbrev pub shown_of : Bool → Plan → Option (List Event)
+shown_of watch plans.Usage = None
+shown_of watch (plans.Refused told) = None
+shown_of watch plans.Accepted = None
+shown_of watch (plans.Listed built) = None
+shown_of watch (plans.Formatted canonical) = None
+shown_of watch plans.InputTooLong = None
+shown_of watch (plans.Ran ran) = if watch then Some ran.driven.value.events else None
+
+-- the watchers that are left, the places of those that were dropped, and the texts of those that are left
+abbrev pub watchers_after : Option (List Event) → List Watching → List Watching
+watchers_after None watchers = watchers
+watchers_after (Some events) watchers = stayed watchers events
+
+abbrev pub dropped_of : Option (List Event) → List Watching → List ℕ
+dropped_of None watchers = []
+dropped_of (Some events) watchers = places watchers events
+
+abbrev pub told_by : Option (List Event) → List Watching → List ℕ
+told_by None watchers = []
+told_by (Some events) watchers = flat_map told (stayed watchers events)
+
+-- the watchers where there was no memory: as they were, shown some of the events, or all of them
+abbrev pub IsPartlyShown : Option (List Event) → List Watching → List Watching → Type 0
+IsPartlyShown None watchers after = after ≡ watchers
+IsPartlyShown (Some events) watchers after = (after ≡ watchers) ⊎ IsLeft events watchers after ⊎ (after ≡ stayed watchers events)
+
+-- ---- the ports
+
+-- the counts of faults of the sinks, and what they have taken, where they tell it
+pub record Sinks : Type 0 where
   pub out : ℕ
   pub err : ℕ
   pub out_taken : Option (List ℕ)
   pub err_taken : Option (List ℕ)
 
--- no count rose
-pub record SameCounts (before behind : Ports) : Type 0 where
-  pub library : (name : List ℕ) → behind.library name ≡ before.library name
-  pub feed : behind.feed ≡ before.feed
-  pub out : behind.out ≡ before.out
-  pub err : behind.err ≡ before.err
+abbrev pub sinks_at : ℕ → ℕ → Option (List ℕ) → Option (List ℕ) → Sinks
+sinks_at out err out_taken err_taken = record { out = out; err = err; out_taken = out_taken; err_taken = err_taken }
+
+-- no count rose, and the sinks took these texts
+pub record Wrote (before behind : Sinks) (out err : List ℕ) : Type 0 where
+  pub out_took : Appends before.out_taken behind.out_taken out
+  pub err_took : Appends before.err_taken behind.err_taken err
+  pub out_faults : behind.out ≡ before.out
+  pub err_faults : behind.err ≡ before.err
 
 -- the sinks took nothing
-pub record NothingWritten (before behind : Ports) : Type 0 where
+pub record NothingWritten (before behind : Sinks) : Type 0 where
   pub out : Keeps before.out_taken behind.out_taken
   pub err : Keeps before.err_taken behind.err_taken
 
--- the sinks took these texts
-pub record Wrote (before behind : Ports) (out err : List ℕ) : Type 0 where
-  pub out_took : Appends before.out_taken behind.out_taken out
-  pub err_took : Appends before.err_taken behind.err_taken err
-
 -- a sink failed at these texts: it took a proper front of its own; out comes first
-abbrev pub IsCutShort : Ports → Ports → List ℕ → List ℕ → Type 0
+abbrev pub IsCutShort : Sinks → Sinks → List ℕ → List ℕ → Type 0
 IsCutShort before behind out err = IsOutBroken out before.out_taken behind.out_taken before.err_taken behind.err_taken before.out behind.out
     ⊎ IsErrBroken out err before.out_taken behind.out_taken before.err_taken behind.err_taken before.err behind.err
 
--- What a call answers, for its words, what the library and the feed tell, and the ports before and behind it.
-pub data IsAnswer (words : List (List ℕ)) (bytes : List ℕ → Option (List ℕ)) (feed : Option (List ℕ)) (before behind : Ports) : Outcome → Type 0 where
-  -- the plan for the words was carried out
-  done : (plan : Plan) → IsPlan words bytes feed plan → SameCounts before behind → Wrote before behind (out_of plan) (err_of plan) → IsAnswer words bytes feed before behind (outcome_with plan (status_of plan))
-  -- a sink failed
-  broken : (plan : Plan) → IsPlan words bytes feed plan → IsCutShort before behind (out_of plan) (err_of plan) → IsAnswer words bytes feed before behind (outcome_with plan 5)
-  -- a file or the input wasn't read
-  unread : IsReadFault words before.library behind.library ⊎ IsFeedFault words before.feed behind.feed → NothingWritten before behind → IsAnswer words bytes feed before behind (without_run 4)
-  -- no memory was to be had
-  no_memory : NothingWritten before behind → IsAnswer words bytes feed before behind (without_run 8)
+-- the counts of faults of the library and of the feed
+pub record Sources : Type 0 where
+  pub library : List ℕ → ℕ
+  pub feed : ℕ
 
--- The journal of an outcome: the text that the words name has a program, whose code the outcome holds, and the events are a
--- run of that code to its end, from the program's facts with its input; the machines stand where the events leave them.
-pub record IsJournal (words : List (List ℕ)) (bytes : List ℕ → Option (List ℕ)) (feed : Option (List ℕ)) (outcome : Outcome) (over : Over) : Type 0 where
+abbrev pub sources_at : (List ℕ → ℕ) → ℕ → Sources
+sources_at library feed = record { library = library; feed = feed }
+
+-- no count rose
+pub record SameCounts (before behind : Sources) : Type 0 where
+  pub library : (name : List ℕ) → behind.library name ≡ before.library name
+  pub feed : behind.feed ≡ before.feed
+
+-- ---- the answers
+
+-- What comes of a plan: the watchers are shown what is to be shown, and then all is written.
+pub data IsCarriedOut (watch : Bool) (plan : Plan) (watchers after : List Watching) (before behind : Sinks) : Outcome → Type 0 where
+  -- all was written
+  done : after ≡ watchers_after (shown_of watch plan) watchers → Wrote before behind (out_of plan) (err_of plan ++ told_by (shown_of watch plan) watchers)
+      → IsCarriedOut watch plan watchers after before behind (outcome_with plan (status_of plan) (dropped_of (shown_of watch plan) watchers))
+  -- a sink failed
+  broken : after ≡ watchers_after (shown_of watch plan) watchers → IsCutShort before behind (out_of plan) (err_of plan ++ told_by (shown_of watch plan) watchers)
+      → IsCarriedOut watch plan watchers after before behind (outcome_with plan 5 (dropped_of (shown_of watch plan) watchers))
+  -- no memory was to be had for the texts
+  no_memory : IsPartlyShown (shown_of watch plan) watchers after → NothingWritten before behind → IsCarriedOut watch plan watchers after before behind (without_run 8)
+
+-- nothing was written, no watcher was shown anything, and there is no run
+pub record IsNothing (watchers after : List Watching) (before behind : Sinks) (outcome : Outcome) (status : ℕ) : Type 0 where
+  pub stay : after ≡ watchers
+  pub nothing : NothingWritten before behind
+  pub is : outcome ≡ without_run status
+
+-- what is answered of a plan, or where there is none
+abbrev pub Answers : Bool → Result Plan ReadRefusal → List Watching → List Watching → Sinks → Sinks → Outcome → Type 0
+Answers watch (Ok plan) watchers after before behind outcome = IsCarriedOut watch plan watchers after before behind outcome
+Answers watch (Err refusals.Fault) watchers after before behind outcome = IsNothing watchers after before behind outcome 4
+Answers watch (Err refusals.Memory) watchers after before behind outcome = IsNothing watchers after before behind outcome 8
+
+-- the watchers of a command are shown its journal
+abbrev pub watch_of : Option Command → Bool
+watch_of None = false
+watch_of (Some command) = is_watched command
+
+-- What a call answers, for the command of its words, what the library and the feed tell, and the ports and the watchers before
+-- and behind it.
+pub data IsAnswer (said : Option Command) (bytes : List ℕ → Option (List ℕ)) (feed : Option (List ℕ)) (watchers after : List Watching) (sources left : Sources) (before behind : Sinks) : Outcome → Type 0 where
+  -- the plan for the words was carried out
+  planned : {outcome : Outcome} (plan : Plan) → IsPlan said bytes feed plan → SameCounts sources left → IsCarriedOut (watch_of said) plan watchers after before behind outcome
+      → IsAnswer said bytes feed watchers after sources left before behind outcome
+  -- a file or the input wasn't read
+  unread : (command : Command) → said ≡ Some command → IsReadFault command sources.library left.library ⊎ IsFeedFault command sources.feed left.feed → after ≡ watchers → NothingWritten before behind
+      → IsAnswer said bytes feed watchers after sources left before behind (without_run 4)
+  -- no memory was to be had
+  no_memory_before : after ≡ watchers → NothingWritten before behind → IsAnswer said bytes feed watchers after sources left before behind (without_run 8)
+
+-- The journal of an outcome: the text of the command has a program, whose code the outcome holds, and the events are a run of that
+-- code to its end, from the program's facts with its input; the machines stand where the events leave them.
+pub record IsJournal (said : Option Command) (bytes : List ℕ → Option (List ℕ)) (feed : Option (List ℕ)) (outcome : Outcome) (over : Over) : Type 0 where
+  pub command : Command
+  pub named : said ≡ Some command
   pub units : ℕ
-  pub file : List ℕ
-  pub named : said words ≡ Some (record { command = Run units; file = file })
+  pub is_task : task_of command ≡ Build (Run units)
   pub text : List ℕ
-  pub told : IsTextOf (bytes file) text
-  pub resolved : IsResolved text
+  pub told : IsTextBy command bytes text
+  pub accepted : IsAccepted text
   pub program : Checked
   pub code : Code
   pub held : outcome.code ≡ Some code
   pub run : IsRunOf units program code feed (record { events = outcome.events; machines = outcome.machines; over = over })
+
+-- the diagnostics of a text that is refused under a task
+abbrev pub IsRefusedUnder : Task → List ℕ → List Diagnostic → Type 0
+IsRefusedUnder Format text told = IsUnread text told
+IsRefusedUnder (Build purpose) text told = Refuses text told
+
+-- The text of the command is refused, and err took a line for each of its diagnostics, and out nothing.
+pub record IsRefused (said : Option Command) (bytes : List ℕ → Option (List ℕ)) (before behind : Sinks) : Type 0 where
+  pub command : Command
+  pub named : said ≡ Some command
+  pub text : List ℕ
+  pub told : IsTextBy command bytes text
+  pub diagnostics : List Diagnostic
+  pub refused : IsRefusedUnder (task_of command) text diagnostics
+  pub written : Wrote before behind [] (lines_of diagnostics)

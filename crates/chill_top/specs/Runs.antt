@@ -9,28 +9,29 @@ use Rattle.kernel_base.specs.declared.request.Request.TheVariants.{End}
 use Rattle.kernel_base.specs.declared.event.Event.{Event}
 use Rattle.kernel_base.specs.declared.event.Event.TheVariants.{Did}
 use Rattle.kernel_base.specs.declared.facts.Facts.{Facts}
+use Rattle.kernel_base.specs.Facts.{IsSound}
 use Rattle.code_types.specs.declared.code.Code.{Code}
 use Rattle.serial_run.specs.declared.serial.Driven.{Driven}
 use Rattle.serial_run.specs.Driven.{IsDriven}
 use Rattle.chill_top.specs.declared.run.Attempt.{Attempt}
 use Rattle.chill_top.specs.declared.run.Attempt.TheVariants as attempts
 
--- the run of a code, from facts with this input and budget
-pub record IsRunWith (units : ℕ) (code : Code) (input : List ℕ) (driven : Driven) : Type 0 where
-  pub facts : Facts
+-- sound facts with this input and budget
+pub record AreFactsWith (units : ℕ) (input : List ℕ) (facts : Facts) : Type 0 where
+  pub sound : IsSound facts
   pub reads : facts.input ≡ input
   pub budget : facts.units ≡ units
+
+-- the run of a code from such facts
+pub record IsRunWith (units : ℕ) (code : Code) (input : List ℕ) (driven : Driven) : Type 0 where
+  pub facts : Facts
+  pub are : AreFactsWith units input facts
   pub run : IsDriven code facts driven
 
--- what comes of an attempt from facts is a run from them, where it is one
-abbrev pub IsAttemptFrom : Code → Facts → Attempt → Type 0
-IsAttemptFrom code facts (attempts.Driven driven) = IsDriven code facts driven.value
-IsAttemptFrom code facts attempts.NotBuilt = Unit {0}
-
--- what comes of an attempt is the run with this input, where it is one
-abbrev pub IsAttempt : ℕ → Code → List ℕ → Attempt → Type 0
-IsAttempt units code input (attempts.Driven driven) = IsRunWith units code input driven.value
-IsAttempt units code input attempts.NotBuilt = Unit {0}
+-- what comes of an attempt is a run of the code from the facts, where it is one
+abbrev pub IsAttempt : Code → Facts → Attempt → Type 0
+IsAttempt code facts (attempts.Driven driven) = IsDriven code facts driven.value
+IsAttempt code facts attempts.NotBuilt = Unit {0}
 
 -- a process ended with an exception
 abbrev pub is_raised : Event → Bool

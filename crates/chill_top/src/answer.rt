@@ -8,10 +8,12 @@ ghost use Rattle.world_model.specs.Journal.{output_of};
 use crate::plan::{Plan, Ran};
 use chill_base::{Memory, Text};
 use kernel_base::{Event, How, Over, Request};
+use list_texts::{code_text, layout_text};
 use listing::diagnostics_text;
 use run_texts::{output_text, report_text};
 use serial_run::Driven;
 use std::alloc::Global;
+use text_to_code::Built;
 
 // The line for words that are no command.
 const USAGE: &str =
@@ -34,7 +36,7 @@ pub(crate) fn status_of(plan: &Plan) -> u8
     match plan {
         Plan::Usage => 2,
         Plan::Refused(_) => 3,
-        Plan::Accepted => 0,
+        Plan::Accepted | Plan::Listed(_) | Plan::Formatted(_) => 0,
         Plan::InputTooLong => 9,
         Plan::Ran(ran) => status_of_run(&ran.driven),
     }
@@ -84,21 +86,44 @@ fn is_raised(event: &Event) -> bool
 
 /// What a plan writes.
 pub(crate) fn texts_of(alloc: Global, plan: &Plan) -> Result<Texts, Memory>
-    ensures { IfOk result (λ texts. (texts.out ≡ plans.out_of plan.now) × (texts.err ≡ plans.err_of plan.now)) }
+    ensures out { IfOk result (λ texts. texts.out ≡ plans.out_of plan.now) }
+    ensures err { IfOk result (λ texts. texts.err ≡ plans.err_of plan.now) }
 {
     match plan {
-        Plan::Usage => Ok(report(alloc, text_of(alloc, USAGE)?)),
+        Plan::Usage => Ok(report(alloc, copy_of(alloc, USAGE.as_bytes())?)),
         Plan::Refused(told) => Ok(report(alloc, diagnostics_text(alloc, told)?)),
         Plan::Accepted => Ok(report(alloc, Text::new(alloc))),
-        Plan::InputTooLong => Ok(report(alloc, text_of(alloc, TOO_LONG)?)),
+        Plan::Listed(built) => Ok(output(alloc, listing(alloc, built)?)),
+        Plan::Formatted(canonical) => Ok(output(alloc, copy_of(alloc, canonical.as_slice())?)),
+        Plan::InputTooLong => Ok(report(alloc, copy_of(alloc, TOO_LONG.as_bytes())?)),
         Plan::Ran(ran) => texts_of_run(alloc, ran),
     }
 }
 
-fn text_of(alloc: Global, text: &str) -> Result<Text, Memory>
-    ensures { IfOk result (λ copy. copy ≡ text.now) }
+fn copy_of(alloc: Global, bytes: &[u8]) -> Result<Text, Memory>
+    ensures { IfOk result (λ copy. copy ≡ bytes.now) }
 {
-    Ok(Text::from_vec(text.as_bytes().to_vec(alloc)?))
+    Ok(Text::from_vec(bytes.to_vec(alloc)?))
+}
+
+// The layout of a program, and its code.
+fn listing(alloc: Global, built: &Built) -> Result<Text, Memory>
+    ensures { IfOk result (λ text. text ≡ plans.listing_of built.now) }
+{
+    let mut text = layout_text(alloc, built.program.checked())?;
+    let code = code_text(alloc, built.code.code())?;
+    text.room().extend_from_slice(code.as_slice())?;
+    Ok(text)
+}
+
+// An output without a report.
+fn output(alloc: Global, out: Text) -> Texts
+    ensures { (result.out ≡ out) × (result.err ≡ []) }
+{
+    Texts {
+        out,
+        err: Text::new(alloc),
+    }
 }
 
 // A report without output.
@@ -112,7 +137,9 @@ fn report(alloc: Global, err: Text) -> Texts
 }
 
 fn texts_of_run(alloc: Global, ran: &Ran) -> Result<Texts, Memory>
-    ensures { IfOk result (λ texts. (texts.out ≡ output_of ran.now.driven.value.events) × (texts.err ≡ report_of ran.now.built.value.program.checked.value ran.now.driven.value.events ran.now.driven.value.over)) }
+    ensures out { IfOk result (λ texts. texts.out ≡ output_of ran.now.driven.value.events) }
+    ensures err { IfOk result (λ texts. texts.err
+        ≡ report_of ran.now.built.value.program.checked.value ran.now.driven.value.events ran.now.driven.value.over) }
 {
     let driven = &ran.driven;
     let events = driven.events.as_slice();

@@ -2,8 +2,8 @@
 ghost use Rattle.std.specs.Prelude.{◌≡◌, ◌+◌, ◌<◌, ◌≤◌, ℕ, List, length, OnOk, IfOk, IfSome, IsErrOf};
 ghost use Rattle.std.specs.Bool.{OnTrue, OnFalse};
 ghost use Rattle.outside_ports.specs.Faults.{Rose};
-ghost use Rattle.chill_top.specs.Plan.{IsTextOf, IsReadingOf};
-ghost use Rattle.chill_top.specs.Reading.{IsFront};
+ghost use Rattle.chill_top.specs.Commands.{IsTextOf};
+ghost use Rattle.chill_top.specs.Reading.{IsFront, IsReadingOf};
 ghost use Rattle.chill_top.specs.declared.read.ReadRefusal.TheVariants.{Fault, Memory as no_memory};
 
 use chill_base::Memory;

@@ -1,21 +1,32 @@
-// The call itself: a plan is made, and then carried out.
-ghost use Rattle.std.specs.Prelude.{◌≡◌, ◌⊎◌, ℕ, List, None, OnOk, IfOk, IsErrOf, map, string_bytes};
+// The calls themselves: a plan is made, and then carried out.
+ghost use Rattle.std.specs.Prelude.{◌≡◌, ◌⊎◌, ◌<◌, ◌^◌, ◌++◌, ℕ, List, None, Some, false, length, map, option_and_then, string_bytes, OnOk, IfOk, IfSome, IsErrOf, OnErr};
 ghost use Rattle.std.specs.Bool.{OnTrue, OnFalse};
 ghost use Rattle.std.specs.Io.KnownBytes.{Appends};
+ghost use Rattle.word_reader.specs.Said.{said};
 ghost use Rattle.chill_top.specs.Causes.{IsReadFault, IsFeedFault, IsOutBroken, IsErrBroken};
-ghost use Rattle.chill_top.specs.Plan.{IsPlan, said, out_of, err_of};
+ghost use Rattle.chill_top.specs.Commands as commands;
+ghost use Rattle.chill_top.specs.Commands.{Runs, SaysRun};
+ghost use Rattle.chill_top.specs.Plan.{IsPlanOf, out_of, err_of};
 ghost use Rattle.chill_top.specs.Outcomes as outcomes;
-ghost use Rattle.chill_top.specs.Outcomes.{IsAnswer, outcome_with};
+ghost use Rattle.chill_top.specs.Outcomes.{Answers, IsAnswer, IsCarriedOut, IsCutShort, IsJournal, IsPartlyShown, IsRefused, Wrote, dropped_of, outcome_with, shown_of, sinks_at, sources_at, told_by, watch_of, watchers_after};
 
 use crate::answer::{Texts, status_of, texts_of};
-use crate::plan::{Plan, make_plan};
+use crate::plan::{Plan, Stage};
 use crate::read::ReadRefusal;
+use crate::run::{Workers, run_alone, run_by_workers};
+use crate::stage::make_stage;
+use crate::task::{is_watched, workers_of};
+use crate::watching::show;
 use crate::write::write_all;
+use chill_base::{Memory, Numbers};
 use code_guard::Guarded;
 use kernel_base::{Events, Over};
-use outside_ports::{Feed, Library, Sink};
+use outside_ports::{Feed, Gate, Library, Sink, Watcher};
 use serial_run::Machines;
 use std::alloc::Global;
+use std::sync::Wait;
+use std::thread::Threads;
+use word_reader::{Command, WordRefusal, read_words};
 
 /// What a call answered.
 #[derive(Drop)]
@@ -27,19 +38,31 @@ pub struct Outcome {
     pub over: Option<Over>,
     /// The journal of the run.
     pub events: Events,
-    /// The code that was run.
+    /// The code that was run or listed.
     pub code: Option<Guarded>,
     /// The machines that ran it, as the run left them.
     pub machines: Machines,
+    /// The places of the watchers that were dropped, rising.
+    pub dropped: Numbers,
 }
 
+// Statuses that no plan has.
+const READ_FAULT: u8 = 4;
+
+const WRITE_FAULT: u8 = 5;
+
+const NO_MEMORY: u8 = 8;
+
 // Writes the texts, out before err, and says whether all was written.
-fn carry_out<O: Sink, E: Sink>(texts: &Texts, out: &mut O, err: &mut E) -> bool
-    ensures whole { OnTrue result (Appends (O.taken out.old) (O.taken out.new) texts.now.out × Appends (E.taken err.old) (E.taken err.new) texts.now.err) }
-    ensures stays { OnTrue result ((O.faults out.new ≡ O.faults out.old) × (E.faults err.new ≡ E.faults err.old)) }
-    ensures broken { OnFalse result
-        (IsOutBroken texts.now.out (O.taken out.old) (O.taken out.new) (E.taken err.old) (E.taken err.new) (O.faults out.old) (O.faults out.new)
-        ⊎ IsErrBroken texts.now.out texts.now.err (O.taken out.old) (O.taken out.new) (E.taken err.old) (E.taken err.new) (E.faults err.old) (E.faults err.new)) }
+fn write_texts<O: Sink, E: Sink>(texts: &Texts, out: &mut O, err: &mut E) -> bool
+    ensures whole { OnTrue result (Wrote
+        (sinks_at (O.faults out.old) (E.faults err.old) (O.taken out.old) (E.taken err.old))
+        (sinks_at (O.faults out.new) (E.faults err.new) (O.taken out.new) (E.taken err.new))
+        texts.now.out texts.now.err) }
+    ensures broken { OnFalse result (IsCutShort
+        (sinks_at (O.faults out.old) (E.faults err.old) (O.taken out.old) (E.taken err.old))
+        (sinks_at (O.faults out.new) (E.faults err.new) (O.taken out.new) (E.taken err.new))
+        texts.now.out texts.now.err) }
 {
     if write_all(out, texts.out.as_slice()).is_err() {
         return false;
@@ -47,66 +70,214 @@ fn carry_out<O: Sink, E: Sink>(texts: &Texts, out: &mut O, err: &mut E) -> bool
     write_all(err, texts.err.as_slice()).is_ok()
 }
 
-// A plan, with what is to be written.
+// What is to be written, and which watchers were dropped.
 #[derive(Drop)]
-struct Planned {
-    plan: Plan,
+struct Prepared {
     texts: Texts,
+    dropped: Numbers,
 }
 
-// What the words come to, and what is to be written of it.
-fn prepare<L: Library, I: Feed>(
+// Makes the texts of a plan, and shows the watchers what is to be shown.
+fn prepare(
     alloc: Global,
-    words: &[String],
+    watch: bool,
+    plan: &Plan,
+    watchers: &mut Vec<Box<dyn Watcher>>,
+) -> Result<Prepared, Memory>
+    requires few { length watchers.old.items < 2 ^ 32 }
+    ensures out { IfOk result (λ p. p.texts.out ≡ out_of plan.now) }
+    ensures err { IfOk result (λ p. p.texts.err ≡ err_of plan.now
+        ++ told_by (shown_of watch plan.now) (map (λ b. watching b) watchers.old.items)) }
+    ensures dropped { IfOk result (λ p. p.dropped
+        ≡ dropped_of (shown_of watch plan.now) (map (λ b. watching b) watchers.old.items)) }
+    ensures stayed { OnOk result (map (λ b. watching b) watchers.new.items
+        ≡ watchers_after (shown_of watch plan.now) (map (λ b. watching b) watchers.old.items)) }
+    ensures partly { OnErr result (IsPartlyShown (shown_of watch plan.now)
+        (map (λ b. watching b) watchers.old.items) (map (λ b. watching b) watchers.new.items)) }
+    ensures unwatched { watch ≡ false → watchers.new ≡ watchers.old }
+{
+    let mut texts = texts_of(alloc, plan)?;
+    let dropped = show(alloc, watch, plan, watchers, &mut texts.err)?;
+    Ok(Prepared { texts, dropped })
+}
+
+// Carries out a plan.
+fn carry_out<O: Sink, E: Sink>(
+    alloc: Global,
+    watch: bool,
+    plan: Plan,
+    watchers: &mut Vec<Box<dyn Watcher>>,
+    out: &mut O,
+    err: &mut E,
+) -> Outcome
+    requires few { length watchers.old.items < 2 ^ 32 }
+    ensures carried { IsCarriedOut watch plan
+        (map (λ b. watching b) watchers.old.items) (map (λ b. watching b) watchers.new.items)
+        (sinks_at (O.faults out.old) (E.faults err.old) (O.taken out.old) (E.taken err.old))
+        (sinks_at (O.faults out.new) (E.faults err.new) (O.taken out.new) (E.taken err.new))
+        result }
+    ensures unwatched { watch ≡ false → watchers.new ≡ watchers.old }
+{
+    match prepare(alloc, watch, &plan, watchers) {
+        Ok(prepared) => {
+            if !write_texts(&prepared.texts, out, err) {
+                return outcome_of(alloc, plan, WRITE_FAULT, prepared.dropped);
+            }
+            let status = status_of(&plan);
+            outcome_of(alloc, plan, status, prepared.dropped)
+        }
+        Err(Memory) => without_run(alloc, NO_MEMORY),
+    }
+}
+
+// Carries out a plan, or answers why there is none.
+fn answer<O: Sink, E: Sink>(
+    alloc: Global,
+    watch: bool,
+    planned: Result<Plan, ReadRefusal>,
+    watchers: &mut Vec<Box<dyn Watcher>>,
+    out: &mut O,
+    err: &mut E,
+) -> Outcome
+    requires few { length watchers.old.items < 2 ^ 32 }
+    ensures answered { Answers watch planned
+        (map (λ b. watching b) watchers.old.items) (map (λ b. watching b) watchers.new.items)
+        (sinks_at (O.faults out.old) (E.faults err.old) (O.taken out.old) (E.taken err.old))
+        (sinks_at (O.faults out.new) (E.faults err.new) (O.taken out.new) (E.taken err.new))
+        result }
+    ensures unwatched { watch ≡ false → watchers.new ≡ watchers.old }
+{
+    match planned {
+        Ok(plan) => carry_out(alloc, watch, plan, watchers, out, err),
+        Err(ReadRefusal::Memory) => without_run(alloc, NO_MEMORY),
+        Err(ReadRefusal::Fault) => without_run(alloc, READ_FAULT),
+    }
+}
+
+// The plan for a command, whose run one worker does.
+fn plan_alone<L: Library, I: Feed>(
+    alloc: Global,
+    command: &Command,
     library: &mut L,
     input: &mut I,
-) -> Result<Planned, ReadRefusal>
-    ensures plan { IfOk result (λ p. IsPlan (map string_bytes words.now) (L.bytes library.old) (I.bytes input.old) p.plan) }
-    ensures texts { IfOk result (λ p. (p.texts.out ≡ out_of p.plan) × (p.texts.err ≡ err_of p.plan)) }
+) -> Result<Plan, ReadRefusal>
+    ensures plan { IfOk result (IsPlanOf command.now (L.bytes library.old) (I.bytes input.old)) }
     ensures stays { OnOk result (I.faults input.new ≡ I.faults input.old) }
     ensures kept { OnOk result ((n : List ℕ) → L.faults library.new n ≡ L.faults library.old n) }
-    ensures untouched { said (map string_bytes words.now) ≡ None → (library.new ≡ library.old) × (input.new ≡ input.old) }
-    ensures fault { IsErrOf result ReadRefusal.Fault → IsReadFault (map string_bytes words.now) (L.faults library.old) (L.faults library.new)
-        ⊎ IsFeedFault (map string_bytes words.now) (I.faults input.old) (I.faults input.new) }
+    ensures fault { IsErrOf result ReadRefusal.Fault
+        → IsReadFault command.now (L.faults library.old) (L.faults library.new)
+        ⊎ IsFeedFault command.now (I.faults input.old) (I.faults input.new) }
+    ensures no_file { commands.file_of command.now ≡ None → library.new ≡ library.old }
+    ensures unfed { (Runs command.now → ⊥) → input.new ≡ input.old }
 {
-    let plan = make_plan(alloc, words, library, input)?;
-    let texts = texts_of(alloc, &plan)?;
-    Ok(Planned { plan, texts })
+    match make_stage(alloc, command, library, input)? {
+        Stage::Decided(plan) => Ok(plan),
+        Stage::Ready(ready) => Ok(run_alone(alloc, ready)?),
+    }
 }
 
-/// Carries out the command that the words mean, where it is built: `run` without `--watch`, or `check`. One worker does the
-/// work of all so far.
-pub fn chill<L: Library, I: Feed, O: Sink, E: Sink>(
+// The plan for a command, whose run several workers do.
+fn plan_by_workers<R: Threads + Wait + Sync, L: Library, I: Feed, G: Gate>(
+    alloc: Global,
+    command: &Command,
+    library: &mut L,
+    input: &mut I,
+    workers: &Workers<'_, R, G>,
+) -> Result<Plan, ReadRefusal>
+    ensures plan { IfOk result (IsPlanOf command.now (L.bytes library.old) (I.bytes input.old)) }
+    ensures stays { OnOk result (I.faults input.new ≡ I.faults input.old) }
+    ensures kept { OnOk result ((n : List ℕ) → L.faults library.new n ≡ L.faults library.old n) }
+    ensures fault { IsErrOf result ReadRefusal.Fault
+        → IsReadFault command.now (L.faults library.old) (L.faults library.new)
+        ⊎ IsFeedFault command.now (I.faults input.old) (I.faults input.new) }
+    ensures no_file { commands.file_of command.now ≡ None → library.new ≡ library.old }
+    ensures unfed { (Runs command.now → ⊥) → input.new ≡ input.old }
+{
+    match make_stage(alloc, command, library, input)? {
+        Stage::Decided(plan) => Ok(plan),
+        Stage::Ready(ready) => Ok(run_by_workers(alloc, ready, workers)?),
+    }
+}
+
+/// Carries out a command. One worker does the work of all, whatever the command says: so no lock is taken, and the call
+/// returns.
+pub fn chill_alone<L: Library, I: Feed, O: Sink, E: Sink>(
+    alloc: Global,
+    command: &Command,
+    library: &mut L,
+    input: &mut I,
+    out: &mut O,
+    err: &mut E,
+    watchers: &mut Vec<Box<dyn Watcher>>,
+) -> Outcome
+    requires few { length watchers.old.items < 2 ^ 32 }
+    ensures answer { IsAnswer (Some command.now) (L.bytes library.old) (I.bytes input.old)
+        (map (λ b. watching b) watchers.old.items) (map (λ b. watching b) watchers.new.items)
+        (sources_at (L.faults library.old) (I.faults input.old))
+        (sources_at (L.faults library.new) (I.faults input.new))
+        (sinks_at (O.faults out.old) (E.faults err.old) (O.taken out.old) (E.taken err.old))
+        (sinks_at (O.faults out.new) (E.faults err.new) (O.taken out.new) (E.taken err.new))
+        result }
+    // Without `--watch` the watchers are untouched.
+    ensures unwatched { commands.is_watched command.now ≡ false → watchers.new ≡ watchers.old }
+    // A command that names no file reads none, and one that runs no text no input.
+    ensures no_file { commands.file_of command.now ≡ None → library.new ≡ library.old }
+    ensures unfed { (Runs command.now → ⊥) → input.new ≡ input.old }
+{
+    let planned = plan_alone(alloc, command, library, input);
+    answer(alloc, is_watched(command), planned, watchers, out, err)
+}
+
+/// Carries out the command that the words mean. Where it runs a text by several workers it waits for the kernel's lock; each
+/// other command is `chill_alone`'s.
+pub fn chill<R: Threads + Wait + Sync, L: Library, I: Feed, O: Sink, E: Sink, G: Gate>(
+    rt: &R,
     alloc: Global,
     words: &[String],
     library: &mut L,
     input: &mut I,
     out: &mut O,
     err: &mut E,
+    gate: &G,
+    watchers: &mut Vec<Box<dyn Watcher>>,
 ) -> Outcome
-    ensures answer { IsAnswer (map string_bytes words.now) (L.bytes library.old) (I.bytes input.old)
-        (record { library = L.faults library.old; feed = I.faults input.old; out = O.faults out.old; err = E.faults err.old; out_taken = O.taken out.old; err_taken = E.taken err.old })
-        (record { library = L.faults library.new; feed = I.faults input.new; out = O.faults out.new; err = E.faults err.new; out_taken = O.taken out.new; err_taken = E.taken err.new })
+    requires few { length watchers.old.items < 2 ^ 32 }
+    ensures answer { IsAnswer (said (map string_bytes words.now)) (L.bytes library.old) (I.bytes input.old)
+        (map (λ b. watching b) watchers.old.items) (map (λ b. watching b) watchers.new.items)
+        (sources_at (L.faults library.old) (I.faults input.old))
+        (sources_at (L.faults library.new) (I.faults input.new))
+        (sinks_at (O.faults out.old) (E.faults err.old) (O.taken out.old) (E.taken err.old))
+        (sinks_at (O.faults out.new) (E.faults err.new) (O.taken out.new) (E.taken err.new))
         result }
-    // Where the words are no command, nothing is read.
-    ensures untouched { said (map string_bytes words.now) ≡ None → (library.new ≡ library.old) × (input.new ≡ input.old) }
+    ensures journal { IfSome result.over (λ over.
+        IsJournal (said (map string_bytes words.now)) (L.bytes library.old) (I.bytes input.old) result over) }
+    ensures refused { result.status ≡ 3 → IsRefused (said (map string_bytes words.now)) (L.bytes library.old)
+        (sinks_at (O.faults out.old) (E.faults err.old) (O.taken out.old) (E.taken err.old))
+        (sinks_at (O.faults out.new) (E.faults err.new) (O.taken out.new) (E.taken err.new)) }
+    // Without `--watch` the watchers are untouched.
+    ensures unwatched { watch_of (said (map string_bytes words.now)) ≡ false → watchers.new ≡ watchers.old }
+    // Where the words are no command that names a file, no file is read, and where they are none that runs a text, no input.
+    ensures no_file { option_and_then commands.file_of (said (map string_bytes words.now)) ≡ None
+        → library.new ≡ library.old }
+    ensures unfed { (SaysRun (said (map string_bytes words.now)) → ⊥) → input.new ≡ input.old }
 {
-    match prepare(alloc, words, library, input) {
-        Ok(planned) => {
-            if !carry_out(&planned.texts, out, err) {
-                return outcome_of(alloc, planned.plan, 5);
+    match read_words(alloc, words) {
+        Ok(command) => match workers_of(&command) {
+            Some(count) => {
+                let workers = Workers { rt, gate, count };
+                let planned = plan_by_workers(alloc, &command, library, input, &workers);
+                answer(alloc, is_watched(&command), planned, watchers, out, err)
             }
-            let status = status_of(&planned.plan);
-            outcome_of(alloc, planned.plan, status)
-        }
-        Err(ReadRefusal::Memory) => without_run(alloc, 8),
-        Err(ReadRefusal::Fault) => without_run(alloc, 4),
+            None => chill_alone(alloc, &command, library, input, out, err, watchers),
+        },
+        Err(WordRefusal::Usage) => answer(alloc, false, Ok(Plan::Usage), watchers, out, err),
+        Err(WordRefusal::Memory) => without_run(alloc, NO_MEMORY),
     }
 }
 
 // The outcome of a plan.
-fn outcome_of(alloc: Global, plan: Plan, status: u8) -> Outcome
-    ensures { result ≡ outcome_with plan status }
+fn outcome_of(alloc: Global, plan: Plan, status: u8, dropped: Numbers) -> Outcome
+    ensures { result ≡ outcome_with plan status dropped }
 {
     match plan {
         Plan::Ran(ran) => {
@@ -118,11 +289,22 @@ fn outcome_of(alloc: Global, plan: Plan, status: u8) -> Outcome
                 events: driven.events,
                 code: Some(built.code),
                 machines: driven.machines,
+                dropped,
             }
         }
-        Plan::Usage | Plan::Refused(_) | Plan::Accepted | Plan::InputTooLong => {
-            without_run(alloc, status)
+        Plan::Listed(built) => {
+            let built = Box::into_inner(built);
+            Outcome {
+                status,
+                over: None,
+                events: Events::new(alloc),
+                code: Some(built.code),
+                machines: Machines::new(alloc),
+                dropped: Numbers::new(alloc),
+            }
         }
+        Plan::Usage | Plan::Refused(_) | Plan::Accepted | Plan::Formatted(_) | Plan::InputTooLong =>
+            without_run(alloc, status),
     }
 }
 
@@ -136,5 +318,6 @@ fn without_run(alloc: Global, status: u8) -> Outcome
         events: Events::new(alloc),
         code: None,
         machines: Machines::new(alloc),
+        dropped: Numbers::new(alloc),
     }
 }

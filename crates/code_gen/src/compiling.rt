@@ -1,4 +1,6 @@
 // The code of a program.
+ghost use Rattle.std.specs.Prelude.{◌<◌, ◌↔◌, IsErrOf};
+
 use crate::bodies::put_bodies;
 use crate::refusal::{CodeRefusal, refusal_of};
 use checked_program::Checked;
@@ -10,7 +12,9 @@ use std::alloc::Global;
 const GREATEST_SIZE: u32 = 65_536;
 
 /// The code of a program. `CodeTooLong` comes exactly where the size of the text is above 65,536.
-pub fn compile(alloc: Global, program: &Checked) -> Result<Code, CodeRefusal> {
+pub fn compile(alloc: Global, program: &Checked) -> Result<Code, CodeRefusal>
+    ensures too_long { IsErrOf result CodeRefusal.CodeTooLong ↔ 65536 < program.now.size }
+{
     if program.size > GREATEST_SIZE {
         return Err(CodeRefusal::CodeTooLong);
     }

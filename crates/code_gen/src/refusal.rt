@@ -1,4 +1,6 @@
 // Why a program has no code.
+ghost use Rattle.std.specs.Prelude.{◌≢◌};
+
 use expr_gen::PartRefusal;
 
 /// Why a program has no code.
@@ -13,7 +15,9 @@ pub enum CodeRefusal {
 }
 
 /// Why a program has no code of which a part has none.
-pub fn refusal_of(refusal: PartRefusal) -> CodeRefusal {
+pub fn refusal_of(refusal: PartRefusal) -> CodeRefusal
+    ensures { result ≢ CodeRefusal.CodeTooLong }
+{
     match refusal {
         PartRefusal::Memory => CodeRefusal::Memory,
         PartRefusal::Unsound => CodeRefusal::Unsound,

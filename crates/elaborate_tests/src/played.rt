@@ -3,10 +3,11 @@ use crate::elaborated::elaborated;
 use crate::played_rows::{
     ACCESSES, CONTROL, ENDS, EVENTS, MESSAGES, PROCEDURES, START_AND_INPUT, Scene,
 };
-use chill_base::Text;
+use chill_base::{Memory, Text};
 use code_gen::{CodeRefusal, compile};
 use code_guard::{Guarded, guard};
-use played_turns::turns_made;
+use kernel_base::How;
+use played_turns::{Asked, does, ends, started, turns_made};
 use std::alloc::Global;
 use std::process::Abort;
 use std::test::Fail;
@@ -98,5 +99,55 @@ fn one_number_more_is_too_long(rt: HostRuntime) -> Result<(), Fail> {
         Err(CodeRefusal::CodeTooLong)
     );
     assert!(&rt; is_too_long);
+    Ok(())
+}
+
+// Whether the outermost process puts 1 so many times and then ends.
+fn puts_so_often(alloc: Global, guarded: &Guarded, count: u32) -> Result<bool, Memory> {
+    let Some(mut machine) = started(alloc, guarded, 0, &[])? else {
+        return Ok(false);
+    };
+    for _ in 0..count {
+        if !does(alloc, guarded, &mut machine, 0, &Asked::Put("1"))? {
+            return Ok(false);
+        }
+    }
+    ends(alloc, guarded, &mut machine, 0, How::Normal)
+}
+
+#[test]
+fn the_greatest_program_puts_all_its_numbers(rt: HostRuntime) -> Result<(), Fail> {
+    let text = puts_of_one(rt.alloc(), 5460)?;
+    let guarded = guarded_of(rt.alloc(), text.as_slice())?;
+    let puts_all = puts_so_often(rt.alloc(), &guarded, 5460)?;
+    assert!(&rt; puts_all);
+    Ok(())
+}
+
+// Whether process 1 starts with these scalars, puts the text and ends.
+fn puts_once(
+    alloc: Global,
+    guarded: &Guarded,
+    scalars: &[i64],
+    text: &'static str,
+) -> Result<bool, Memory> {
+    let Some(mut machine) = started(alloc, guarded, 1, scalars)? else {
+        return Ok(false);
+    };
+    if !does(alloc, guarded, &mut machine, 0, &Asked::Put(text))? {
+        return Ok(false);
+    }
+    ends(alloc, guarded, &mut machine, 0, How::Normal)
+}
+
+#[test]
+fn a_process_has_its_arguments(rt: HostRuntime) -> Result<(), Fail> {
+    let text =
+        b"M: MODULE p: PROCESS (k INT, b BOOL, t CHARS (2)); IF b THEN PUT_INT(k); ELSE PUT_TEXT(t); FI; END p; END M;";
+    let guarded = guarded_of(rt.alloc(), text)?;
+    let number = puts_once(rt.alloc(), &guarded, &[12, 1, 97, 98], "12")?;
+    let text = puts_once(rt.alloc(), &guarded, &[12, 0, 97, 98], "ab")?;
+    let too_few = puts_once(rt.alloc(), &guarded, &[12, 1], "12")?;
+    assert!(&rt; number && text && !too_few);
     Ok(())
 }

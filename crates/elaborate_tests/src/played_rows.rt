@@ -117,6 +117,21 @@ pub const ACCESSES: &[Scene] = &[
             Ends(0, Raised(Rangefail)),
         ],
     },
+    // A condition is read before each turn, and a turn that goes back makes a tick.
+    Scene {
+        text: "M: MODULE DCL a INT; DO WHILE a < 8; a *:= 2; OD; END M;",
+        turns: &[
+            Asks(0, Read(FIRST)),
+            Takes(Value(&[4])),
+            Asks(0, Read(FIRST)),
+            Takes(Value(&[4])),
+            Asks(0, Write(FIRST, &[8])),
+            Takes(Done),
+            Asks(1, Read(FIRST)),
+            Takes(Value(&[8])),
+            Ends(0, Normal),
+        ],
+    },
     // The target is read before the value of an assignment with an operator.
     Scene {
         text: "M: MODULE DCL a, b INT; a *:= b; END M;",
@@ -137,6 +152,19 @@ pub const PROCEDURES: &[Scene] = &[
     Scene {
         text: "M: MODULE p: PROC () EXCEPTIONS (busy); CAUSE busy; END p; q: PROC (); CAUSE lost; END q; p() ON (busy): PUT_INT(1); END; q() ON (lost): PUT_INT(2); END; END M;",
         turns: &[Puts(1, "1"), Ends(1, Raised(User(1)))],
+    },
+    // What is copied in is read before the call, and what is copied out is written behind it, in the order of the parameters.
+    Scene {
+        text: "M: MODULE DCL x, y INT; p: PROC (a INT OUT, b INT INOUT); a := b + 1; b := 9; END p; p(x, y); END M;",
+        turns: &[
+            Asks(0, Read(SECOND)),
+            Takes(Value(&[4])),
+            Asks(1, Write(FIRST, &[5])),
+            Takes(Done),
+            Asks(0, Write(SECOND, &[9])),
+            Takes(Done),
+            Ends(0, Normal),
+        ],
     },
     // ANDIF leaves the call out, AND makes it.
     Scene {
@@ -288,6 +316,18 @@ pub const EVENTS: &[Scene] = &[
             Ends(0, Normal),
         ],
     },
+    // A full event among several is enough to fail.
+    Scene {
+        text: "M: MODULE DCL e, f EVENT (1); DELAY CASE (e): PUT_TEXT(\"e\"); (f): PUT_TEXT(\"f\"); ESAC ON (DELAYFAIL): PUT_TEXT(\"d\"); END; DELAY e; END M;",
+        turns: &[
+            Asks(0, Delay(&[ZERO, ONE], 0)),
+            Takes(Fail(Delayfail)),
+            Puts(0, "d"),
+            Asks(0, Delay(&[ZERO], 0)),
+            Takes(Fail(Delayfail)),
+            Ends(0, Raised(Delayfail)),
+        ],
+    },
     Scene {
         text: "M: MODULE DCL e EVENT; CONTINUE e; CONTINUE e; END M;",
         turns: &[
@@ -305,6 +345,29 @@ pub const MESSAGES: &[Scene] = &[
         text: "M: MODULE DCL b BUFFER (2) STRUCT (x INT, y BOOL); SEND b([3, TRUE]) PRIORITY 7; END M;",
         turns: &[
             Asks(0, SendBuffer(0, &[3, 1], 7)),
+            Takes(Stored),
+            Ends(0, Normal),
+        ],
+    },
+    // A value goes to who waits for it, where somebody does.
+    Scene {
+        text: "M: MODULE DCL b BUFFER (0) CHARS (2); SEND b(\"ab\"); SEND b(\"cd\"); END M;",
+        turns: &[
+            Asks(0, SendBuffer(0, &[97, 98], 0)),
+            Takes(Handed(4)),
+            Asks(0, SendBuffer(0, &[99, 100], 0)),
+            Refuses(Done),
+            Takes(Stored),
+            Ends(0, Normal),
+        ],
+    },
+    // The sender of a signal is set behind the received names.
+    Scene {
+        text: "M: MODULE SIGNAL s = (INT); BEGIN DCL i INSTANCE; RECEIVE CASE SET i; (s IN n): SEND s(n + 1) TO i; ESAC; END; END M;",
+        turns: &[
+            Asks(0, ReceiveSignal(&[ZERO], false)),
+            Takes(Got(0, 3, &[8], 6)),
+            Asks(0, SendSignal(0, &[9], Some(6), 0)),
             Takes(Stored),
             Ends(0, Normal),
         ],

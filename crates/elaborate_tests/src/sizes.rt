@@ -3,9 +3,9 @@ use crate::size_rows::ROWS;
 use chill_base::Memory;
 use chill_lexer::lex;
 use chill_parser::parse;
-use program_numbers::size_of_program;
 use std::alloc::Global;
 use std::test::Fail;
+use text_size::size_of_program;
 
 // How long a text may be.
 const LONGEST: usize = 80_000;

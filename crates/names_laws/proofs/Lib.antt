@@ -7,3 +7,11 @@ pub mod GivingBack
 pub mod Agreeing
 pub mod OneSeen
 pub mod Telling
+pub mod UsePlaces
+pub mod UsePlacesExpr
+pub mod UsePlacesMode
+pub mod UsePlacesSimple
+pub mod UsePlacesStatement
+pub mod UsePlacesItem
+pub mod RisingUses
+pub mod RisingTokens

@@ -5,3 +5,4 @@ pub mod MemoryLibrary
 pub mod MemorySink
 pub mod Feed
 pub mod MemoryFeed
+pub mod Watcher

@@ -1,7 +1,7 @@
 //! What each definition of a program is in the elaborated program (Z.200, chapters on program structure and on concurrent
-//! execution), the lists of that program but for its statements, and the size of its text.
+//! execution), and the lists of that program but for its statements.
 //!
-//! It stands on `expr_rules`, which has the modes of all definitions, and makes the lists of `checked_program`. The crates
+//! It stands on `expr_rules`, which has the modes of all definitions, and on `text_size`, and makes the lists of `checked_program`. The crates
 //! that elaborate values and statements stand on it, and ask it for the number of each name that they meet. It speaks of
 //! programs that break no rule.
 #![tactic(auto)]
@@ -16,15 +16,12 @@ mod locals;
 mod locations;
 mod meeting;
 mod modulions;
-mod nodes;
 mod numbering;
 mod refusal;
-mod size;
 mod source;
 mod thing;
 mod things;
 
 pub use numbering::Numbering;
 pub use refusal::ElaborationRefusal;
-pub use size::size_of_program;
 pub use thing::Thing;

@@ -1,11 +1,11 @@
 // Modulions: the sizes of their texts, and what they use of the others (our own choice).
 use crate::refusal::ElaborationRefusal;
-use crate::size::size_without_inner;
 use crate::source::{Source, text};
 use checked_program::ModulionRow;
 use chill_base::{List, Numbers, Pos};
 use chill_tree::tree::{Item, Local, Modulion, Statement, Tree};
 use names_model::Resolved;
+use text_size::size_without_inner;
 
 // A place behind each text.
 const BEHIND_ALL: Pos = Pos {

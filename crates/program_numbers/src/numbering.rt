@@ -2,7 +2,6 @@
 use crate::counters::set_counters;
 use crate::exceptions::Exceptions;
 use crate::refusal::ElaborationRefusal;
-use crate::size::size_of_program;
 use crate::source::Source;
 use crate::thing::Thing;
 use crate::things::{Things, things_of};
@@ -11,6 +10,7 @@ use chill_base::{List, Memory, Pos};
 use chill_tree::tree::{Name, Tree};
 use expr_rules::Walk;
 use std::alloc::Global;
+use text_size::size_of_program;
 
 /// The numbers of a program's definitions and exceptions, and the lists of the elaborated program. Each list is in the
 /// order of the text.

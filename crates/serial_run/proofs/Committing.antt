@@ -19,7 +19,7 @@ use Rattle.code_machine.specs.Running.{RunsOn, IsUp, Bursts}
 use Rattle.machine_steps.specs.Views.{state_of}
 use Rattle.code_machine.specs.declared.burst.Stop.TheVariants.{Asks, Paused}
 use Rattle.serial_run.specs.Standing.{Stands, IsFresh, AllStand, Advances, IsAnswered, TakesReply}
-use Rattle.serial_run.proofs.Served.{served_now, served_later, served_paused}
+use Rattle.serial_run.proofs.Served.{did_reached, waits_reached, runs_reached, served_now, served_later, served_paused}
 
 abbrev roomy : View → Option Prepared → View
 roomy v ready = record { facts = v.facts; events = v.events; unfetched = v.unfetched; taken = v.taken; ready = ready }
@@ -74,15 +74,15 @@ pub request_served : (code : Code) (old new : View) (r : Runner) (asking after :
     → Bursts code 256 (state_of r.machine) (state_of asking) (Asks ticks request) → RunsOn code asking
     → Commits old new r.instance ticks request reply → TakesReply asking after reply
     → IsSound new.facts → IsRun new.facts new.events
-    → Advances old new r.instance × Stands code new (record { instance = r.instance; machine = after })
+    → Advances code old new r.instance × Stands code new (record { instance = r.instance; machine = after })
 request_served code old new r asking after ticks request (Now answer) h low up bursts runs c takes sound run =
     let g : Grows old new (Did r.instance ticks request answer c.2.0) = c.2.2 in (
-      record { event = Did r.instance ticks request answer c.2.0; by = refl; is_open = c.0; grows = g; sound = sound; run = run },
-      served_now code old new r asking after ticks request answer c.2.0 h c.1.goes.fetched up bursts.1 bursts.2 g sound run (takes.0 code) (takes.1 code runs),
+      record { event = Did r.instance ticks request answer c.2.0; by = refl; reached = did_reached code old r (state_of asking) ticks request answer c.2.0 h c.1.goes.fetched bursts.1; is_open = c.0; grows = g; sound = sound; run = run },
+      served_now code old new r asking after ticks request answer c.2.0 h c.1.goes.fetched up bursts.1 bursts.2 g sound run (takes.0 code) (takes.1 code runs) takes.2,
     )
 request_served code old new r asking after ticks request Later h low up bursts runs c takes sound run =
     let g : Grows old new (Waits r.instance ticks request) = c.2.1 in (
-      record { event = Waits r.instance ticks request; by = refl; is_open = c.0; grows = g; sound = sound; run = run },
+      record { event = Waits r.instance ticks request; by = refl; reached = waits_reached code old r (state_of asking) ticks request h c.1.goes.fetched bursts.1; is_open = c.0; grows = g; sound = sound; run = run },
       subst (λ (m : Process). Stands code new (record { instance = r.instance; machine = m })) (sym takes)
           (served_later code old new r asking ticks request h c.1.goes.fetched low up bursts.1 bursts.2 g sound run runs),
     )
@@ -95,11 +95,12 @@ pub pause_served : (code : Code) (old new : View) (r : Runner) (after : Process)
     → Bursts code 256 (state_of r.machine) (state_of after) (Paused ticks) → RunsOn code after
     → Pauses old new r.instance ticks reply → IsAnswered reply
     → IsSound new.facts → IsRun new.facts new.events
-    → Advances old new r.instance × Stands code new (record { instance = r.instance; machine = after })
+    → Advances code old new r.instance × Stands code new (record { instance = r.instance; machine = after })
 pause_served code old new r after ticks (Now answer) h low up bursts runs c answered sound run =
-    let g : Grows old new (Runs r.instance ticks) = c.3 in (
-      record { event = Runs r.instance ticks; by = refl; is_open = c.0; grows = g; sound = sound; run = run },
-      served_paused code old new r after ticks h c.1.fetched low up (subst (λ (n : ℕ). Leads code (state_of r.machine) [] (ticks_of n) (state_of after)) (sym bursts.0) bursts.1) g sound run runs,
+    let g : Grows old new (Runs r.instance ticks) = c.3 in
+    let leads : Leads code (state_of r.machine) [] (ticks_of ticks) (state_of after) = subst (λ (n : ℕ). Leads code (state_of r.machine) [] (ticks_of n) (state_of after)) (sym bursts.0) bursts.1 in (
+      record { event = Runs r.instance ticks; by = refl; reached = runs_reached code old r (state_of after) ticks h c.1.fetched leads; is_open = c.0; grows = g; sound = sound; run = run },
+      served_paused code old new r after ticks h c.1.fetched low up leads bursts.2 g sound run runs,
     )
 pause_served code old new r after ticks Later h low up bursts runs c answered sound run = absurd answered
 pause_served code old new r after ticks Over h low up bursts runs c answered sound run = absurd answered
@@ -123,6 +124,7 @@ all_roomy code old ready runners h = record {
   there = h.there;
   first = h.first;
   was_open = h.was_open;
+  follow = h.follow;
 }
 
 -- all stand as before where nothing changed but the room

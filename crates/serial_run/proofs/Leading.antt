@@ -17,15 +17,17 @@ use Rattle.world_model.specs.Journal.{items_by, requests_by, answers_by, line_of
 use Rattle.world_model.specs.Laws.{IsDoneBy}
 use Rattle.world_model.proofs.ChangedLists.{written_or_old, written_here, read_elsewhere}
 use Rattle.code_types.specs.declared.code.Code.{Code}
+use Rattle.code_safety.proofs.Talking.{talk_exists}
 use Rattle.kernel_steps.specs.View.{View, unfetched_of, handed_by, handed, IsGoing}
 use Rattle.serial_run.specs.declared.runner.Runner.{Runner}
 use Rattle.machine_steps.specs.Views.{state_of}
-use Rattle.serial_run.specs.Coming.{HasCome, WasOpen}
+use Rattle.serial_run.specs.Coming.{HasCome, WasOpen, EachFrontFollows}
 use Rattle.serial_run.specs.Standing.{Stands, IsFresh, AllStand, FetchedBy, Advances}
 use Rattle.serial_run.proofs.Coming.{line_more, requests_more, answers_more, come_aside, owed_one, answered_few}
 use Rattle.serial_run.proofs.Owing.{goes_quiet, goes_silent, nothing, apart, handed_goes, not_handed, handed_did, handed_longer, set_none}
 use Rattle.serial_run.proofs.Open.{open_more}
 use Rattle.serial_run.proofs.Made.{counted_more}
+use Rattle.serial_run.proofs.Fronts.{follow_more}
 
 -- a machine stands where it stood, once another's answer was fetched
 other_fetched : (code : Code) (old new : View) (who : ℕ) (r : Runner) → FetchedBy old new who → r.instance ≢ who → Stands code old r → Stands code new r
@@ -87,6 +89,7 @@ led_fetched code old new runners k r changed at same f stands led = record {
   there = let t = f.taken in let n = ap length f.unfetched in let l = length-set old.unfetched r.instance None in let low = led.there in omega (arith, t, n, l, low);
   first = λ none. f.events ∙ led.first (sym f.taken ∙ none);
   was_open = subst (λ (x : Facts). WasOpen x new.events) (sym f.facts) (subst (λ (xs : List Event). WasOpen old.facts xs) (sym f.events) led.was_open);
+  follow = subst (λ (x : Facts). EachFrontFollows code x new.events) (sym f.facts) (subst (λ (xs : List Event). EachFrontFollows code old.facts xs) (sym f.events) led.follow);
 }
 
 -- an event of another tells nothing of an instance
@@ -118,7 +121,7 @@ other_answers : (i : ℕ) (event : Event) (goes : List Event) → TellsNothing i
 other_answers i event goes t = rw t.answers refl
 
 -- a machine stands where the journal leaves its instance, once another's event was noted
-other_advanced : (code : Code) (old new : View) (who : ℕ) (r : Runner) (a : Advances old new who) → who ≢ r.instance → r.instance < length old.unfetched → Stands code old r → Stands code new r
+other_advanced : (code : Code) (old new : View) (who : ℕ) (r : Runner) (a : Advances code old new who) → who ≢ r.instance → r.instance < length old.unfetched → Stands code old r → Stands code new r
 other_advanced code old new who r a other low h =
     let i = r.instance in
     let g = a.grows in
@@ -143,8 +146,8 @@ other_advanced code old new who r a other low h =
           (subst (λ (o : List Answer). HasCome code (old.events ++ more) o i (state_of r.machine)) (sym waits) come);
     }
 
-fresh_advanced : (old new : View) (who i : ℕ) (a : Advances old new who) → who ≢ i → IsFresh old i → IsFresh new i
-fresh_advanced old new who i a other h =
+fresh_advanced : (code : Code) (old new : View) (who i : ℕ) (a : Advances code old new who) → who ≢ i → IsFresh old i → IsFresh new i
+fresh_advanced code old new who i a other h =
     let g = a.grows in
     let tells = other_tells i who a.event a.by other in
     let more : List Event = a.event ∷ g.goes in
@@ -176,13 +179,14 @@ longer_goes xs (event ∷ events) = let a = handed_longer xs event in let b = lo
 
 -- one machine was served
 pub led_served : (code : Code) (old new : View) (runners : List Runner) (k : ℕ) (r changed : Runner)
-    → slice_get runners k ≡ Some r → changed.instance ≡ r.instance → Advances old new r.instance → Stands code new changed
+    → slice_get runners k ≡ Some r → changed.instance ≡ r.instance → Advances code old new r.instance → Stands code new changed
     → AllStand code old runners → AllStand code new (slice_set runners k changed)
 led_served code old new runners k r changed at same a stands led =
     let g = a.grows in
     let more : List Event = a.event ∷ g.goes in
     let number = led.instances k r at in
     let low = slice_get_within runners k r at in
+    let come = (led.stand k r at).come in
     let c = led.count in
     let taken = g.taken in
     let run : IsRun old.facts (old.events ++ more) = subst (λ (x : Facts). IsRun x (old.events ++ more)) g.facts (subst (IsRun new.facts) g.events a.run) in
@@ -193,9 +197,11 @@ led_served code old new runners k r changed at same a stands led =
       count = length-set runners k changed ∙ (led.count ∙ sym g.taken);
       instances = numbers_set runners k r changed at same led.instances;
       stand = stand_set code old new runners k r changed at same stands led.instances (λ j other is away. other_advanced code old new r.instance other a (λ e. away (sym e)) (has_place code old runners j other led is) (led.stand j other is));
-      fresh = λ i high. fresh_advanced old new r.instance i a (λ e. let f : ⊥ = omega (arith, number, low, c, taken, high, e) in f) (led.fresh i (omega (arith, taken, high)));
+      fresh = λ i high. fresh_advanced code old new r.instance i a (λ e. let f : ⊥ = omega (arith, number, low, c, taken, high, e) in f) (led.fresh i (omega (arith, taken, high)));
       places = ap length g.unfetched ∙ (counted ∙ sym (ap (λ (x : Facts). length (world_of x new.events).processes) g.facts ∙ ap (λ (xs : List Event). length (world_of old.facts xs).processes) g.events));
       there = let long = longer_goes old.unfetched more in let n = ap length g.unfetched in let t = led.there in omega (arith, long, n, t, taken);
       first = λ none. absurd (let f : ⊥ = omega (arith, low, c, taken, none) in f);
       was_open = subst (λ (x : Facts). WasOpen x new.events) (sym g.facts) (subst (λ (xs : List Event). WasOpen old.facts xs) (sym g.events) (open_more old.facts old.events a.event g.goes led.was_open a.is_open g.only));
+      follow = subst (λ (x : Facts). EachFrontFollows code x new.events) (sym g.facts) (subst (λ (xs : List Event). EachFrontFollows code old.facts xs) (sym g.events)
+          (follow_more code old.facts old.events a.event g.goes r.instance come.birth (talk_exists code stands.runs.stands.0) led.follow a.by come.born a.reached g.only run));
     }

@@ -1,7 +1,10 @@
+pub mod Phases
 pub mod Coming
+pub mod LastAnswers
 pub mod Owing
 pub mod Open
 pub mod Made
+pub mod Fronts
 pub mod Served
 pub mod Leading
 pub mod Taken
@@ -10,3 +13,6 @@ pub mod Finishing
 pub mod Fetching
 pub mod Committing
 pub mod Turning
+pub mod Misfits
+pub mod Refusing
+pub mod Opening

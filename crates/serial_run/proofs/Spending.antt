@@ -9,6 +9,7 @@ use Rattle.kernel_base.specs.declared.event.Event.{Event}
 use Rattle.kernel_base.specs.declared.event.Event.TheVariants.{Did, Waits, Goes, Runs}
 use Rattle.kernel_base.specs.Units.{units_of, units_of_all}
 use Rattle.world_model.specs.Over.{over_of}
+use Rattle.code_types.specs.declared.code.Code.{Code}
 use Rattle.kernel_steps.specs.View.{View}
 use Rattle.serial_run.specs.Standing.{Advances, KeepsJournal, Spends}
 
@@ -25,8 +26,8 @@ left_open facts events is_open = elim (cases_Bool (nat_le facts.units (units_of_
 ]
 
 -- less of the budget is left behind an event
-pub spends_more : (old new : View) (who : ℕ) → Advances old new who → new.facts.units - units_of_all new.events < old.facts.units - units_of_all old.events
-spends_more old new who a =
+pub spends_more : (code : Code) (old new : View) (who : ℕ) → Advances code old new who → new.facts.units - units_of_all new.events < old.facts.units - units_of_all old.events
+spends_more code old new who a =
     let low = left_open old.facts old.events a.is_open in
     let u = ap units_of_all a.grows.events in
     let m = sum_by-append units_of old.events (a.event ∷ a.grows.goes) in
@@ -36,9 +37,9 @@ spends_more old new who a =
     omega (arith, low, u, m, one, s, f)
 
 -- after a search that changed no event, and a burst that was committed
-pub turn_spends : (old mid new : View) (who : ℕ) → KeepsJournal old mid → Advances mid new who → Spends old new
-turn_spends old mid new who k a =
-    let less = spends_more mid new who a in
+pub turn_spends : (code : Code) (old mid new : View) (who : ℕ) → KeepsJournal old mid → Advances code mid new who → Spends old new
+turn_spends code old mid new who k a =
+    let less = spends_more code mid new who a in
     let f = ap (λ (x : Facts). x.units) k.facts in
     let e = ap units_of_all k.events in
     record { facts = a.grows.facts ∙ k.facts; less = omega (arith, less, f, e) }

@@ -1,3 +1,4 @@
 pub mod Coming
 pub mod Standing
 pub mod Driven
+pub mod Suiting

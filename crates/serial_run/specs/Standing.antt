@@ -1,5 +1,5 @@
 -- Where the machines of a run stand beside the kernel.
-use Rattle.std.specs.Prelude.{◌≡◌, ℕ, suc, ◌+◌, ◌-◌, ◌<◌, ◌≤◌, List, [], ◌∷◌, length, slice_get, slice_set, Some, None, option_to_list}
+use Rattle.std.specs.Prelude.{◌≡◌, ℕ, suc, ◌+◌, ◌-◌, ◌<◌, ◌≤◌, List, [], ◌∷◌, ◌++◌, length, slice_get, slice_set, Some, None, option_to_list}
 use Rattle.kernel_base.specs.declared.event.Event.{Event}
 use Rattle.kernel_base.specs.Facts.{IsSound}
 use Rattle.kernel_base.specs.Units.{units_of_all}
@@ -9,15 +9,16 @@ use Rattle.world_model.specs.Laws.{IsDoneBy}
 use Rattle.world_model.specs.Over.{over_of}
 use Rattle.code_types.specs.declared.code.Code.{Code}
 use Rattle.code_types.specs.Talk.{Leads, start_of}
+use Rattle.run_laws.specs.Laws.{HasReached}
 use Rattle.kernel_steps.specs.declared.reply.New.{New}
 use Rattle.kernel_steps.specs.View.{View, Grows, unfetched_of, world_seen}
 use Rattle.kernel_steps.specs.declared.reply.Reply.{Reply}
 use Rattle.kernel_steps.specs.declared.reply.Reply.TheVariants.{Now, Later, Over, Stranger}
 use Rattle.machine_steps.specs.declared.process.Process.{Process}
 use Rattle.serial_run.specs.declared.runner.Runner.{Runner}
-use Rattle.code_machine.specs.Running.{RunsOn}
+use Rattle.code_machine.specs.Running.{GoesOnBehind, RunsOn}
 use Rattle.machine_steps.specs.Views.{state_of}
-use Rattle.serial_run.specs.Coming.{HasCome, WasOpen}
+use Rattle.serial_run.specs.Coming.{HasCome, WasOpen, EachFrontFollows}
 
 -- A machine runs the code and stands where the journal leaves its instance, but for an answer that waits to be fetched.
 pub record Stands (code : Code) (v : View) (r : Runner) : Type 0 where
@@ -31,7 +32,8 @@ pub record IsFresh (v : View) (i : ℕ) : Type 0 where
   pub unfetched : unfetched_of v.unfetched i ≡ None
 
 -- Each instance that was taken has its machine, in the order of instances, and the others have done nothing. There is a place
--- for the answer of each that was made, and the run wasn't over before any event but a going on.
+-- for the answer of each that was made, the run wasn't over before any event but a going on, and each front of the journal is a
+-- run of the code.
 pub record AllStand (code : Code) (v : View) (runners : List Runner) : Type 0 where
   pub sound : IsSound v.facts
   pub run : IsRun v.facts v.events
@@ -43,6 +45,7 @@ pub record AllStand (code : Code) (v : View) (runners : List Runner) : Type 0 wh
   pub there : v.taken < length v.unfetched
   pub first : v.taken ≡ 0 → v.events ≡ []
   pub was_open : WasOpen v.facts v.events
+  pub follow : EachFrontFollows code v.facts v.events
 
 -- the answer of an instance, if one waited, was fetched
 pub record FetchedBy (old new : View) (who : ℕ) : Type 0 where
@@ -65,10 +68,12 @@ HaveFetched v runners = (k : ℕ) (r : Runner) → slice_get runners k ≡ Some 
 abbrev pub IsAllTaken : View → Type 0
 IsAllTaken v = length (world_seen v).processes ≤ v.taken + 1
 
--- an event of an instance that is no going on was noted, with each going on that it made possible, and the run wasn't over before
-pub record Advances (old new : View) (who : ℕ) : Type 0 where
+-- an event of an instance that is no going on was noted, with each going on that it made possible, and the run wasn't over before;
+-- with this event the instance has reached what it did
+pub record Advances (code : Code) (old new : View) (who : ℕ) : Type 0 where
   pub event : Event
   pub by : IsDoneBy who event
+  pub reached : HasReached code (old.events ++ event ∷ []) who
   pub is_open : over_of old.facts old.events ≡ None
   pub grows : Grows old new event
   pub sound : IsSound new.facts
@@ -76,7 +81,7 @@ pub record Advances (old new : View) (who : ℕ) : Type 0 where
 
 -- a machine takes what its request came to
 abbrev pub TakesReply : Process → Process → Reply → Type 0
-TakesReply old new (Now answer) = ((code : Code) → Leads code (state_of old) (answer ∷ []) [] (state_of new)) × ((code : Code) → RunsOn code old → RunsOn code new)
+TakesReply old new (Now answer) = ((code : Code) → Leads code (state_of old) (answer ∷ []) [] (state_of new)) × ((code : Code) → RunsOn code old → RunsOn code new) × GoesOnBehind (state_of old).mode (state_of new).mode
 TakesReply old new Later = new ≡ old
 TakesReply old new Over = ⊥
 TakesReply old new Stranger = ⊥

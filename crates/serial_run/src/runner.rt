@@ -1,9 +1,10 @@
 // Instances with the machines that run them.
-ghost use Rattle.std.specs.Prelude.{◌≡◌, IfOk, IfSome, IsSomeAnd, OnOk, slice_get};
+ghost use Rattle.std.specs.Prelude.{◌≡◌, IfOk, IfSome, IsSomeAnd, OnErr, OnOk, slice_get};
 ghost use Rattle.code_types.specs.declared.code.Code.{Code};
 ghost use Rattle.machine_steps.specs.Views.{state_of};
 ghost use Rattle.code_machine.specs.Running.{IsUp};
 ghost use Rattle.serial_run.specs.Standing.{Stands, AllStand, FetchedBy, KeepsJournal, HaveFetched};
+ghost use Rattle.serial_run.specs.Suiting.{CannotTake, IsUnsuited, RestFrom};
 
 use crate::Misfit;
 use chill_base::List;
@@ -26,6 +27,7 @@ impl Runner {
         ensures instance { self.new.instance ≡ self.old.instance }
         ensures fetched { FetchedBy kernel.old kernel.new self.old.instance }
         ensures stands { OnOk result ((code : Code) → Stands code kernel.old self.old → Stands code kernel.new self.new) }
+        ensures misfit { OnErr result (CannotTake kernel.old self.old) }
     {
         match kernel.fetch(self.instance) {
             Some(answer) => {
@@ -45,6 +47,7 @@ pub fn fetch_all(kernel: &mut Kernel, runners: &mut [Runner]) -> Result<(), Misf
     ensures journal { KeepsJournal kernel.old kernel.new }
     ensures stand { OnOk result ((code : Code) → AllStand code kernel.old runners.old → AllStand code kernel.new runners.new) }
     ensures fetched { OnOk result (HaveFetched kernel.new runners.new) }
+    ensures misfit { OnErr result (IsUnsuited kernel.old runners.old) }
 {
     for k in 0..runners.len() {
         runners[k].fetch(kernel)?;
@@ -62,6 +65,8 @@ pub fn next_from(
     ensures journal { KeepsJournal kernel.old kernel.new }
     ensures stand { IfOk result (λ place. (code : Code) → AllStand code kernel.old runners.old → AllStand code kernel.new runners.new) }
     ensures found { IfOk result (λ place. IfSome place (λ k. IsSomeAnd (slice_get runners.new k) (λ r. IsUp (state_of r.machine).mode))) }
+    ensures rest { IfOk result (RestFrom kernel.new runners.new from) }
+    ensures misfit { OnErr result (IsUnsuited kernel.old runners.old) }
 {
     for k in from..runners.len() {
         runners[k].fetch(kernel)?;

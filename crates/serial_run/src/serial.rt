@@ -1,12 +1,14 @@
 // The serial run of a code.
-ghost use Rattle.std.specs.Prelude.{◌≡◌, IfOk, OnOk, IfSome, IsSomeAnd, Some, slice_get};
+ghost use Rattle.std.specs.Prelude.{◌≡◌, IfErr, IfOk, OnErr, OnOk, IfSome, IsSomeAnd, None, Some, slice_get};
 ghost use Rattle.kernel_base.specs.Facts.{IsSound};
 ghost use Rattle.world_model.specs.Over.{over_of};
 ghost use Rattle.code_types.specs.declared.code.Code.{Code};
+ghost use Rattle.code_types.specs.Runs.{Suits};
 ghost use Rattle.machine_steps.specs.Views.{state_of};
 ghost use Rattle.code_machine.specs.Running.{IsUp};
-ghost use Rattle.serial_run.specs.Driven.{IsDriven};
+ghost use Rattle.serial_run.specs.Driven.{HasAllMachines, IsDriven};
 ghost use Rattle.serial_run.specs.Standing.{AllStand, IsAllTaken, KeepsJournal, Spends};
+ghost use Rattle.serial_run.specs.Suiting.{IsRefused, IsUnsuited, RestFrom};
 
 use crate::runner::{fetch_all, next_from};
 use crate::serving::serve;
@@ -18,7 +20,7 @@ use kernel_base::{Events, Facts, Over};
 use kernel_core::Kernel;
 use std::alloc::Global;
 
-/// A run that is over: its journal, the machine of each instance where the journal leaves it, and how the run was over.
+/// A run that is over: its journal, the machines of its instances as they were left, and how the run was over.
 #[derive(Drop)]
 pub struct Driven {
     pub events: Events,
@@ -35,6 +37,8 @@ fn next_turn(
     ensures journal { KeepsJournal kernel.old kernel.new }
     ensures stand { IfOk result (λ place. (code : Code) → AllStand code kernel.old runners.old → AllStand code kernel.new runners.new) }
     ensures found { IfOk result (λ place. IfSome place (λ k. IsSomeAnd (slice_get runners.new k) (λ r. IsUp (state_of r.machine).mode))) }
+    ensures rest { IfOk result (RestFrom kernel.new runners.new 0) }
+    ensures misfit { OnErr result (IsUnsuited kernel.old runners.old) }
 {
     match next_from(kernel, runners, from)? {
         Some(k) => Ok(Some(k)),
@@ -52,11 +56,11 @@ fn finish(
     requires stand { AllStand guarded.now kernel runners.items }
     requires all { IsAllTaken kernel }
     requires over { over_of kernel.facts kernel.events ≡ Some over }
-    ensures { IfOk result (IsDriven guarded.now kernel.facts) }
+    ensures driven { IfOk result (λ d. IsDriven guarded.now kernel.facts d × HasAllMachines guarded.now kernel.facts d) }
+    ensures misfit { OnErr result (Suits guarded.now kernel.facts → ⊥) }
 {
     let mut kernel = kernel;
     let mut runners = runners;
-    let _code = guarded.code();
     fetch_all(&mut kernel, &mut runners)?;
     kernel.is_run();
     Ok(Driven {
@@ -74,9 +78,12 @@ fn make_turn(
     runners: &mut [Runner],
     from: usize,
 ) -> Result<usize, RunRefusal>
-    requires { AllStand guarded.now kernel.old runners.old }
+    requires stand { AllStand guarded.now kernel.old runners.old }
+    requires all { IsAllTaken kernel.old }
+    requires open { over_of kernel.old.facts kernel.old.events ≡ None }
     ensures stand { OnOk result (AllStand guarded.now kernel.new runners.new) }
     ensures spends { OnOk result (Spends kernel.old kernel.new) }
+    ensures refused { IfErr result (IsRefused guarded.now kernel.old.facts) }
 {
     // The count fits its type, and so does each place behind one.
     let _count = runners.len();
@@ -85,7 +92,11 @@ fn make_turn(
             serve(guarded, kernel, &mut runners[k])?;
             Ok(k + 1)
         }
-        None => Err(RunRefusal::Misfit),
+        None => {
+            // Somebody can go in each run that isn't over.
+            kernel.is_run();
+            unreachable!()
+        }
     }
 }
 
@@ -101,6 +112,7 @@ fn make_turns(
     ensures all { OnOk result (IsAllTaken kernel.new) }
     ensures over { IfOk result (λ over. over_of kernel.new.facts kernel.new.events ≡ Some over) }
     ensures facts { OnOk result (kernel.new.facts ≡ kernel.old.facts) }
+    ensures refused { IfErr result (IsRefused guarded.now kernel.old.facts) }
 {
     let mut from = 0;
     'turns: loop {
@@ -113,11 +125,15 @@ fn make_turns(
 }
 
 /// Runs a code from facts: one burst of 256 ticks at most after another, each by the next process that can go. It is refused
-/// as a misfit where the code doesn't suit the facts.
+/// as a misfit only where the code doesn't suit the facts.
 pub fn attempt(alloc: Global, guarded: &Guarded, facts: Facts) -> Result<Driven, RunRefusal>
     requires { IsSound facts }
-    ensures { IfOk result (IsDriven guarded.now facts) }
+    ensures run { IfOk result (IsDriven guarded.now facts) }
+    ensures machines { IfOk result (HasAllMachines guarded.now facts) }
+    ensures refused { IfErr result (IsRefused guarded.now facts) }
 {
+    // What was guarded agrees, and a code that agrees has talks.
+    let _code = guarded.code();
     let mut kernel = Kernel::new(alloc, facts)?;
     let mut runners = Vec::new(alloc);
     let over = make_turns(alloc, guarded, &mut kernel, &mut runners)?;

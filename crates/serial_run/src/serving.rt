@@ -1,9 +1,10 @@
 // Bursts, and what is committed of them.
-ghost use Rattle.std.specs.Prelude.{◌≡◌, ◌<◌, IfOk, OnErr, OnOk, length};
+ghost use Rattle.std.specs.Prelude.{◌≡◌, ◌<◌, IfErr, IfOk, OnErr, OnOk, length};
 ghost use Rattle.machine_steps.specs.Views.{state_of};
 ghost use Rattle.code_machine.specs.Running.{IsUp};
 ghost use Rattle.kernel_steps.specs.View.{Commits, Pauses, Keeps};
 ghost use Rattle.serial_run.specs.Standing.{Stands, Advances, IsAnswered, TakesReply};
+ghost use Rattle.serial_run.specs.Suiting.{IsUnserved, RefusesReply};
 
 use crate::{Misfit, RunRefusal, Runner};
 use chill_base::Memory;
@@ -33,7 +34,8 @@ pub fn pause(kernel: &mut Kernel, who: u32, ticks: u32) -> Result<Reply, Memory>
 
 /// Hands over the answer to a request, where it comes at once.
 pub fn take_reply(machine: &mut Machine, reply: Reply) -> Result<(), Misfit>
-    ensures { OnOk result (TakesReply machine.old machine.new reply) }
+    ensures takes { OnOk result (TakesReply machine.old machine.new reply) }
+    ensures misfit { OnErr result (RefusesReply machine.old reply) }
 {
     match reply {
         Reply::Now(answer) => {
@@ -50,7 +52,8 @@ pub fn take_reply(machine: &mut Machine, reply: Reply) -> Result<(), Misfit>
 
 // Whether a burst was noted.
 fn take_note(reply: Reply) -> Result<(), Misfit>
-    ensures { OnOk result (IsAnswered reply) }
+    ensures answered { OnOk result (IsAnswered reply) }
+    ensures misfit { OnErr result (IsAnswered reply → ⊥) }
 {
     match reply {
         Reply::Now(_) => Ok(()),
@@ -64,8 +67,9 @@ pub fn serve(guarded: &Guarded, kernel: &mut Kernel, runner: &mut Runner) -> Res
     requires up { IsUp (state_of runner.old.machine).mode }
     requires place { runner.old.instance < length kernel.old.unfetched }
     ensures instance { runner.new.instance ≡ runner.old.instance }
-    ensures advances { OnOk result (Advances kernel.old kernel.new runner.old.instance) }
+    ensures advances { OnOk result (Advances guarded.now kernel.old kernel.new runner.old.instance) }
     ensures stands { OnOk result (Stands guarded.now kernel.new runner.new) }
+    ensures unserved { IfErr result (IsUnserved guarded.now kernel.old) }
 {
     match runner.machine.burst(guarded, 256)? {
         Stop::Asks { ticks, request } => {

@@ -1,6 +1,7 @@
 // Processes that were started get their machines.
-ghost use Rattle.std.specs.Prelude.{◌≡◌, IfOk, OnOk};
+ghost use Rattle.std.specs.Prelude.{◌≡◌, IfErr, IfOk, OnOk};
 ghost use Rattle.serial_run.specs.Standing.{AllStand, IsAllTaken, KeepsEvents, StartsAs};
+ghost use Rattle.serial_run.specs.Suiting.{IsRefused, IsUnstarted};
 
 use crate::{RunRefusal, Runner};
 use code_guard::Guarded;
@@ -10,7 +11,8 @@ use std::alloc::Global;
 
 /// The machine of a process that was started.
 pub fn start(alloc: Global, guarded: &Guarded, new: New) -> Result<Runner, RunRefusal>
-    ensures { IfOk result (StartsAs guarded.now new) }
+    ensures starts { IfOk result (StartsAs guarded.now new) }
+    ensures unstarted { IfErr result (IsUnstarted guarded.now new) }
 {
     if !Machine::can_start(guarded, new.process, &new.scalars) {
         return Err(RunRefusal::Misfit);
@@ -33,6 +35,7 @@ pub fn take_all(
     ensures stand { OnOk result (AllStand guarded.now kernel.new runners.new.items) }
     ensures all { OnOk result (IsAllTaken kernel.new) }
     ensures events { KeepsEvents kernel.old kernel.new }
+    ensures refused { IfErr result (IsRefused guarded.now kernel.old.facts) }
 {
     'takes: loop {
         match kernel.take_new() {

@@ -1,2 +1,2 @@
-pub mod Members
+pub mod Powersets
 pub mod Layouts

@@ -1,20 +1,19 @@
 // Whether facts are sound.
-ghost use Rattle.std.specs.Prelude.{◌<◌, IfOk, IfSome, All};
-ghost use Rattle.std.specs.Bool.{OnTrue};
+ghost use Rattle.std.specs.Prelude.{◌<◌, ◌↔◌, IfOk, IfSome, IsTrue, All};
 ghost use Rattle.kernel_base.specs.Facts.{IsSound};
 
 use crate::layouts::are_laid_out;
 use chill_base::Memory;
 use kernel_base::Facts;
 use std::alloc::Global;
-use world_check::{have_few_members, opening_world};
+use world_check::{have_few_members, opening_world, sound_facts_law};
 
 /// The greatest budget.
 const MOST_UNITS: u64 = 10_000_000;
 
 // Whether each process that is named is below their number.
 fn are_processes(processes: &[Option<u32>], count: u32) -> bool
-    ensures { OnTrue result (All (λ to. IfSome to (λ process. process < count)) processes.now) }
+    ensures { IsTrue result ↔ All (λ to. IfSome to (λ process. process < count)) processes.now }
 {
     for process in processes {
         if let Some(process) = process {
@@ -26,9 +25,9 @@ fn are_processes(processes: &[Option<u32>], count: u32) -> bool
     true
 }
 
-/// Whether facts are sound. Those of powersets with members are told not to be, since no location has any when a run starts.
+/// Whether facts are sound.
 pub fn are_sound(alloc: Global, facts: &Facts) -> Result<bool, Memory>
-    ensures { IfOk result (λ yes. OnTrue yes (IsSound facts.now)) }
+    ensures { IfOk result (λ yes. IsTrue yes ↔ IsSound facts.now) }
 {
     if facts.layouts.len() != facts.store.len() {
         return Ok(false);
@@ -39,6 +38,7 @@ pub fn are_sound(alloc: Global, facts: &Facts) -> Result<bool, Memory>
     if !are_processes(facts.signals.as_slice(), facts.processes) {
         return Ok(false);
     }
+    sound_facts_law();
     if !have_few_members(facts) {
         return Ok(false);
     }

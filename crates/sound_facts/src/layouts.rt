@@ -1,11 +1,10 @@
 // Layouts: places that are apart, and scalars that fit them.
-ghost use Rattle.std.specs.Prelude.{◌≡◌, ◌↔◌, IsTrue, All, AllPairs, map};
-ghost use Rattle.std.specs.Bool.{OnTrue};
+ghost use Rattle.std.specs.Prelude.{◌≡◌, ◌↔◌, IsTrue, All, AllPairs, length, map};
 ghost use Rattle.kernel_base.specs.Value.{scalars_of};
-ghost use Rattle.kernel_base.specs.Facts.{IsInWord, IsWithinBits, ShareNoBit, IsLaidOut};
+ghost use Rattle.kernel_base.specs.Facts.{IsWithinBits, ShareNoBit, IsLaidOut};
 ghost use Rattle.sound_facts.specs.Layouts.{FitLayout, AreLaidOut};
 
-use crate::members::has_no_members;
+use crate::powersets::has_powersets;
 use chill_base::{Bits, Layout, Scalars};
 use kernel_base::Value;
 
@@ -26,16 +25,16 @@ fn is_within_bits(bits: Bits, number: &i64) -> bool
     }
 }
 
-// Whether no bit belongs to both, told by their words and their ends.
+// Whether no bit belongs to both: the greater of the first bits lies behind the smaller of the last ones.
 fn share_no_bit(a: Bits, b: Bits) -> bool
-    ensures { OnTrue result (ShareNoBit a b) }
+    ensures { IsTrue result ↔ ShareNoBit a b }
 {
-    a.word != b.word || a.end < b.start || b.end < a.start
+    a.word != b.word || a.end.min(b.end) < a.start.max(b.start)
 }
 
 // Whether the bits share none with any of the others.
 fn is_apart(bits: Bits, others: &[Bits]) -> bool
-    ensures { OnTrue result (All (ShareNoBit bits) others.now) }
+    ensures { IsTrue result ↔ All (ShareNoBit bits) others.now }
 {
     for other in others {
         if !share_no_bit(bits, *other) {
@@ -47,7 +46,7 @@ fn is_apart(bits: Bits, others: &[Bits]) -> bool
 
 // Whether no two places share a bit.
 fn are_apart(layout: &[Bits]) -> bool
-    ensures { OnTrue result (AllPairs ShareNoBit layout.now) }
+    ensures { IsTrue result ↔ AllPairs ShareNoBit layout.now }
 {
     let mut left = layout.len();
     'places: while left > 0 {
@@ -61,7 +60,7 @@ fn are_apart(layout: &[Bits]) -> bool
 
 // Whether there are as many scalars as places, each within its bits.
 fn fit_layout(scalars: &[i64], layout: &[Bits]) -> bool
-    ensures { OnTrue result (FitLayout scalars.now layout.now) }
+    ensures { IsTrue result ↔ FitLayout scalars.now layout.now }
 {
     if scalars.len() != layout.len() {
         return false;
@@ -77,9 +76,9 @@ fn fit_layout(scalars: &[i64], layout: &[Bits]) -> bool
 // Whether the layout is one of a value with these scalars.
 fn is_laid_out(value: &Value, scalars: &[i64], layout: &[Bits]) -> bool
     requires { scalars.now ≡ scalars_of value.now }
-    ensures { OnTrue result (IsLaidOut value.now layout.now) }
+    ensures { IsTrue result ↔ IsLaidOut value.now layout.now }
 {
-    if !has_no_members(value) {
+    if !has_powersets(value) {
         return false;
     }
     if !are_apart(layout) {
@@ -90,12 +89,10 @@ fn is_laid_out(value: &Value, scalars: &[i64], layout: &[Bits]) -> bool
 
 /// Whether each value has the layout of its place. The scalars are those of the values.
 pub fn are_laid_out(values: &[Value], scalars: &[Scalars], layouts: &[Layout]) -> bool
-    requires { scalars.now ≡ map scalars_of values.now }
-    ensures { OnTrue result (AreLaidOut values.now layouts.now) }
+    requires scalars { scalars.now ≡ map scalars_of values.now }
+    requires layouts { length layouts.now ≡ length values.now }
+    ensures { IsTrue result ↔ AreLaidOut values.now layouts.now }
 {
-    if scalars.len() != values.len() || layouts.len() != values.len() {
-        return false;
-    }
     for i in 0..values.len() {
         if !is_laid_out(&values[i], scalars[i].as_slice(), layouts[i].as_slice()) {
             return false;

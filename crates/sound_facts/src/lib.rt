@@ -6,6 +6,6 @@
 
 mod deciding;
 mod layouts;
-mod members;
+mod powersets;
 
 pub use deciding::are_sound;

@@ -1,38 +1,16 @@
 // Calls over ports in memory, with ample memory: what they answer, and what was written.
-use chill_base::{Item, Memory, Numbers, Text};
+use crate::ports::{fault, feed, library, text, words_of};
+use chill_base::Item;
 use chill_top::chill;
 use kernel_base::{Answer, Event, Events, How, Over, Request};
-use outside_ports::{File, Files, MemoryFeed, MemoryLibrary, MemorySink};
-use std::alloc::{AllocError, Global};
+use outside_ports::{MemorySink, OpenGate};
+use std::alloc::Global;
 use std::process::Abort;
+use std::sync::Wait;
 use std::test::Fail;
+use std::thread::Threads;
 
 const TEXT: &str = "M: MODULE PUT_INT(1 + 2); PUT_INT(40); END M;";
-
-fn text(alloc: Global, text: &str) -> Result<Text, AllocError> {
-    Ok(Text::from_vec(text.as_bytes().to_vec(alloc)?))
-}
-
-// The call of this number fails, and with 0 none does.
-fn fault(alloc: Global, call: u32) -> Result<Numbers, Memory> {
-    let mut fails = Numbers::new(alloc);
-    fails.push(call)?;
-    Ok(fails)
-}
-
-fn library(alloc: Global, bytes: &str, fails: u32) -> Result<MemoryLibrary, Memory> {
-    let mut files = Files::new(alloc);
-    files.push(File {
-        name: text(alloc, "f")?,
-        bytes: text(alloc, bytes)?,
-    })?;
-    Ok(MemoryLibrary::new(files, fault(alloc, fails)?))
-}
-
-// A feed of no bytes.
-fn no_input(alloc: Global) -> MemoryFeed {
-    MemoryFeed::new(Text::new(alloc), Numbers::new(alloc))
-}
 
 struct Case {
     text: &'static str,
@@ -146,20 +124,135 @@ const CASES: [Case; 12] = [
 #[test]
 fn statuses_and_what_was_written(rt: HostRuntime) -> Result<(), Fail> {
     let alloc = rt.alloc();
-    let words = vec![in alloc;
-        String::from_str(alloc, "run")?,
-        String::from_str(alloc, "f")?,
-    ]?;
+    let words = words_of(alloc, "run f")?;
     for case in &CASES {
         let mut library = library(alloc, case.text, case.read)?;
         let mut out = MemorySink::new(alloc, 1, 100, fault(alloc, case.put)?)?;
         let mut err = MemorySink::new(alloc, 7, 100, fault(alloc, 0)?)?;
-        let mut input = no_input(alloc);
-        let outcome = chill(alloc, &words, &mut library, &mut input, &mut out, &mut err);
+        let mut input = feed(alloc, "")?;
+        let mut watchers = Vec::new(alloc);
+        let outcome = chill(
+            &rt,
+            alloc,
+            &words,
+            &mut library,
+            &mut input,
+            &mut out,
+            &mut err,
+            &OpenGate,
+            &mut watchers,
+        );
         let text = case.text;
         assert_eq!(rt; outcome.status, case.status, "{text}");
         assert_eq!(rt; out.taken(), case.out.as_bytes(), "{text}");
         assert_eq!(rt; err.taken(), case.err.as_bytes(), "{text}");
+    }
+    Ok(())
+}
+
+// A call, and what has to come of it.
+#[derive(Clone, Copy)]
+struct Call {
+    words: &'static str,
+    // the text in the file f, and the input
+    text: &'static str,
+    input: &'static str,
+    status: u8,
+    out: &'static str,
+    err: &'static str,
+}
+
+// Makes a call over ports that never fail, with nobody who watches, and sees that what must come does.
+fn see<R: Abort + Threads + Wait + Sync>(rt: &R, alloc: Global, call: &Call) -> Result<(), Fail> {
+    let words = words_of(alloc, call.words)?;
+    let mut library = library(alloc, call.text, 0)?;
+    let mut input = feed(alloc, call.input)?;
+    let mut out = MemorySink::new(alloc, 1000, 1000, fault(alloc, 0)?)?;
+    let mut err = MemorySink::new(alloc, 1000, 1000, fault(alloc, 0)?)?;
+    let mut watchers = Vec::new(alloc);
+    let outcome = chill(
+        rt,
+        alloc,
+        &words,
+        &mut library,
+        &mut input,
+        &mut out,
+        &mut err,
+        &OpenGate,
+        &mut watchers,
+    );
+    let words = call.words;
+    let text = call.text;
+    assert_eq!(rt; outcome.status, call.status, "{words}: {text}");
+    assert_eq!(rt; out.taken(), call.out.as_bytes(), "{words}: {text}");
+    assert_eq!(rt; err.taken(), call.err.as_bytes(), "{words}: {text}");
+    Ok(())
+}
+
+const COMMANDS: [Call; 7] = [
+    Call {
+        words: "run f",
+        text: "M: MODULE DCL a INT; a := GET_INT(); PUT_INT(a + 1); END M;",
+        input: "12",
+        status: 0,
+        out: "13",
+        err: "",
+    },
+    Call {
+        words: "run --units=1 -- f",
+        text: TEXT,
+        input: "",
+        status: 7,
+        out: "3",
+        err: "process 1 OUTER: active\nspent\n",
+    },
+    Call {
+        words: "list f",
+        text: "M: MODULE DCL x INT; END M;",
+        input: "",
+        status: 0,
+        out: "location x 1 words\n  word 0 bits 0 to 31\ncode\n    0 Finish\n",
+        err: "",
+    },
+    Call {
+        words: "list f",
+        text: "M: MODULE x := 1; END M;",
+        input: "",
+        status: 3,
+        out: "",
+        err: "1:11: N2 name x is not seen here\n",
+    },
+    Call {
+        words: "format f",
+        text: "m: module x := 0_1; end m;",
+        input: "",
+        status: 0,
+        out: "m : MODULE x := 1 ;\nEND m ;\n",
+        err: "",
+    },
+    Call {
+        words: "format f",
+        text: "m: module # end m;",
+        input: "",
+        status: 3,
+        out: "",
+        err: "1:11: T1 no token\n",
+    },
+    Call {
+        words: "make 1",
+        text: "",
+        input: "",
+        status: 0,
+        out: "1 0\n2 0\n3 0\n4 1\n5 0\n6 0\n7 0\ntotal 4\n",
+        err: "",
+    },
+];
+
+#[test]
+fn what_each_command_writes(rt: HostRuntime) -> Result<(), Fail> {
+    let alloc = rt.alloc();
+    for call in &COMMANDS {
+        see(&rt, alloc, call)?;
     }
     Ok(())
 }
@@ -190,52 +283,47 @@ const CHECKED: [(&str, &str); 7] = [
 #[test]
 fn what_a_check_writes(rt: HostRuntime) -> Result<(), Fail> {
     let alloc = rt.alloc();
-    let words = words_of(alloc, "check f")?;
     for row in &CHECKED {
-        let (text, lines) = *row;
-        let mut library = library(alloc, text, 0)?;
-        let mut out = MemorySink::new(alloc, 100, 100, fault(alloc, 0)?)?;
-        let mut err = MemorySink::new(alloc, 100, 100, fault(alloc, 0)?)?;
-        let mut input = no_input(alloc);
-        let outcome = chill(alloc, &words, &mut library, &mut input, &mut out, &mut err);
-        let status = if lines.is_empty() { 0 } else { 3 };
-        assert_eq!(rt; outcome.status, status, "{text}");
-        assert_eq!(rt; out.taken(), b"".as_slice(), "{text}");
-        assert_eq!(rt; err.taken(), lines.as_bytes(), "{text}");
+        let (text, err) = *row;
+        let call = Call {
+            words: "check f",
+            text,
+            input: "",
+            status: if err.is_empty() { 0 } else { 3 },
+            out: "",
+            err,
+        };
+        see(&rt, alloc, &call)?;
     }
     Ok(())
 }
 
-fn words_of(alloc: Global, text: &str) -> Result<Vec<String>, AllocError> {
-    let mut words = Vec::new(alloc);
-    for word in text.split(' ') {
-        words.push(String::from_str(alloc, word)?)?;
-    }
-    Ok(words)
-}
-
-fn answers_usage(rt: &impl Abort, alloc: Global, words: Vec<String>) -> Result<(), Fail> {
-    let mut library = library(alloc, TEXT, 0)?;
-    let mut out = MemorySink::new(alloc, 100, 100, fault(alloc, 0)?)?;
-    let mut err = MemorySink::new(alloc, 200, 200, fault(alloc, 0)?)?;
-    let mut input = no_input(alloc);
-    let outcome = chill(alloc, &words, &mut library, &mut input, &mut out, &mut err);
-    assert_eq!(rt; outcome.status, 2);
-    assert_eq!(rt; out.taken(), b"".as_slice());
-    assert!(rt; err.taken().starts_with(b"usage: chill run FILE "));
-    Ok(())
-}
+const USAGE: &str =
+    "usage: chill run FILE [--workers N] [--units N] [--watch] | check FILE | list FILE | format FILE | make N\n";
 
 #[test]
 fn other_words_are_usage(rt: HostRuntime) -> Result<(), Fail> {
     let alloc = rt.alloc();
-    answers_usage(&rt, alloc, Vec::new(alloc))?;
-    answers_usage(&rt, alloc, words_of(alloc, "run")?)?;
-    answers_usage(&rt, alloc, words_of(alloc, "run f f")?)?;
-    answers_usage(&rt, alloc, words_of(alloc, "runs f")?)?;
-    answers_usage(&rt, alloc, words_of(alloc, "check")?)?;
-    answers_usage(&rt, alloc, words_of(alloc, "check f f")?)?;
-    answers_usage(&rt, alloc, words_of(alloc, "checks f")?)?;
+    for words in [
+        "",
+        "run",
+        "run f f",
+        "runs f",
+        "run f --workers 17",
+        "check",
+        "check f f",
+        "make 201",
+    ] {
+        let call = Call {
+            words,
+            text: TEXT,
+            input: "",
+            status: 2,
+            out: "",
+            err: USAGE,
+        };
+        see(&rt, alloc, &call)?;
+    }
     Ok(())
 }
 
@@ -253,15 +341,23 @@ fn done(request: Request) -> Event {
 #[test]
 fn the_journal_of_a_run(rt: HostRuntime) -> Result<(), Fail> {
     let alloc = rt.alloc();
-    let words = vec![in alloc;
-        String::from_str(alloc, "run")?,
-        String::from_str(alloc, "f")?,
-    ]?;
+    let words = words_of(alloc, "run f")?;
     let mut library = library(alloc, TEXT, 0)?;
     let mut out = MemorySink::new(alloc, 100, 100, fault(alloc, 0)?)?;
     let mut err = MemorySink::new(alloc, 100, 100, fault(alloc, 0)?)?;
-    let mut input = no_input(alloc);
-    let outcome = chill(alloc, &words, &mut library, &mut input, &mut out, &mut err);
+    let mut input = feed(alloc, "")?;
+    let mut watchers = Vec::new(alloc);
+    let outcome = chill(
+        &rt,
+        alloc,
+        &words,
+        &mut library,
+        &mut input,
+        &mut out,
+        &mut err,
+        &OpenGate,
+        &mut watchers,
+    );
     let all_ended = outcome.over == Some(Over::AllEnded);
     assert!(rt; all_ended);
     let mut wanted = Events::new(alloc);

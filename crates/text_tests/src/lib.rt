@@ -13,6 +13,10 @@ mod expressions;
 #[cfg(test)]
 mod parts;
 #[cfg(test)]
+mod ports;
+#[cfg(test)]
 mod tokens;
 #[cfg(test)]
 mod walk;
+#[cfg(test)]
+mod watched;

@@ -19,6 +19,9 @@ use Rattle.rules_model.proofs.TokensLaws.{one_list, one_place, not_both, some_re
 use Rattle.chill_parser.specs.Parsing.{HasNoTree, TokenAt}
 use Rattle.chill_parser.proofs.ItemTaken.{program_is}
 use Rattle.chill_parser.proofs.Parsing.{no_tree}
+use Rattle.tree_print.specs.Canonical.{canonical_text, token_kinds}
+use Rattle.tree_print.specs.SameProgram.{program_text}
+use Rattle.tree_print.proofs.TreeTokensItem.{tokens_are}
 use Rattle.names_model.specs.Resolving.{broken_names, level_of}
 use Rattle.text_to_code.specs.Telling.{IsResolved, Breaks, Refuses, broken, misnamed, breaks, later, MayTell, SameButForPlace, RefusesTree, TellsTree, Tells}
 use Rattle.text_to_code.specs.declared.told.Told.{Told}
@@ -129,28 +132,20 @@ some_answer text = some_answer_by text (cases_lt 262144 (length text))
 
 -- ---- what the code tells
 
--- what is made tells one diagnostic
-abbrev TellsOne : Diagnostic → Result Told Memory → Type 0
-TellsOne told made = IfOk made (λ t. t ≡ tellings.Refused (told ∷ []))
+pub long_diagnosed : (text : List ℕ) (told : Diagnostic) → 262144 < length text → told ≡ plain first_place rules.L1 → Diagnoses text told
+long_diagnosed text told long is = subst (λ (d : Diagnostic). Diagnoses text d) (sym is) (too_long long)
 
-refused_by : (text : List ℕ) (told : Diagnostic) (made : Result Told Memory) → Diagnoses text told → TellsOne told made → IfOk made (λ t. Tells text t)
-refused_by text told (Ok t) breaking is = subst (λ (x : Told). Tells text x) (sym is) (breaks (broken breaking))
-refused_by text told (Err e) breaking is = tt
-
-pub long_refused : (text : List ℕ) (made : Result Told Memory) → 262144 < length text → TellsOne (plain first_place rules.L1) made → IfOk made (λ t. Tells text t)
-long_refused text made long is = refused_by text (plain first_place rules.L1) made (too_long long) is
-
-pub bad_refused : (text : List ℕ) (told : Diagnostic) (made : Result Told Memory) → IsShort text → IsBadAt text told.at → told.rule ≡ rules.T1 → told.first ≡ [] → told.second ≡ [] → TellsOne told made → IfOk made (λ t. Tells text t)
-bad_refused text told made short bad rule first second is =
+pub bad_diagnosed : (text : List ℕ) (told : Diagnostic) → IsShort text → IsBadAt text told.at → told.rule ≡ rules.T1 → told.first ≡ [] → told.second ≡ [] → Diagnoses text told
+bad_diagnosed text told short bad rule first second =
     let plainly : plain told.at rules.T1 ≡ told = λ i. record { at = told.at; rule = sym rule i; first = sym first i; second = sym second i } in
-    refused_by text told made (subst (λ (d : Diagnostic). Diagnoses text d) plainly (no_token short bad)) is
+    subst (λ (d : Diagnostic). Diagnoses text d) plainly (no_token short bad)
 
-pub deep_refused : (text : List ℕ) (tokens : List Token) (at : Pos) (made : Result Told Memory) → IsShort text → AreTokensOf text tokens → first_deep 65 tokens ≡ Some at → TellsOne (plain at rules.L2) made → IfOk made (λ t. Tells text t)
-deep_refused text tokens at made short are deep is = refused_by text (plain at rules.L2) made (too_deep short are deep) is
+pub deep_diagnosed : (text : List ℕ) (tokens : List Token) (at : Pos) (told : Diagnostic) → IsShort text → AreTokensOf text tokens → first_deep 65 tokens ≡ Some at → told ≡ plain at rules.L2 → Diagnoses text told
+deep_diagnosed text tokens at told short are deep is = subst (λ (d : Diagnostic). Diagnoses text d) (sym is) (too_deep short are deep)
 
-pub nowhere_refused : (text : List ℕ) (tokens : List Token) (at : Pos) (made : Result Told Memory) → IsShort text → AreTokensOf text tokens → first_deep 65 tokens ≡ None → HasNoTree tokens → IsPlaceIn text tokens at → TellsOne (plain at rules.T2) made
-    → IfOk made (λ t. Tells text t)
-nowhere_refused text tokens at made short are shallow none place is = refused_by text (plain at rules.T2) made (no_program short are shallow none place) is
+pub nowhere_diagnosed : (text : List ℕ) (tokens : List Token) (at : Pos) (told : Diagnostic) → IsShort text → AreTokensOf text tokens → first_deep 65 tokens ≡ None → HasNoTree tokens → IsPlaceIn text tokens at → told ≡ plain at rules.T2
+    → Diagnoses text told
+nowhere_diagnosed text tokens at told short are shallow none place is = subst (λ (d : Diagnostic). Diagnoses text d) (sym is) (no_program short are shallow none place)
 
 -- the place of a token, for the parser, is one for the text
 pub place_of_token : (text : List ℕ) (tokens : List Token) (at : Pos) → TokenAt tokens at → IsPlaceIn text tokens at
@@ -161,10 +156,17 @@ tree_refused text tree told has (inl (is, some)) =
     subst (λ (l : List Diagnostic). Refuses text l) (sym is) (breaks (misnamed has (λ (none : broken_names (level_of tree) ≡ []). some (is ∙ none))))
 tree_refused text tree told has (inr (named, may)) = later (record { tree = tree; has = has; named = named }) may
 
-pub tree_told : (text : List ℕ) (tokens : List Token) (tree : ProgramTree) (made : Result Told Memory) → IsShort text → AreTokensOf text tokens → first_deep 65 tokens ≡ None → IsTreeOf tokens tree
-    → IfOk made (λ t. TellsTree tree t) → IfOk made (λ t. Tells text t)
-tree_told text tokens tree (Ok (tellings.Refused told)) short are shallow tree_of h =
-    tree_refused text tree told (record { tokens = tokens; short = short; are = are; shallow = shallow; tree_of = tree_of }) h
-tree_told text tokens tree (Ok (tellings.Accepted built)) short are shallow tree_of h =
-    record { tree = tree; has = record { tokens = tokens; short = short; are = are; shallow = shallow; tree_of = tree_of }; named = h }
-tree_told text tokens tree (Err e) short are shallow tree_of h = tt
+-- the canonical text of a text's tokens is that of its tree
+pub program_text_of : (text : List ℕ) (tokens : List Token) (tree : ProgramTree) → AreTokensOf text tokens → HasTree text tree → canonical_text (token_kinds tokens) ≡ program_text tree
+program_text_of text tokens tree are has =
+    ap (λ (toks : List Token). canonical_text (token_kinds toks)) (one_list text tokens has.tokens are has.are) ∙ ap canonical_text (tokens_are has.tree_of)
+
+-- what is told of a tree is told of its text
+pub text_told : (text : List ℕ) (tree : ProgramTree) (told : Told) → HasTree text tree → TellsTree tree told → Tells text told
+text_told text tree (tellings.Refused told) has h = tree_refused text tree told has h
+text_told text tree (tellings.Accepted built) has h = record { resolved = record { tree = tree; has = has; named = h.0 }; small = h.1 }
+
+-- a rule that a text breaks is told of it
+pub broken_told : (text : List ℕ) (one : Diagnostic) (made : Result Told Memory) → Diagnoses text one → IfOk made (λ t. t ≡ tellings.Refused (one ∷ [])) → IfOk made (λ t. Tells text t)
+broken_told text one (Ok t) breaking is = subst (λ (x : Told). Tells text x) (sym is) (breaks (broken breaking))
+broken_told text one (Err e) breaking is = tt

@@ -1,5 +1,5 @@
 -- What is told of a text: that it is accepted, or why it is refused.
-use Rattle.std.specs.Prelude.{◌≡◌, ◌≢◌, ◌⊎◌, ℕ, List, [], ◌∷◌, Some, None, Result, Ok, Err}
+use Rattle.std.specs.Prelude.{◌≡◌, ◌≢◌, ◌⊎◌, ◌<◌, ◌≤◌, ℕ, List, [], ◌∷◌, Some, None, Result, Ok, Err}
 use Rattle.std.specs.List.Sorted.{IsStrictlySortedBy}
 use Rattle.chill_base.specs.declared.pos.Pos.{Pos}
 use Rattle.diagnostics.specs.Order.{diagnostic_cmp}
@@ -8,9 +8,15 @@ use Rattle.diagnostics.specs.declared.rule.Rule.TheVariants as rules
 use Rattle.chill_tree.specs.ItemTree.{ProgramTree}
 use Rattle.rules_model.specs.TokensCut.{first_place}
 use Rattle.rules_model.specs.Diagnoses.{HasTree, Diagnoses, plain}
+use Rattle.tree_print.specs.SameProgram.{program_text}
 use Rattle.names_model.specs.Resolving.{broken_names, level_of}
+use Rattle.text_size.specs.Sizes.{program_size}
 use Rattle.visibility.specs.declared.refusal.Refusal.{Refusal}
 use Rattle.visibility.specs.declared.refusal.Refusal.TheVariants as refusals
+use Rattle.text_to_code.specs.declared.grammar.NoTree.{NoTree}
+use Rattle.text_to_code.specs.declared.grammar.NoTree.TheVariants as reasons
+use Rattle.text_to_code.specs.declared.formatting.Formatted.{Formatted}
+use Rattle.text_to_code.specs.declared.formatting.Formatted.TheVariants as forms
 use Rattle.text_to_code.specs.declared.told.Told.{Told}
 use Rattle.text_to_code.specs.declared.told.Told.TheVariants as tellings
 
@@ -38,15 +44,20 @@ IsInOrder (Ok done) = Unit {0}
 IsInOrder (Err (refusals.Broken told)) = AreInOrder told
 IsInOrder (Err refusals.Memory) = Unit {0}
 
--- what may be told of a tree that breaks no rule on names: what the checks tell, that the text is too large, or that it isn't
--- built. That these are the rules which it breaks isn't said here.
-abbrev pub MayTell : List Diagnostic → Type 0
-MayTell told = AreInOrder told ⊎ (told ≡ plain first_place rules.L8 ∷ []) ⊎ (told ≡ plain first_place rules.B1 ∷ [])
+-- the text has such a tree, and its size isn't above 65,536
+pub record IsAccepted (text : List ℕ) : Type 0 where
+  pub resolved : IsResolved text
+  pub small : program_size resolved.tree ≤ 65536
+
+-- what may be told of a tree that breaks no rule on names: what the checks tell; or that the text is too large, or that it isn't
+-- built, by its size. That the checks tell the rules which it breaks isn't said here.
+abbrev pub MayTell : ProgramTree → List Diagnostic → Type 0
+MayTell tree told = AreInOrder told ⊎ ((65536 < program_size tree) × (told ≡ plain first_place rules.L8 ∷ [])) ⊎ ((program_size tree ≤ 65536) × (told ≡ plain first_place rules.B1 ∷ []))
 
 -- the diagnostics of a text that is refused
 pub data Refuses : List ℕ → List Diagnostic → Type 0 where
   breaks : {text : List ℕ} {told : List Diagnostic} → Breaks text told → Refuses text told
-  later : {text : List ℕ} {told : List Diagnostic} → IsResolved text → MayTell told → Refuses text told
+  later : {text : List ℕ} {told : List Diagnostic} → (resolved : IsResolved text) → MayTell resolved.tree told → Refuses text told
 
 -- the two are one, or both tell that no tree exists, whose place is free
 abbrev pub SameButForPlace : List Diagnostic → List Diagnostic → Type 0
@@ -54,14 +65,36 @@ SameButForPlace told other = (told ≡ other) ⊎ (((at : Pos) × (told ≡ plai
 
 -- the diagnostics of a tree: those of the rules on names, exactly; or it breaks none of these
 abbrev pub RefusesTree : ProgramTree → List Diagnostic → Type 0
-RefusesTree tree told = ((told ≡ broken_names (level_of tree)) × (told ≢ [])) ⊎ ((broken_names (level_of tree) ≡ []) × MayTell told)
+RefusesTree tree told = ((told ≡ broken_names (level_of tree)) × (told ≢ [])) ⊎ ((broken_names (level_of tree) ≡ []) × MayTell tree told)
 
 -- what is told of a text by its tree alone
 abbrev pub TellsTree : ProgramTree → Told → Type 0
 TellsTree tree (tellings.Refused told) = RefusesTree tree told
-TellsTree tree (tellings.Accepted built) = broken_names (level_of tree) ≡ []
+TellsTree tree (tellings.Accepted built) = (broken_names (level_of tree) ≡ []) × (program_size tree ≤ 65536)
 
 -- what the code tells of a text
 abbrev pub Tells : List ℕ → Told → Type 0
 Tells text (tellings.Refused told) = Refuses text told
-Tells text (tellings.Accepted built) = IsResolved text
+Tells text (tellings.Accepted built) = IsAccepted text
+
+-- why a text has no tree, where it is for a rule: the first that it breaks
+abbrev pub IsNoTree : List ℕ → NoTree → Type 0
+IsNoTree text (reasons.Breaks told) = Diagnoses text told
+IsNoTree text reasons.Memory = Unit {0}
+
+-- the rules on tokens and grammar alone refuse a text
+pub record IsUnread (text : List ℕ) (told : List Diagnostic) : Type 0 where
+  pub diagnostic : Diagnostic
+  pub diagnoses : Diagnoses text diagnostic
+  pub only : told ≡ diagnostic ∷ []
+
+-- the canonical text of a text that has a tree: that of the tree
+pub record IsCanonicalOf (text canonical : List ℕ) : Type 0 where
+  pub tree : ProgramTree
+  pub has : HasTree text tree
+  pub written : canonical ≡ program_text tree
+
+-- what `format` tells of a text
+abbrev pub Formats : List ℕ → Formatted → Type 0
+Formats text (forms.Refused told) = IsUnread text told
+Formats text (forms.Canonical canonical) = IsCanonicalOf text canonical

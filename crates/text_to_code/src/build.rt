@@ -19,15 +19,13 @@ pub struct Built {
 /// Why a program has no code.
 #[derive(Drop)]
 pub(crate) enum BuildRefusal {
-    /// Its text is too large.
-    TooLong,
     /// The compiler doesn't take it, or the guard doesn't take its code. This comes of no program that breaks no rule.
     NotBuilt,
     /// No memory was to be had.
     Memory,
 }
 
-/// The code of a program.
+/// The code of a program, whose size was tested.
 pub(crate) fn build(alloc: Global, tree: &Tree, names: &Names) -> Result<Built, BuildRefusal> {
     let program = elaborated(alloc, tree, names)?;
     let code = compiled(alloc, program.checked())?;
@@ -46,9 +44,8 @@ fn elaborated(alloc: Global, tree: &Tree, names: &Names) -> Result<Program, Buil
 fn compiled(alloc: Global, program: &Checked) -> Result<Code, BuildRefusal> {
     match compile(alloc, program) {
         Ok(code) => Ok(code),
-        Err(CodeRefusal::CodeTooLong) => Err(BuildRefusal::TooLong),
+        Err(CodeRefusal::CodeTooLong | CodeRefusal::Unsound) => Err(BuildRefusal::NotBuilt),
         Err(CodeRefusal::Memory) => Err(BuildRefusal::Memory),
-        Err(CodeRefusal::Unsound) => Err(BuildRefusal::NotBuilt),
     }
 }
 

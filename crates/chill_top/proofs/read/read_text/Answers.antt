@@ -1,4 +1,4 @@
-use Rattle.std.proofs.Common.{◌≡◌, length, ap, arith}
+use Rattle.std.proofs.Common.{arith}
 use Rattle.chill_top.proofs.Pieces.{reading-whole, reading-front}
 use Rattle.chill_top.proofs.read.read_text.Goals as goal
 
@@ -10,5 +10,4 @@ returns-clause-text g c = rw (← c.pieces.invariant.same c.args.name.now) (read
 pub returns-then-not-branch-clause-text : goal.returns-then-not-branch-clause-text
 returns-then-not-branch-clause-text g c =
     let ended = rw c.if-not-branch.true at c.in_ok-read_piece.ensures.end in
-    let kept : c.read_piece.new.text.items ≡ c.pieces.text.items = rw c.if-not-branch.true at c.in_ok-read_piece.ensures.kept in
-    rw (← c.pieces.invariant.same c.args.name.now) (reading-whole _ c.read_piece.new.text.items (omega (arith, ap length kept, c.pieces.invariant.fits)) ended)
+    rw (← c.pieces.invariant.same c.args.name.now) (reading-whole _ c.read_piece.new.text.items ended)

@@ -1,31 +1,43 @@
-use Rattle.std.proofs.Common.{rules, IsErrOf}
-use Rattle.chill_top.proofs.AnswerLemmas.{answer_done, answer_broken, answer_unread, answer_no_memory, keeps_same}
-use Rattle.chill_top.specs.declared.read.ReadRefusal.TheVariants.{Fault}
+use Rattle.std.proofs.Common.{rules, ◌≡◌, map, string_bytes}
+use Rattle.std.specs.Prelude.{None}
+use Rattle.word_reader.specs.Said.{said}
+use Rattle.chill_top.proofs.AnswerLemmas.{answer_as, answer_of, answer_usage, answer_no_memory, journal_of, refused_of, keeps_same}
 use Rattle.chill_top.proofs.top.chill.Goals as goal
 
--- a sink failed
-pub returns-then-not-carry_out-clause-answer : goal.returns-then-not-carry_out-clause-answer
-returns-then-not-carry_out-clause-answer g c =
-    let planned = c.in-Ok.planned in
-    let cut = rw c.if-not-carry_out.true at c.carry_out.ensures.broken in
-    answer_broken _ _ _ _ _ planned.plan planned.texts.out planned.texts.err _ c.in-Ok.ensures.plan c.in-Ok.ensures.texts.0 c.in-Ok.ensures.texts.1 cut c.outcome_of.ensures
+-- several workers do the run
+pub returns-in-Some-clause-answer : goal.returns-in-Some-clause-answer
+returns-in-Some-clause-answer g c =
+    let made = c.plan_by_workers-planned in
+    answer_of _ c.in-Ok.command _ _ _ _ _ _ _ _ c.is_watched.result made.result _ c.in-Ok.ensures.ok c.is_watched.ensures made.ensures.plan made.ensures.kept made.ensures.stays made.ensures.fault c.answer.ensures.answered
 
--- all was written
-pub returns-else-not-carry_out-clause-answer : goal.returns-else-not-carry_out-clause-answer
-returns-else-not-carry_out-clause-answer g c =
-    let planned = c.in-Ok.planned in
-    let wrote = rw c.if-not-carry_out.false at c.carry_out.ensures.whole in
-    let stay = rw c.if-not-carry_out.false at c.carry_out.ensures.stays in
-    answer_done _ _ _ _ _ planned.plan planned.texts.out planned.texts.err c.status_of-status.result _ c.in-Ok.ensures.plan
-    (record { library = c.in-Ok.ensures.kept; feed = c.in-Ok.ensures.stays; out = stay.0; err = stay.1 })
-    c.in-Ok.ensures.texts.0 c.in-Ok.ensures.texts.1 (record { out_took = wrote.0; err_took = wrote.1 }) c.status_of-status.ensures c.outcome_of-in-Ok.ensures
+pub returns-in-Some-clause-journal : goal.returns-in-Some-clause-journal
+returns-in-Some-clause-journal g c = journal_of _ _ _ _ _ _ _ _ _ _ (returns-in-Some-clause-answer g c)
+
+pub returns-in-Some-clause-refused : goal.returns-in-Some-clause-refused
+returns-in-Some-clause-refused g c = refused_of _ _ _ _ _ _ _ _ _ _ (returns-in-Some-clause-answer g c)
+
+-- one worker does it, or there is none
+pub returns-in-Ok-clause-answer : goal.returns-in-Ok-clause-answer
+returns-in-Ok-clause-answer g c = answer_as _ _ _ _ _ _ _ _ _ _ _ c.in-Ok.ensures.ok c.chill_alone.ensures.answer
+
+pub returns-in-Ok-clause-journal : goal.returns-in-Ok-clause-journal
+returns-in-Ok-clause-journal g c = journal_of _ _ _ _ _ _ _ _ _ _ (returns-in-Ok-clause-answer g c)
+
+pub returns-in-Ok-clause-refused : goal.returns-in-Ok-clause-refused
+returns-in-Ok-clause-refused g c = refused_of _ _ _ _ _ _ _ _ _ _ (returns-in-Ok-clause-answer g c)
+
+-- the words are no command
+pub returns-in-Err-Usage-clause-answer : goal.returns-in-Err-Usage-clause-answer
+returns-in-Err-Usage-clause-answer g c =
+    let none : said (map string_bytes c.args.words.now) ≡ None = search rules in
+    answer_usage _ _ _ _ _ _ _ _ _ none c.answer-in-Err-Usage.ensures.answered
+
+pub returns-in-Err-Usage-clause-journal : goal.returns-in-Err-Usage-clause-journal
+returns-in-Err-Usage-clause-journal g c = journal_of _ _ _ _ _ _ _ _ _ _ (returns-in-Err-Usage-clause-answer g c)
+
+pub returns-in-Err-Usage-clause-refused : goal.returns-in-Err-Usage-clause-refused
+returns-in-Err-Usage-clause-refused g c = refused_of _ _ _ _ _ _ _ _ _ _ (returns-in-Err-Usage-clause-answer g c)
 
 -- no memory was to be had
-pub returns-in-Err-Memory-clause-answer : goal.returns-in-Err-Memory-clause-answer
-returns-in-Err-Memory-clause-answer g c = answer_no_memory _ _ _ _ _ _ (record { out = keeps_same _; err = keeps_same _ }) c.without_run.ensures
-
--- something wasn't read
-pub returns-in-Err-Fault-clause-answer : goal.returns-in-Err-Fault-clause-answer
-returns-in-Err-Fault-clause-answer g c =
-    let failed : IsErrOf c.prepare.result Fault = search rules in
-    answer_unread _ _ _ _ _ _ (c.prepare.ensures.fault failed) (record { out = keeps_same _; err = keeps_same _ }) c.without_run-in-Err-Fault.ensures
+pub returns-clause-answer : goal.returns-clause-answer
+returns-clause-answer g c = answer_no_memory _ _ _ _ _ _ _ _ _ (record { out = keeps_same _; err = keeps_same _ }) c.without_run.ensures

@@ -1,0 +1,156 @@
+// How far a command comes without a run.
+ghost use Rattle.std.specs.Prelude.{◌≡◌, ◌⊎◌, ℕ, List, [], None, OnOk, IfOk, IfSome, IsErrOf, MatchBool};
+ghost use Rattle.outside_ports.specs.Faults.{Rose};
+ghost use Rattle.chill_top.specs.Causes.{IsReadFault, IsFeedFault};
+ghost use Rattle.chill_top.specs.Commands.{IsRunning, IsRunningTask, Runs, file_of};
+ghost use Rattle.chill_top.specs.Plan.{IsFormatPlan, IsStageFor, IsStageOf};
+ghost use Rattle.chill_top.specs.Reading.{IsInputRead, IsReadingOf};
+ghost use Rattle.chill_top.specs.Runs.{AreFactsWith};
+ghost use Rattle.chill_top.specs.declared.task.Task.TheVariants as tasks;
+ghost use Rattle.chill_top.specs.declared.task.Purpose.TheVariants as purposes;
+ghost use Rattle.text_to_code.specs.Telling.{IsAccepted, Tells};
+
+use crate::input::{MAX_INPUT, read_input};
+use crate::plan::{Plan, Ready, Stage};
+use crate::read::ReadRefusal;
+use crate::source::read_source;
+use crate::task::{Purpose, Task, task_of};
+use chill_base::{Memory, Text};
+use code_gen::facts_of;
+use expr_gen::PartRefusal;
+use kernel_base::Facts;
+use outside_ports::{Feed, Library};
+use sound_facts::are_sound;
+use std::alloc::Global;
+use text_to_code::{Built, Formatted, Told, format_text, not_built, tell};
+use word_reader::Command;
+
+// The input of a program: what is read where it reads one, and else none.
+fn input_of<I: Feed>(alloc: Global, built: &Built, feed: &mut I) -> Result<Text, ReadRefusal>
+    ensures input { IfOk result (λ input.
+        MatchBool built.now.program.checked.value.reads_input (IsInputRead (I.bytes feed.old) input) (input ≡ [])) }
+    ensures stays { OnOk result (I.faults feed.new ≡ I.faults feed.old) }
+    ensures fault { IsErrOf result ReadRefusal.Fault → Rose (I.faults feed.old) (I.faults feed.new) }
+{
+    if !built.program.checked().reads_input {
+        return Ok(Text::new(alloc));
+    }
+    let input = read_input(alloc, feed)?;
+    Ok(Text::from_vec(input))
+}
+
+// The facts of a program with an input and a budget, where they are sound.
+fn facts_for(alloc: Global, built: &Built, input: Text, units: u64) -> Result<Option<Facts>, Memory>
+    ensures { IfOk result (λ facts. IfSome facts (AreFactsWith units input)) }
+{
+    match facts_of(alloc, built.program.checked(), input, units) {
+        Ok(facts) => {
+            if are_sound(alloc, &facts)? {
+                Ok(Some(facts))
+            } else {
+                Ok(None)
+            }
+        }
+        Err(PartRefusal::Memory) => Err(Memory),
+        Err(PartRefusal::Unsound) => Ok(None),
+    }
+}
+
+// How far a program comes that is to be run: its input is read. Facts that aren't sound come of no program that breaks no rule.
+fn stage_for_run<I: Feed>(
+    alloc: Global,
+    built: Box<Built>,
+    units: u64,
+    feed: &mut I,
+) -> Result<Stage, ReadRefusal>
+    ensures stage { IfOk result (λ stage. (text : List ℕ) → IsAccepted text
+        → IsStageFor (tasks.Build (purposes.Run units)) text (I.bytes feed.old) stage) }
+    ensures stays { OnOk result (I.faults feed.new ≡ I.faults feed.old) }
+    ensures fault { IsErrOf result ReadRefusal.Fault → Rose (I.faults feed.old) (I.faults feed.new) }
+{
+    let input = input_of(alloc, &built, feed)?;
+    if input.len() > MAX_INPUT {
+        return Ok(Stage::Decided(Plan::InputTooLong));
+    }
+    match facts_for(alloc, &built, input, units)? {
+        Some(facts) => Ok(Stage::Ready(Ready { built, facts })),
+        None => Ok(Stage::Decided(Plan::Refused(not_built(alloc)?))),
+    }
+}
+
+// How far a text comes of which this is told.
+fn stage_for_told<I: Feed>(
+    alloc: Global,
+    purpose: Purpose,
+    told: Told,
+    feed: &mut I,
+) -> Result<Stage, ReadRefusal>
+    ensures stage { IfOk result (λ stage. (text : List ℕ) → Tells text told
+        → IsStageFor (tasks.Build purpose) text (I.bytes feed.old) stage) }
+    ensures stays { OnOk result (I.faults feed.new ≡ I.faults feed.old) }
+    ensures fault { IsErrOf result ReadRefusal.Fault
+        → IsRunning purpose × Rose (I.faults feed.old) (I.faults feed.new) }
+    ensures unfed { (IsRunning purpose → ⊥) → feed.new ≡ feed.old }
+{
+    match told {
+        Told::Refused(told) => Ok(Stage::Decided(Plan::Refused(told))),
+        Told::Accepted(built) => match purpose {
+            Purpose::Run { units } => stage_for_run(alloc, built, units, feed),
+            Purpose::Check => Ok(Stage::Decided(Plan::Accepted)),
+            Purpose::List => Ok(Stage::Decided(Plan::Listed(built))),
+        },
+    }
+}
+
+// The plan for what was read of a text that is formatted.
+fn formatted(alloc: Global, read: &[u8]) -> Result<Plan, Memory>
+    ensures { IfOk result (λ plan. (text : List ℕ) → IsReadingOf text read.now → IsFormatPlan text plan) }
+{
+    match format_text(alloc, read)? {
+        Formatted::Refused(told) => Ok(Plan::Refused(told)),
+        Formatted::Canonical(canonical) => Ok(Plan::Formatted(canonical)),
+    }
+}
+
+// How far it comes for what was read of a text.
+fn stage_for_text<I: Feed>(
+    alloc: Global,
+    task: Task,
+    read: &[u8],
+    feed: &mut I,
+) -> Result<Stage, ReadRefusal>
+    ensures stage { IfOk result (λ stage. (text : List ℕ) → IsReadingOf text read.now
+        → IsStageFor task text (I.bytes feed.old) stage) }
+    ensures stays { OnOk result (I.faults feed.new ≡ I.faults feed.old) }
+    ensures fault { IsErrOf result ReadRefusal.Fault
+        → IsRunningTask task × Rose (I.faults feed.old) (I.faults feed.new) }
+    ensures unfed { (IsRunningTask task → ⊥) → feed.new ≡ feed.old }
+{
+    match task {
+        Task::Format => Ok(Stage::Decided(formatted(alloc, read)?)),
+        Task::Build(purpose) => {
+            let told = tell(alloc, read)?;
+            stage_for_told(alloc, purpose, told, feed)
+        }
+    }
+}
+
+/// How far a command comes without a run.
+pub(crate) fn make_stage<L: Library, I: Feed>(
+    alloc: Global,
+    command: &Command,
+    library: &mut L,
+    feed: &mut I,
+) -> Result<Stage, ReadRefusal>
+    ensures stage { IfOk result (IsStageOf command.now (L.bytes library.old) (I.bytes feed.old)) }
+    ensures stays { OnOk result (I.faults feed.new ≡ I.faults feed.old) }
+    ensures kept { OnOk result ((n : List ℕ) → L.faults library.new n ≡ L.faults library.old n) }
+    ensures fault { IsErrOf result ReadRefusal.Fault
+        → IsReadFault command.now (L.faults library.old) (L.faults library.new)
+        ⊎ IsFeedFault command.now (I.faults feed.old) (I.faults feed.new) }
+    ensures no_file { file_of command.now ≡ None → library.new ≡ library.old }
+    ensures unfed { (Runs command.now → ⊥) → feed.new ≡ feed.old }
+{
+    let read = read_source(alloc, command, library)?;
+    stage_for_text(alloc, task_of(command), &read, feed)
+}

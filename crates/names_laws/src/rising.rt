@@ -1,0 +1,9 @@
+// The laws of the places of uses.
+ghost use Rattle.names_laws.specs.Rising.{RisingTokensLaw, RisingUsesLaw};
+
+/// The places of the tokens of a text rise strictly, by line and then by column, and so do those of the uses in a program
+/// whose tokens' places rise.
+pub fn rising_places_law()
+    ensures tokens { RisingTokensLaw }
+    ensures uses { RisingUsesLaw }
+{}

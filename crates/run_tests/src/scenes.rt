@@ -1,0 +1,126 @@
+// Small codes, and the journals of their runs.
+use crate::stage::Noted::{Did, Goes, Runs, Waits};
+use crate::stage::{Noted, Scene, misfits, shows};
+use code_types::Instr;
+use code_types::Instr::{Again, Finish, Pop, Push, PutInt, PutLine, Read};
+use kernel_base::Alternative;
+use kernel_base::How::Normal;
+use kernel_base::Over::{AllEnded, Spent, Still};
+use played_turns::Asked::{Delay, End, Enter, Leave, Put, Start};
+use played_turns::Given::{Done, Instance};
+use std::test::Fail;
+
+const PUTS: Scene = Scene {
+    instrs: &[Push(7), PutInt, PutLine, Finish],
+    firsts: &[0],
+    units: 1000,
+};
+
+const PUT: &[Noted] = &[
+    Did(1, Put("7"), Done),
+    Did(1, Put("\n"), Done),
+    Did(1, End(Normal), Done),
+];
+
+#[test]
+fn a_process_puts_and_ends(rt: HostRuntime) -> Result<(), Fail> {
+    shows(&rt, rt.alloc(), &PUTS, PUT, 1, AllEnded)
+}
+
+// It is delayed on an event that nobody continues.
+const SLEEPS: Scene = Scene {
+    instrs: &[Push(0), Push(0), Instr::Delay(1, 5), Finish],
+    firsts: &[0],
+    units: 1000,
+};
+
+const SLEPT: &[Noted] = &[Waits(
+    1,
+    Delay(
+        &[Alternative {
+            thing: 0,
+            number: 0,
+        }],
+        5,
+    ),
+)];
+
+#[test]
+fn a_process_that_nobody_continues_stands_still(rt: HostRuntime) -> Result<(), Fail> {
+    shows(&rt, rt.alloc(), &SLEEPS, SLEPT, 1, Still)
+}
+
+// Each note of 256 ticks has 257 units.
+const LOOPS: Scene = Scene {
+    instrs: &[Again(0)],
+    firsts: &[0],
+    units: 515,
+};
+
+const LOOPED: &[Noted] = &[Runs(1, 256), Runs(1, 256), Runs(1, 256)];
+
+#[test]
+fn an_endless_loop_spends_the_budget(rt: HostRuntime) -> Result<(), Fail> {
+    shows(&rt, rt.alloc(), &LOOPS, LOOPED, 1, Spent)
+}
+
+// The first process starts the second one, and both put a number in the region.
+const SHARES: Scene = Scene {
+    instrs: &[
+        Instr::Start(1, 0),
+        Pop(1),
+        Instr::Enter(0),
+        Push(1),
+        PutInt,
+        Instr::Leave(0),
+        Finish,
+        Instr::Enter(0),
+        Push(2),
+        PutInt,
+        Instr::Leave(0),
+        Finish,
+    ],
+    firsts: &[0, 7],
+    units: 1000,
+};
+
+// The turn goes from one to the other; the second one is in the region first.
+const SHARED: &[Noted] = &[
+    Did(1, Start(1, &[]), Instance(2)),
+    Did(2, Enter(0), Done),
+    Waits(1, Enter(0)),
+    Did(2, Put("2"), Done),
+    Did(2, Leave(0), Done),
+    Goes(1, Done),
+    Did(1, Put("1"), Done),
+    Did(2, End(Normal), Done),
+    Did(1, Leave(0), Done),
+    Did(1, End(Normal), Done),
+];
+
+#[test]
+fn two_processes_take_turns_in_a_region(rt: HostRuntime) -> Result<(), Fail> {
+    shows(&rt, rt.alloc(), &SHARES, SHARED, 2, AllEnded)
+}
+
+// There is no location.
+const READS: Scene = Scene {
+    instrs: &[Push(0), Read(0, 0, 1), Pop(1), Finish],
+    firsts: &[0],
+    units: 1000,
+};
+
+// There are two processes.
+const STARTS: Scene = Scene {
+    instrs: &[Instr::Start(2, 0), Pop(1), Finish, Finish, Finish],
+    firsts: &[0, 3, 4],
+    units: 1000,
+};
+
+#[test]
+fn a_request_that_does_not_fit_is_a_misfit(rt: HostRuntime) -> Result<(), Fail> {
+    assert!(rt; misfits(rt.alloc(), &READS)?);
+    assert!(rt; misfits(rt.alloc(), &STARTS)?);
+    assert!(rt; !misfits(rt.alloc(), &PUTS)?);
+    Ok(())
+}

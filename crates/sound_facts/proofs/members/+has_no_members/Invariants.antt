@@ -1,7 +1,0 @@
-use Rattle.std.proofs.Common.{◌<◌, ℕ, get_or}
-use Rattle.kernel_base.specs.declared.value.Value.{Value}
-use Rattle.sound_facts.specs.Members.{HasNoMembersEach}
-use Rattle.sound_facts.proofs.members.+has_no_members.Given as goal
-
-abbrev pub invariant-loop-part : goal.invariant-loop-part
-invariant-loop-part l = (i : ℕ) (d : Value) → i < l.part-index → HasNoMembersEach (get_or l.part-items i d)

@@ -1,0 +1,4 @@
+pub mod ExprLemmas
+pub mod ModeLemmas
+pub mod StatementLemmas
+pub mod ItemLemmas

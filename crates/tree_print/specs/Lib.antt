@@ -1,0 +1,4 @@
+pub mod Canonical
+pub mod ReadBack
+pub mod SameTree
+pub mod SameProgram

@@ -1,0 +1,6 @@
+pub mod Logs
+pub mod Notes
+pub mod Nexts
+pub mod Keeping
+pub mod Pools
+pub mod Gather
