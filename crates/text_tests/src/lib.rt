@@ -7,16 +7,10 @@
 #[cfg(test)]
 mod base;
 #[cfg(test)]
-mod calls;
-#[cfg(test)]
 mod expressions;
 #[cfg(test)]
 mod parts;
 #[cfg(test)]
-mod ports;
-#[cfg(test)]
 mod tokens;
 #[cfg(test)]
 mod walk;
-#[cfg(test)]
-mod watched;
