@@ -1,6 +1,9 @@
 // Workers bring whole texts to their ends.
+ghost use Rattle.std.specs.Prelude.{◌≤◌};
+
 use crate::texts::{UNITS, driven};
 use exchange_text::make_text;
+use held_passes::Meeting;
 use kernel_base::Over;
 use outside_ports::OpenGate;
 use run_texts::output_text;
@@ -89,6 +92,20 @@ fn puts(alloc: Global, driven: &Driven, output: &str) -> bool {
     }
 }
 
+// Whether workers bring the shared counter to its end where its two processes wait for each other at the gate, which needs a
+// thread for each.
+fn is_served_by_threads<R: Threads + Wait + Sync>(rt: &R, alloc: Global, workers: u32) -> bool
+    requires { (2 ≤ workers) × (workers ≤ 16) }
+{
+    let gate = Meeting::new();
+    match driven(rt, alloc, SHARED_COUNTER.as_bytes(), UNITS, workers, &gate) {
+        Some(driven) => {
+            gate.has_met() && driven.over == Over::AllEnded && puts(alloc, &driven, "2000")
+        }
+        None => false,
+    }
+}
+
 #[test]
 fn pool_serves(rt: HostRuntime) -> Result<(), Fail> {
     let alloc = rt.alloc();
@@ -105,6 +122,12 @@ fn pool_serves(rt: HostRuntime) -> Result<(), Fail> {
         assert!(rt;
             is_served(&rt, alloc, text.as_bytes(), units, output, over),
             "{text}"
+        );
+    }
+    for workers in [2, 4, 16] {
+        assert!(rt;
+            is_served_by_threads(&rt, alloc, workers),
+            "{workers} workers"
         );
     }
     Ok(())

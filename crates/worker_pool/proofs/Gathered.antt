@@ -1,7 +1,7 @@
 -- The run that the workers made, where their logs agree with the journal.
-use Rattle.std.proofs.Common.{◌≡◌, ◌⊎◌, ℕ, zero, suc, ◌<◌, ◌≤◌, List, [], ◌∷◌, ◌++◌, length, map, Bool, true, false, refl, sym, ap, ◌∙◌, subst, inl, inr, arith, append-nil, Option, Some, None, slice_get, All}
+use Rattle.std.proofs.Common.{◌≡◌, ◌⊎◌, ℕ, zero, suc, List, [], ◌∷◌, ◌++◌, Bool, true, false, refl, sym, ap, ◌∙◌, subst, inl, inr, append-nil, Option, Some, slice_get, All}
 use Rattle.std.specs.Prelude.{not, ◌&&◌, ◌==◌, IsSome}
-use Rattle.std.specs.List.{list_any, list_all}
+use Rattle.std.specs.List.{list_all}
 use Rattle.std.proofs.lemmas.Bool.{cases_Bool, eqb-true, eq-eqb}
 use Rattle.std.proofs.lemmas.Option.{slice_get_within, get_or_from_slice_get, same_Some}
 use Rattle.std.proofs.lemmas.List.Elements.{All-get_or}
@@ -11,15 +11,14 @@ use Rattle.kernel_base.specs.declared.ends.Over.{Over}
 use Rattle.kernel_base.specs.declared.event.Event.{Event}
 use Rattle.world_model.specs.Allowed.{IsRun}
 use Rattle.world_model.specs.Session.{Item}
-use Rattle.world_model.specs.Journal.{items_by, line_of, answers_by, answers_of, Birth, born_of}
+use Rattle.world_model.specs.Journal.{line_of, answers_of, Birth, born_of}
 use Rattle.world_model.specs.Over.{over_of}
 use Rattle.code_types.specs.declared.code.Code.{Code}
 use Rattle.code_types.specs.Agreement.{Agrees as CodeAgrees}
 use Rattle.code_types.specs.Talk.{Reaches}
 use Rattle.code_types.specs.Runs.{FollowsCode}
 use Rattle.code_safety.proofs.Talking.{talk_exists}
-use Rattle.code_types.specs.Runs.{IsCodeRun, ticks_in}
-use Rattle.kernel_steps.specs.View.{View}
+use Rattle.code_types.specs.Runs.{ticks_in}
 use Rattle.kernel_steps.specs.Kept.{IsWholeBurst}
 use Rattle.machine_steps.specs.Views.{state_of}
 use Rattle.run_laws.specs.Laws.{HasTalks, StandsWhereLeft}
@@ -29,7 +28,7 @@ use Rattle.serial_run.specs.Coming.{WasOpen}
 use Rattle.serial_run.specs.Driven.{StandsPast, HasMachine, IsUntouched, HaveOneEach, IsDriven}
 use Rattle.worker_pool.specs.declared.log.Log.{Log}
 use Rattle.worker_pool.specs.Logs.{IsLog}
-use Rattle.worker_pool.specs.Gather.{who_of, events_of, HasItsEvents, IsBornAs, IsOfJournal, has_log, are_apart, Agrees, runner_of, machines_of}
+use Rattle.worker_pool.specs.Gather.{who_of, IsOfJournal, has_log, are_apart, Agrees, runner_of, machines_of}
 use Rattle.worker_pool.proofs.Events.{quiet_items, quiet_answers, own_line, own_answers}
 
 -- what holds of all holds of the one at a place

@@ -1,6 +1,6 @@
 -- The logs of a worker, once one was kept, or taken out.
 use Rattle.std.proofs.Common.{◌≡◌, ℕ, ◌<◌, ◌-◌, List, [], ◌∷◌, ◌++◌, length, sym, subst, Option, Some, None, Ok, Err, All, arith}
-use Rattle.std.specs.Prelude.{option_to_list, slice_set, slice_index_or, take, IfSome, OnOk}
+use Rattle.std.specs.Prelude.{option_to_list, slice_set, slice_index_or, IfSome, OnOk}
 use Rattle.std.specs.declared.result.Result.{Result}
 use Rattle.std.specs.List.{swap_remove}
 use Rattle.std.proofs.lemmas.List.Elements.{All-push, All-append, All-set, All-take, All-get_or, All-weaker, All-head, All-tail}

@@ -3,6 +3,8 @@ pub mod Bursts
 pub mod Opening
 pub mod Keepings
 pub mod Events
-pub mod Apart
+pub mod Placing
+pub mod Following
+pub mod Starting
 pub mod Crossing
 pub mod Gathered

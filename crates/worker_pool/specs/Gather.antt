@@ -1,12 +1,7 @@
 -- The logs of the workers beside the journal.
-use Rattle.std.specs.Prelude.{◌≡◌, ℕ, List, [], ◌∷◌, Bool, true, not, ◌&&◌, ◌==◌, if◌then◌else◌, All, IsSome, Some, None, map}
+use Rattle.std.specs.Prelude.{◌≡◌, ℕ, List, [], ◌∷◌, Bool, true, not, ◌&&◌, ◌==◌, if◌then◌else◌, All, IsSome, Some, map}
 use Rattle.std.specs.List.{list_any, list_all}
-use Rattle.std.specs.declared.option.Option.{Option}
 use Rattle.kernel_base.specs.declared.facts.Facts.{Facts}
-use Rattle.kernel_base.specs.declared.request.Request.{Request}
-use Rattle.kernel_base.specs.declared.request.Request.TheVariants.{Start}
-use Rattle.kernel_base.specs.declared.answer.Answer.{Answer}
-use Rattle.kernel_base.specs.declared.answer.Answer.TheVariants.{Instance}
 use Rattle.kernel_base.specs.declared.event.Event.{Event}
 use Rattle.kernel_base.specs.declared.event.Event.TheVariants.{Did, Waits, Goes, Runs}
 use Rattle.world_model.specs.Journal.{Birth, born_of}
@@ -30,21 +25,6 @@ events_of who (event ∷ events) = if who_of event == who then event ∷ events_
 -- the log has the events of its instance
 abbrev pub HasItsEvents : List Event → Log → Type 0
 HasItsEvents journal log = log.events ≡ events_of log.instance journal
-
--- the process and the arguments of a start
-abbrev pub start_of : Request → Option Birth
-start_of (Start process scalars) = Some (record { process = process; arguments = scalars })
-start_of request = None
-
--- the same where this instance was started
-abbrev pub start_answered : Request → Answer → ℕ → Option Birth
-start_answered request (Instance made) instance = if made == instance then start_of request else None
-start_answered request answer instance = None
-
--- the process and the arguments with which an event starts an instance
-abbrev pub birth_by : ℕ → Event → Option Birth
-birth_by instance (Did who ticks request answer refill) = start_answered request answer instance
-birth_by instance event = None
 
 abbrev pub birth_of : Log → Birth
 birth_of log = record { process = log.process; arguments = log.scalars }

@@ -4,3 +4,4 @@ pub mod Nexts
 pub mod Keeping
 pub mod Pools
 pub mod Gather
+pub mod LogPlaces

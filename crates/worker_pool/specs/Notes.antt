@@ -1,7 +1,7 @@
 -- What the kernel notes of a burst.
 use Rattle.std.specs.Prelude.{◌≡◌, ℕ, List, slice_get, Some}
 use Rattle.kernel_base.specs.declared.event.Event.{Event}
-use Rattle.kernel_base.specs.declared.event.Event.TheVariants.{Did, Waits, Goes, Runs}
+use Rattle.kernel_base.specs.declared.event.Event.TheVariants.{Did, Waits, Runs}
 use Rattle.code_machine.specs.declared.burst.Stop.{Stop}
 use Rattle.code_machine.specs.declared.burst.Stop.TheVariants.{Asks, Paused}
 use Rattle.kernel_steps.specs.declared.reply.Reply.{Reply}

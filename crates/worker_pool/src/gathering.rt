@@ -29,14 +29,18 @@ fn machines(logs: Logs) -> Result<Machines, Memory>
 }
 
 // How the run is over that the workers made, where their logs agree with its journal.
-fn ending(facts: &Facts, pool: &Pool) -> Option<Over>
-    ensures some { IsSome result ↔ Gathers facts.now pool.now }
-    ensures over { IfSome result (λ over. over_of pool.now.kernel.facts pool.now.kernel.events ≡ Some over) }
+fn ending(facts: &Facts, pool: &Pool) -> Result<Option<Over>, Memory>
+    ensures some { IfOk result (λ over. IsSome over ↔ Gathers facts.now pool.now) }
+    ensures over { IfOk result (λ over. IfSome over (λ o. over_of pool.now.kernel.facts pool.now.kernel.events ≡ Some o)) }
 {
-    if !pool.kernel.facts().equals(facts) || !agree(pool.workers.as_slice(), pool.kernel.events()) {
-        return None;
+    if !pool.kernel.facts().equals(facts) {
+        return Ok(None);
     }
-    pool.kernel.over()
+    let logs = &pool.workers;
+    if !agree(logs.allocator(), logs.as_slice(), pool.kernel.events())? {
+        return Ok(None);
+    }
+    Ok(pool.kernel.over())
 }
 
 // The run of a pool whose logs agree with the journal.
@@ -66,7 +70,7 @@ pub fn gather(guarded: &Guarded, facts: &Facts, pool: Pool) -> Result<Option<Dri
     ensures run { IfOk result (λ driven. IfSome driven (IsDriven guarded.now facts.now)) }
     ensures events { IfOk result (λ driven. IfSome driven (λ d. d.events ≡ pool.kernel.events)) }
 {
-    match ending(facts, &pool) {
+    match ending(facts, &pool)? {
         Some(over) => Ok(Some(into_driven(guarded, pool, over)?)),
         None => Ok(None),
     }

@@ -1,5 +1,5 @@
 use Rattle.std.proofs.Common.{subst, sym, ap, length}
-use Rattle.worker_pool.proofs.Bursts.{IsNoting, there_is, tells_of}
+use Rattle.worker_pool.proofs.Bursts.{IsNoting, tells_of}
 use Rattle.worker_pool.proofs.desk.note_stop.Goals.{in-Now, in-Later, in-Over, in-Stranger}
 use Rattle.worker_pool.proofs.desk.note_stop.Goals as goal
 

@@ -1,4 +1,4 @@
-use Rattle.std.proofs.Common.{◌≡◌, ◌<◌, All, arith, length, rules, subst, sym, ap, ◌∙◌}
+use Rattle.std.proofs.Common.{◌≡◌, ◌<◌, All, length, rules, subst}
 use Rattle.code_types.specs.declared.code.Code.{Code}
 use Rattle.worker_pool.specs.Logs.{IsLog}
 use Rattle.worker_pool.proofs.pool.join_all.Goals as goal

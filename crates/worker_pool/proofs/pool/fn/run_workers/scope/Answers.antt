@@ -1,7 +1,6 @@
-use Rattle.std.proofs.Common.{rules, arith, ◌≡◌, All}
+use Rattle.std.proofs.Common.{arith}
 use Rattle.std.proofs.lemmas.Grind.{common_steps}
 use denote.Param.Send.{param_send, arg_send}
-use Rattle.worker_pool.specs.Logs.{IsLog}
 use Rattle.worker_pool.proofs.Crossing.{taken_send}
 use Rattle.worker_pool.proofs.pool.fn.run_workers.scope.Goals.{in-Ok+in_ok-push-in-Ok, in-Err+in_ok-work-in-Err+in_ok-add_logs-in-Err}
 use Rattle.worker_pool.proofs.pool.fn.run_workers.scope.Goals as goal
