@@ -104,6 +104,9 @@ same_journal v = record { facts = refl; events = refl; taken = refl }
 pub journal_on : (first second third : View) (who : ℕ) → KeepsJournal first second → FetchedBy second third who → KeepsJournal first third
 journal_on first second third who k f = record { facts = f.facts ∙ k.facts; events = f.events ∙ k.events; taken = f.taken ∙ k.taken }
 
+pub journal_both : (first second third : View) → KeepsJournal first second → KeepsJournal second third → KeepsJournal first third
+journal_both first second third k j = record { facts = j.facts ∙ k.facts; events = j.events ∙ k.events; taken = j.taken ∙ k.taken }
+
 grows_from : (old mid new : View) (event : Event) → Keeps old mid → Grows mid new event → Grows old new event
 grows_from old mid new event k g = record {
   goes = g.goes;

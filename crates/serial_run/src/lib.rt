@@ -10,6 +10,7 @@ mod runner;
 mod serial;
 mod serving;
 mod taking;
+mod turns;
 
 pub use refusal::{Misfit, RunRefusal};
 pub use runner::{Machines, Runner};

@@ -76,3 +76,28 @@ pub fn next_from(
     }
     Ok(None)
 }
+
+/// The same among the machines at places that are listed, rising. Where none is found it says nothing of the others. It takes
+/// no memory.
+pub fn next_listed(
+    kernel: &mut Kernel,
+    runners: &mut [Runner],
+    places: &[usize],
+) -> Result<Option<usize>, Misfit>
+    ensures journal { KeepsJournal kernel.old kernel.new }
+    ensures stand { IfOk result (λ place. (code : Code) → AllStand code kernel.old runners.old → AllStand code kernel.new runners.new) }
+    ensures found { IfOk result (λ place. IfSome place (λ k. IsSomeAnd (slice_get runners.new k) (λ r. IsUp (state_of r.machine).mode))) }
+    ensures misfit { OnErr result (IsUnsuited kernel.old runners.old) }
+{
+    for place in places {
+        let k = *place;
+        if k >= runners.len() {
+            continue;
+        }
+        runners[k].fetch(kernel)?;
+        if runners[k].machine.can_burst() {
+            return Ok(Some(k));
+        }
+    }
+    Ok(None)
+}

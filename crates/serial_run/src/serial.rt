@@ -10,9 +10,10 @@ ghost use Rattle.serial_run.specs.Driven.{HasAllMachines, IsDriven};
 ghost use Rattle.serial_run.specs.Standing.{AllStand, IsAllTaken, KeepsJournal, Spends};
 ghost use Rattle.serial_run.specs.Suiting.{IsRefused, IsUnsuited, RestFrom};
 
-use crate::runner::{fetch_all, next_from};
+use crate::runner::{fetch_all, next_from, next_listed};
 use crate::serving::serve;
 use crate::taking::take_all;
+use crate::turns::{Turns, is_end};
 use crate::{Machines, Misfit, RunRefusal, Runner};
 use chill_base::List;
 use code_guard::Guarded;
@@ -28,11 +29,12 @@ pub struct Driven {
     pub over: Over,
 }
 
-// The place of the next machine from a place on that can make a burst, or else from the first on.
+// The place of the next machine that can make a burst: a live one from a place on, or else from the first on. All are asked
+// where none of these can, which then holds of each.
 fn next_turn(
     kernel: &mut Kernel,
     runners: &mut [Runner],
-    from: usize,
+    turns: &Turns,
 ) -> Result<Option<usize>, Misfit>
     ensures journal { KeepsJournal kernel.old kernel.new }
     ensures stand { IfOk result (λ place. (code : Code) → AllStand code kernel.old runners.old → AllStand code kernel.new runners.new) }
@@ -40,10 +42,13 @@ fn next_turn(
     ensures rest { IfOk result (RestFrom kernel.new runners.new 0) }
     ensures misfit { OnErr result (IsUnsuited kernel.old runners.old) }
 {
-    match next_from(kernel, runners, from)? {
-        Some(k) => Ok(Some(k)),
-        None => next_from(kernel, runners, 0),
+    if let Some(k) = next_listed(kernel, runners, turns.rest())? {
+        return Ok(Some(k));
     }
+    if let Some(k) = next_listed(kernel, runners, &turns.live)? {
+        return Ok(Some(k));
+    }
+    next_from(kernel, runners, 0)
 }
 
 // The run that is over, once each machine has had its answers.
@@ -70,14 +75,13 @@ fn finish(
     })
 }
 
-// One turn: the next process that can go makes a burst, which is committed. It gives the place from which the next one is
-// looked for.
+// One turn: the next process that can go makes a burst, which is committed.
 fn make_turn(
     guarded: &Guarded,
     kernel: &mut Kernel,
     runners: &mut [Runner],
-    from: usize,
-) -> Result<usize, RunRefusal>
+    turns: &mut Turns,
+) -> Result<(), RunRefusal>
     requires stand { AllStand guarded.now kernel.old runners.old }
     requires all { IsAllTaken kernel.old }
     requires open { over_of kernel.old.facts kernel.old.events ≡ None }
@@ -87,10 +91,15 @@ fn make_turn(
 {
     // The count fits its type, and so does each place behind one.
     let _count = runners.len();
-    match next_turn(kernel, runners, from)? {
+    match next_turn(kernel, runners, turns)? {
         Some(k) => {
+            let place = kernel.events().len();
             serve(guarded, kernel, &mut runners[k])?;
-            Ok(k + 1)
+            if is_end(kernel.events().get(place)) {
+                turns.remove(k);
+            }
+            turns.from = k + 1;
+            Ok(())
         }
         None => {
             // Somebody can go in each run that isn't over.
@@ -114,13 +123,15 @@ fn make_turns(
     ensures facts { OnOk result (kernel.new.facts ≡ kernel.old.facts) }
     ensures refused { IfErr result (IsRefused guarded.now kernel.old.facts) }
 {
-    let mut from = 0;
+    let mut turns = Turns::new(alloc);
     'turns: loop {
+        let count = runners.len();
         take_all(alloc, guarded, kernel, runners)?;
+        turns.add(count, runners.len())?;
         if let Some(over) = kernel.over() {
             return Ok(over);
         }
-        from = make_turn(guarded, kernel, runners, from)?;
+        make_turn(guarded, kernel, runners, &mut turns)?;
     }
 }
 

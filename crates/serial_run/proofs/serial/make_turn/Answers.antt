@@ -26,8 +26,8 @@ serve-requires-clause-place c =
     let up : IsUpAt c.next_turn.new.runners c.in-Some.k = turn_at c.next_turn.new.runners c.in_ok-k.field-0 c.in-Some.k c.in-Some.is c.in_ok-k.ensures.found in
     has_place c.args.guarded.now c.next_turn.new.kernel c.next_turn.new.runners c.in-Some.k (slice_index_or c.next_turn.new.runners c.in-Some.k c.index-runners-k.result) (c.in_ok-k.ensures.stand c.args.guarded.now c.requires.stand) (is_there c.next_turn.new.runners c.in-Some.k c.index-runners-k.result up)
 
-pub overflow_add-result : goal.overflow_add-result
-overflow_add-result c =
+pub overflow_add-turns : goal.overflow_add-turns
+overflow_add-turns c =
     let up : IsUpAt c.next_turn.new.runners c.in-Some.k = turn_at c.next_turn.new.runners c.in_ok-k.field-0 c.in-Some.k c.in-Some.is c.in_ok-k.ensures.found in
     let low = is_within c.next_turn.new.runners c.in-Some.k up in
     omega (arith, low)
