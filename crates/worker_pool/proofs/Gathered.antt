@@ -3,8 +3,7 @@ use Rattle.std.proofs.Common.{◌≡◌, ◌⊎◌, ℕ, zero, suc, List, [], �
 use Rattle.std.specs.Prelude.{not, ◌&&◌, ◌==◌, IsSome}
 use Rattle.std.specs.List.{list_all}
 use Rattle.std.proofs.lemmas.Bool.{cases_Bool, eqb-true, eq-eqb}
-use Rattle.std.proofs.lemmas.Option.{slice_get_within, get_or_from_slice_get, same_Some}
-use Rattle.std.proofs.lemmas.List.Elements.{All-get_or}
+use Rattle.std.proofs.lemmas.Option.{same_Some}
 use Rattle.kernel_base.specs.declared.facts.Facts.{Facts}
 use Rattle.kernel_base.specs.declared.answer.Answer.{Answer}
 use Rattle.kernel_base.specs.declared.ends.Over.{Over}
@@ -29,11 +28,8 @@ use Rattle.serial_run.specs.Driven.{StandsPast, HasMachine, IsUntouched, HaveOne
 use Rattle.worker_pool.specs.declared.log.Log.{Log}
 use Rattle.worker_pool.specs.Logs.{IsLog}
 use Rattle.worker_pool.specs.Gather.{who_of, IsOfJournal, has_log, are_apart, Agrees, runner_of, machines_of}
+use Rattle.worker_pool.proofs.Following.{all_at}
 use Rattle.worker_pool.proofs.Events.{quiet_items, quiet_answers, own_line, own_answers}
-
--- what holds of all holds of the one at a place
-all_at : (P : Log → Type 0) (logs : List Log) (k : ℕ) (log : Log) → All P logs → slice_get logs k ≡ Some log → P log
-all_at P logs k log all at = subst P (get_or_from_slice_get logs k log log at) (All-get_or P logs k log (slice_get_within logs k log at) all)
 
 -- the machine at a place is that of the log there
 of_log : (logs : List Log) (k : ℕ) (r : Runner) → slice_get (machines_of logs) k ≡ Some r → (log : Log) × (slice_get logs k ≡ Some log) × (runner_of log ≡ r)
