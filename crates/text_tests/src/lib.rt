@@ -1,4 +1,4 @@
-//! Tests of the crates that a text goes through, from what all share to the top call: each public call once with ample
+//! Tests of the crates that a text goes through, from what all share to what names stand for: each public call once with ample
 //! memory, and tables of what must come, written by hand.
 //!
 //! It proves nothing of its own. Tests stand in a crate at the top because a crate with tests is proved twice.
