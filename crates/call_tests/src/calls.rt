@@ -30,17 +30,19 @@ fn words_of(alloc: Global, line: &str) -> Result<Vec<String>, Memory> {
     Ok(words)
 }
 
-fn answered(outcome: Outcome) -> Answered {
-    let Outcome {
-        status,
-        events,
-        dropped,
-        ..
-    } = outcome;
-    Answered {
-        status,
-        events,
-        dropped,
+impl Answered {
+    fn of(outcome: Outcome) -> Answered {
+        let Outcome {
+            status,
+            events,
+            dropped,
+            ..
+        } = outcome;
+        Answered {
+            status,
+            events,
+            dropped,
+        }
     }
 }
 
@@ -62,7 +64,7 @@ pub fn call<R: Threads + Wait + Sync, G: Gate>(
         out,
         err,
     } = ports;
-    Ok(answered(chill(rt, alloc, &words, library, input, out, err, gate, watchers)))
+    Ok(Answered::of(chill(rt, alloc, &words, library, input, out, err, gate, watchers)))
 }
 
 /// A call that nobody watches, at an open gate: its status.
