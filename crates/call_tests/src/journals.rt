@@ -1,13 +1,11 @@
-// The journal of a run that a call hands back, and a command without words.
+// The journal of a run that a call hands back.
 use crate::calls::call;
 use crate::ports::{NONE, Ports, text_of};
 use chill_base::{Item, Memory};
-use chill_top::chill_alone;
 use kernel_base::{Answer, Event, Events, How, Request};
 use outside_ports::OpenGate;
 use std::alloc::Global;
 use std::test::Fail;
-use word_reader::{Command, FileName};
 
 const TWO_NUMBERS: &str = "M: MODULE PUT_INT(1 + 2); PUT_INT(40); END M;";
 
@@ -47,30 +45,5 @@ fn the_journal_of_a_run(rt: HostRuntime) -> Result<(), Fail> {
         assert_eq!(rt; answered.status, 0, "{line}");
         assert!(rt; answered.events.equals(&wanted(alloc)?), "{line}");
     }
-    Ok(())
-}
-
-#[test]
-fn a_command_is_carried_out_alone(rt: HostRuntime) -> Result<(), Fail> {
-    let alloc = rt.alloc();
-    let mut ports = Ports::new(alloc, TWO_NUMBERS, b"", &NONE)?;
-    let mut watchers = Vec::new(alloc);
-    let command = Command::Format {
-        file: FileName::new(alloc, "f")?,
-    };
-    let Ports {
-        library,
-        input,
-        out,
-        err,
-    } = &mut ports;
-    let outcome = chill_alone(alloc, &command, library, input, out, err, &mut watchers);
-    assert_eq!(rt; outcome.status, 0);
-    assert!(rt;
-        ports.took(
-            "M : MODULE PUT_INT ( 1 + 2 ) ;\nPUT_INT ( 40 ) ;\nEND M ;\n",
-            ""
-        )
-    );
     Ok(())
 }
