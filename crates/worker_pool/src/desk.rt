@@ -3,11 +3,13 @@ ghost use Rattle.std.specs.Prelude.{◌≡◌, [], IfOk, IfSome, length, ◌<◌
 ghost use Rattle.worker_pool.specs.Notes.{IsEventAt, IsOutcomeOf, IsStop, KeepsOpen, NotesStop};
 
 use crate::log::Log;
+use crate::log_events::instance_of;
 use chill_base::{Item, Memory};
 use code_machine::Stop;
 use kernel_base::{Answer, Event};
 use kernel_core::{Kernel, New, Reply};
 use serial_run::{commit, pause};
+use std::alloc::Global;
 use std::marker::Model;
 
 /// What a burst came to at the kernel.
@@ -25,9 +27,13 @@ pub enum Outcome {
 #[derive(Clone, Copy, PartialEq, Eq)]
 pub enum Wakes {
     Nobody,
-    One,
+    /// The worker of this number.
+    One(u32),
     All,
 }
+
+/// A run has at most so many workers.
+pub const MAX_WORKERS: usize = 16;
 
 /// What came of a burst: its outcome, how many processes have gone on so far, and whom it wakes.
 #[derive(Drop)]
@@ -37,14 +43,15 @@ pub struct Committed {
     pub wakes: Wakes,
 }
 
-/// The kernel; and beside it whether the run was given up, how many workers wait, and how many processes have gone on so far.
-/// Contracts see it as its kernel.
+/// The kernel; and beside it whether the run was given up, how many processes have gone on so far, which worker has each process,
+/// and which workers wait and weren't woken. Contracts see it as its kernel.
 #[derive(Drop)]
 pub struct Desk {
     kernel: Kernel,
     stopped: bool,
-    waiting: u32,
     went: u64,
+    owners: Vec<u32>,
+    idle: [bool; MAX_WORKERS],
 }
 
 impl Model for Desk {
@@ -60,6 +67,13 @@ impl Model for Desk {
     ghost view = { λ d. d.kernel };
 
     ghost invariant = { λ d. WasOpen d.kernel.facts d.kernel.events };
+}
+
+/// The place of a worker among all.
+pub fn worker_place(worker: u32) -> usize
+    ensures { result < 16 }
+{
+    worker as usize % MAX_WORKERS
 }
 
 // Commits what a burst came to, in room that it makes first.
@@ -113,14 +127,15 @@ fn is_start(outcome: &Outcome) -> bool {
 impl Desk {
     ghost use Rattle.serial_run.specs.Coming.{WasOpen};
 
-    pub fn new(kernel: Kernel) -> Desk
+    pub fn new(alloc: Global, kernel: Kernel) -> Desk
         requires { kernel.events ≡ [] }
     {
         Desk {
             kernel,
             stopped: false,
-            waiting: 0,
             went: 0,
+            owners: Vec::new(alloc),
+            idle: [false; MAX_WORKERS],
         }
     }
 
@@ -144,7 +159,8 @@ impl Desk {
             .len()
             .saturating_sub(before.saturating_add(1));
         self.went = self.went.wrapping_add(others as u64);
-        let wakes = self.wakes(&outcome, others > 0);
+        let finder = self.finder(&outcome, others);
+        let wakes = self.wake(finder);
         Ok(Committed {
             outcome,
             went: self.went,
@@ -152,16 +168,53 @@ impl Desk {
         })
     }
 
-    // A worker that waits finds something to do where one of its processes went on, a process was started, or the run is over.
-    fn wakes(&self, outcome: &Outcome, others_went: bool) -> Wakes {
-        if self.waiting == 0 {
-            Wakes::Nobody
-        } else if others_went || self.kernel.over().is_some() {
+    // Who finds something to do: the worker of the process that went on, any worker where a process was started, and all where
+    // several went on or the run is over.
+    fn finder(&self, outcome: &Outcome, others: usize) -> Wakes {
+        if others > 1 || self.kernel.over().is_some() {
             Wakes::All
+        } else if others == 1 {
+            self.last_owner()
         } else if is_start(outcome) {
-            Wakes::One
+            self.first_idle()
         } else {
             Wakes::Nobody
+        }
+    }
+
+    // The worker that has the process of the last event.
+    fn last_owner(&self) -> Wakes {
+        let who = self.kernel.events().last().map_or(0, instance_of);
+        match self.owners.get((who as usize).saturating_sub(1)) {
+            Some(worker) => Wakes::One(*worker),
+            None => Wakes::Nobody,
+        }
+    }
+
+    // The first worker that waits.
+    fn first_idle(&self) -> Wakes {
+        match self.idle.iter().position(|is_idle| *is_idle) {
+            Some(worker) => Wakes::One(worker as u32),
+            None => Wakes::Nobody,
+        }
+    }
+
+    // Of those that find something to do, those that wait. They are woken, so that the next commit wakes others.
+    fn wake(&mut self, finder: Wakes) -> Wakes {
+        match finder {
+            Wakes::Nobody => Wakes::Nobody,
+            Wakes::One(worker) => {
+                let place = worker_place(worker);
+                if !self.idle[place] {
+                    return Wakes::Nobody;
+                }
+                self.idle[place] = false;
+                finder
+            }
+            Wakes::All => {
+                self.idle = [false; MAX_WORKERS];
+                Wakes::All
+            }
         }
     }
 
@@ -177,9 +230,14 @@ impl Desk {
         None
     }
 
-    /// The next process that was started and that no worker took.
-    pub fn take_new(&mut self) -> Option<New> {
-        self.kernel.take_new()
+    /// The next process that was started and that no worker took, for this worker. Where there is no memory none is taken.
+    pub fn take_new(&mut self, worker: u32) -> Result<Option<New>, Memory> {
+        self.owners.reserve(1)?;
+        let new = self.kernel.take_new();
+        if new.is_some() {
+            self.owners.push(worker)?;
+        }
+        Ok(new)
     }
 
     /// Whether the run is over, or was given up.
@@ -193,13 +251,13 @@ impl Desk {
     }
 
     /// Notes that a worker begins to wait.
-    pub fn begin_waiting(&mut self) {
-        self.waiting = self.waiting.saturating_add(1);
+    pub fn begin_waiting(&mut self, worker: u32) {
+        self.idle[worker_place(worker)] = true;
     }
 
     /// Notes that a worker waits no longer.
-    pub fn end_waiting(&mut self) {
-        self.waiting = self.waiting.saturating_sub(1);
+    pub fn end_waiting(&mut self, worker: u32) {
+        self.idle[worker_place(worker)] = false;
     }
 
     /// Gives up the run.

@@ -77,7 +77,7 @@ fn starts(log: &Log, is_started: &mut bool, start: &Start<'_>) -> bool
     was_started || is_of(log, start)
 }
 
-// Whether an event starts no log otherwise than it says. Nothing starts instance 1.
+// Whether an event starts no log otherwise than it says. A start of instance 1, the outermost process, counts for nothing.
 fn admits(logs: &[Log], places: &LogPlaces, started: &mut Vec<bool>, event: &Event) -> bool
     requires places { HasPlaces logs.now (get nat_eq places.now) }
     requires started { length started.old.items ≡ length logs.now }

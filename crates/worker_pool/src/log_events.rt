@@ -11,8 +11,8 @@ use chill_base::{Item, Memory};
 use kernel_base::Event;
 use std::alloc::Global;
 
-// The instance whose event it is.
-fn instance_of(event: &Event) -> u32
+/// The instance whose event it is.
+pub fn instance_of(event: &Event) -> u32
     ensures { result ≡ who_of event.now }
 {
     match event {

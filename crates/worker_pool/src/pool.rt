@@ -126,7 +126,7 @@ pub fn run_pool<R: Threads + Wait + Sync, G: Gate>(
     requires workers { (2 ≤ workers) × (workers ≤ 16) }
     ensures { IfOk result (IsPool guarded.now) }
 {
-    let shared = Shared::new(Kernel::new(alloc, facts)?);
+    let shared = Shared::new(alloc, Kernel::new(alloc, facts)?);
     let logs = run_workers(rt, alloc, guarded, &shared, workers, gate)?;
     Ok(Pool {
         kernel: shared.into_kernel(),

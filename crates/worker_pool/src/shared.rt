@@ -4,12 +4,14 @@ ghost use Rattle.serial_run.specs.Coming.{WasOpen};
 ghost use Rattle.worker_pool.specs.Notes.{IsStop, IsOutcomeOf};
 ghost use Rattle.worker_pool.specs.Nexts.{FitsLogs};
 
-use crate::desk::{Committed, Desk, Wakes};
+use crate::desk::{Committed, Desk, MAX_WORKERS, Wakes, worker_place};
 use crate::log::Log;
 use chill_base::Memory;
 use code_machine::Stop;
 use kernel_base::Answer;
 use kernel_core::{Kernel, New};
+use std::alloc::Global;
+use std::array;
 use std::sync::{Condvar, Mutex, Wait};
 
 /// What a worker finds to do beside bursts.
@@ -29,16 +31,24 @@ pub enum Next {
 #[derive(Drop)]
 pub struct Shared {
     desk: Mutex<Desk>,
-    changed: Condvar,
+    /// What each worker waits on.
+    changed: [Condvar; MAX_WORKERS],
 }
 
 impl Shared {
-    pub fn new(kernel: Kernel) -> Shared
+    pub fn new(alloc: Global, kernel: Kernel) -> Shared
         requires { kernel.events ≡ [] }
     {
         Shared {
-            desk: Mutex::new(Desk::new(kernel)),
-            changed: Condvar::new(),
+            desk: Mutex::new(Desk::new(alloc, kernel)),
+            changed: array::from_fn(|_| Condvar::new()),
+        }
+    }
+
+    // At most one worker waits on each.
+    fn notify_all(&self) {
+        for changed in &self.changed {
+            changed.notify_one();
         }
     }
 
@@ -50,8 +60,8 @@ impl Shared {
         let committed = self.desk.lock(rt).commit(who, stop)?;
         match committed.wakes {
             Wakes::Nobody => {}
-            Wakes::One => self.changed.notify_one(),
-            Wakes::All => self.changed.notify_all(),
+            Wakes::One(worker) => self.changed[worker_place(worker)].notify_one(),
+            Wakes::All => self.notify_all(),
         }
         Ok(committed)
     }
@@ -69,23 +79,23 @@ impl Shared {
 
     /// An answer that came for one of the logs, or a process that was started, or the end of the run. It waits where there is none
     /// of these: some process is active then, and another worker has it, or the run would be over.
-    pub fn wait_for_next<R: Wait>(&self, rt: &R, logs: &[Log]) -> Next
-        ensures { FitsLogs (length logs.now) result }
+    pub fn wait_for_next<R: Wait>(&self, rt: &R, worker: u32, logs: &[Log]) -> Result<Next, Memory>
+        ensures { IfOk result (FitsLogs (length logs.now)) }
     {
         let mut desk = self.desk.lock(rt);
         for _ in rt.forever() {
             if let Some((place, answer)) = desk.fetch(logs) {
-                return Next::Answer(place, answer);
+                return Ok(Next::Answer(place, answer));
             }
             if desk.is_over() {
-                return Next::Over;
+                return Ok(Next::Over);
             }
-            if let Some(new) = desk.take_new() {
-                return Next::New(new);
+            if let Some(new) = desk.take_new(worker)? {
+                return Ok(Next::New(new));
             }
-            desk.begin_waiting();
-            desk = self.changed.wait(rt, desk);
-            desk.end_waiting();
+            desk.begin_waiting(worker);
+            desk = self.changed[worker_place(worker)].wait(rt, desk);
+            desk.end_waiting(worker);
         }
         unreachable!()
     }
@@ -93,7 +103,7 @@ impl Shared {
     /// Gives up the run, at which all workers end.
     pub fn stop(&self, rt: &impl Wait) {
         self.desk.lock(rt).stop();
-        self.changed.notify_all();
+        self.notify_all();
     }
 
     /// The kernel, once no worker is left.

@@ -234,7 +234,7 @@ fn make_turn<R: Wait, G: Gate>(
     match take_ready(worker) {
         Some(log) => make_burst(rt, guarded, shared, gate, worker, log),
         None => {
-            let next = shared.wait_for_next(rt, &worker.waiting);
+            let next = shared.wait_for_next(rt, worker.number, &worker.waiting)?;
             take_next(guarded, worker, next)
         }
     }
