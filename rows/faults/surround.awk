@@ -85,7 +85,6 @@ function add_all(kind, tags,    k) {
 
 function end_text(    k) {
     if (cases == 0) return
-    add_all("afterwards", "")
     print "# " title
     for (k = 1; k <= count_of_lines; k++) print "| " of_first_phase(lines[k])
     print ""
@@ -114,6 +113,11 @@ function put_all(kind, inside, tags,    k) {
     for (k = 1; k <= count_of[kind]; k++) put(texts[kind, k], inside, tags_of[kind, k] " " tags)
 }
 
+# What is used stands round the uses.
+function put_uses(kind, around,    k) {
+    for (k = 1; k <= count_of[kind]; k++) put(around, texts[kind, k], tags_of[kind, k])
+}
+
 # An action stands in each body, alone and in each action that holds actions; a definition directly in each body that may
 # have one, and in the same places as an action, with BEGIN and END round it.
 function put_in_bodies(inside, is_definition,    k, tags) {
@@ -138,7 +142,8 @@ function put_fault(kind, inside) {
         put_all("value", inside, "")
         put_all("constant", "SIZE(a(" inside "))", "")
         if (has(fault_tags, "constant")) put_all("constant", inside, "")
-    } else if (kind == "constant" || kind == "use" || kind == "result") put_all(kind, inside, "")
+    } else if (kind == "constant") put_all(kind, inside, "")
+    else if (kind == "use" || kind == "result") put_uses(kind, inside)
     else if (kind == "mode" || kind == "base" || kind == "discrete") {
         put_all("mode", inside, "")
         if (kind != "mode") put_all("base", inside, "")
