@@ -5,7 +5,6 @@
 
 function fail(words) {
     print FILENAME ":" FNR ": " words >"/dev/stderr"
-    failed = 1
     exit 1
 }
 
@@ -29,8 +28,9 @@ function holds(conditions, tags,    all, k, one) {
     return 1
 }
 
-# The line with its marks that count under the tags, without their conditions. The first phase of them is kept.
-function settled(line, tags,    pieces, count, k, end, mark, colon, phase) {
+# The line with its marks that count under the tags and are of this phase, or of any where it is 0, without their conditions.
+# The first phase of them is kept.
+function settled(line, tags, only,    pieces, count, k, end, mark, colon, phase) {
     count = split(line, pieces, "«")
     line = pieces[1]
     for (k = 2; k <= count; k++) {
@@ -41,21 +41,8 @@ function settled(line, tags,    pieces, count, k, end, mark, colon, phase) {
             mark = substr(mark, colon + 1)
             phase = phase_of(substr(mark, 1, index(mark " ", " ") - 1))
             if (phase < first_phase) first_phase = phase
-            line = line "«" mark "»"
+            if (only == 0 || phase == only) line = line "«" mark "»"
         }
-        line = line substr(pieces[k], end + length("»"))
-    }
-    return line
-}
-
-# The line with its marks of the first phase alone: what is told of a later one is told where nothing else is.
-function of_first_phase(line,    pieces, count, k, end, mark) {
-    count = split(line, pieces, "«")
-    line = pieces[1]
-    for (k = 2; k <= count; k++) {
-        end = index(pieces[k], "»")
-        mark = substr(pieces[k], 1, end - 1)
-        if (phase_of(substr(mark, 1, index(mark " ", " ") - 1)) == first_phase) line = line "«" mark "»"
         line = line substr(pieces[k], end + length("»"))
     }
     return line
@@ -77,16 +64,17 @@ function begin_text() {
     first_phase = 9
 }
 
-function add_line(line, tags) { lines[++count_of_lines] = settled(line, tags) }
+function add_line(line, tags) { lines[++count_of_lines] = settled(line, tags, 0) }
 
 function add_all(kind, tags,    k) {
     for (k = 1; k <= count_of[kind]; k++) add_line(texts[kind, k], tags)
 }
 
+# Of its marks those of the first phase are written: what is told of a later one is told where nothing else is.
 function end_text(    k) {
     if (cases == 0) return
     print "# " title
-    for (k = 1; k <= count_of_lines; k++) print "| " of_first_phase(lines[k])
+    for (k = 1; k <= count_of_lines; k++) print "| " settled(lines[k], "", first_phase)
     print ""
 }
 
@@ -97,7 +85,7 @@ function add_case(surrounding, inside, tags) {
 }
 
 # The same, in a text of its own where the fault is to stand alone in the outermost process.
-function put(surrounding, inside, tags) {
+function put(surrounding, inside, tags,    is_alone) {
     is_alone = has(fault_tags, "alone") && has(tags, "outermost")
     if (is_alone && cases > 0 || cases == most_cases) next_text()
     add_case(surrounding, inside, tags)
