@@ -32,7 +32,13 @@ want == "commands" && /^    \$ / {
     put(++commands ".command", substr($0, 7) "\n")
     put(commands ".wanted", "")
     is_open = 1
+    empty = 0
     next
 }
-want == "commands" && /^    / && is_open { print substr($0, 5) >> (folder "/" commands ".wanted"); next }
+want == "commands" && is_open && /^$/ { empty++; next }
+want == "commands" && is_open && /^    / {
+    for (; empty > 0; empty--) print "" >> (folder "/" commands ".wanted")
+    print substr($0, 5) >> (folder "/" commands ".wanted")
+    next
+}
 { is_open = 0 }
