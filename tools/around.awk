@@ -113,7 +113,7 @@ function completion() {
     print "    esac"
     print "    case $word in -?*) COMPREPLY=($(compgen -W \"$options\" -- \"$word\")) && return ;; esac"
     print "    case ${COMP_WORDS[1]} in"
-    print "    " files ") compopt -o filenames && COMPREPLY=($(compgen -f -- \"$word\")) ;;"
+    print "    " files ") compopt -o filenames 2>/dev/null; COMPREPLY=($(compgen -f -- \"$word\")) ;;"
     print "    esac"
     print "}"
     print "complete -F _chill chill ./chill"

@@ -11,7 +11,7 @@ _chill() {
     esac
     case $word in -?*) COMPREPLY=($(compgen -W "$options" -- "$word")) && return ;; esac
     case ${COMP_WORDS[1]} in
-    run | check | list | format) compopt -o filenames && COMPREPLY=($(compgen -f -- "$word")) ;;
+    run | check | list | format) compopt -o filenames 2>/dev/null; COMPREPLY=($(compgen -f -- "$word")) ;;
     esac
 }
 complete -F _chill chill ./chill
