@@ -67,6 +67,13 @@ function fault(words) {
     faults++
 }
 
+# The piece as often as is said, by halves, so that a long text takes no long time.
+function repeated(piece, turns,    half) {
+    if (turns < 2) return turns == 1 ? piece : ""
+    half = repeated(piece, int(turns / 2))
+    return half half (turns % 2 ? piece : "")
+}
+
 # The text with `{{N|piece}}` written out: N times the piece, each `#` in it being the number of the turn.
 function written_out(marked,    before, inside, from, until, turns, piece, k, all) {
     all = ""
@@ -79,7 +86,9 @@ function written_out(marked,    before, inside, from, until, turns, piece, k, al
         turns = inside
         sub(/\|.*/, "", turns)
         all = all before
-        for (k = 1; k <= turns + 0; k++) {
+        piece = substr(inside, length(turns) + 2)
+        if (!index(piece, "#")) all = all repeated(piece, turns + 0)
+        else for (k = 1; k <= turns + 0; k++) {
             piece = substr(inside, length(turns) + 2)
             gsub(/#/, k, piece)
             all = all piece
