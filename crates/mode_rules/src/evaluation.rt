@@ -90,6 +90,8 @@ pub struct Evaluation<'a> {
     /// What is known of each definition, by its number.
     pub entries: Vec<Entry>,
     pub plain: Plain,
+    // The rules on modes and constants that definitions break.
+    pub(crate) told: Told,
 }
 
 // Dropped by hand, so that whoever drops one makes one call.
@@ -102,11 +104,13 @@ impl<'a> Drop for Evaluation<'a> {
             defined,
             entries,
             plain,
+            told,
         } = self;
         drop(origins);
         drop(defined);
         drop(entries);
         drop(plain);
+        drop(told);
     }
 }
 
@@ -138,21 +142,18 @@ pub fn copied(class: &Class) -> Result<Class, Memory> {
 }
 
 impl<'a> Evaluation<'a> {
-    /// Evaluates all definitions of a program with its names, and tells which rules on modes and constants they break.
-    pub fn of(
-        alloc: Global,
-        tree: &'a Tree,
-        names: &'a Names,
-        told: &mut Told,
-    ) -> Result<Evaluation<'a>, Memory> {
+    /// Evaluates all definitions of a program with its names.
+    pub fn of(alloc: Global, tree: &'a Tree, names: &'a Names) -> Result<Evaluation<'a>, Memory> {
         let mut evaluation = Evaluation::unknown(alloc, tree, names)?;
+        let mut told = Told::new(alloc);
         let order = in_order(alloc, names, &evaluation.origins)?;
         for number in order.as_slice() {
-            let entry = evaluation.entry_of(*number, told)?;
+            let entry = evaluation.entry_of(*number, &mut told)?;
             if let Some(own) = evaluation.entries.get_mut(*number as usize) {
                 *own = entry;
             }
         }
+        evaluation.told = told;
         Ok(evaluation)
     }
 
@@ -171,6 +172,7 @@ impl<'a> Evaluation<'a> {
             defined,
             entries,
             plain: plain_modes(alloc)?,
+            told: Told::new(alloc),
         })
     }
 
