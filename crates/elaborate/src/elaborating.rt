@@ -6,23 +6,19 @@ use crate::bodies::fill_bodies;
 use crate::elaboration::Elaboration;
 use crate::program::Program;
 use checked_program::Checked;
-use chill_base::Memory;
 use chill_tree::tree::Tree;
 use expr_rules::Walk;
-use mode_rules::{Evaluation, Told};
-use names_model::Names;
+use mode_rules::Evaluation;
 use program_numbers::{ElaborationRefusal, Numbering};
 use program_ranges::are_in_range;
-use std::alloc::Global;
 use value_elaboration::Values;
 
-/// The elaborated program of a text that breaks no rule, of its tree and its names: all its numbers are in range. `Unsound`
-/// comes of no such text.
-pub fn elaborate(alloc: Global, tree: &Tree, names: &Names) -> Result<Program, ElaborationRefusal>
+/// The elaborated program of a text that breaks no rule, of its tree and its evaluated definitions: all its numbers are in
+/// range. `Unsound` comes of no such text.
+pub fn elaborate(evaluation: &Evaluation<'_>, tree: &Tree) -> Result<Program, ElaborationRefusal>
     ensures in_range { IfOk result (λ p. AreInRange p.checked.value) }
 {
-    let evaluation = evaluated(alloc, tree, names)?;
-    in_range(elaborated(&evaluation, tree)?)
+    in_range(elaborated(evaluation, tree)?)
 }
 
 // The program, whose numbers have to be in range.
@@ -33,16 +29,6 @@ fn in_range(program: Box<Checked>) -> Result<Program, ElaborationRefusal>
         return Err(ElaborationRefusal::Unsound);
     }
     Ok(Program { checked: program })
-}
-
-// The evaluated definitions of a program, which breaks no rule on them.
-fn evaluated<'a>(
-    alloc: Global,
-    tree: &'a Tree,
-    names: &'a Names,
-) -> Result<Evaluation<'a>, Memory> {
-    let mut told = Told::new(alloc);
-    Evaluation::of(alloc, tree, names, &mut told)
 }
 
 // The elaborated program of evaluated definitions.

@@ -55,7 +55,7 @@ impl<'a, 'b, 'c> Elaboration<'a, 'b, 'c> {
         let number = self.values.walk.evaluation.defined_at(name.at)?;
         match self.values.walk.counter(number) {
             Some(mode) => Some(mode),
-            None => self.values.walk.evaluation.entry(number)?.mode.as_ref(),
+            None => self.values.walk.evaluation.mode_defined(name),
         }
     }
 

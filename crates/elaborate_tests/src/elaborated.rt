@@ -2,6 +2,7 @@
 use chill_lexer::lex;
 use chill_parser::parse;
 use elaborate::{Program, elaborate};
+use mode_rules::Evaluation;
 use process_checks::check_processes;
 use static_checks::check_statements;
 use std::alloc::Global;
@@ -24,13 +25,16 @@ pub fn elaborated(alloc: Global, text: &[u8]) -> Result<Program, &'static str> {
     let Ok(names) = resolve(alloc, &tree) else {
         return Err("it breaks a rule on names");
     };
-    if check_statements(alloc, &tree, &names).is_err() {
+    let Ok(evaluation) = Evaluation::of(alloc, &tree, &names) else {
+        return Err("there is no memory");
+    };
+    if check_statements(&evaluation, &tree).is_err() {
         return Err("it breaks a rule on modes or statements");
     }
-    if check_processes(alloc, &tree, &names).is_err() {
+    if check_processes(&evaluation, &tree).is_err() {
         return Err("it breaks a rule on processes");
     }
-    match elaborate(alloc, &tree, &names) {
+    match elaborate(&evaluation, &tree) {
         Ok(program) => Ok(program),
         Err(_) => Err("it isn't elaborated"),
     }

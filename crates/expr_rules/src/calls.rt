@@ -43,14 +43,14 @@ impl<'a, 'b> Walk<'a, 'b> {
         let formals = self.formals_of_procedure(procedure)?;
         self.arguments(args, formals.as_slice(), told)?;
         if told.count() > before {
-            return Ok(Known::varying());
+            return Ok(Known::unknown());
         }
         tell_wrong_number(args.len(), formals.len(), at, told)?;
         if call_gives_no_value(procedure) {
             told.tell(Rule::S10, at)?;
         }
         if told.count() > before {
-            return Ok(Known::varying());
+            return Ok(Known::unknown());
         }
         self.result(number)
     }
@@ -67,36 +67,62 @@ impl<'a, 'b> Walk<'a, 'b> {
         let before = told.count();
         let known = self.routine_arguments(args, own, told)?;
         if told.count() > before {
-            return Ok(Known::varying());
+            return Ok(Known::unknown());
         }
         if gives_no_value(own) {
             told.tell(Rule::S10, at)?;
         }
         if args.len() != number_of_arguments(own) {
             told.tell(Rule::S5, at)?;
-            return Ok(Known::varying());
+            return Ok(Known::unknown());
         }
         let found = self.routine(own, args, &known)?;
-        tell_unfit(found, at, told)
+        let result = tell_unfit(found, at, told)?;
+        Ok(if told.count() > before {
+            Known::unknown()
+        } else {
+            result
+        })
     }
 
     // What is told in a routine's arguments, and what is known of the last.
     #[cycle(expr)]
-    fn routine_arguments(
+    pub(crate) fn routine_arguments(
         &self,
         args: &[Expr],
         own: Predefined,
         told: &mut Told,
     ) -> Result<Known, Memory> {
-        let mut known = Known::broken();
+        let mut known = Known::unknown();
         for arg in args {
             known = if takes_no_value(own) {
-                self.node(arg, Receiver::Nothing, told)?
+                self.measured(arg, told)?
             } else {
                 self.value(arg, Receiver::Nothing, told)?
             };
         }
         Ok(known)
+    }
+
+    // What UPPER, LOWER or SIZE measures: no value, nor is what stands there in parentheses.
+    #[cycle(expr)]
+    fn measured(&self, arg: &Expr, told: &mut Told) -> Result<Known, Memory> {
+        match arg {
+            Expr::Paren { inner, .. } => self.measured(inner, told),
+            Expr::Whole { .. }
+            | Expr::Char { .. }
+            | Expr::Text { .. }
+            | Expr::This { .. }
+            | Expr::Receive { .. }
+            | Expr::Start { .. }
+            | Expr::Tuple { .. }
+            | Expr::Uniform { .. }
+            | Expr::Name(_)
+            | Expr::Apply { .. }
+            | Expr::Field { .. }
+            | Expr::Prefixed { .. }
+            | Expr::Binary { .. } => self.node(arg, Receiver::Nothing, told),
+        }
     }
 
     // The instance that START gives as a value.
@@ -111,11 +137,11 @@ impl<'a, 'b> Walk<'a, 'b> {
         let formals = self.formals_of_process(process)?;
         self.arguments(args, formals.as_slice(), told)?;
         if told.count() > before {
-            return Ok(Known::varying());
+            return Ok(Known::unknown());
         }
         tell_wrong_number(args.len(), formals.len(), process.at, told)?;
         if told.count() > before {
-            return Ok(Known::varying());
+            return Ok(Known::unknown());
         }
         self.instance()
     }

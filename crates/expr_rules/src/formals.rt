@@ -53,15 +53,9 @@ impl<'a, 'b> Walk<'a, 'b> {
     // The parameter of a name.
     fn formal(&self, name: &Name, passing: Passing) -> Formal<'_> {
         Formal {
-            mode: self.mode_defined(name),
+            mode: self.evaluation.mode_defined(name),
             passing,
         }
-    }
-
-    // The mode of what a name defines.
-    fn mode_defined(&self, name: &Name) -> Option<&Rc<Mode>> {
-        let number = self.evaluation.defined_at(name.at)?;
-        self.evaluation.entry(number)?.mode.as_ref()
     }
 
     /// The parts of the messages that are sent to a buffer or by a signal, or none where the name is neither.

@@ -22,6 +22,6 @@ pub use calls::tell_wrong_number;
 pub use formals::Formal;
 pub use places::{Access, Located};
 pub use receiving::Receiver;
-pub use results::{Callee, gives_no_value, is_routine, number_of_arguments, takes_no_value};
+pub use results::{Callee, gives_no_value};
 pub use surroundings::Walk;
-pub use tuple_values::{Shape, TupleValue, shape_of, uniform_shape_of};
+pub use tuple_values::{Shape, shape_of, tuple_known, uniform_shape_of, value_of};

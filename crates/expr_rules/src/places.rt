@@ -1,11 +1,11 @@
 // Locations: what they are of, their modes, and whether they can be written (Z.200, chapter on locations).
 use crate::receiving::Receiver;
-use crate::results::field_in;
+use crate::results::{Callee, takes_no_value};
 use crate::surroundings::Walk;
 use chill_base::Memory;
 use chill_tree::tree::{Expr, Name};
 use diagnostics::Rule;
-use mode_rules::{Known, Origin, Told};
+use mode_rules::{Known, Origin, Predefined, Told, field_in, shared};
 use modes::{Class, Mode, holds_read, is_read};
 use std::rc::Rc;
 
@@ -51,7 +51,7 @@ impl Located {
     /// Its class: the value of its mode, for an operator with it.
     pub fn known(&self) -> Result<Known, Memory> {
         match &self.mode {
-            None => Ok(Known::varying()),
+            None => Ok(Known::unknown()),
             Some(mode) => Ok(Known::of_class(Class::Value(mode.clone()?))),
         }
     }
@@ -93,20 +93,44 @@ impl<'a, 'b> Walk<'a, 'b> {
         Ok(located)
     }
 
+    // The routine that measures what stands in the brackets behind an expression, if it does: that is no value here either.
+    fn measured_by(&self, of: &Expr) -> Option<Predefined> {
+        match self.callee(of) {
+            Callee::Routine(own) if takes_no_value(own) => Some(own),
+            Callee::Routine(_) | Callee::Procedure { .. } | Callee::Nothing => None,
+        }
+    }
+
     // What the indices of a location break, and what is known of it. Brackets behind a name call nothing here.
     #[cycle(location)]
     fn indices(&self, expr: &Expr, told: &mut Told) -> Result<Known, Memory> {
         match expr {
             Expr::Name(name) => self.name(name),
-            Expr::Apply { of, args, .. } => {
-                let base = self.indices(of, told)?;
-                self.indexed(args.as_slice(), of.at(), &base, told)
-            }
+            Expr::Apply { of, args, .. } => match self.measured_by(of) {
+                Some(own) => {
+                    let _ = self.routine_arguments(args.as_slice(), own, told)?;
+                    Ok(Known::no_value())
+                }
+                None => {
+                    let base = self.indices(of, told)?;
+                    self.indexed(args.as_slice(), of.at(), &base, told)
+                }
+            },
             Expr::Field { of, field, .. } => {
                 let base = self.indices(of, told)?;
                 self.field(&base, field.text.as_slice())
             }
-            _ => Ok(Known::varying()),
+            Expr::Whole { .. }
+            | Expr::Char { .. }
+            | Expr::Text { .. }
+            | Expr::This { .. }
+            | Expr::Paren { .. }
+            | Expr::Receive { .. }
+            | Expr::Start { .. }
+            | Expr::Tuple { .. }
+            | Expr::Uniform { .. }
+            | Expr::Prefixed { .. }
+            | Expr::Binary { .. } => Ok(Known::unknown()),
         }
     }
 
@@ -129,7 +153,7 @@ impl<'a, 'b> Walk<'a, 'b> {
                 let base = self.path(of)?;
                 let mode = match &base.mode {
                     None => None,
-                    Some(own) => shared_mode((&*self).element_in(own))?,
+                    Some(own) => shared(self.evaluation.element_in(own))?,
                 };
                 Ok(base.part(mode))
             }
@@ -137,11 +161,21 @@ impl<'a, 'b> Walk<'a, 'b> {
                 let base = self.path(of)?;
                 let mode = match &base.mode {
                     None => None,
-                    Some(own) => shared_mode(field_in(own, field.text.as_slice()))?,
+                    Some(own) => shared(field_in(own, field.text.as_slice()))?,
                 };
                 Ok(base.part(mode))
             }
-            _ => Ok(no_location(None)),
+            Expr::Whole { .. }
+            | Expr::Char { .. }
+            | Expr::Text { .. }
+            | Expr::This { .. }
+            | Expr::Paren { .. }
+            | Expr::Receive { .. }
+            | Expr::Start { .. }
+            | Expr::Tuple { .. }
+            | Expr::Uniform { .. }
+            | Expr::Prefixed { .. }
+            | Expr::Binary { .. } => Ok(no_location(None)),
         }
     }
 
@@ -167,14 +201,6 @@ impl<'a, 'b> Walk<'a, 'b> {
             mode: Some(mode.clone()?),
             access,
         })
-    }
-}
-
-// The same mode once more, where there is one.
-fn shared_mode(mode: Option<&Rc<Mode>>) -> Result<Option<Rc<Mode>>, Memory> {
-    match mode {
-        None => Ok(None),
-        Some(mode) => Ok(Some(mode.clone()?)),
     }
 }
 

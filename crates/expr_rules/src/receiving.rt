@@ -1,10 +1,10 @@
 // The places that receive an expression, and the rules of what they receive.
 use crate::places::{Access, Located};
-use crate::surroundings::{Walk, is_of_discrete};
+use crate::surroundings::Walk;
 use chill_base::Memory;
 use chill_tree::tree::Expr;
 use diagnostics::Rule;
-use mode_rules::{Known, Told, form_in};
+use mode_rules::{Known, Told, form_in, is_of_discrete};
 use modes::{Form, Mode, v_equivalent};
 use std::rc::Rc;
 

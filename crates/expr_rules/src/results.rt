@@ -4,7 +4,8 @@ use crate::surroundings::Walk;
 use chill_base::{Item, Memory};
 use chill_tree::tree::{Expr, Name, Operator, Prefix, Procedure};
 use mode_rules::{
-    Computed, Known, Measured, Origin, Predefined, form_in, is_measuring, is_value_routine, mode_in,
+    Computed, Known, Measured, Origin, Predefined, field_in, form_in, is_measuring,
+    is_value_routine, mode_in,
 };
 use modes::{Class, Form, Mode, form_of};
 use std::rc::Rc;
@@ -27,7 +28,7 @@ impl<'a, 'b> Walk<'a, 'b> {
         match i64::try_from(value) {
             Ok(number) if is_negative => self.evaluation.int(-number),
             Ok(number) => self.evaluation.int(number),
-            Err(_) => Ok(Known::broken()),
+            Err(_) => Ok(Known::unknown()),
         }
     }
 
@@ -45,17 +46,28 @@ impl<'a, 'b> Walk<'a, 'b> {
     /// A name alone. One that is called stands for no value.
     pub fn name(&self, name: &Name) -> Result<Known, Memory> {
         let Some(number) = self.evaluation.used_at(name.at) else {
-            return Ok(Known::varying());
+            return Ok(Known::unknown());
         };
         if self.evaluation.is_constant_name(number) {
             return self.evaluation.constant_name(number);
         }
         match self.evaluation.origin(number) {
-            Some(Origin::Procedure(_)) => Ok(Known::of_class(Class::Nothing)),
-            Some(Origin::Predefined(own)) if is_routine(own) => {
-                Ok(Known::of_class(Class::Nothing))
-            }
-            _ => of_mode(self.mode_of(number)),
+            Some(Origin::Procedure(_)) => Ok(Known::no_value()),
+            Some(Origin::Predefined(own)) if is_routine(own) => { Ok(Known::no_value()) }
+            Some(Origin::Location { .. })
+            | Some(Origin::Parameter { .. })
+            | Some(Origin::Counter(_))
+            | Some(Origin::Received { .. }) => of_mode(self.mode_of(number)),
+            // No name of these stands as a value.
+            Some(Origin::Synonym { .. })
+            | Some(Origin::Element(_))
+            | Some(Origin::SynMode(_))
+            | Some(Origin::NewMode(_))
+            | Some(Origin::Process(_))
+            | Some(Origin::Signal(_))
+            | Some(Origin::Modulion(_))
+            | Some(Origin::Predefined(_))
+            | None => Ok(Known::unknown()),
         }
     }
 
@@ -67,7 +79,15 @@ impl<'a, 'b> Walk<'a, 'b> {
             }
             Origin::Counter(_) => self.counter(number),
             Origin::Received { alternative, part } => self.received(alternative, part),
-            _ => None,
+            Origin::Synonym { .. }
+            | Origin::SynMode(_)
+            | Origin::NewMode(_)
+            | Origin::Element(_)
+            | Origin::Procedure(_)
+            | Origin::Process(_)
+            | Origin::Signal(_)
+            | Origin::Modulion(_)
+            | Origin::Predefined(_) => None,
         }
     }
 
@@ -79,10 +99,10 @@ impl<'a, 'b> Walk<'a, 'b> {
     /// An element of something: no value where it has none.
     pub fn element(&self, of: &Known) -> Result<Known, Memory> {
         match &of.class {
-            None => Ok(Known::varying()),
+            None => Ok(Known::unknown()),
             Some(class) => match mode_in(class) {
-                None => Ok(Known::of_class(Class::Nothing)),
-                Some(mode) => part(self.element_in(mode)),
+                None => Ok(Known::no_value()),
+                Some(mode) => part(self.evaluation.element_in(mode)),
             },
         }
     }
@@ -90,9 +110,9 @@ impl<'a, 'b> Walk<'a, 'b> {
     /// A field of something: no value where it has none of that name.
     pub fn field(&self, of: &Known, name: &[u8]) -> Result<Known, Memory> {
         match &of.class {
-            None => Ok(Known::varying()),
+            None => Ok(Known::unknown()),
             Some(class) => match mode_in(class) {
-                None => Ok(Known::of_class(Class::Nothing)),
+                None => Ok(Known::no_value()),
                 Some(mode) => part(field_in(mode, name)),
             },
         }
@@ -103,16 +123,14 @@ impl<'a, 'b> Walk<'a, 'b> {
         match form_of(of) {
             Form::Array { index, .. } => Some(index),
             Form::Chars(_) => Some(&self.evaluation.plain.int),
-            _ => None,
-        }
-    }
-
-    // The mode of the elements of an array or a text.
-    pub(crate) fn element_in<'k>(&'k self, of: &'k Mode) -> Option<&'k Rc<Mode>> {
-        match form_of(of) {
-            Form::Array { element, .. } => Some(element),
-            Form::Chars(_) => Some(&self.evaluation.plain.char),
-            _ => None,
+            Form::Int
+            | Form::Bool
+            | Form::Char
+            | Form::Instance
+            | Form::Set { .. }
+            | Form::Powerset(_)
+            | Form::Struct { .. }
+            | Form::Meeting => None,
         }
     }
 
@@ -127,7 +145,7 @@ impl<'a, 'b> Walk<'a, 'b> {
             return Ok(known_of(self.evaluation.computed_binary(operator, left, right)?));
         }
         let (Some(one), Some(other)) = (&left.class, &right.class) else {
-            return Ok(Some(Known::varying()));
+            return Ok(Some(Known::unknown()));
         };
         Ok(varying_of(self.evaluation.class_of_binary(operator, one, other)?))
     }
@@ -138,7 +156,7 @@ impl<'a, 'b> Walk<'a, 'b> {
             return Ok(known_of(self.evaluation.computed_unary(operator, operand)?));
         }
         match &operand.class {
-            None => Ok(Some(Known::varying())),
+            None => Ok(Some(Known::unknown())),
             Some(class) => Ok(varying_of(self.evaluation.class_of_unary(operator, class)?)),
         }
     }
@@ -166,7 +184,7 @@ impl<'a, 'b> Walk<'a, 'b> {
     /// What a call of the procedure of that number gives; nothing is known where it returns none.
     pub fn result(&self, number: u32) -> Result<Known, Memory> {
         match self.evaluation.entry(number) {
-            None => Ok(Known::varying()),
+            None => Ok(Known::unknown()),
             Some(entry) => of_mode(entry.mode.as_ref()),
         }
     }
@@ -181,7 +199,7 @@ impl<'a, 'b> Walk<'a, 'b> {
     ) -> Result<Option<Known>, Memory> {
         match own {
             Predefined::GetInt => of_some_mode(&self.evaluation.plain.int),
-            Predefined::PutLine => Ok(Some(Known::varying())),
+            Predefined::PutLine => Ok(Some(Known::no_value())),
             Predefined::PutInt | Predefined::PutText => Ok(put(own, known)),
             Predefined::Upper | Predefined::Lower | Predefined::Size => match args.first() {
                 None => Ok(None),
@@ -197,7 +215,7 @@ impl<'a, 'b> Walk<'a, 'b> {
             return Ok(known_of(self.evaluation.computed_routine(own, arg)?));
         }
         match &arg.class {
-            None => Ok(Some(Known::varying())),
+            None => Ok(Some(Known::unknown())),
             Some(class) => Ok(varying_of(self.evaluation.class_of_routine(own, class)?)),
         }
     }
@@ -212,32 +230,19 @@ impl<'a, 'b> Walk<'a, 'b> {
         match self.evaluation.measured(arg)? {
             Measured::Mode(mode) => self.evaluation.measure_of(own, &mode),
             Measured::Misfit => Ok(None),
-            Measured::Broken => Ok(Some(Known::varying())),
+            Measured::Broken => Ok(Some(Known::unknown())),
             Measured::Other => Ok(match &known.class {
-                None => Some(Known::varying()),
+                None => Some(Known::unknown()),
                 Some(_) => None,
             }),
         }
     }
 }
 
-// The mode of the field of that name of a structure.
-pub(crate) fn field_in<'k>(of: &'k Mode, name: &[u8]) -> Option<&'k Rc<Mode>> {
-    let Form::Struct { fields, .. } = form_of(of) else {
-        return None;
-    };
-    for field in fields.as_slice() {
-        if field.name.as_slice() == name {
-            return Some(&field.mode);
-        }
-    }
-    None
-}
-
 // A part of this mode: no value where it doesn't fit what it is a part of.
 fn part(mode: Option<&Rc<Mode>>) -> Result<Known, Memory> {
     match mode {
-        None => Ok(Known::of_class(Class::Nothing)),
+        None => Ok(Known::no_value()),
         Some(mode) => Ok(Known::of_class(Class::Value(mode.clone()?))),
     }
 }
@@ -245,7 +250,7 @@ fn part(mode: Option<&Rc<Mode>>) -> Result<Known, Memory> {
 // A value of a mode, where that is known.
 fn of_mode(mode: Option<&Rc<Mode>>) -> Result<Known, Memory> {
     match mode {
-        None => Ok(Known::varying()),
+        None => Ok(Known::unknown()),
         Some(mode) => Ok(Known::of_class(Class::Value(mode.clone()?))),
     }
 }
@@ -254,11 +259,13 @@ fn of_some_mode(mode: &Rc<Mode>) -> Result<Option<Known>, Memory> {
     Ok(Some(of_mode(Some(mode))?))
 }
 
-// What came of an operator or a routine on constants.
+// What came of an operator or a routine on constants. One that would raise an exception has a class, but no value: that is
+// told in the phase of modes and constants.
 fn known_of(computed: Computed) -> Option<Known> {
     match computed {
         Computed::Known(known) => Some(known),
-        Computed::Misfit | Computed::OutOfRange => None,
+        Computed::OutOfRange(class) => Some(Known::constant_of_class(class)),
+        Computed::Misfit => None,
     }
 }
 
@@ -273,11 +280,11 @@ fn varying_of(class: Option<Class>) -> Option<Known> {
 // PUT_INT and PUT_TEXT, which give nothing, of an argument that fits.
 fn put(own: Predefined, arg: &Known) -> Option<Known> {
     let Some(class) = &arg.class else {
-        return Some(Known::varying());
+        return Some(Known::no_value());
     };
     match (own, form_in(class)) {
         (Predefined::PutInt, Some(Form::Int)) | (Predefined::PutText, Some(Form::Chars(_))) => {
-            Some(Known::varying())
+            Some(Known::no_value())
         }
         _ => None,
     }
@@ -300,7 +307,26 @@ pub fn gives_no_value(own: Predefined) -> bool {
 pub fn number_of_arguments(own: Predefined) -> usize {
     match own {
         Predefined::PutLine | Predefined::GetInt => 0,
-        _ => 1,
+        Predefined::Num
+        | Predefined::Succ
+        | Predefined::Pred
+        | Predefined::Abs
+        | Predefined::Card
+        | Predefined::Min
+        | Predefined::Max
+        | Predefined::Upper
+        | Predefined::Lower
+        | Predefined::Size
+        | Predefined::PutInt
+        | Predefined::PutText => 1,
+        // What is no routine isn't called.
+        Predefined::Int
+        | Predefined::Bool
+        | Predefined::Char
+        | Predefined::Instance
+        | Predefined::True
+        | Predefined::False
+        | Predefined::Null => 0,
     }
 }
 

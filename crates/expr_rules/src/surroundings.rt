@@ -1,8 +1,8 @@
 // What expressions are asked against: the evaluated definitions, and the modes of counters and received names.
 use chill_base::{Memory, Pos};
 use chill_tree::tree::{Name, ReceiveAlternative};
-use mode_rules::{Entry, Evaluation, Known, Origin, form_in, mode_in};
-use modes::{Class, Form, Mode, compatible, is_discrete};
+use mode_rules::{Entry, Evaluation, Known, Meeting, Origin, form_in, is_of_discrete, meeting_of};
+use modes::{Class, Form, Mode, compatible};
 use std::rc::Rc;
 
 /// The evaluated definitions of a program that breaks no rule on modes and constants, and the modes of its counters as far
@@ -116,19 +116,10 @@ impl<'a, 'b> Walk<'a, 'b> {
     }
 }
 
-// Whether a class has a discrete mode.
-pub(crate) fn is_of_discrete(class: &Class) -> bool {
-    match mode_in(class) {
-        None => false,
-        Some(mode) => is_discrete(mode),
-    }
-}
-
-// The mode of a buffer's values, names looked through.
+// The mode of a buffer's values, where the mode is one of a buffer.
 fn element_in(mode: &Mode) -> Option<&Rc<Mode>> {
-    match mode {
-        Mode::Buffer { element, .. } => Some(element),
-        Mode::Read { of } | Mode::Named { of, .. } => element_in(of),
-        _ => None,
+    match meeting_of(mode) {
+        Some(Meeting::Buffer { element, .. }) => Some(element),
+        Some(Meeting::Event { .. }) | None => None,
     }
 }

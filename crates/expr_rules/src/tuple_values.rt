@@ -1,11 +1,11 @@
 // Tuples, and the rules on them (Z.200, chapter on values).
 use crate::receiving::Receiver;
 use crate::surroundings::Walk;
-use chill_base::{Memory, Pos, Scalars};
+use chill_base::{Memory, Pos};
 use chill_tree::tree::{Expr, Name, ValueRange};
 use diagnostics::Rule;
-use mode_rules::{Known, Told, add_members, empty_set, has_parts, member_count};
-use modes::{Bounds, Class, Fields, Form, Mode, bounds, form_of, number_of_values};
+use mode_rules::{Known, Told, TupleValue, has_parts};
+use modes::{Class, Fields, Form, Mode, form_of, number_of_values};
 use std::alloc::Global;
 use std::rc::Rc;
 
@@ -57,68 +57,26 @@ impl<'s> Shape<'s> {
     }
 }
 
-/// The value of a tuple, as its parts are added: none where one of them has none.
-pub struct TupleValue {
-    all: Scalars,
-    is_there: bool,
-}
-
-// Dropped by hand, so that whoever drops one makes one call.
-impl Drop for TupleValue {
-    fn drop(self) {
-        let TupleValue { all, is_there: _ } = self;
-        drop(all);
+/// The value of a tuple of that shape, without parts yet.
+pub fn value_of(alloc: Global, shape: Shape<'_>) -> Result<TupleValue, Memory> {
+    match shape {
+        Shape::Members(member) => TupleValue::of_members(alloc, member),
+        Shape::Elements(_) | Shape::Fields(_) | Shape::Unknown | Shape::Misfit => Ok(
+            TupleValue::of_parts(alloc),
+        ),
     }
 }
 
-impl TupleValue {
-    /// The value of a tuple without parts.
-    pub fn new(alloc: Global, shape: Shape<'_>) -> Result<TupleValue, Memory> {
-        let all = match shape {
-            Shape::Members(member) => empty_set(alloc, member_count(member))?,
-            _ => Scalars::new(alloc),
-        };
-        Ok(TupleValue {
-            all,
-            is_there: true,
-        })
-    }
-
-    /// Adds an element or a field.
-    pub fn add(&mut self, part: &Known) -> Result<(), Memory> {
-        match &part.value {
-            None => self.is_there = false,
-            Some(value) => {
-                for number in value.as_slice() {
-                    self.all.push(*number)?;
-                }
-            }
-        }
-        Ok(())
-    }
-
-    /// Adds the members of this mode from one to another.
-    pub fn add_span(&mut self, member: &Mode, first: &Known, last: &Known) {
-        match (bounds(member), first.number(), last.number()) {
-            (Some(Bounds { low, .. }), Some(from), Some(to)) => add_members(
-                &mut self.all,
-                from.saturating_sub(low),
-                to.saturating_sub(low),
-            ),
-            _ => self.is_there = false,
-        }
-    }
-
-    /// What is known of the tuple, whose mode is this. It is a constant where it has a value and is written with its
-    /// mode's name; without one it has a value only to be a part of such a tuple.
-    pub fn into_known(self, mode: &Rc<Mode>, is_named: bool) -> Result<Known, Memory> {
-        let TupleValue { all, is_there } = self;
-        Ok(Known {
-            class: Some(Class::Value(mode.clone()?)),
-            value: if is_there { Some(all) } else { None },
-            is_constant: is_there && is_named,
-        })
-    }
+/// What is known of a tuple, whose mode is this. It is a constant where it has a value and is written with its mode's name;
+/// without one it has a value only to be a part of such a tuple.
+pub fn tuple_known(value: TupleValue, mode: &Rc<Mode>, is_named: bool) -> Result<Known, Memory> {
+    let value = value.into_value();
+    let is_constant = is_named && value.is_some();
+    Ok(Known {
+        class: Some(Class::Value(mode.clone()?)),
+        value,
+        is_constant,
+    })
 }
 
 impl<'a, 'b> Walk<'a, 'b> {
@@ -153,7 +111,7 @@ impl<'a, 'b> Walk<'a, 'b> {
         let shape = shape_of(receiver, parts);
         let value = self.parts(parts, shape, told)?;
         if told.count() > before {
-            return Ok(Known::varying());
+            return Ok(Known::unknown());
         }
         tell_shape(shape, bracket, told)?;
         known_of_tuple(value, shape, receiver, is_named)
@@ -167,7 +125,7 @@ impl<'a, 'b> Walk<'a, 'b> {
         shape: Shape<'_>,
         told: &mut Told,
     ) -> Result<TupleValue, Memory> {
-        let mut value = TupleValue::new(self.evaluation.alloc, shape)?;
+        let mut value = value_of(self.evaluation.alloc, shape)?;
         for (place, part) in parts.iter().enumerate() {
             self.part(part, shape, place, &mut value, told)?;
         }
@@ -228,10 +186,10 @@ impl<'a, 'b> Walk<'a, 'b> {
         let (shape, count) = uniform_shape_of(receiver);
         let known = self.value(value, shape.receiver(0), told)?;
         if told.count() > before {
-            return Ok(Known::varying());
+            return Ok(Known::unknown());
         }
         tell_shape(shape, bracket, told)?;
-        let mut all = TupleValue::new(self.evaluation.alloc, shape)?;
+        let mut all = value_of(self.evaluation.alloc, shape)?;
         for _ in 0..count {
             all.add(&known)?;
         }
@@ -280,8 +238,8 @@ fn known_of_tuple(
     is_named: bool,
 ) -> Result<Known, Memory> {
     match (shape, receiver) {
-        (Shape::Misfit, _) => Ok(Known::varying()),
-        (_, Receiver::Mode(Some(mode))) => value.into_known(mode, is_named),
-        _ => Ok(Known::varying()),
+        (Shape::Misfit, _) => Ok(Known::unknown()),
+        (_, Receiver::Mode(Some(mode))) => tuple_known(value, mode, is_named),
+        _ => Ok(Known::unknown()),
     }
 }

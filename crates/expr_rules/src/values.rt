@@ -91,7 +91,7 @@ impl<'a, 'b> Walk<'a, 'b> {
     #[cycle(expr)]
     fn applied(&self, expr: &Expr, told: &mut Told) -> Result<Known, Memory> {
         let Expr::Apply { of, args, .. } = expr else {
-            return Ok(Known::varying());
+            return Ok(Known::unknown());
         };
         match self.callee(of) {
             Callee::Procedure { number, procedure } => {
@@ -99,10 +99,22 @@ impl<'a, 'b> Walk<'a, 'b> {
             }
             Callee::Routine(own) => self.routine_called(args.as_slice(), of.at(), own, told),
             Callee::Nothing => {
-                let base = self.node(of, Receiver::Nothing, told)?;
+                let base = self.base(of, told)?;
                 self.indexed(args.as_slice(), of.at(), &base, told)
             }
         }
+    }
+
+    // What a part is of: nothing is known of it where something is told in it.
+    #[cycle(expr)]
+    fn base(&self, of: &Expr, told: &mut Told) -> Result<Known, Memory> {
+        let before = told.count();
+        let known = self.node(of, Receiver::Nothing, told)?;
+        Ok(if told.count() > before {
+            Known::unknown()
+        } else {
+            known
+        })
     }
 
     // An element of something that begins at a place. Nothing is known of the base where something in it is broken.
@@ -117,11 +129,11 @@ impl<'a, 'b> Walk<'a, 'b> {
         let before = told.count();
         (&*self).tell_in_indices(args, &*base, told)?;
         if told.count() > before {
-            return Ok(Known::varying());
+            return Ok(Known::unknown());
         }
         if self.wrong_number_of_indices(base, args.len()) {
             told.tell(Rule::S5, at)?;
-            return Ok(Known::varying());
+            return Ok(Known::unknown());
         }
         self.element(base)
     }
@@ -153,7 +165,7 @@ impl<'a, 'b> Walk<'a, 'b> {
     // A field of something.
     #[cycle(expr)]
     fn field_of(&self, of: &Expr, field: &Name, told: &mut Told) -> Result<Known, Memory> {
-        let base = self.node(of, Receiver::Nothing, told)?;
+        let base = self.base(of, told)?;
         self.field(&base, field.text.as_slice())
     }
 
@@ -172,7 +184,7 @@ impl<'a, 'b> Walk<'a, 'b> {
         let before = told.count();
         let known = self.own_value(operand, Receiver::Nothing, told)?;
         if told.count() > before {
-            return Ok(Known::varying());
+            return Ok(Known::unknown());
         }
         let result = self.unary(operator, &known)?;
         tell_unfit(result, at, told)
@@ -189,13 +201,13 @@ impl<'a, 'b> Walk<'a, 'b> {
             ..
         } = expr
         else {
-            return Ok(Known::varying());
+            return Ok(Known::unknown());
         };
         let before = told.count();
         let one = self.own_value(left, Receiver::Nothing, told)?;
         let other = self.own_value(right, Receiver::Nothing, told)?;
         if told.count() > before {
-            return Ok(Known::varying());
+            return Ok(Known::unknown());
         }
         let found = self.binary(*operator, &one, &other)?;
         tell_unfit(found, *sign, told)
@@ -208,7 +220,7 @@ pub(crate) fn tell_unfit(found: Option<Known>, at: Pos, told: &mut Told) -> Resu
         Some(known) => Ok(known),
         None => {
             told.tell(Rule::S1, at)?;
-            Ok(Known::varying())
+            Ok(Known::unknown())
         }
     }
 }

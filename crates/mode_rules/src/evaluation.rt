@@ -10,7 +10,7 @@ use crate::written::Standing;
 use chill_base::{Item, List, Memory, Pos, Scalars};
 use chill_tree::tree::{Declaration, ModeDefinition, Name, Signal, Synonym, Tree};
 use diagnostics::Rule;
-use modes::{Class, Mode, holds_read};
+use modes::{Class, Form, Mode, form_of, holds_read};
 use names_model::{Names, Resolved};
 use std::alloc::Global;
 use std::rc::Rc;
@@ -90,6 +90,8 @@ pub struct Evaluation<'a> {
     /// What is known of each definition, by its number.
     pub entries: Vec<Entry>,
     pub plain: Plain,
+    // The rules on modes and constants that definitions break.
+    pub(crate) told: Told,
 }
 
 // Dropped by hand, so that whoever drops one makes one call.
@@ -102,11 +104,13 @@ impl<'a> Drop for Evaluation<'a> {
             defined,
             entries,
             plain,
+            told,
         } = self;
         drop(origins);
         drop(defined);
         drop(entries);
         drop(plain);
+        drop(told);
     }
 }
 
@@ -120,7 +124,7 @@ fn plain_modes(alloc: Global) -> Result<Plain, Memory> {
 }
 
 /// The same mode once more.
-pub fn shared(mode: &Option<Rc<Mode>>) -> Result<Option<Rc<Mode>>, Memory> {
+pub fn shared(mode: Option<&Rc<Mode>>) -> Result<Option<Rc<Mode>>, Memory> {
     match mode {
         None => Ok(None),
         Some(mode) => Ok(Some(mode.clone()?)),
@@ -138,21 +142,18 @@ pub fn copied(class: &Class) -> Result<Class, Memory> {
 }
 
 impl<'a> Evaluation<'a> {
-    /// Evaluates all definitions of a program with its names, and tells which rules on modes and constants they break.
-    pub fn of(
-        alloc: Global,
-        tree: &'a Tree,
-        names: &'a Names,
-        told: &mut Told,
-    ) -> Result<Evaluation<'a>, Memory> {
+    /// Evaluates all definitions of a program with its names.
+    pub fn of(alloc: Global, tree: &'a Tree, names: &'a Names) -> Result<Evaluation<'a>, Memory> {
         let mut evaluation = Evaluation::unknown(alloc, tree, names)?;
+        let mut told = Told::new(alloc);
         let order = in_order(alloc, names, &evaluation.origins)?;
         for number in order.as_slice() {
-            let entry = evaluation.entry_of(*number, told)?;
+            let entry = evaluation.entry_of(*number, &mut told)?;
             if let Some(own) = evaluation.entries.get_mut(*number as usize) {
                 *own = entry;
             }
         }
+        evaluation.told = told;
         Ok(evaluation)
     }
 
@@ -171,6 +172,7 @@ impl<'a> Evaluation<'a> {
             defined,
             entries,
             plain: plain_modes(alloc)?,
+            told: Told::new(alloc),
         })
     }
 
@@ -194,6 +196,29 @@ impl<'a> Evaluation<'a> {
         number_at(self.defined.as_slice(), at)
     }
 
+    /// The mode of the mode, location, parameter or synonym that a name defines, or of what the procedure that it defines
+    /// returns.
+    pub fn mode_defined(&self, name: &Name) -> Option<&Rc<Mode>> {
+        let number = self.defined_at(name.at)?;
+        self.entry(number)?.mode.as_ref()
+    }
+
+    /// The mode of the elements of an array or a text.
+    pub fn element_in<'k>(&'k self, of: &'k Mode) -> Option<&'k Rc<Mode>> {
+        match form_of(of) {
+            Form::Array { element, .. } => Some(element),
+            Form::Chars(_) => Some(&self.plain.char),
+            Form::Int
+            | Form::Bool
+            | Form::Char
+            | Form::Instance
+            | Form::Set { .. }
+            | Form::Powerset(_)
+            | Form::Struct { .. }
+            | Form::Meeting => None,
+        }
+    }
+
     /// What the name used at a place is defined by.
     pub fn origin_used(&self, at: Pos) -> Option<Origin<'a>> {
         self.origin(self.used_at(at)?)
@@ -213,7 +238,17 @@ impl<'a> Evaluation<'a> {
             Some(Origin::Predefined(own)) => return self.predefined_mode(own),
             Some(Origin::SynMode(_)) => false,
             Some(Origin::NewMode(_)) => true,
-            _ => return Ok(None),
+            Some(Origin::Synonym { .. })
+            | Some(Origin::Element(_))
+            | Some(Origin::Location { .. })
+            | Some(Origin::Parameter { .. })
+            | Some(Origin::Counter(_))
+            | Some(Origin::Received { .. })
+            | Some(Origin::Procedure(_))
+            | Some(Origin::Process(_))
+            | Some(Origin::Signal(_))
+            | Some(Origin::Modulion(_))
+            | None => return Ok(None),
         };
         match self.entry(definition).and_then(|entry| entry.mode.as_ref()) {
             None => Ok(None),
@@ -234,7 +269,23 @@ impl<'a> Evaluation<'a> {
             Predefined::Bool => Ok(Some(self.plain.bool.clone()?)),
             Predefined::Char => Ok(Some(self.plain.char.clone()?)),
             Predefined::Instance => Ok(Some(self.plain.instance.clone()?)),
-            _ => Ok(None),
+            Predefined::True
+            | Predefined::False
+            | Predefined::Null
+            | Predefined::Num
+            | Predefined::Succ
+            | Predefined::Pred
+            | Predefined::Abs
+            | Predefined::Card
+            | Predefined::Min
+            | Predefined::Max
+            | Predefined::Upper
+            | Predefined::Lower
+            | Predefined::Size
+            | Predefined::PutInt
+            | Predefined::PutText
+            | Predefined::PutLine
+            | Predefined::GetInt => Ok(None),
         }
     }
 
@@ -265,7 +316,11 @@ impl<'a> Evaluation<'a> {
             },
             Some(Origin::Signal(signal)) => self.signal(signal, told),
             Some(Origin::Predefined(own)) => self.predefined(own),
-            _ => Ok(Entry::unknown(self.alloc)),
+            Some(Origin::Counter(_))
+            | Some(Origin::Received { .. })
+            | Some(Origin::Process(_))
+            | Some(Origin::Modulion(_))
+            | None => Ok(Entry::unknown(self.alloc)),
         }
     }
 
@@ -279,7 +334,7 @@ impl<'a> Evaluation<'a> {
     fn same_as(&self, first: u32) -> Result<Entry, Memory> {
         let mut entry = Entry::unknown(self.alloc);
         if let Some(own) = self.entry(first) {
-            entry.mode = shared(&own.mode)?;
+            entry.mode = shared(own.mode.as_ref())?;
             entry.class = match &own.class {
                 None => None,
                 Some(class) => Some(copied(class)?),
@@ -365,7 +420,23 @@ impl<'a> Evaluation<'a> {
             Predefined::True => self.constant_entry(Class::Derived(self.plain.bool.clone()?), 1),
             Predefined::False => self.constant_entry(Class::Derived(self.plain.bool.clone()?), 0),
             Predefined::Null => self.constant_entry(Class::Null, 0),
-            _ => self.of_mode(self.predefined_mode(own)?),
+            Predefined::Int | Predefined::Bool | Predefined::Char | Predefined::Instance => {
+                self.of_mode(self.predefined_mode(own)?)
+            }
+            Predefined::Num
+            | Predefined::Succ
+            | Predefined::Pred
+            | Predefined::Abs
+            | Predefined::Card
+            | Predefined::Min
+            | Predefined::Max
+            | Predefined::Upper
+            | Predefined::Lower
+            | Predefined::Size
+            | Predefined::PutInt
+            | Predefined::PutText
+            | Predefined::PutLine
+            | Predefined::GetInt => Ok(Entry::unknown(self.alloc)),
         }
     }
 
@@ -395,18 +466,14 @@ impl<'a> Evaluation<'a> {
         mode: &Option<Rc<Mode>>,
         told: &mut Told,
     ) -> Result<Option<Scalars>, Memory> {
-        let at = own.value.at();
-        let known = match mode {
-            Some(mode) if self.is_constant_tuple(&own.value) => {
-                return self.tuple_of_synonym(&own.value, mode, told);
-            }
-            _ => self.needed(&own.value, told)?,
-        };
-        let (Some(known), Some(mode)) = (known, mode) else {
+        if self.is_constant_tuple(&own.value) {
+            return self.tuple_of_synonym(&own.value, mode, told);
+        }
+        let (Some(known), Some(mode)) = (self.needed(&own.value, told)?, mode) else {
             return Ok(None);
         };
         if synonym_value_outside_its_mode(&known, mode) {
-            told.tell(Rule::M12, at)?;
+            told.tell(Rule::M12, own.value.at())?;
             return Ok(None);
         }
         Ok(known.into_parts().1)

@@ -1,6 +1,7 @@
 // What is known of an expression.
 use chill_base::Scalars;
-use modes::{Bounds, Class, Form, Mode, bounds, form_of, goes_with, number_of_values};
+use modes::{Bounds, Class, Form, Mode, bounds, form_of, goes_with, is_discrete, number_of_values};
+use std::rc::Rc;
 
 /// What is known of an expression: its class and, where it is a constant, its value. Each is none where there is none, or
 /// where something in the expression or in what it uses is broken.
@@ -43,12 +44,35 @@ impl Known {
         }
     }
 
-    /// What doesn't have the form of a constant.
+    /// What doesn't have the form of a constant, and isn't asked for its class.
     pub fn varying() -> Known {
         Known {
             class: None,
             value: None,
             is_constant: false,
+        }
+    }
+
+    /// That of which nothing is known: a rule is broken at it or in it, or what it uses isn't known.
+    pub fn unknown() -> Known {
+        Known {
+            class: None,
+            value: None,
+            is_constant: false,
+        }
+    }
+
+    /// What gives no value.
+    pub fn no_value() -> Known {
+        Known::of_class(Class::Nothing)
+    }
+
+    /// A constant of a class, whose value isn't known.
+    pub fn constant_of_class(class: Class) -> Known {
+        Known {
+            class: Some(class),
+            value: None,
+            is_constant: true,
         }
     }
 
@@ -119,6 +143,27 @@ pub fn form_in(class: &Class) -> Option<Form<'_>> {
     match mode_in(class) {
         None => None,
         Some(mode) => Some(form_of(mode)),
+    }
+}
+
+/// The mode of the field of that name of a structure.
+pub fn field_in<'k>(of: &'k Mode, name: &[u8]) -> Option<&'k Rc<Mode>> {
+    let Form::Struct { fields, .. } = form_of(of) else {
+        return None;
+    };
+    for field in fields.as_slice() {
+        if field.name.as_slice() == name {
+            return Some(&field.mode);
+        }
+    }
+    None
+}
+
+/// Whether a class has a discrete mode.
+pub fn is_of_discrete(class: &Class) -> bool {
+    match mode_in(class) {
+        None => false,
+        Some(mode) => is_discrete(mode),
     }
 }
 

@@ -9,7 +9,9 @@
 
 mod constants;
 mod evaluation;
+mod exceptions;
 mod known;
+mod meeting;
 mod numbers;
 mod operators;
 mod order;
@@ -19,18 +21,20 @@ mod places;
 mod predefined;
 mod routines;
 mod told;
+mod tuple_value;
 mod tuples;
 mod uses;
 mod written;
 
 pub use evaluation::{Entry, Evaluation, Plain, copied, shared};
-pub use known::{Known, form_in, member_count, mode_in};
-pub use numbers::{add_members, empty_set, single};
-pub use operators::{Computed, Operands};
+pub use exceptions::{FIRST_OWN_EXCEPTION, exception_of_language, one_spelling};
+pub use known::{Known, field_in, form_in, is_of_discrete, mode_in};
+pub use meeting::{Meeting, meeting_of};
+pub use operators::Computed;
 pub use origin::{Element, Origin, Origins, Owner};
 pub use phase::told_of_modes;
-pub use predefined::{PREDEFINED, Predefined};
+pub use predefined::Predefined;
 pub use routines::Measured;
 pub use told::Told;
-pub use tuples::{bare, has_parts, is_measuring, is_value_routine};
-pub use written::Standing;
+pub use tuple_value::TupleValue;
+pub use tuples::{has_parts, is_measuring, is_value_routine};

@@ -53,29 +53,71 @@ fn modulo(left: i64, right: i64) -> Option<i64> {
     left.checked_rem_euclid(right)
 }
 
-/// The result of an operator on two truth values, 0 and 1.
-pub fn logic(operator: Operator, left: bool, right: bool) -> bool {
-    match operator {
-        Operator::Or | Operator::OrIf => left || right,
-        Operator::And | Operator::AndIf => left && right,
-        _ => left != right,
+/// The operators of two truth values that give one.
+#[derive(Clone, Copy, PartialEq, Eq)]
+pub enum Logic {
+    Or,
+    And,
+    Xor,
+}
+
+impl Logic {
+    /// The operator of two truth values that is written, where it is one. ORIF and ANDIF have both their operands looked
+    /// at.
+    pub fn of(operator: Operator) -> Option<Logic> {
+        match operator {
+            Operator::Or | Operator::OrIf => Some(Logic::Or),
+            Operator::And | Operator::AndIf => Some(Logic::And),
+            Operator::Xor => Some(Logic::Xor),
+            Operator::Equal
+            | Operator::NotEqual
+            | Operator::Less
+            | Operator::LessOrEqual
+            | Operator::Greater
+            | Operator::GreaterOrEqual
+            | Operator::In
+            | Operator::Plus
+            | Operator::Minus
+            | Operator::Times
+            | Operator::Divide
+            | Operator::Mod
+            | Operator::Rem => None,
+        }
     }
+
+    /// Its result.
+    pub fn between(self, left: bool, right: bool) -> bool {
+        match self {
+            Logic::Or => left || right,
+            Logic::And => left && right,
+            Logic::Xor => left != right,
+        }
+    }
+}
+
+/// The operators of two powersets that give one.
+#[derive(Clone, Copy, PartialEq, Eq)]
+pub enum SetOperator {
+    Union,
+    Intersection,
+    Difference,
+    SymmetricDifference,
 }
 
 // The result of an operator on the members that one number of each powerset tells of.
-fn members(operator: Operator, left: i64, right: i64) -> i64 {
+fn members(operator: SetOperator, left: i64, right: i64) -> i64 {
     match operator {
-        Operator::Or => left | right,
-        Operator::And => left & right,
-        Operator::Minus => left & !right,
-        _ => left ^ right,
+        SetOperator::Union => left | right,
+        SetOperator::Intersection => left & right,
+        SetOperator::Difference => left & !right,
+        SetOperator::SymmetricDifference => left ^ right,
     }
 }
 
-/// The result of OR, AND, XOR or `-` on two powersets.
+/// The result of an operator on two powersets.
 pub fn sets(
     alloc: Global,
-    operator: Operator,
+    operator: SetOperator,
     left: &Scalars,
     right: &Scalars,
 ) -> Result<Scalars, Memory> {

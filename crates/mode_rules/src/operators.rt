@@ -2,8 +2,8 @@
 use crate::evaluation::Evaluation;
 use crate::known::{Known, form_in, member_count};
 use crate::numbers::{
-    arithmetic, complement, first, has_member, is_included, logic, of_int, order, sets, single,
-    truth,
+    Logic, SetOperator, arithmetic, complement, first, has_member, is_included, of_int, order,
+    sets, single, truth,
 };
 use crate::told::Told;
 use chill_base::{Memory, Pos, Scalars};
@@ -41,8 +41,8 @@ pub enum Computed {
     Known(Known),
     /// The operands don't fit.
     Misfit,
-    /// An exception would be raised.
-    OutOfRange,
+    /// An exception would be raised in place of a value of this class.
+    OutOfRange(Class),
 }
 
 /// What is known of a result; at an operator or routine that is told what came of it.
@@ -53,7 +53,7 @@ pub fn told_of_computed(computed: Computed, at: Pos, told: &mut Told) -> Result<
             told.tell(Rule::M10, at)?;
             Ok(Known::broken())
         }
-        Computed::OutOfRange => {
+        Computed::OutOfRange(_) => {
             told.tell(Rule::M11, at)?;
             Ok(Known::broken())
         }
@@ -98,7 +98,7 @@ impl<'a> Evaluation<'a> {
             return Ok(Computed::Misfit);
         };
         let (Some(mine), Some(theirs)) = (&left.value, &right.value) else {
-            return Ok(without_value(class));
+            return Ok(Computed::Known(Known::constant_of_class(class)));
         };
         let value = self.value_of_binary(operator, other, mine, theirs)?;
         Ok(with_value(class, value))
@@ -128,7 +128,7 @@ impl<'a> Evaluation<'a> {
             return Ok(Computed::Misfit);
         };
         let Some(value) = &operand.value else {
-            return Ok(without_value(class));
+            return Ok(Computed::Known(Known::constant_of_class(class)));
         };
         let value = self.value_of_unary(operator, own, value)?;
         Ok(with_value(class, value))
@@ -171,10 +171,10 @@ impl<'a> Evaluation<'a> {
         operator: Prefix,
         operand: &Class,
     ) -> Result<Option<Class>, Memory> {
-        let fits = match (operator, form_in(operand)) {
-            (Prefix::Minus, Some(Form::Int)) => true,
-            (Prefix::Not, Some(Form::Bool)) | (Prefix::Not, Some(Form::Powerset(_))) => true,
-            _ => false,
+        let form = form_in(operand);
+        let fits = match operator {
+            Prefix::Minus => matches!(form, Some(Form::Int)),
+            Prefix::Not => matches!(form, Some(Form::Bool) | Some(Form::Powerset(_))),
         };
         if !fits {
             return Ok(None);
@@ -196,7 +196,7 @@ impl<'a> Evaluation<'a> {
             (Class::Value(mode), _) => Ok(Some(Class::Value(root(self.alloc, mode)?))),
             (_, Class::Value(mode)) => Ok(Some(Class::Value(root(self.alloc, mode)?))),
             (Class::Derived(mode), _) => Ok(Some(Class::Derived(root(self.alloc, mode)?))),
-            _ => Ok(None),
+            (Class::Null, _) | (Class::Nothing, _) => Ok(None),
         }
     }
 
@@ -209,20 +209,20 @@ impl<'a> Evaluation<'a> {
         left: &Scalars,
         right: &Scalars,
     ) -> Result<Option<Scalars>, Memory> {
-        match form_in(class) {
-            Some(Form::Powerset(member)) => self.value_on_powersets(operator, member, left, right),
-            Some(Form::Int) if is_arithmetic(operator) => {
-                match (first(left), first(right)) {
-                    (Some(one), Some(other)) => self.some_single(arithmetic(operator, one, other)),
-                    _ => Ok(None),
-                }
-            }
-            Some(Form::Bool) if is_logic(operator) => {
-                let holds = logic(operator, first(left) == Some(1), first(right) == Some(1));
-                self.some_single(Some(truth(holds)))
-            }
-            _ => self.some_single(Some(truth(holds_between(operator, order(left, right))))),
+        if let Some(Form::Powerset(member)) = form_in(class) {
+            return self.value_on_powersets(operator, member, left, right);
         }
+        if is_arithmetic(operator) {
+            return match (first(left), first(right)) {
+                (Some(one), Some(other)) => self.some_single(arithmetic(operator, one, other)),
+                (None, _) | (_, None) => Ok(None),
+            };
+        }
+        let holds = match Logic::of(operator) {
+            Some(own) => own.between(first(left) == Some(1), first(right) == Some(1)),
+            None => holds_between(operator, order(left, right)),
+        };
+        self.some_single(Some(truth(holds)))
     }
 
     // An operator whose right operand is a powerset.
@@ -234,22 +234,41 @@ impl<'a> Evaluation<'a> {
         right: &Scalars,
     ) -> Result<Option<Scalars>, Memory> {
         let holds = match operator {
-            Operator::Or | Operator::And | Operator::Xor | Operator::Minus => {
-                return Ok(Some(sets(self.alloc, operator, left, right)?));
-            }
+            Operator::Or => return self.some_set(SetOperator::Union, left, right),
+            Operator::And => return self.some_set(SetOperator::Intersection, left, right),
+            Operator::Minus => return self.some_set(SetOperator::Difference, left, right),
+            Operator::Xor => return self.some_set(SetOperator::SymmetricDifference, left, right),
             Operator::In => match (first(left), bounds(member)) {
                 (Some(number), Some(Bounds { low, .. })) => {
                     has_member(right, number.saturating_sub(low))
                 }
-                _ => return Ok(None),
+                (None, _) | (_, None) => return Ok(None),
             },
             Operator::LessOrEqual => is_included(left, right),
             Operator::GreaterOrEqual => is_included(right, left),
             Operator::Less => is_included(left, right) && order(left, right) != Ordering::Equal,
             Operator::Greater => is_included(right, left) && order(left, right) != Ordering::Equal,
-            _ => holds_between(operator, order(left, right)),
+            Operator::Equal => order(left, right) == Ordering::Equal,
+            Operator::NotEqual => order(left, right) != Ordering::Equal,
+            Operator::OrIf
+            | Operator::AndIf
+            | Operator::Plus
+            | Operator::Times
+            | Operator::Divide
+            | Operator::Mod
+            | Operator::Rem => return Ok(None),
         };
         self.some_single(Some(truth(holds)))
+    }
+
+    // The powerset that an operator gives of two.
+    fn some_set(
+        &self,
+        operator: SetOperator,
+        left: &Scalars,
+        right: &Scalars,
+    ) -> Result<Option<Scalars>, Memory> {
+        Ok(Some(sets(self.alloc, operator, left, right)?))
     }
 
     // The value of an operator before an operand that fits it, or none where it raises an exception.
@@ -281,19 +300,10 @@ impl<'a> Evaluation<'a> {
     }
 }
 
-// A result of a class, whose value isn't known.
-pub(crate) fn without_value(class: Class) -> Computed {
-    Computed::Known(Known {
-        class: Some(class),
-        value: None,
-        is_constant: true,
-    })
-}
-
 // A result of a class, with its value where it has one.
 pub(crate) fn with_value(class: Class, value: Option<Scalars>) -> Computed {
     match value {
-        None => Computed::OutOfRange,
+        None => Computed::OutOfRange(class),
         Some(value) => Computed::Known(Known::constant(class, value)),
     }
 }
@@ -307,12 +317,19 @@ fn negated(number: i64) -> Option<i64> {
 fn takes_operands(operator: Operator, class: &Class) -> bool {
     match form_in(class) {
         Some(Form::Int) => is_arithmetic(operator),
-        Some(Form::Bool) => is_logic(operator),
+        Some(Form::Bool) => Logic::of(operator).is_some(),
         Some(Form::Powerset(_)) => matches!(
             operator,
             Operator::Minus | Operator::Or | Operator::And | Operator::Xor
         ),
-        _ => false,
+        Some(Form::Char)
+        | Some(Form::Instance)
+        | Some(Form::Set { .. })
+        | Some(Form::Chars(_))
+        | Some(Form::Array { .. })
+        | Some(Form::Struct { .. })
+        | Some(Form::Meeting)
+        | None => false,
     }
 }
 
@@ -325,13 +342,6 @@ fn is_arithmetic(operator: Operator) -> bool {
             | Operator::Divide
             | Operator::Mod
             | Operator::Rem
-    )
-}
-
-fn is_logic(operator: Operator) -> bool {
-    matches!(
-        operator,
-        Operator::Or | Operator::And | Operator::Xor | Operator::OrIf | Operator::AndIf
     )
 }
 

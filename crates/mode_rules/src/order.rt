@@ -109,7 +109,13 @@ impl<'a, 'b> Search<'a, 'b> {
                 Some(mode) => self.open_mode(mode),
             },
             Some(Origin::Signal(signal)) => self.open_parts(signal),
-            _ => Ok(()),
+            Some(Origin::Element(_))
+            | Some(Origin::Counter(_))
+            | Some(Origin::Received { .. })
+            | Some(Origin::Process(_))
+            | Some(Origin::Modulion(_))
+            | Some(Origin::Predefined(_))
+            | None => Ok(()),
         }
     }
 

@@ -24,20 +24,21 @@ const SHARED: u64 = 65_536;
 pub fn told_of_modes(alloc: Global, tree: &Tree, names: &Names) -> Result<Diagnostics, Memory>
     ensures { IfOk result (λ list. IsStrictlySortedBy diagnostic_cmp list) }
 {
-    let mut told = Told::new(alloc);
-    let evaluation = Evaluation::of(alloc, tree, names, &mut told)?;
-    evaluation.tell_of_program(tree, &mut told)?;
+    let evaluation = Evaluation::of(alloc, tree, names)?;
+    let told = evaluation.told_of_program(tree)?;
     Ok(told.into_list())
 }
 
 impl<'a> Evaluation<'a> {
-    /// Tells all rules on modes and constants that the expressions of a program break, and rule L7. Those that its
-    /// definitions break were told as they were evaluated.
-    pub fn tell_of_program(&self, tree: &Tree, told: &mut Told) -> Result<(), Memory> {
+    /// All rules on modes and constants that a program breaks: those that its definitions break, which were told as they
+    /// were evaluated, those that its expressions break, and rule L7.
+    pub fn told_of_program(&self, tree: &Tree) -> Result<Told, Memory> {
+        let mut told = self.told.copy()?;
         for modulion in tree.modulions.as_slice() {
-            self.tell_in_modulion(modulion, told)?;
+            self.tell_in_modulion(modulion, &mut told)?;
         }
-        self.tell_too_many_shared(told)
+        self.tell_too_many_shared(&mut told)?;
+        Ok(told)
     }
 
     // Rule L7: the location with which the scalars of all shared locations become too many.

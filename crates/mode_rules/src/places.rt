@@ -106,7 +106,8 @@ impl<'a> Evaluation<'a> {
     }
 }
 
-// The place of a word, a start, and an end or a length.
+// The place of a word, a start, and an end or a length. Each number is asked by itself, so one that doesn't go with INT is
+// told also where another is broken.
 fn place_of(word: PlaceNumber, start: PlaceNumber, form: PlaceForm, bound: PlaceNumber) -> Placed {
     match (word, start, bound) {
         (PlaceNumber::Number(word), PlaceNumber::Number(start), PlaceNumber::Number(bound)) => {
@@ -121,10 +122,12 @@ fn place_of(word: PlaceNumber, start: PlaceNumber, form: PlaceForm, bound: Place
                 signed: false,
             })
         }
+        (PlaceNumber::Misfit, _, _) | (_, PlaceNumber::Misfit, _) | (_, _, PlaceNumber::Misfit) => {
+            Placed::Misfit
+        }
         (PlaceNumber::Broken, _, _) | (_, PlaceNumber::Broken, _) | (_, _, PlaceNumber::Broken) => {
             Placed::Broken
         }
-        _ => Placed::Misfit,
     }
 }
 

@@ -1,8 +1,8 @@
 // Predefined routines in constants (Z.200, chapter on values; the routines that measure modes are our own form).
 use crate::evaluation::{Evaluation, copied, shared};
-use crate::known::{Known, form_in, member_count, mode_in};
+use crate::known::{Known, field_in, form_in, is_of_discrete, member_count, mode_in};
 use crate::numbers::{GREATEST, count, greatest, least, of_int};
-use crate::operators::{Computed, told_of_computed, with_value, without_value};
+use crate::operators::{Computed, told_of_computed, with_value};
 use crate::origin::Origin;
 use crate::predefined::Predefined;
 use crate::told::Told;
@@ -10,7 +10,7 @@ use chill_base::{Memory, Pos, Scalars};
 use chill_tree::tree::Expr;
 use diagnostics::Rule;
 use layout_map::{layout, words};
-use modes::{Bounds, Class, Form, Mode, bounds, form_of, is_discrete, is_of_language};
+use modes::{Bounds, Class, Form, Mode, bounds, form_of, is_of_language};
 use std::rc::Rc;
 
 /// What the whole argument of UPPER, LOWER or SIZE is.
@@ -47,7 +47,17 @@ impl<'a> Evaluation<'a> {
             Predefined::Upper | Predefined::Lower | Predefined::Size => {
                 self.measuring_routine(at, own, args, told)
             }
-            _ => self.varying_parts(args, told),
+            Predefined::Int
+            | Predefined::Bool
+            | Predefined::Char
+            | Predefined::Instance
+            | Predefined::True
+            | Predefined::False
+            | Predefined::Null
+            | Predefined::PutInt
+            | Predefined::PutText
+            | Predefined::PutLine
+            | Predefined::GetInt => self.varying_parts(args, told),
         }
     }
 
@@ -103,7 +113,7 @@ impl<'a> Evaluation<'a> {
             return Ok(Computed::Misfit);
         };
         let Some(value) = &arg.value else {
-            return Ok(without_value(class));
+            return Ok(Computed::Known(Known::constant_of_class(class)));
         };
         let value = self.some_single(value_of_routine(own, of, value))?;
         Ok(with_value(class, value))
@@ -111,7 +121,7 @@ impl<'a> Evaluation<'a> {
 
     /// The class of the result of a routine of one value, or none where the argument doesn't fit.
     pub fn class_of_routine(&self, own: Predefined, arg: &Class) -> Result<Option<Class>, Memory> {
-        let is_discrete = mode_in(arg).is_some_and(|mode| is_discrete(mode));
+        let is_discrete = is_of_discrete(arg);
         match own {
             Predefined::Num if is_discrete => Ok(Some(Class::Derived(self.plain.int.clone()?))),
             Predefined::Succ | Predefined::Pred if is_discrete => Ok(Some(copied(arg)?)),
@@ -233,7 +243,17 @@ impl<'a> Evaluation<'a> {
                     | Some(Origin::Predefined(Predefined::Instance))
             ),
             Expr::Apply { of, .. } | Expr::Field { of, .. } => self.is_place(of),
-            _ => false,
+            Expr::Whole { .. }
+            | Expr::Char { .. }
+            | Expr::Text { .. }
+            | Expr::This { .. }
+            | Expr::Paren { .. }
+            | Expr::Receive { .. }
+            | Expr::Start { .. }
+            | Expr::Tuple { .. }
+            | Expr::Uniform { .. }
+            | Expr::Prefixed { .. }
+            | Expr::Binary { .. } => false,
         }
     }
 
@@ -245,7 +265,17 @@ impl<'a> Evaluation<'a> {
                 Some(Origin::Location { .. }) | Some(Origin::Parameter { .. })
             ),
             Expr::Apply { of, .. } | Expr::Field { of, .. } => self.is_place(of),
-            _ => false,
+            Expr::Whole { .. }
+            | Expr::Char { .. }
+            | Expr::Text { .. }
+            | Expr::This { .. }
+            | Expr::Paren { .. }
+            | Expr::Receive { .. }
+            | Expr::Start { .. }
+            | Expr::Tuple { .. }
+            | Expr::Uniform { .. }
+            | Expr::Prefixed { .. }
+            | Expr::Binary { .. } => false,
         }
     }
 
@@ -268,8 +298,19 @@ impl<'a> Evaluation<'a> {
         self.located(arg)
     }
 
-    /// The mode of a location or parameter with its parts.
-    pub fn located(&self, expr: &Expr) -> Result<Measured, Memory> {
+    // The element of an array or a text.
+    fn element_of(&self, of: Measured) -> Result<Measured, Memory> {
+        let Measured::Mode(mode) = of else {
+            return Ok(of);
+        };
+        match self.element_in(&mode) {
+            None => Ok(Measured::Misfit),
+            Some(element) => Ok(Measured::Mode(element.clone()?)),
+        }
+    }
+
+    // The mode of a location or parameter with its parts.
+    fn located(&self, expr: &Expr) -> Result<Measured, Memory> {
         match expr {
             Expr::Name(name) => {
                 let Some(number) = self.used_at(name.at) else {
@@ -278,14 +319,24 @@ impl<'a> Evaluation<'a> {
                 match (self.origin(number), self.entry(number)) {
                     (Some(Origin::Location { .. }), Some(entry))
                     | (Some(Origin::Parameter { .. }), Some(entry)) => {
-                        Ok(of_mode(shared(&entry.mode)?))
+                        Ok(of_mode(shared(entry.mode.as_ref())?))
                     }
                     _ => Ok(Measured::Other),
                 }
             }
-            Expr::Apply { of, .. } => element_of(&self.plain.char, self.located(of)?),
+            Expr::Apply { of, .. } => self.element_of(self.located(of)?),
             Expr::Field { of, field, .. } => field_of(field.text.as_slice(), self.located(of)?),
-            _ => Ok(Measured::Other),
+            Expr::Whole { .. }
+            | Expr::Char { .. }
+            | Expr::Text { .. }
+            | Expr::This { .. }
+            | Expr::Paren { .. }
+            | Expr::Receive { .. }
+            | Expr::Start { .. }
+            | Expr::Tuple { .. }
+            | Expr::Uniform { .. }
+            | Expr::Prefixed { .. }
+            | Expr::Binary { .. } => Ok(Measured::Other),
         }
     }
 }
@@ -306,32 +357,15 @@ fn of_value(known: &Known) -> Measured {
     }
 }
 
-// The element of an array or a text.
-fn element_of(character: &Rc<Mode>, of: Measured) -> Result<Measured, Memory> {
-    let Measured::Mode(mode) = of else {
-        return Ok(of);
-    };
-    match form_of(&mode) {
-        Form::Array { element, .. } => Ok(Measured::Mode(element.clone()?)),
-        Form::Chars(_) => Ok(Measured::Mode(character.clone()?)),
-        _ => Ok(Measured::Misfit),
-    }
-}
-
 // The field of a structure.
 fn field_of(name: &[u8], of: Measured) -> Result<Measured, Memory> {
     let Measured::Mode(mode) = of else {
         return Ok(of);
     };
-    let Form::Struct { fields, .. } = form_of(&mode) else {
-        return Ok(Measured::Misfit);
-    };
-    for field in fields.as_slice() {
-        if field.name.as_slice() == name {
-            return Ok(Measured::Mode(field.mode.clone()?));
-        }
+    match field_in(&mode, name) {
+        None => Ok(Measured::Misfit),
+        Some(field) => Ok(Measured::Mode(field.clone()?)),
     }
-    Ok(Measured::Misfit)
 }
 
 // The value of a routine of one value that fits it, or none where it raises an exception.

@@ -2,7 +2,7 @@
 ghost use Rattle.std.specs.List.Sorted.{IsStrictlySortedBy};
 ghost use Rattle.diagnostics.specs.Order.{diagnostic_cmp};
 
-use chill_base::{List, Memory, Pos, Text};
+use chill_base::{Item, List, Memory, Pos, Text};
 use diagnostics::{Diagnostic, Diagnostics, Rule, list_once, listed_law};
 use std::alloc::Global;
 
@@ -25,6 +25,13 @@ impl Told {
         Told {
             diagnostics: List::new(alloc),
         }
+    }
+
+    /// The same once more.
+    pub fn copy(&self) -> Result<Told, Memory> {
+        Ok(Told {
+            diagnostics: self.diagnostics.copy()?,
+        })
     }
 
     /// How many there are so far.

@@ -1,36 +1,46 @@
 // Tuples of constants (Z.200, chapter on values).
 use crate::evaluation::Evaluation;
-use crate::known::{Known, member_count};
-use crate::numbers::{add_members, empty_set};
+use crate::known::Known;
 use crate::origin::Origin;
 use crate::predefined::Predefined;
 use crate::told::Told;
+use crate::tuple_value::TupleValue;
 use chill_base::{Memory, Pos, Scalars};
 use chill_tree::tree::{Expr, Name, ValueRange};
 use diagnostics::Rule;
-use modes::{Bounds, Class, Field, Form, Mode, bounds, form_of, number_of_values};
+use modes::{Class, Field, Form, Mode, form_of, number_of_values};
 use std::rc::Rc;
 
-/// What is told where a tuple of constants doesn't fit its mode: of one with a mode's name, each misfit by itself; of the
-/// value of a synonym, one rule at its first token.
+/// How it is told that a tuple of constants doesn't fit its mode: of one with a mode's name, each misfit by itself; of the
+/// value of a synonym, one rule of the whole, where nothing else is told in it.
 #[derive(Clone, Copy)]
 pub enum Blame {
-    Tuple,
-    Synonym(Pos),
+    Each,
+    Whole,
 }
 
-// Where a tuple stands, and what is told of it.
+// Where a tuple stands, and how its misfits are told.
 #[derive(Clone, Copy)]
 struct Place {
     bracket: Pos,
     blame: Blame,
 }
 
-// A part of a tuple: its first token, and what is known of it.
+// What comes of a tuple of constants that goes to a mode.
+#[derive(Drop)]
+enum Tupled {
+    // It fits. It has no value where a part of it has none.
+    Fits(Option<Scalars>),
+    // It doesn't fit, or something is told in it.
+    Misfit,
+}
+
+// A part of a tuple: its first token, what is known of it, and whether it fits as far as it is a tuple itself.
 #[derive(Drop)]
 struct Part {
     at: Pos,
     known: Known,
+    fits: bool,
 }
 
 // The members from one to another, or one alone.
@@ -40,11 +50,23 @@ struct Span {
     last: Option<Part>,
 }
 
-/// An expression without the parentheses round it.
-pub fn bare(expr: &Expr) -> &Expr {
+// An expression without the parentheses round it.
+fn bare(expr: &Expr) -> &Expr {
     match expr {
         Expr::Paren { inner, .. } => bare(inner),
-        _ => expr,
+        Expr::Whole { .. }
+        | Expr::Char { .. }
+        | Expr::Text { .. }
+        | Expr::This { .. }
+        | Expr::Receive { .. }
+        | Expr::Start { .. }
+        | Expr::Tuple { .. }
+        | Expr::Uniform { .. }
+        | Expr::Name(_)
+        | Expr::Apply { .. }
+        | Expr::Field { .. }
+        | Expr::Prefixed { .. }
+        | Expr::Binary { .. } => expr,
     }
 }
 
@@ -52,7 +74,7 @@ impl<'a> Evaluation<'a> {
     /// The name of a tuple's mode, where the tuple has the form of a constant.
     pub fn constant_mode<'b>(&self, expr: &Expr, mode: &'b Option<Name>) -> Option<&'b Name> {
         match mode {
-            Some(name) if self.has_constant_form(expr) => Some(name),
+            Some(name) if self.has_form(expr, false) => Some(name),
             _ => None,
         }
     }
@@ -60,37 +82,36 @@ impl<'a> Evaluation<'a> {
     /// A tuple of constants with the name of its mode.
     #[cycle(expr)]
     pub fn named_tuple(&self, expr: &Expr, name: &Name, told: &mut Told) -> Result<Known, Memory> {
-        let mode = self.mode_of_name(name)?;
-        self.received_tuple(expr, &mode, Blame::Tuple, told)
-    }
-
-    /// The value of a tuple that a synonym's written mode receives.
-    pub fn tuple_of_synonym(
-        &self,
-        expr: &Expr,
-        mode: &Rc<Mode>,
-        told: &mut Told,
-    ) -> Result<Option<Scalars>, Memory> {
-        let blame = Blame::Synonym(expr.at());
-        Ok(self.tuple_value(bare(expr), mode, blame, told)?)
-    }
-
-    // A tuple that goes to a mode, where that is there.
-    #[cycle(expr)]
-    fn received_tuple(
-        &self,
-        expr: &Expr,
-        mode: &Option<Rc<Mode>>,
-        blame: Blame,
-        told: &mut Told,
-    ) -> Result<Known, Memory> {
-        let Some(mode) = mode else {
+        let Some(mode) = self.mode_of_name(name)? else {
             self.tell_in_parts(expr, told)?;
             return Ok(Known::broken());
         };
-        match self.tuple_value(expr, mode, blame, told)? {
-            None => Ok(Known::broken()),
-            Some(value) => Ok(Known::constant(Class::Value(mode.clone()?), value)),
+        let tupled = self.tuple_value(expr, &mode, Blame::Each, told)?;
+        known_of_tuple(tupled, &mode)
+    }
+
+    /// The value of a tuple that a synonym's written mode receives, where that is there. Rule M12 is told of the whole.
+    pub fn tuple_of_synonym(
+        &self,
+        expr: &Expr,
+        mode: &Option<Rc<Mode>>,
+        told: &mut Told,
+    ) -> Result<Option<Scalars>, Memory> {
+        let Some(mode) = mode else {
+            self.tell_in_parts(bare(expr), told)?;
+            return Ok(None);
+        };
+        let before = told.count();
+        let tupled = self.tuple_value(bare(expr), mode, Blame::Whole, told)?;
+        if told.count() > before {
+            return Ok(None);
+        }
+        match tupled {
+            Tupled::Fits(value) => Ok(value),
+            Tupled::Misfit => {
+                told.tell(Rule::M12, expr.at())?;
+                Ok(None)
+            }
         }
     }
 
@@ -109,7 +130,7 @@ impl<'a> Evaluation<'a> {
         Ok(())
     }
 
-    // The value of a tuple of constants that goes to a mode, or none where something doesn't fit.
+    // What comes of a tuple of constants that goes to a mode.
     #[cycle(expr)]
     fn tuple_value(
         &self,
@@ -117,7 +138,7 @@ impl<'a> Evaluation<'a> {
         mode: &Rc<Mode>,
         blame: Blame,
         told: &mut Told,
-    ) -> Result<Option<Scalars>, Memory> {
+    ) -> Result<Tupled, Memory> {
         match expr {
             Expr::Tuple { bracket, parts, .. } => {
                 let place = Place {
@@ -133,7 +154,7 @@ impl<'a> Evaluation<'a> {
                 };
                 self.uniform_value(place, value, mode, told)
             }
-            _ => Ok(None),
+            _ => Ok(Tupled::Misfit),
         }
     }
 
@@ -144,7 +165,7 @@ impl<'a> Evaluation<'a> {
         parts: &[ValueRange],
         mode: &Mode,
         told: &mut Told,
-    ) -> Result<Option<Scalars>, Memory> {
+    ) -> Result<Tupled, Memory> {
         match form_of(mode) {
             Form::Powerset(member) => self.powerset_value(place, parts, member, told),
             Form::Array { index, element, .. } if has_parts(parts, number_of_values(index)) => {
@@ -159,7 +180,7 @@ impl<'a> Evaluation<'a> {
                 if told.count() == before {
                     tell_misfit(place, told)?;
                 }
-                Ok(None)
+                Ok(Tupled::Misfit)
             }
         }
     }
@@ -172,24 +193,24 @@ impl<'a> Evaluation<'a> {
         value: &Expr,
         mode: &Mode,
         told: &mut Told,
-    ) -> Result<Option<Scalars>, Memory> {
+    ) -> Result<Tupled, Memory> {
         let before = told.count();
         let Form::Array { index, element, .. } = form_of(mode) else {
             let _ = self.known(value, told)?;
             if told.count() == before {
                 tell_misfit(place, told)?;
             }
-            return Ok(None);
+            return Ok(Tupled::Misfit);
         };
         let part = self.part(value, element, place.blame, told)?;
         if told.count() > before || !is_received(place, &part, element, told)? {
-            return Ok(None);
+            return Ok(Tupled::Misfit);
         }
-        let mut all = Scalars::new(self.alloc);
+        let mut all = TupleValue::of_parts(self.alloc);
         for _ in 0..number_of_values(index) {
-            add_value(&part, &mut all)?;
+            all.add(&part.known)?;
         }
-        Ok(Some(all))
+        Ok(Tupled::Fits(all.into_value()))
     }
 
     // What is known of a part that goes to a mode.
@@ -202,15 +223,26 @@ impl<'a> Evaluation<'a> {
         told: &mut Told,
     ) -> Result<Part, Memory> {
         let at = expr.at();
-        let known = match expr {
-            Expr::Paren { inner, .. } => self.part(inner, mode, blame, told)?.known,
-            Expr::Tuple { mode: None, .. } | Expr::Uniform { mode: None, .. } => {
-                let mode = Some(mode.clone()?);
-                self.received_tuple(expr, &mode, blame, told)?
+        match expr {
+            Expr::Paren { inner, .. } => {
+                let Part { at: _, known, fits } = self.part(inner, mode, blame, told)?;
+                Ok(Part { at, known, fits })
             }
-            _ => self.known(expr, told)?,
-        };
-        Ok(Part { at, known })
+            Expr::Tuple { mode: None, .. } | Expr::Uniform { mode: None, .. } => {
+                let tupled = self.tuple_value(expr, mode, blame, told)?;
+                let fits = matches!(&tupled, Tupled::Fits(_));
+                let known = known_of_tuple(tupled, mode)?;
+                Ok(Part { at, known, fits })
+            }
+            _ => {
+                let known = self.known(expr, told)?;
+                Ok(Part {
+                    at,
+                    known,
+                    fits: true,
+                })
+            }
+        }
     }
 
     #[cycle(expr)]
@@ -220,25 +252,22 @@ impl<'a> Evaluation<'a> {
         parts: &[ValueRange],
         element: &Rc<Mode>,
         told: &mut Told,
-    ) -> Result<Option<Scalars>, Memory> {
+    ) -> Result<Tupled, Memory> {
         let before = told.count();
         let mut known = Vec::new(self.alloc);
         for part in parts {
             known.push(self.part(&part.first, element, place.blame, told)?)?;
         }
         if told.count() > before {
-            return Ok(None);
+            return Ok(Tupled::Misfit);
         }
-        let mut all = Scalars::new(self.alloc);
+        let mut all = TupleValue::of_parts(self.alloc);
+        let mut fits = true;
         for part in &known {
-            let _ = is_received(place, part, element, told)?;
-            add_value(part, &mut all)?;
+            fits = is_received(place, part, element, told)? && fits;
+            all.add(&part.known)?;
         }
-        Ok(if told.count() > before {
-            None
-        } else {
-            Some(all)
-        })
+        Ok(tupled_of(all, fits))
     }
 
     #[cycle(expr)]
@@ -248,25 +277,22 @@ impl<'a> Evaluation<'a> {
         parts: &[ValueRange],
         fields: &[Field],
         told: &mut Told,
-    ) -> Result<Option<Scalars>, Memory> {
+    ) -> Result<Tupled, Memory> {
         let before = told.count();
         let mut known = Vec::new(self.alloc);
         for (part, field) in parts.iter().zip(fields.iter()) {
             known.push(self.part(&part.first, &field.mode, place.blame, told)?)?;
         }
         if told.count() > before {
-            return Ok(None);
+            return Ok(Tupled::Misfit);
         }
-        let mut all = Scalars::new(self.alloc);
+        let mut all = TupleValue::of_parts(self.alloc);
+        let mut fits = true;
         for (part, field) in known.iter().zip(fields.iter()) {
-            let _ = is_received(place, part, &field.mode, told)?;
-            add_value(part, &mut all)?;
+            fits = is_received(place, part, &field.mode, told)? && fits;
+            all.add(&part.known)?;
         }
-        Ok(if told.count() > before {
-            None
-        } else {
-            Some(all)
-        })
+        Ok(tupled_of(all, fits))
     }
 
     // The members that a powerset's tuple lists, each by itself or as a range.
@@ -277,7 +303,7 @@ impl<'a> Evaluation<'a> {
         parts: &[ValueRange],
         member: &Rc<Mode>,
         told: &mut Told,
-    ) -> Result<Option<Scalars>, Memory> {
+    ) -> Result<Tupled, Memory> {
         let before = told.count();
         let mut spans = Vec::new(self.alloc);
         for part in parts {
@@ -289,50 +315,16 @@ impl<'a> Evaluation<'a> {
             spans.push(Span { first, last })?;
         }
         if told.count() > before {
-            return Ok(None);
+            return Ok(Tupled::Misfit);
         }
+        let mut all = TupleValue::of_members(self.alloc, member)?;
+        let mut fits = true;
         for span in &spans {
-            let _ = is_received(place, &span.first, member, told)?;
-            if let Some(last) = &span.last {
-                let _ = is_received(place, last, member, told)?;
-            }
+            fits = is_span_received(place, span, member, told)? && fits;
+            let last = span.last.as_ref().unwrap_or(&span.first);
+            all.add_span(member, &span.first.known, &last.known);
         }
-        if told.count() > before {
-            return Ok(None);
-        }
-        self.members_of(&spans, member)
-    }
-
-    // The powerset of the members that are listed.
-    fn members_of(&self, spans: &[Span], member: &Mode) -> Result<Option<Scalars>, Memory> {
-        let Some(Bounds { low, .. }) = bounds(member) else {
-            return Ok(None);
-        };
-        let size = member_count(member);
-        let mut set = empty_set(self.alloc, size)?;
-        for span in spans {
-            let Some(first) = span.first.known.number() else {
-                return Ok(None);
-            };
-            let last = match &span.last {
-                None => Some(first),
-                Some(last) => last.known.number(),
-            };
-            let Some(last) = last else {
-                return Ok(None);
-            };
-            add_members(
-                &mut set,
-                first.saturating_sub(low),
-                last.saturating_sub(low),
-            );
-        }
-        Ok(Some(set))
-    }
-
-    /// Whether an expression has the form of a constant where it stands by itself.
-    pub fn has_constant_form(&self, expr: &Expr) -> bool {
-        self.has_form(expr, false)
+        Ok(tupled_of(all, fits))
     }
 
     // Whether an expression has the form of a constant by itself, or as a part of a tuple that has it: there a tuple
@@ -419,7 +411,7 @@ impl<'a> Evaluation<'a> {
     }
 }
 
-/// Whether a routine gives a value of its arguments alone.
+/// Whether a routine gives a value of its arguments alone, or of their modes.
 pub fn is_value_routine(own: Predefined) -> bool {
     match own {
         Predefined::Num
@@ -428,8 +420,21 @@ pub fn is_value_routine(own: Predefined) -> bool {
         | Predefined::Abs
         | Predefined::Card
         | Predefined::Min
-        | Predefined::Max => true,
-        _ => is_measuring(own),
+        | Predefined::Max
+        | Predefined::Upper
+        | Predefined::Lower
+        | Predefined::Size => true,
+        Predefined::Int
+        | Predefined::Bool
+        | Predefined::Char
+        | Predefined::Instance
+        | Predefined::True
+        | Predefined::False
+        | Predefined::Null
+        | Predefined::PutInt
+        | Predefined::PutText
+        | Predefined::PutLine
+        | Predefined::GetInt => false,
     }
 }
 
@@ -451,11 +456,40 @@ pub fn has_parts(parts: &[ValueRange], count: u64) -> bool {
     parts.len() as u64 == count
 }
 
-// What is told of a tuple that doesn't fit its mode.
+// What is known of a tuple of a mode: its class wherever it fits.
+fn known_of_tuple(tupled: Tupled, mode: &Rc<Mode>) -> Result<Known, Memory> {
+    match tupled {
+        Tupled::Misfit => Ok(Known::broken()),
+        Tupled::Fits(value) => Ok(Known {
+            class: Some(Class::Value(mode.clone()?)),
+            value,
+            is_constant: true,
+        }),
+    }
+}
+
+// What comes of a tuple whose parts are added.
+fn tupled_of(all: TupleValue, fits: bool) -> Tupled {
+    if fits {
+        Tupled::Fits(all.into_value())
+    } else {
+        Tupled::Misfit
+    }
+}
+
+// Rule M10 of a tuple with a mode's name that doesn't fit its mode.
 fn tell_misfit(place: Place, told: &mut Told) -> Result<(), Memory> {
     match place.blame {
-        Blame::Tuple => told.tell(Rule::M10, place.bracket),
-        Blame::Synonym(at) => told.tell(Rule::M12, at),
+        Blame::Each => told.tell(Rule::M10, place.bracket),
+        Blame::Whole => Ok(()),
+    }
+}
+
+// Rule M11 of a part, at a place, of a tuple with a mode's name.
+fn tell_outside(place: Place, at: Pos, told: &mut Told) -> Result<(), Memory> {
+    match place.blame {
+        Blame::Each => told.tell(Rule::M11, at),
+        Blame::Whole => Ok(()),
     }
 }
 
@@ -466,21 +500,22 @@ fn is_received(place: Place, part: &Part, mode: &Mode, told: &mut Told) -> Resul
         return Ok(false);
     }
     if part.known.lies_outside(mode) {
-        match place.blame {
-            Blame::Tuple => told.tell(Rule::M11, part.at)?,
-            Blame::Synonym(at) => told.tell(Rule::M12, at)?,
-        }
+        tell_outside(place, part.at, told)?;
         return Ok(false);
     }
-    Ok(true)
+    Ok(part.fits)
 }
 
-// Adds the scalars of a part.
-fn add_value(part: &Part, all: &mut Scalars) -> Result<(), Memory> {
-    if let Some(value) = &part.known.value {
-        for number in value.as_slice() {
-            all.push(*number)?;
-        }
+// The same of both ends of a range of members.
+fn is_span_received(
+    place: Place,
+    span: &Span,
+    member: &Mode,
+    told: &mut Told,
+) -> Result<bool, Memory> {
+    let is_first_received = is_received(place, &span.first, member, told)?;
+    match &span.last {
+        None => Ok(is_first_received),
+        Some(last) => Ok(is_received(place, last, member, told)? && is_first_received),
     }
-    Ok(())
 }

@@ -3,28 +3,12 @@ use chill_base::{List, Memory, Pos};
 use names_model::{Definition, Resolved};
 use std::alloc::Global;
 
-// As many halvings as a list of any length needs.
-const HALVINGS: u32 = 64;
-
 /// The number that stands with a place. The places rise.
 pub fn number_at(numbers: &[Resolved], at: Pos) -> Option<u32> {
-    let (mut low, mut high) = (0, numbers.len());
-    for _ in 0..HALVINGS {
-        if low >= high {
-            return None;
-        }
-        let middle = low + (high - low) / 2;
-        let found = numbers.get(middle)?;
-        if found.at == at {
-            return Some(found.to);
-        }
-        if found.at < at {
-            low = middle + 1;
-        } else {
-            high = middle;
-        }
+    match numbers.binary_search_by_key(&at, |own| own.at) {
+        Ok(place) => numbers.get(place).map(|own| own.to),
+        Err(_) => None,
     }
-    None
 }
 
 /// The places of the definitions of a text, with their numbers. The predefined ones behind them have no place.

@@ -56,7 +56,7 @@ const SCALARS: u32 = 4096;
 
 impl<'a> Evaluation<'a> {
     /// The mode that is written somewhere.
-    pub fn written_mode(
+    pub(crate) fn written_mode(
         &self,
         mode: &WrittenMode,
         standing: Standing,
@@ -174,7 +174,7 @@ impl<'a> Evaluation<'a> {
 
     /// A mode of values that is written somewhere.
     #[cycle(base)]
-    pub fn base_mode(
+    pub(crate) fn base_mode(
         &self,
         base: &Base,
         standing: Standing,
@@ -374,7 +374,8 @@ impl<'a> Evaluation<'a> {
         Ok(Some(mode))
     }
 
-    // A mode whose parts are there, where no rule was broken since and it has few enough scalars.
+    // A mode whose parts are there, where no rule was broken since and it has few enough scalars. Of a mode at which a rule
+    // is broken its scalars aren't asked.
     fn of_few_scalars(
         &self,
         at: Pos,
@@ -382,10 +383,11 @@ impl<'a> Evaluation<'a> {
         before: usize,
         told: &mut Told,
     ) -> Result<Option<Rc<Mode>>, Memory> {
+        if told.count() > before {
+            return Ok(None);
+        }
         if too_many_scalars(&mode) {
             told.tell(Rule::L5, at)?;
-        }
-        if told.count() > before {
             return Ok(None);
         }
         self.made(mode)
@@ -423,7 +425,7 @@ impl<'a> Evaluation<'a> {
         placed: &mut Vec<PlacedField<'b>>,
     ) -> Result<(), Memory> {
         for name in written.names.as_slice() {
-            let mode = shared(mode)?;
+            let mode = shared(mode.as_ref())?;
             placed.push(PlacedField { name, mode, at })?;
         }
         Ok(())

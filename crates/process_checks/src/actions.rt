@@ -56,7 +56,16 @@ impl<'a, 'b> Checks<'a, 'b> {
                 self.tell_in_some(receiver, told)?;
                 self.tell_priority(priority, told)
             }
-            _ => Ok(()),
+            Simple::Assign { .. }
+            | Simple::Update { .. }
+            | Simple::Call { .. }
+            | Simple::Exit { .. }
+            | Simple::Return { .. }
+            | Simple::Result { .. }
+            | Simple::Assert { .. }
+            | Simple::Cause { .. }
+            | Simple::Stop { .. }
+            | Simple::Start { .. } => Ok(()),
         }
     }
 

@@ -8,23 +8,18 @@ use chill_tree::tree::Tree;
 use diagnostics::Diagnostics;
 use expr_rules::Walk;
 use mode_rules::{Evaluation, Told};
-use names_model::Names;
-use std::alloc::Global;
 use visibility::Refusal;
 
 /// The rules P1 to P8, all that a program breaks, in order and each once. It is asked of programs that break no rule on
-/// names, modes, constants or statements.
-pub fn check_processes(alloc: Global, tree: &Tree, names: &Names) -> Result<(), Refusal>
+/// names, modes, constants or statements, and whose definitions are evaluated.
+pub fn check_processes(evaluation: &Evaluation<'_>, tree: &Tree) -> Result<(), Refusal>
     ensures { TellsInOrder result }
 {
-    // The phase of modes and constants told what is told here, which is nothing.
-    let mut told_before = Told::new(alloc);
-    let evaluation = Evaluation::of(alloc, tree, names, &mut told_before)?;
     let checks = Checks {
-        evaluation: &evaluation,
-        locations: Walk::new(&evaluation)?,
+        evaluation,
+        locations: Walk::new(evaluation)?,
     };
-    let mut told = Told::new(alloc);
+    let mut told = Told::new(evaluation.alloc);
     for modulion in tree.modulions.as_slice() {
         checks.tell_in_modulion(modulion, &mut told)?;
     }

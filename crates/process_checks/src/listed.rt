@@ -1,5 +1,5 @@
 // What a DELAY CASE or RECEIVE CASE has listed so far.
-use crate::meeting::Meeting;
+use crate::meeting::Met;
 use chill_base::Memory;
 use std::alloc::Global;
 use std::collections::HashSet;
@@ -28,12 +28,12 @@ impl Listed {
     }
 
     /// Lists one more.
-    pub fn add(&mut self, definition: u32, named: Option<Meeting>) -> Result<(), Memory> {
+    pub fn add(&mut self, definition: u32, named: Option<Met>) -> Result<(), Memory> {
         self.definitions.insert(definition)?;
         match named {
-            Some(Meeting::Buffer) => self.has_buffer = true,
-            Some(Meeting::Signal) => self.has_signal = true,
-            _ => {}
+            Some(Met::Buffer) => self.has_buffer = true,
+            Some(Met::Signal) => self.has_signal = true,
+            Some(Met::Event) | Some(Met::Other) | None => {}
         }
         Ok(())
     }

@@ -1,7 +1,7 @@
 // The rules on processes, each in one function that is given what the rule speaks of (Z.200, chapter on concurrent
 // execution; the limits of priorities are our own choice).
 use crate::listed::Listed;
-use crate::meeting::Meeting;
+use crate::meeting::Met;
 use chill_tree::tree::{ModulionKind, Name};
 use expr_rules::{Access, Located};
 use mode_rules::Known;
@@ -44,11 +44,11 @@ pub fn is_not_allowed_in_a_region(around: ModulionKind) -> bool {
 }
 
 /// Rule P3: what is named isn't what the action is for.
-pub fn does_not_fit_this_action(purpose: Purpose, named: Meeting) -> bool {
+pub fn does_not_fit_this_action(purpose: Purpose, named: Met) -> bool {
     match purpose {
-        Purpose::Events => named != Meeting::Event,
-        Purpose::Messages => named != Meeting::Buffer && named != Meeting::Signal,
-        Purpose::Signals => named != Meeting::Signal,
+        Purpose::Events => named != Met::Event,
+        Purpose::Messages => named != Met::Buffer && named != Met::Signal,
+        Purpose::Signals => named != Met::Signal,
     }
 }
 
@@ -58,11 +58,11 @@ pub fn is_a_location_of_the_region(locations: &HashSet<Vec<u8>>, granted: &Name)
 }
 
 /// Rule P5: an action lists a definition again, or a buffer behind a signal or the other way round.
-pub fn is_listed_twice_or_mixed(earlier: &Listed, definition: u32, named: Option<Meeting>) -> bool {
+pub fn is_listed_twice_or_mixed(earlier: &Listed, definition: u32, named: Option<Met>) -> bool {
     let is_of_the_other_sort = match named {
-        Some(Meeting::Buffer) => earlier.has_signal,
-        Some(Meeting::Signal) => earlier.has_buffer,
-        _ => false,
+        Some(Met::Buffer) => earlier.has_signal,
+        Some(Met::Signal) => earlier.has_buffer,
+        Some(Met::Event) | Some(Met::Other) | None => false,
     };
     earlier.has(definition) || is_of_the_other_sort
 }
@@ -85,6 +85,6 @@ pub fn is_no_instance_location(set: &Located) -> bool {
 }
 
 /// Rule P8: a location that is declared in a body is an event or a buffer.
-pub fn is_a_local_event_or_buffer(declared: Meeting) -> bool {
-    matches!(declared, Meeting::Event | Meeting::Buffer)
+pub fn is_a_local_event_or_buffer(declared: Met) -> bool {
+    matches!(declared, Met::Event | Met::Buffer)
 }

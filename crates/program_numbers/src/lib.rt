@@ -14,7 +14,6 @@ mod exceptions;
 mod granted;
 mod locals;
 mod locations;
-mod meeting;
 mod modulions;
 mod numbering;
 mod refusal;

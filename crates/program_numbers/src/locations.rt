@@ -1,12 +1,11 @@
 // Shared locations, events, buffers and signals.
-use crate::meeting::{Meeting, meeting_of};
 use crate::refusal::ElaborationRefusal;
 use crate::source::{Source, shared};
 use crate::thing::Thing;
 use checked_program::{BufferRow, EventRow, LocationRow, SignalRow};
 use chill_base::List;
 use chill_tree::tree::Name;
-use mode_rules::Origin;
+use mode_rules::{Meeting, Origin, meeting_of};
 use modes::Mode;
 use std::rc::Rc;
 

@@ -57,7 +57,13 @@ impl<'s, 'a, 'b> Source<'s, 'a, 'b> {
         match self.definition(number)?.inside {
             Inside::Modulion(around) => match self.thing(around) {
                 Thing::Region(region) => Ok(Some(region)),
-                _ => Ok(None),
+                Thing::Nothing => Ok(None),
+                Thing::Shared(_)
+                | Thing::Local { .. }
+                | Thing::Body(_)
+                | Thing::Event(_)
+                | Thing::Buffer(_)
+                | Thing::Signal(_) => Err(ElaborationRefusal::Unsound),
             },
             Inside::Outermost | Inside::Body(_) | Inside::Block(_) => Ok(None),
         }

@@ -1,13 +1,15 @@
 // The number of each definition in the list that it stands in.
-use crate::meeting::{Meeting, meeting_of};
 use crate::refusal::ElaborationRefusal;
 use crate::thing::Thing;
 use chill_base::{List, Memory, Numbers};
 use chill_tree::tree::ModulionKind;
 use expr_rules::Walk;
-use mode_rules::Origin;
+use mode_rules::{Meeting, Origin, meeting_of};
 use names_model::Inside;
 use std::alloc::Global;
+
+// The number of the outermost process's body.
+const OUTERMOST: u32 = 0;
 
 /// What each definition of a text is, by its number.
 pub type Things = List<Thing>;
@@ -22,7 +24,7 @@ pub fn things_of(walk: &Walk<'_, '_>) -> Result<Things, ElaborationRefusal> {
         let Some(own) = definitions.get(number) else {
             return Err(ElaborationRefusal::Unsound);
         };
-        let around = body_around(own.inside, found.as_slice());
+        let around = body_around(own.inside, found.as_slice())?;
         let number = u32::try_from(number).unwrap_or(u32::MAX);
         let thing = match around {
             None => counts.outside(walk, number)?,
@@ -33,17 +35,22 @@ pub fn things_of(walk: &Walk<'_, '_>) -> Result<Things, ElaborationRefusal> {
     Ok(found)
 }
 
-/// The number of the body in which a definition stands that isn't directly in a modulion: the outermost process has the
-/// blocks of modulions.
-pub fn body_around(inside: Inside, things: &[Thing]) -> Option<u32> {
-    match inside {
-        Inside::Outermost | Inside::Modulion(_) => None,
-        Inside::Body(definition) | Inside::Block(definition) => {
-            match things.get(definition as usize) {
-                Some(Thing::Body(body)) => Some(*body),
-                _ => Some(0),
-            }
-        }
+// The number of the body in which a definition stands that isn't directly in a modulion: the outermost process has the
+// blocks of modules and regions.
+fn body_around(inside: Inside, things: &[Thing]) -> Result<Option<u32>, ElaborationRefusal> {
+    let around = match inside {
+        Inside::Outermost | Inside::Modulion(_) => return Ok(None),
+        Inside::Body(definition) | Inside::Block(definition) => things.get(definition as usize),
+    };
+    match around {
+        Some(Thing::Body(body)) => Ok(Some(*body)),
+        Some(Thing::Region(_)) | Some(Thing::Nothing) => Ok(Some(OUTERMOST)),
+        Some(Thing::Shared(_))
+        | Some(Thing::Local { .. })
+        | Some(Thing::Event(_))
+        | Some(Thing::Buffer(_))
+        | Some(Thing::Signal(_))
+        | None => Err(ElaborationRefusal::Unsound),
     }
 }
 

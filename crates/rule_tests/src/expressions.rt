@@ -31,9 +31,8 @@ fn told(alloc: Global, text: &str) -> Option<Text> {
 }
 
 fn told_of_tree(alloc: Global, tree: &Tree, names: &Names) -> Result<Option<Text>, Memory> {
-    let mut told = Told::new(alloc);
-    let evaluation = Evaluation::of(alloc, tree, names, &mut told)?;
-    evaluation.tell_of_program(tree, &mut told)?;
+    let evaluation = Evaluation::of(alloc, tree, names)?;
+    let mut told = evaluation.told_of_program(tree)?;
     if told.count() > 0 {
         return Ok(None);
     }
@@ -283,7 +282,7 @@ fn same_constants(alloc: Global) -> Option<usize> {
     let tree = parse(alloc, tokens.as_slice()).ok()?;
     let names = resolve(alloc, &tree).ok()?;
     let mut told = Told::new(alloc);
-    let evaluation = Evaluation::of(alloc, &tree, &names, &mut told).ok()?;
+    let evaluation = Evaluation::of(alloc, &tree, &names).ok()?;
     let walk = Walk::new(&evaluation).ok()?;
     let mut count = 0_usize;
     for modulion in tree.modulions.as_slice() {

@@ -4,6 +4,7 @@ use crate::process_rows::ROWS;
 use chill_lexer::lex;
 use chill_parser::parse;
 use diagnostics::Diagnostics;
+use mode_rules::Evaluation;
 use process_checks::check_processes;
 use static_checks::check_statements;
 use std::alloc::Global;
@@ -21,10 +22,11 @@ fn told(alloc: Global, text: &[u8]) -> Option<Diagnostics> {
     let tokens = lex(alloc, text).ok()?;
     let tree = parse(alloc, tokens.as_slice()).ok()?;
     let names = resolve(alloc, &tree).ok()?;
-    if check_statements(alloc, &tree, &names).is_err() {
+    let evaluation = Evaluation::of(alloc, &tree, &names).ok()?;
+    if check_statements(&evaluation, &tree).is_err() {
         return None;
     }
-    match check_processes(alloc, &tree, &names) {
+    match check_processes(&evaluation, &tree) {
         Ok(()) => Some(Diagnostics::new(alloc)),
         Err(Refusal::Broken(list)) => Some(list),
         Err(Refusal::Memory) => None,

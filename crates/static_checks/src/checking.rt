@@ -9,20 +9,16 @@ use chill_tree::tree::Tree;
 use diagnostics::Diagnostics;
 use expr_rules::Walk;
 use mode_rules::{Evaluation, Told};
-use names_model::Names;
-use std::alloc::Global;
 use visibility::Refusal;
 
 /// The rules on modes and constants that a program breaks, M1 to M14, L5 and L7; or where it breaks none of them the rules
-/// on statements, S1 to S12, L4 and L6: in order, each once.
-pub fn check_statements(alloc: Global, tree: &Tree, names: &Names) -> Result<(), Refusal>
+/// on statements, S1 to S12, L4 and L6: in order, each once. Its definitions are evaluated.
+pub fn check_statements(evaluation: &Evaluation<'_>, tree: &Tree) -> Result<(), Refusal>
     ensures { TellsInOrder result }
 {
-    let mut told = Told::new(alloc);
-    let evaluation = Evaluation::of(alloc, tree, names, &mut told)?;
-    evaluation.tell_of_program(tree, &mut told)?;
+    let mut told = evaluation.told_of_program(tree)?;
     if told.count() == 0 {
-        tell_statements(&evaluation, tree, &mut told)?;
+        tell_statements(evaluation, tree, &mut told)?;
     }
     answer(told.into_list())
 }

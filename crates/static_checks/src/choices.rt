@@ -1,10 +1,10 @@
 // CASE actions (Z.200, chapter on actions).
-use crate::walk::{Statements, is_of_discrete};
+use crate::walk::Statements;
 use chill_base::Memory;
 use chill_tree::tree::{CaseAlternative, Expr, ValueRange};
 use diagnostics::Rule;
 use expr_rules::Receiver;
-use mode_rules::{Known, Told};
+use mode_rules::{Known, Told, is_of_discrete};
 use modes::compatible;
 
 impl<'a, 'b> Statements<'a, 'b> {

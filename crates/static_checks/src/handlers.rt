@@ -4,47 +4,9 @@ use crate::walk::Statements;
 use chill_base::Memory;
 use chill_tree::tree::{Handler, NamedAlternative};
 use diagnostics::Rule;
-use mode_rules::Told;
+use mode_rules::{Told, one_spelling};
 use std::alloc::Global;
 use std::collections::HashSet;
-
-// The exceptions of the language, as they are spelled in lower case too.
-static EXCEPTIONS: [Spellings; 7] = [
-    Spellings {
-        upper: b"OVERFLOW",
-        lower: b"overflow",
-    },
-    Spellings {
-        upper: b"RANGEFAIL",
-        lower: b"rangefail",
-    },
-    Spellings {
-        upper: b"EMPTY",
-        lower: b"empty",
-    },
-    Spellings {
-        upper: b"ASSERTFAIL",
-        lower: b"assertfail",
-    },
-    Spellings {
-        upper: b"DELAYFAIL",
-        lower: b"delayfail",
-    },
-    Spellings {
-        upper: b"SPACEFAIL",
-        lower: b"spacefail",
-    },
-    Spellings {
-        upper: b"EXTINCT",
-        lower: b"extinct",
-    },
-];
-
-// The two spellings of an exception of the language.
-struct Spellings {
-    upper: &'static [u8],
-    lower: &'static [u8],
-}
 
 impl<'a, 'b> Statements<'a, 'b> {
     /// What is told of a handler, where there is one.
@@ -96,14 +58,4 @@ fn tell_exceptions_listed_twice(
         }
     }
     Ok(())
-}
-
-// An exception of the language in its one spelling, any other as it is spelled.
-fn one_spelling(name: &[u8]) -> &[u8] {
-    for Spellings { upper, lower } in &EXCEPTIONS {
-        if name == *lower {
-            return upper;
-        }
-    }
-    name
 }

@@ -35,10 +35,10 @@ impl<'a, 'b> Statements<'a, 'b> {
         self.tell_in_some_mode(&own.mode, told)?;
         match (&own.mode, own.names.as_slice().first()) {
             (Some(_), Some(name)) => {
-                let mode = self.mode_defined(name)?;
-                self.tell_value(&own.value, Receiver::Mode(mode.as_ref()), told)
+                let mode = self.walk.evaluation.mode_defined(name);
+                self.tell_value(&own.value, Receiver::Mode(mode), told)
             }
-            _ => self.tell_value(&own.value, Receiver::Nothing, told),
+            (None, _) | (_, None) => self.tell_value(&own.value, Receiver::Nothing, told),
         }
     }
 
@@ -47,7 +47,7 @@ impl<'a, 'b> Statements<'a, 'b> {
         let (Some(initial), Some(name)) = (&own.initial, own.names.as_slice().first()) else {
             return Ok(());
         };
-        let mode = self.mode_defined(name)?;
-        self.tell_value(&initial.value, Receiver::Mode(mode.as_ref()), told)
+        let mode = self.walk.evaluation.mode_defined(name);
+        self.tell_value(&initial.value, Receiver::Mode(mode), told)
     }
 }

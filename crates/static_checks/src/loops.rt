@@ -1,10 +1,10 @@
 // DO actions (Z.200, chapter on actions).
-use crate::walk::{Statements, is_of_discrete};
+use crate::walk::Statements;
 use chill_base::Memory;
 use chill_tree::tree::{Control, Expr, Name};
 use diagnostics::Rule;
 use expr_rules::Receiver;
-use mode_rules::{Known, Told, form_in};
+use mode_rules::{Known, Told, form_in, is_of_discrete};
 use modes::{Form, Mode, compatible, form_of};
 use std::rc::Rc;
 

@@ -3,7 +3,7 @@ use crate::surroundings::{Returning, Surroundings};
 use crate::walk::Statements;
 use chill_base::Memory;
 use chill_tree::tree::{Item, Modulion, Procedure, Process, Signal};
-use mode_rules::Told;
+use mode_rules::{Told, shared};
 
 impl<'a, 'b> Statements<'a, 'b> {
     /// What is told of the statements in a modulion.
@@ -61,7 +61,7 @@ impl<'a, 'b> Statements<'a, 'b> {
     fn surroundings_of(&self, own: &Procedure) -> Result<Surroundings, Memory> {
         let returning = match &own.returns {
             None => Returning::NoValue,
-            Some(_) => Returning::Value(self.mode_defined(&own.name)?),
+            Some(_) => Returning::Value(shared(self.walk.evaluation.mode_defined(&own.name))?),
         };
         Ok(Surroundings { returning })
     }

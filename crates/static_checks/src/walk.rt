@@ -1,10 +1,8 @@
 // The walk through the statements of a program, and the values that they receive.
 use chill_base::Memory;
-use chill_tree::tree::{Expr, Name};
+use chill_tree::tree::Expr;
 use expr_rules::{Receiver, Walk};
-use mode_rules::{Told, mode_in, shared};
-use modes::{Class, Mode, is_discrete};
-use std::rc::Rc;
+use mode_rules::Told;
 
 /// The walk through the statements of a program.
 pub struct Statements<'a, 'b> {
@@ -21,18 +19,6 @@ impl<'a, 'b> Drop for Statements<'a, 'b> {
 }
 
 impl<'a, 'b> Statements<'a, 'b> {
-    /// The mode of the location, parameter, synonym or procedure that a name defines.
-    pub fn mode_defined(&self, name: &Name) -> Result<Option<Rc<Mode>>, Memory> {
-        let evaluation = self.walk.evaluation;
-        let entry = evaluation
-            .defined_at(name.at)
-            .and_then(|number| evaluation.entry(number));
-        match entry {
-            None => Ok(None),
-            Some(entry) => shared(&entry.mode),
-        }
-    }
-
     /// What is told of a value for what receives it.
     pub fn tell_value(
         &self,
@@ -55,13 +41,5 @@ impl<'a, 'b> Statements<'a, 'b> {
             None => Ok(()),
             Some(value) => self.tell_value(value, receiver, told),
         }
-    }
-}
-
-/// Whether a class has a discrete mode.
-pub fn is_of_discrete(class: &Class) -> bool {
-    match mode_in(class) {
-        None => false,
-        Some(mode) => is_discrete(mode),
     }
 }

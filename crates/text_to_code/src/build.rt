@@ -5,7 +5,7 @@ use code_gen::{CodeRefusal, compile};
 use code_guard::{GuardRefusal, Guarded, guard};
 use code_types::Code;
 use elaborate::{Program, elaborate};
-use names_model::Names;
+use mode_rules::Evaluation;
 use program_numbers::ElaborationRefusal;
 use std::alloc::Global;
 
@@ -26,15 +26,19 @@ pub(crate) enum BuildRefusal {
 }
 
 /// The code of a program, whose size was tested.
-pub(crate) fn build(alloc: Global, tree: &Tree, names: &Names) -> Result<Built, BuildRefusal> {
-    let program = elaborated(alloc, tree, names)?;
+pub(crate) fn build(
+    alloc: Global,
+    tree: &Tree,
+    evaluation: &Evaluation<'_>,
+) -> Result<Built, BuildRefusal> {
+    let program = elaborated(evaluation, tree)?;
     let code = compiled(alloc, program.checked())?;
     let code = guarded(alloc, code)?;
     Ok(Built { program, code })
 }
 
-fn elaborated(alloc: Global, tree: &Tree, names: &Names) -> Result<Program, BuildRefusal> {
-    match elaborate(alloc, tree, names) {
+fn elaborated(evaluation: &Evaluation<'_>, tree: &Tree) -> Result<Program, BuildRefusal> {
+    match elaborate(evaluation, tree) {
         Ok(program) => Ok(program),
         Err(ElaborationRefusal::Memory) => Err(BuildRefusal::Memory),
         Err(ElaborationRefusal::Unsound) => Err(BuildRefusal::NotBuilt),

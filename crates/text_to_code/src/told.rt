@@ -13,6 +13,7 @@ use crate::grammar::{FIRST_PLACE, NoTree, plainly, tokens_of, tree_of};
 use chill_base::Memory;
 use chill_tree::tree::Tree;
 use diagnostics::{Diagnostic, Diagnostics, Rule};
+use mode_rules::Evaluation;
 use names_model::Names;
 use process_checks::check_processes;
 use static_checks::check_statements;
@@ -63,22 +64,22 @@ fn refuse_plainly(alloc: Global, rule: Rule) -> Result<Told, Memory>
 }
 
 // What the checks of modes, constants and statements tell, and where that is nothing what the checks of processes tell.
-fn check(alloc: Global, tree: &Tree, names: &Names) -> Result<(), Refusal>
+fn check(evaluation: &Evaluation<'_>, tree: &Tree) -> Result<(), Refusal>
     ensures { IsInOrder result }
 {
-    check_statements(alloc, tree, names)?;
-    check_processes(alloc, tree, names)
+    check_statements(evaluation, tree)?;
+    check_processes(evaluation, tree)
 }
 
 // What is told of a tree of which the checks tell nothing.
-fn tell_of_code(alloc: Global, tree: &Tree, names: &Names) -> Result<Told, Memory>
+fn tell_of_code(alloc: Global, tree: &Tree, evaluation: &Evaluation<'_>) -> Result<Told, Memory>
     requires { broken_names (level_of (program_tree tree.now)) ≡ [] }
     ensures { IfOk result (λ told. TellsTree (program_tree tree.now) told) }
 {
     if size_of_program(tree) > GREATEST_SIZE {
         return refuse_plainly(alloc, Rule::L8);
     }
-    match build(alloc, tree, names) {
+    match build(alloc, tree, evaluation) {
         Ok(built) => Ok(Told::Accepted(Box::new(alloc, built)?)),
         Err(BuildRefusal::NotBuilt) => refuse_plainly(alloc, Rule::B1),
         Err(BuildRefusal::Memory) => Err(Memory),
@@ -90,8 +91,9 @@ fn tell_of_checks(alloc: Global, tree: &Tree, names: &Names) -> Result<Told, Mem
     requires { broken_names (level_of (program_tree tree.now)) ≡ [] }
     ensures { IfOk result (λ told. TellsTree (program_tree tree.now) told) }
 {
-    match check(alloc, tree, names) {
-        Ok(()) => tell_of_code(alloc, tree, names),
+    let evaluation = Evaluation::of(alloc, tree, names)?;
+    match check(&evaluation, tree) {
+        Ok(()) => tell_of_code(alloc, tree, &evaluation),
         Err(Refusal::Broken(told)) => Ok(Told::Refused(told)),
         Err(Refusal::Memory) => Err(Memory),
     }

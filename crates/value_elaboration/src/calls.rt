@@ -166,7 +166,7 @@ impl<'a, 'b, 'c> Values<'a, 'b, 'c> {
     ) -> Result<Elaborated, ElaborationRefusal> {
         match args {
             [] if own == Predefined::GetInt => {
-                let known = fitting(self.walk.routine(own, args, &Known::broken())?)?;
+                let known = fitting(self.walk.routine(own, args, &Known::unknown())?)?;
                 self.found(known, Operation::GetInt)
             }
             [_] if is_measuring(own) => self.measured(own, args),
@@ -177,7 +177,7 @@ impl<'a, 'b, 'c> Values<'a, 'b, 'c> {
 
     // UPPER, LOWER or SIZE, whose argument isn't evaluated.
     fn measured(&self, own: Predefined, args: &[Tree]) -> Result<Elaborated, ElaborationRefusal> {
-        let known = fitting(self.walk.routine(own, args, &Known::broken())?)?;
+        let known = fitting(self.walk.routine(own, args, &Known::unknown())?)?;
         Ok(Elaborated::constant(known))
     }
 

@@ -1,7 +1,7 @@
 // A node of an expression as it is elaborated, from which the node around it is made.
 use checked_program::{Expr, Operation, Received};
 use chill_base::{Memory, Scalars};
-use mode_rules::{Known, mode_in};
+use mode_rules::Known;
 use modes::{Class, Mode, bounds, number_of_scalars};
 use program_numbers::ElaborationRefusal;
 use std::alloc::Global;
@@ -80,14 +80,12 @@ fn constant_of(value: Option<Scalars>) -> Result<Operation, ElaborationRefusal> 
     }
 }
 
-/// How many flat scalars a value of a class has. NULL has one.
+/// How many flat scalars a value of a class has. NULL has one, and what gives no value has none.
 pub fn number_in(class: &Class) -> u32 {
     match class {
+        Class::Value(mode) | Class::Derived(mode) => number_of_scalars(mode),
         Class::Null => 1,
-        Class::Value(_) | Class::Derived(_) | Class::Nothing => match mode_in(class) {
-            None => 0,
-            Some(mode) => number_of_scalars(mode),
-        },
+        Class::Nothing => 0,
     }
 }
 

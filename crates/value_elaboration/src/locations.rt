@@ -60,7 +60,7 @@ impl Path {
         let operation = match root {
             Root::Value(of) => Operation::PartOf { of, parts },
             Root::Place(base) => {
-                let count = count_of(&known);
+                let count = count_of(&known)?;
                 let location = Location { base, parts, count };
                 Operation::Contents(boxed(alloc, location)?)
             }
@@ -71,7 +71,7 @@ impl Path {
     // The location with its mode, or Unsound where it is none.
     fn into_target(self) -> Result<Target, ElaborationRefusal> {
         let Path { root, parts, known } = self;
-        let count = count_of(&known);
+        let count = count_of(&known)?;
         match (root, known.into_parts().0) {
             (Root::Place(base), Some(Class::Value(mode))) => Ok(Target {
                 location: Location { base, parts, count },
@@ -83,10 +83,10 @@ impl Path {
 }
 
 // How many scalars it has of which this is known.
-fn count_of(known: &Known) -> u32 {
+fn count_of(known: &Known) -> Result<u32, ElaborationRefusal> {
     match &known.class {
-        None => 0,
-        Some(class) => number_in(class),
+        None => Err(ElaborationRefusal::Unsound),
+        Some(class) => Ok(number_in(class)),
     }
 }
 
@@ -194,10 +194,11 @@ impl<'a, 'b, 'c> Values<'a, 'b, 'c> {
         let receiver = Receiver::Mode(self.walk.index_mode(&path.known));
         let index = self.node(index, receiver)?.into_expr(self.alloc())?;
         let known = self.walk.element(&path.known)?;
+        let count = count_of(&known)?;
         let part = Part::Element {
             index,
             bounds,
-            count: count_of(&known),
+            count,
         };
         path.with(part, known)
     }
@@ -208,10 +209,8 @@ impl<'a, 'b, 'c> Values<'a, 'b, 'c> {
         let Some(first) = first_of_field(&path.known, name) else {
             return Err(ElaborationRefusal::Unsound);
         };
-        let part = Part::Field {
-            first,
-            count: count_of(&known),
-        };
+        let count = count_of(&known)?;
+        let part = Part::Field { first, count };
         path.with(part, known)
     }
 }

@@ -4,8 +4,8 @@ use crate::values::Values;
 use checked_program::{Operation, Range, Received};
 use chill_base::{List, Memory};
 use chill_tree::tree::{Expr as Tree, Name, ValueRange};
-use expr_rules::{Receiver, Shape, TupleValue, shape_of, uniform_shape_of};
-use mode_rules::Known;
+use expr_rules::{Receiver, Shape, shape_of, tuple_known, uniform_shape_of, value_of};
+use mode_rules::{Known, TupleValue};
 use modes::{Mode, bounds};
 use program_numbers::ElaborationRefusal;
 use std::rc::Rc;
@@ -64,13 +64,13 @@ impl<'a, 'b, 'c> Values<'a, 'b, 'c> {
         is_named: bool,
     ) -> Result<Elaborated, ElaborationRefusal> {
         let shape = shape_of(Receiver::Mode(Some(mode)), parts);
-        let mut value = TupleValue::new(self.alloc(), shape)?;
+        let mut value = value_of(self.alloc(), shape)?;
         let operation = match shape {
             Shape::Members(member) => self.members(parts, member, &mut value)?,
             Shape::Elements(_) | Shape::Fields(_) => self.parts(parts, shape, &mut value)?,
             Shape::Unknown | Shape::Misfit => return Err(ElaborationRefusal::Unsound),
         };
-        let known = value.into_known(mode, is_named)?;
+        let known = tuple_known(value, mode, is_named)?;
         Ok(Elaborated::found(known, operation))
     }
 
@@ -158,9 +158,8 @@ impl<'a, 'b, 'c> Values<'a, 'b, 'c> {
             return Err(ElaborationRefusal::Unsound);
         };
         let node = self.node(value, Receiver::Mode(Some(element)))?;
-        let known = self
-            .copies(&node.known, shape, count)?
-            .into_known(mode, is_named)?;
+        let copies = self.copies(&node.known, shape, count)?;
+        let known = tuple_known(copies, mode, is_named)?;
         let value = node.into_received(self.alloc(), element)?;
         let elements = u32::try_from(count).unwrap_or(u32::MAX);
         self.found(known, Operation::Uniform { elements, value })
@@ -168,7 +167,7 @@ impl<'a, 'b, 'c> Values<'a, 'b, 'c> {
 
     // The value of an array of so many elements of which this is known.
     fn copies(&self, element: &Known, shape: Shape<'_>, count: u64) -> Result<TupleValue, Memory> {
-        let mut all = TupleValue::new(self.alloc(), shape)?;
+        let mut all = value_of(self.alloc(), shape)?;
         for _ in 0..count {
             all.add(element)?;
             if element.value.is_none() {
