@@ -115,14 +115,13 @@ fn put_handled(site: Site, draft: &mut Draft) -> Result<(), PartRefusal> {
 
 // The statements behind the declarations without a value that stand first: a frame begins with the lowest values.
 fn behind_lowest(statements: &[Statement]) -> &[Statement] {
-    let mut count = 0usize;
-    for statement in statements {
-        match &*statement.action {
-            Action::Lowest { .. } => count += 1,
-            _ => return &statements[count..],
+    for i in 0..statements.len() {
+        match &*statements[i].action {
+            Action::Lowest { .. } => {}
+            _ => return &statements[i..],
         }
     }
-    &statements[count..]
+    &statements[statements.len()..]
 }
 
 // A critical procedure. An exception that it lists is raised again behind the release of the region.
