@@ -1,4 +1,6 @@
 // The bodies of a program.
+ghost use Rattle.std.specs.Prelude.{◌<◌, length, OnOk};
+
 use checked_program::{Action, Body, Checked, Sort, Statement};
 use chill_base::{Item, Scalars};
 use code_types::Instr;
@@ -16,7 +18,9 @@ use stmt_gen::{
 const GREATEST_LENGTH: usize = 4_294_967_295;
 
 /// Appends the bodies of a program in the order of their numbers. There is no memory for 4,294,967,295 instructions.
-pub fn put_bodies(program: &Checked, draft: &mut Draft) -> Result<(), PartRefusal> {
+pub fn put_bodies(program: &Checked, draft: &mut Draft) -> Result<(), PartRefusal>
+    ensures places { OnOk result (length draft.new.code.instrs < 4294967295) }
+{
     if program.bodies.is_empty() {
         return Err(PartRefusal::Unsound);
     }

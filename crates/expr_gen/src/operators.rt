@@ -226,6 +226,7 @@ pub fn routine_size(routine: Routine) -> u32 {
         Routine::Number => 0,
         Routine::Absolute | Routine::Cardinality => 1,
         Routine::Successor { .. } | Routine::Predecessor { .. } => 1,
-        Routine::Least { low } | Routine::Greatest { low } => member_size(low).saturating_add(1),
+        Routine::Least { low } => member_size(low).saturating_add(1),
+        Routine::Greatest { low } => member_size(low).saturating_add(1),
     }
 }

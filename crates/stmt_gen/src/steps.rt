@@ -186,12 +186,18 @@ fn put_step(step: Step, draft: &mut Draft) -> Result<(), PartRefusal> {
 
 // The end becomes the limit, from which on another step passes the end. With a step of 1 that is the end itself.
 fn put_limit(steps: Steps, draft: &mut Draft) -> Result<(), PartRefusal> {
-    match steps.step {
-        Step::Constant(1) => Ok(()),
-        _ => {
-            put_near_end(steps, draft)?;
-            put_moved_end(steps, draft)
-        }
+    if is_one(steps.step) {
+        return Ok(());
+    }
+    put_near_end(steps, draft)?;
+    put_moved_end(steps, draft)
+}
+
+// Whether the step is known to be 1.
+fn is_one(step: Step) -> bool {
+    match step {
+        Step::Constant(step) => step == 1,
+        Step::Kept(_) => false,
     }
 }
 
@@ -246,8 +252,9 @@ fn rest_size(step: Step) -> u32 {
 }
 
 fn limit_size(step: Step) -> u32 {
-    match step {
-        Step::Constant(1) => 0,
-        _ => rest_size(step).saturating_mul(3).saturating_add(11),
+    if is_one(step) {
+        0
+    } else {
+        rest_size(step).saturating_mul(3).saturating_add(11)
     }
 }
