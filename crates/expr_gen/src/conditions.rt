@@ -54,49 +54,37 @@ pub fn put_condition(
             operand,
         } => put_condition(operand, branch.opposite(), site, free, draft),
         Operation::Binary {
-            operator: Binary::AndIf,
-            left,
-            right,
-        } => {
-            put_condition(
-                left,
-                deciding(left, right, false, branch, draft),
-                site,
-                free,
-                draft,
-            )?;
-            put_condition(right, branch, site, free, draft)
-        }
-        Operation::Binary {
-            operator: Binary::OrIf,
-            left,
-            right,
-        } => {
-            put_condition(
-                left,
-                deciding(left, right, true, branch, draft),
-                site,
-                free,
-                draft,
-            )?;
-            put_condition(right, branch, site, free, draft)
-        }
-        Operation::Binary {
             operator,
             left,
             right,
-        } => {
-            let operands = Operands {
-                operator: *operator,
-                left,
-                right,
-            };
-            put_compared(operands, branch, site, free, draft)
-        }
+        } => match decided_by(*operator) {
+            Some(value) => {
+                let first = deciding(left, right, value, branch, draft);
+                put_condition(left, first, site, free, draft)?;
+                put_condition(right, branch, site, free, draft)
+            }
+            None => {
+                let operands = Operands {
+                    operator: *operator,
+                    left,
+                    right,
+                };
+                put_compared(operands, branch, site, free, draft)
+            }
+        },
         _ => {
             put_expr(condition, site, free, draft)?;
             put_branch(branch, draft)
         }
+    }
+}
+
+// The value of a first operand that decides the whole, so that the second one isn't evaluated.
+fn decided_by(operator: Binary) -> Option<bool> {
+    match operator {
+        Binary::AndIf => Some(false),
+        Binary::OrIf => Some(true),
+        _ => None,
     }
 }
 
@@ -169,26 +157,38 @@ pub fn condition_size(condition: &Expr, when: bool) -> u32 {
             operand,
         } => condition_size(operand, !when),
         Operation::Binary {
-            operator: Binary::AndIf,
-            left,
-            right,
-        } => condition_size(left, false).saturating_add(condition_size(right, when)),
-        Operation::Binary {
-            operator: Binary::OrIf,
-            left,
-            right,
-        } => condition_size(left, true).saturating_add(condition_size(right, when)),
-        Operation::Binary {
             operator,
             left,
             right,
-        } => expr_size(left)
-            .saturating_add(size_between(*operator, bounds_of_value(left)))
-            .saturating_add(expr_size(right))
-            .saturating_add(size_behind(straight(*operator)))
-            .saturating_add(branch_size(when != is_turned(*operator))),
+        } => match decided_by(*operator) {
+            Some(value) => {
+                condition_size(left, value).saturating_add(condition_size(right, when))
+            }
+            None => {
+                let operands = Operands {
+                    operator: *operator,
+                    left,
+                    right,
+                };
+                compared_size(operands, when)
+            }
+        },
         _ => expr_size(condition).saturating_add(branch_size(when)),
     }
+}
+
+// How many instructions an operator other than ANDIF and ORIF has, with the jump.
+fn compared_size(operands: Operands, when: bool) -> u32 {
+    let Operands {
+        operator,
+        left,
+        right,
+    } = operands;
+    expr_size(left)
+        .saturating_add(size_between(operator, bounds_of_value(left)))
+        .saturating_add(expr_size(right))
+        .saturating_add(size_behind(straight(operator)))
+        .saturating_add(branch_size(when != is_turned(operator)))
 }
 
 /// How many instructions jump by the Boolean on top, where it has this value.

@@ -1,7 +1,7 @@
 // The rows of a handler.
 use crate::again::Span;
 use crate::going_on::go_on;
-use crate::parts::leaving_size;
+use crate::joining::leaving_size;
 use crate::sizes::statements_size;
 use checked_program::Handler;
 use chill_base::{Item, List, Numbers};

@@ -1,8 +1,8 @@
 // How many instructions statements have: what the targets of jumps are found from.
 use crate::cases::labels_size;
 use crate::going_on::{action_goes_on, go_on, goes_on};
+use crate::joining::Joined;
 use crate::loops::control_size;
-use crate::parts::Parts;
 use crate::plain::plain_size;
 use crate::waits::{delay_wait_size, receive_wait_size};
 use checked_program::{
@@ -30,7 +30,7 @@ pub fn statements_size(statements: &[Statement], site: &Site) -> u32 {
 pub fn statement_size(statement: &Statement, site: &Site) -> u32 {
     let size = action_size(&statement.action, site);
     match &statement.handler {
-        Some(handler) => Parts::none()
+        Some(handler) => Joined::none()
             .then(size, action_goes_on(&statement.action))
             .then(handled_size(handler, site), false)
             .size,
@@ -41,19 +41,19 @@ pub fn statement_size(statement: &Statement, site: &Site) -> u32 {
 /// How many instructions the alternatives of a handler have.
 #[cycle(extent)]
 pub fn handled_size(handler: &Handler, site: &Site) -> u32 {
-    handled_parts(handler.alternatives.as_slice(), site)
+    handled_joined(handler.alternatives.as_slice(), site)
         .then(some_size(&handler.otherwise, site), false)
         .size
 }
 
 #[cycle(extent)]
-fn handled_parts(alternatives: &[HandlerAlternative], site: &Site) -> Parts {
-    let mut parts = Parts::none();
+fn handled_joined(alternatives: &[HandlerAlternative], site: &Site) -> Joined {
+    let mut joined = Joined::none();
     for alternative in alternatives {
         let actions = alternative.actions.as_slice();
-        parts = parts.then(statements_size(actions, site), go_on(actions));
+        joined = joined.then(statements_size(actions, site), go_on(actions));
     }
-    parts
+    joined
 }
 
 /// How many instructions actions have that may be written.
@@ -69,7 +69,7 @@ pub fn some_size(actions: &Option<List<Statement>>, site: &Site) -> u32 {
 #[cycle(extent)]
 pub fn action_size(action: &Action, site: &Site) -> u32 {
     match action {
-        Action::If { choices, otherwise } => choices_parts(choices.as_slice(), site)
+        Action::If { choices, otherwise } => choices_joined(choices.as_slice(), site)
             .then(statements_size(otherwise.as_slice(), site), false)
             .size,
         Action::Do { control, actions } => control_size(control)
@@ -81,7 +81,7 @@ pub fn action_size(action: &Action, site: &Site) -> u32 {
             alternatives,
             otherwise,
         } => expr_size(selector).saturating_add(1).saturating_add(
-            cases_parts(alternatives.as_slice(), site)
+            cases_joined(alternatives.as_slice(), site)
                 .then(case_rest_size(otherwise, site), false)
                 .size,
         ),
@@ -106,7 +106,7 @@ fn waiting_size(action: &Action, site: &Site) -> u32 {
             alternatives,
             ..
         } => delay_wait_size(alternatives.as_slice(), set).saturating_add(
-            delays_parts(alternatives.as_slice(), site).size,
+            delays_joined(alternatives.as_slice(), site).size,
         ),
         Action::ReceiveBuffers {
             set,
@@ -118,7 +118,7 @@ fn waiting_size(action: &Action, site: &Site) -> u32 {
             alternatives,
             otherwise,
         } => receive_wait_size(alternatives.as_slice(), set, otherwise.is_some()).saturating_add(
-            receives_parts(alternatives.as_slice(), site)
+            receives_joined(alternatives.as_slice(), site)
                 .then(some_size(otherwise, site), false)
                 .size,
         ),
@@ -142,44 +142,44 @@ pub fn choice_size(choice: &Choice, site: &Site) -> u32 {
 }
 
 #[cycle(extent)]
-fn choices_parts(choices: &[Choice], site: &Site) -> Parts {
-    let mut parts = Parts::none();
+fn choices_joined(choices: &[Choice], site: &Site) -> Joined {
+    let mut joined = Joined::none();
     for choice in choices {
-        parts = parts.then(choice_size(choice, site), go_on(choice.actions.as_slice()));
+        joined = joined.then(choice_size(choice, site), go_on(choice.actions.as_slice()));
     }
-    parts
+    joined
 }
 
 #[cycle(extent)]
-fn cases_parts(alternatives: &[CaseAlternative], site: &Site) -> Parts {
-    let mut parts = Parts::none();
+fn cases_joined(alternatives: &[CaseAlternative], site: &Site) -> Joined {
+    let mut joined = Joined::none();
     for alternative in alternatives {
         let actions = alternative.actions.as_slice();
         let size = labels_size(alternative.labels.as_slice());
-        parts = parts.then(
+        joined = joined.then(
             size.saturating_add(chosen_size(actions, site)),
             go_on(actions),
         );
     }
-    parts
+    joined
 }
 
 #[cycle(extent)]
-fn delays_parts(alternatives: &[DelayAlternative], site: &Site) -> Parts {
-    let mut parts = Parts::none();
+fn delays_joined(alternatives: &[DelayAlternative], site: &Site) -> Joined {
+    let mut joined = Joined::none();
     for alternative in alternatives {
         let actions = alternative.actions.as_slice();
-        parts = parts.then(chosen_size(actions, site).saturating_add(3), go_on(actions));
+        joined = joined.then(chosen_size(actions, site).saturating_add(3), go_on(actions));
     }
-    parts
+    joined
 }
 
 #[cycle(extent)]
-fn receives_parts(alternatives: &[ReceiveAlternative], site: &Site) -> Parts {
-    let mut parts = Parts::none();
+fn receives_joined(alternatives: &[ReceiveAlternative], site: &Site) -> Joined {
+    let mut joined = Joined::none();
     for alternative in alternatives {
         let actions = alternative.actions.as_slice();
-        parts = parts.then(chosen_size(actions, site).saturating_add(3), go_on(actions));
+        joined = joined.then(chosen_size(actions, site).saturating_add(3), go_on(actions));
     }
-    parts
+    joined
 }

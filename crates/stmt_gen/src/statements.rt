@@ -4,8 +4,8 @@ use crate::around::{Around, with_exit};
 use crate::cases::{put_labels, put_selector};
 use crate::going_on::{action_goes_on, go_on, goes_on};
 use crate::handlers::put_rows;
+use crate::joining::{leaving_size, put_leaving};
 use crate::loops::{control_size, locals_kept, put_control};
-use crate::parts::{leaving_size, put_leaving};
 use crate::plain::put_plain;
 use crate::sizes::{
     action_size, choice_size, chosen_size, handled_size, some_size, statement_size, statements_size,
@@ -98,7 +98,7 @@ pub fn put_handler(
     put_rows(handler, span, behind, &around.site, draft)?;
     put_leaving(comes, behind, draft)?;
     for alternative in handler.alternatives.as_slice() {
-        put_part(alternative.actions.as_slice(), behind, around, draft)?;
+        put_joining(alternative.actions.as_slice(), behind, around, draft)?;
     }
     put_some(&handler.otherwise, around, draft)
 }
@@ -118,7 +118,7 @@ fn put_some(
 
 // Actions, behind which control goes on at a place.
 #[cycle(statement)]
-fn put_part(
+fn put_joining(
     actions: &[Statement],
     behind: u32,
     around: &Around,
@@ -144,7 +144,7 @@ fn put_chosen(
 ) -> Result<(), PartRefusal> {
     let size = chosen_size(actions, &around.site);
     draft.put(Instr::Unless(next_place(size, go_on(actions), behind, draft)))?;
-    put_part(actions, behind, around, draft)
+    put_joining(actions, behind, around, draft)
 }
 
 // The code of an action.
@@ -254,7 +254,7 @@ fn put_choice(
         target: next_place(size, go_on(actions), behind, draft),
     };
     put_condition(&choice.condition, branch, &around.site, around.free, draft)?;
-    put_part(actions, behind, around, draft)
+    put_joining(actions, behind, around, draft)
 }
 
 // The alternatives of a CASE, whose selector is kept.

@@ -1,35 +1,35 @@
-// Parts behind each other, of which one is done: behind each of them control goes on behind all.
+// Joined behind each other, of which one is done: behind each of them control goes on behind all.
 use code_types::Instr;
 use expr_gen::{Draft, PartRefusal};
 
 /// How many instructions parts have together, and how many of the last ones go on and have nothing behind them so far. A part
 /// jumps over what stands behind it, so it has a jump only where something does.
 #[derive(Clone, Copy)]
-pub struct Parts {
+pub struct Joined {
     pub size: u32,
     waiting: u32,
 }
 
-impl Parts {
+impl Joined {
     /// No part.
-    pub fn none() -> Parts {
-        Parts {
+    pub fn none() -> Joined {
+        Joined {
             size: 0,
             waiting: 0,
         }
     }
 
     /// One part more, of so many instructions without its jump.
-    pub fn then(self, size: u32, goes_on: bool) -> Parts {
+    pub fn then(self, size: u32, goes_on: bool) -> Joined {
         let before = if size == 0 {
             self
         } else {
-            Parts {
+            Joined {
                 size: self.size.saturating_add(self.waiting).saturating_add(size),
                 waiting: 0,
             }
         };
-        Parts {
+        Joined {
             size: before.size,
             waiting: before.waiting.saturating_add(u32::from(goes_on)),
         }
