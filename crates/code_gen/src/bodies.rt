@@ -1,6 +1,8 @@
 // The bodies of a program.
-use checked_program::{Body, Checked, Sort};
-use chill_base::{Item, Numbers, Scalars};
+ghost use Rattle.std.specs.Prelude.{◌<◌, length, OnOk};
+
+use checked_program::{Action, Body, Checked, Sort, Statement};
+use chill_base::{Item, Scalars};
 use code_types::Instr;
 use expr_gen::{
     Draft, Head, PartRefusal, Site, call_results, declared_scalars, first_free, parameter_scalars,
@@ -8,18 +10,28 @@ use expr_gen::{
 };
 use modes::{Mode, add_lowest};
 use stmt_gen::{
-    Around, critical_region, put_again, put_handler, put_items, put_way_out, raised_between,
+    Around, critical_region, go_on, put_again, put_handler, put_items, put_way_out,
+    raised_and_listed, raised_between, some_handler_goes_on,
 };
 
-/// Appends the bodies of a program in the order of their numbers.
-pub fn put_bodies(program: &Checked, draft: &mut Draft) -> Result<(), PartRefusal> {
+/// So many instructions no code has: their places would be all numbers of 32 bits.
+const GREATEST_LENGTH: usize = 4_294_967_295;
+
+/// Appends the bodies of a program in the order of their numbers. There is no memory for 4,294,967,295 instructions.
+pub fn put_bodies(program: &Checked, draft: &mut Draft) -> Result<(), PartRefusal>
+    ensures places { OnOk result (length draft.new.code.instrs < 4294967295) }
+{
     if program.bodies.is_empty() {
         return Err(PartRefusal::Unsound);
     }
     for body in program.bodies.as_slice() {
         put_body(Site { program, body }, draft)?;
     }
-    Ok(())
+    if draft.code.instrs.len() < GREATEST_LENGTH {
+        Ok(())
+    } else {
+        Err(PartRefusal::Memory)
+    }
 }
 
 // A body and its row.
@@ -75,8 +87,17 @@ fn put_inside(site: Site, draft: &mut Draft) -> Result<(), PartRefusal> {
         None if body.critical => Err(PartRefusal::Unsound),
         None => {
             put_handled(site, draft)?;
-            put_way_out(body, draft)
+            put_some_way_out(body, draft)
         }
+    }
+}
+
+// The way out of a body, where control comes to its end.
+fn put_some_way_out(body: &Body, draft: &mut Draft) -> Result<(), PartRefusal> {
+    if go_on(body.statements.as_slice()) || some_handler_goes_on(&body.handler) {
+        put_way_out(body, draft)
+    } else {
+        Ok(())
     }
 }
 
@@ -88,11 +109,23 @@ fn put_handled(site: Site, draft: &mut Draft) -> Result<(), PartRefusal> {
         free: first_free(site.body),
         exits: &[],
     };
-    put_items(site.body.statements.as_slice(), &around, draft)?;
+    let statements = site.body.statements.as_slice();
+    put_items(behind_lowest(statements), &around, draft)?;
     match &site.body.handler {
-        Some(handler) => put_handler(handler, from, &around, draft),
+        Some(handler) => put_handler(handler, from, go_on(statements), &around, draft),
         None => Ok(()),
     }
+}
+
+// The statements behind the declarations without a value that stand first: a frame begins with the lowest values.
+fn behind_lowest(statements: &[Statement]) -> &[Statement] {
+    for i in 0..statements.len() {
+        match &*statements[i].action {
+            Action::Lowest { .. } => {}
+            _ => return &statements[i..],
+        }
+    }
+    &statements[statements.len()..]
 }
 
 // A critical procedure. An exception that it lists is raised again behind the release of the region.
@@ -101,19 +134,8 @@ fn put_critical(site: Site, region: u32, draft: &mut Draft) -> Result<(), PartRe
     let from = draft.place();
     put_handled(site, draft)?;
     let until = draft.place();
-    put_way_out(site.body, draft)?;
+    put_some_way_out(site.body, draft)?;
     let raised = raised_between(from, until, site.program, draft)?;
-    let listed = listed_of(&raised, &site.body.listed)?;
+    let listed = raised_and_listed(&raised, &site.body.listed, site.program)?;
     put_again(listed.as_slice(), from, until, region, draft)
-}
-
-// Those of the raised exceptions that are listed.
-fn listed_of(raised: &Numbers, listed: &Numbers) -> Result<Numbers, PartRefusal> {
-    let mut both = Numbers::new(raised.allocator());
-    for exception in raised.as_slice() {
-        if listed.as_slice().contains(exception) {
-            both.push(*exception)?;
-        }
-    }
-    Ok(both)
 }

@@ -1,5 +1,5 @@
 // The code of a program.
-ghost use Rattle.std.specs.Prelude.{◌<◌, ◌↔◌, IsErrOf};
+ghost use Rattle.std.specs.Prelude.{◌<◌, ◌↔◌, length, IfOk, IsErrOf};
 
 use crate::bodies::put_bodies;
 use crate::refusal::{CodeRefusal, refusal_of};
@@ -11,9 +11,11 @@ use std::alloc::Global;
 /// The greatest size of a text that has a code.
 const GREATEST_SIZE: u32 = 65_536;
 
-/// The code of a program. `CodeTooLong` comes exactly where the size of the text is above 65,536.
+/// The code of a program. `CodeTooLong` comes exactly where the size of the text is above 65,536. Each place in a code is a
+/// number of 32 bits, as is the one behind it.
 pub fn compile(alloc: Global, program: &Checked) -> Result<Code, CodeRefusal>
     ensures too_long { IsErrOf result CodeRefusal.CodeTooLong ↔ 65536 < program.now.size }
+    ensures places { IfOk result (λ code. length code.instrs < 4294967295) }
 {
     if program.size > GREATEST_SIZE {
         return Err(CodeRefusal::CodeTooLong);

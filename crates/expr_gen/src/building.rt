@@ -1,4 +1,8 @@
 // The code while it is made.
+ghost use Rattle.std.specs.Prelude.{◌≡◌, OnOk, OnErr};
+ghost use Rattle.code_types.specs.declared.instr.Instr.TheVariants.{Call};
+ghost use Rattle.expr_gen.specs.Putting.{Puts};
+
 use crate::refusal::PartRefusal;
 use chill_base::{List, Numbers};
 use code_types::{BodyRow, Code, Handler, Instr};
@@ -57,16 +61,25 @@ impl Draft {
     }
 
     /// Appends an instruction other than a call.
-    pub fn put(&mut self, instr: Instr) -> Result<(), PartRefusal> {
+    pub fn put(&mut self, instr: Instr) -> Result<(), PartRefusal>
+        ensures puts { OnOk result (Puts instr self.old.code self.new.code) }
+        ensures left { OnErr result (self.new.code ≡ self.old.code) }
+    {
         self.put_counted(instr, taken(instr), given(instr))
     }
 
     /// Appends the call of a body, which takes so many parameters and gives so many results.
-    pub fn put_call(&mut self, body: u32, params: u32, results: u32) -> Result<(), PartRefusal> {
+    pub fn put_call(&mut self, body: u32, params: u32, results: u32) -> Result<(), PartRefusal>
+        ensures puts { OnOk result (Puts (Call body) self.old.code self.new.code) }
+        ensures left { OnErr result (self.new.code ≡ self.old.code) }
+    {
         self.put_counted(Instr::Call(body), params, results)
     }
 
-    fn put_counted(&mut self, instr: Instr, taken: u32, given: u32) -> Result<(), PartRefusal> {
+    fn put_counted(&mut self, instr: Instr, taken: u32, given: u32) -> Result<(), PartRefusal>
+        ensures puts { OnOk result (Puts instr self.old.code self.new.code) }
+        ensures left { OnErr result (self.new.code ≡ self.old.code) }
+    {
         self.code.instrs.push(instr)?;
         self.height = self.height.saturating_sub(taken).saturating_add(given);
         self.greatest = self.greatest.max(self.height);

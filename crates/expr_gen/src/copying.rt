@@ -1,7 +1,8 @@
 // OUT and INOUT arguments: places that are kept over a call, the lowest values that go in, and what is copied out.
+use crate::bounds::{INT, bounds_to_test};
 use crate::building::Draft;
 use crate::frames::{Site, local_of};
-use crate::locations::{has_offset, put_check, put_store};
+use crate::locations::{check_size, has_offset, put_check, put_store};
 use crate::refusal::PartRefusal;
 use checked_program::{Argument, Body, Location};
 use chill_base::Scalars;
@@ -54,13 +55,13 @@ pub fn put_lowest(
             if lowest.len() != target.count as usize {
                 return Err(PartRefusal::Unsound);
             }
-            put_scalars(lowest.as_slice(), draft)
+            put_each(lowest.as_slice(), draft)
         }
     }
 }
 
-/// Each of these scalars, in order.
-pub fn put_scalars(scalars: &[i64], draft: &mut Draft) -> Result<(), PartRefusal> {
+// Each of these scalars, pushed by itself: the size of a call goes by their number alone.
+fn put_each(scalars: &[i64], draft: &mut Draft) -> Result<(), PartRefusal> {
     for scalar in scalars {
         draft.put(Instr::Push(*scalar))?;
     }
@@ -92,13 +93,27 @@ fn put_copy_out(
     free: u32,
     draft: &mut Draft,
 ) -> Result<(), PartRefusal> {
+    put_check(tested_out(argument), draft)?;
     match argument {
         Argument::In(_) => Ok(()),
-        Argument::Out { target, bounds } | Argument::InOut { target, bounds, .. } => {
-            put_check(*bounds, draft)?;
+        Argument::Out { target, .. } | Argument::InOut { target, .. } => {
             put_under(target, kept, free, draft)?;
             put_store(target, site, draft)
         }
+    }
+}
+
+/// The bounds that the contents of an INOUT argument have to be tested against, which lie in those of the location.
+pub fn tested_in(taken: Option<Bounds>, bounds: Option<Bounds>) -> Option<Bounds> {
+    bounds_to_test(taken, bounds)
+}
+
+// The bounds that an OUT or INOUT parameter has to be tested against. What it has lies in its own bounds, or in INT.
+fn tested_out(argument: &Argument) -> Option<Bounds> {
+    match argument {
+        Argument::In(_) => None,
+        Argument::Out { bounds, .. } => bounds_to_test(*bounds, Some(INT)),
+        Argument::InOut { taken, bounds, .. } => bounds_to_test(*bounds, *taken),
     }
 }
 
@@ -121,17 +136,11 @@ pub fn put_under(
 pub fn copy_out_size(argument: &Argument) -> u32 {
     match argument {
         Argument::In(_) => 0,
-        Argument::Out { target, bounds } | Argument::InOut { target, bounds, .. } => {
+        Argument::Out { target, .. } | Argument::InOut { target, .. } => {
             let under = if has_offset(target) { 3 } else { 0 };
-            check_size(*bounds).saturating_add(1).saturating_add(under)
+            check_size(tested_out(argument))
+                .saturating_add(1)
+                .saturating_add(under)
         }
-    }
-}
-
-/// How many instructions test a value.
-pub fn check_size(bounds: Option<Bounds>) -> u32 {
-    match bounds {
-        Some(_) => 1,
-        None => 0,
     }
 }

@@ -55,15 +55,15 @@ pub fn put_contents(
     draft: &mut Draft,
 ) -> Result<(), PartRefusal> {
     let count = location.count;
+    let fields = first_of_parts(location.parts.as_slice());
     match location.base {
-        Base::Shared(number) => draft.put(Instr::Read(number, 0, count)),
+        Base::Shared(number) => draft.put(Instr::Read(number, fields, count)),
         Base::Local(number) => {
-            let first = local_of(site.body, number)?.first;
-            let parts = location.parts.as_slice();
-            if has_index(parts) {
+            let first = local_of(site.body, number)?.first.saturating_add(fields);
+            if has_index(location.parts.as_slice()) {
                 draft.put(Instr::LocalAt(first, count))
             } else {
-                draft.put(Instr::Local(first.saturating_add(first_of_parts(parts)), count))
+                draft.put(Instr::Local(first, count))
             }
         }
     }
@@ -72,24 +72,32 @@ pub fn put_contents(
 /// Assigns the value on top to a location, whose place stands below it.
 pub fn put_store(location: &Location, site: &Site, draft: &mut Draft) -> Result<(), PartRefusal> {
     let count = location.count;
+    let fields = first_of_parts(location.parts.as_slice());
     match location.base {
-        Base::Shared(number) => draft.put(Instr::Write(number, 0, count)),
+        Base::Shared(number) => draft.put(Instr::Write(number, fields, count)),
         Base::Local(number) => {
-            let first = local_of(site.body, number)?.first;
-            let parts = location.parts.as_slice();
-            if has_index(parts) {
+            let first = local_of(site.body, number)?.first.saturating_add(fields);
+            if has_index(location.parts.as_slice()) {
                 draft.put(Instr::SetLocalAt(first, count))
             } else {
-                draft.put(Instr::SetLocal(first.saturating_add(first_of_parts(parts)), count))
+                draft.put(Instr::SetLocal(first, count))
             }
         }
     }
 }
 
-/// The test of the value on top, where what takes it has bounds.
+/// The test of the value on top, where there are bounds to test it against.
 pub fn put_check(bounds: Option<Bounds>, draft: &mut Draft) -> Result<(), PartRefusal> {
     match bounds {
         Some(bounds) => draft.put(Instr::Check(bounds.low, bounds.high)),
         None => Ok(()),
+    }
+}
+
+/// How many instructions test a value.
+pub fn check_size(bounds: Option<Bounds>) -> u32 {
+    match bounds {
+        Some(_) => 1,
+        None => 0,
     }
 }

@@ -1,16 +1,22 @@
 // Operators and routines: what stands between and behind their operands.
+use crate::bounds::bounds_to_test;
 use crate::building::Draft;
 use crate::refusal::PartRefusal;
 use checked_program::{Binary, Prefix, Routine};
 use code_types::Instr;
 use modes::Bounds;
 
-/// What stands between two operands, of which the second one's code is so long.
-pub fn put_between(operator: Binary, second: u32, draft: &mut Draft) -> Result<(), PartRefusal> {
+/// What stands between two operands, of which the first one lies in its own bounds and the second one's code is so long.
+pub fn put_between(
+    operator: Binary,
+    own: Option<Bounds>,
+    second: u32,
+    draft: &mut Draft,
+) -> Result<(), PartRefusal> {
     match operator {
         Binary::AndIf => put_and_if(second, draft),
         Binary::OrIf => put_or_if(second, draft),
-        Binary::Member(bounds) => put_offset_in(bounds, draft),
+        Binary::Member(bounds) => put_offset_in(bounds, own, draft),
         _ => Ok(()),
     }
 }
@@ -27,40 +33,67 @@ fn put_and_if(second: u32, draft: &mut Draft) -> Result<(), PartRefusal> {
 fn put_or_if(second: u32, draft: &mut Draft) -> Result<(), PartRefusal> {
     let behind = draft.place_behind(second.saturating_add(4));
     draft.put(Instr::Copy(1))?;
-    draft.put(Instr::Not)?;
-    draft.put(Instr::Unless(behind))?;
+    draft.put(Instr::Unless(draft.place_behind(2)))?;
+    draft.put(Instr::Jump(behind))?;
     draft.put(Instr::Pop(1))
 }
 
-// The offset of a member; for a number outside the bounds the first offset that no powerset has. It compares before it
-// subtracts, since a difference may lie outside INT.
-fn put_offset_in(bounds: Bounds, draft: &mut Draft) -> Result<(), PartRefusal> {
-    let above = bounds.high.saturating_add(1);
+// The offset of a member that lies in its own bounds.
+fn put_offset_in(
+    bounds: Bounds,
+    own: Option<Bounds>,
+    draft: &mut Draft,
+) -> Result<(), PartRefusal> {
+    match bounds_to_test(Some(bounds), own) {
+        Some(_) => put_member_or_none(bounds, draft)?,
+        None => {}
+    }
+    put_offset_from(bounds.low, draft)
+}
+
+// The number on top, or 32 above the least member for one outside the bounds: no powerset has that offset. It compares
+// before the offset is found, since a difference may lie outside INT.
+fn put_member_or_none(bounds: Bounds, draft: &mut Draft) -> Result<(), PartRefusal> {
     let inside = draft.place_behind(12);
     draft.put(Instr::Copy(1))?;
     draft.put(Instr::Push(bounds.low))?;
     draft.put(Instr::Less(1))?;
     draft.put(Instr::Copy(2))?;
     draft.put(Instr::Pop(1))?;
-    draft.put(Instr::Push(above))?;
+    draft.put(Instr::Push(bounds.high.saturating_add(1)))?;
     draft.put(Instr::Less(1))?;
     draft.put(Instr::Not)?;
     draft.put(Instr::Or)?;
     draft.put(Instr::Unless(inside))?;
     draft.put(Instr::Pop(1))?;
-    draft.put(Instr::Push(above))?;
-    draft.put(Instr::Push(bounds.low))?;
+    draft.put(Instr::Push(bounds.low.saturating_add(32)))
+}
+
+// The offset of the number on top from the least member.
+fn put_offset_from(low: i64, draft: &mut Draft) -> Result<(), PartRefusal> {
+    if low == 0 {
+        return Ok(());
+    }
+    draft.put(Instr::Push(low))?;
     draft.put(Instr::Sub)
 }
 
-/// How many instructions stand between two operands.
-pub fn size_between(operator: Binary) -> u32 {
+/// How many instructions stand between two operands, of which the first one lies in its own bounds.
+pub fn size_between(operator: Binary, own: Option<Bounds>) -> u32 {
     match operator {
         Binary::AndIf => 3,
         Binary::OrIf => 4,
-        Binary::Member(_) => 14,
+        Binary::Member(bounds) => match bounds_to_test(Some(bounds), own) {
+            Some(_) => member_size(bounds.low).saturating_add(12),
+            None => member_size(bounds.low),
+        },
         _ => 0,
     }
+}
+
+/// How many instructions find the member of an offset, or its offset, where the least member is this number.
+pub fn member_size(low: i64) -> u32 {
+    if low == 0 { 0 } else { 2 }
 }
 
 /// What stands behind two operands of so many scalars each.
@@ -178,8 +211,11 @@ pub fn put_routine(routine: Routine, draft: &mut Draft) -> Result<(), PartRefusa
     }
 }
 
-// The member of the offset on top.
-fn put_member(low: i64, draft: &mut Draft) -> Result<(), PartRefusal> {
+/// The member of the offset on top, where the least one is this number.
+pub fn put_member(low: i64, draft: &mut Draft) -> Result<(), PartRefusal> {
+    if low == 0 {
+        return Ok(());
+    }
     draft.put(Instr::Push(low))?;
     draft.put(Instr::Add)
 }
@@ -190,6 +226,7 @@ pub fn routine_size(routine: Routine) -> u32 {
         Routine::Number => 0,
         Routine::Absolute | Routine::Cardinality => 1,
         Routine::Successor { .. } | Routine::Predecessor { .. } => 1,
-        Routine::Least { .. } | Routine::Greatest { .. } => 3,
+        Routine::Least { low } => member_size(low).saturating_add(1),
+        Routine::Greatest { low } => member_size(low).saturating_add(1),
     }
 }

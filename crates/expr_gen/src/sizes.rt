@@ -1,15 +1,16 @@
 // How many instructions the code of each construct has: what the targets of jumps are found from.
-use crate::copying::{check_size, copy_out_size, offsets_kept};
-use crate::locations::{has_index, has_offset};
-use crate::operators::{routine_size, size_behind, size_between};
+use crate::bounds::{bounds_of_value, tested};
+use crate::copying::{copy_out_size, offsets_kept, tested_in};
+use crate::locations::{check_size, first_of_parts, has_index, has_offset};
+use crate::operators::{member_size, routine_size, size_behind, size_between};
+use crate::repeating::{copies_size, scalars_size};
 use checked_program::{Argument, Call, Expr, Location, Operation, Part, Range, Received};
-use chill_base::Scalars;
 
 /// How many instructions the code of an expression has.
 #[cycle(size)]
 pub fn expr_size(expr: &Expr) -> u32 {
     match &expr.operation {
-        Operation::Constant(scalars) => scalars_size(scalars),
+        Operation::Constant(scalars) => scalars_size(scalars.as_slice()),
         Operation::This | Operation::GetInt => 1,
         Operation::Contents(location) => place_size(location).saturating_add(1),
         Operation::PartOf { of, parts } => expr_size(of)
@@ -32,36 +33,36 @@ pub fn expr_size(expr: &Expr) -> u32 {
             left,
             right,
         } => expr_size(left)
-            .saturating_add(size_between(*operator))
+            .saturating_add(size_between(*operator, bounds_of_value(left)))
             .saturating_add(expr_size(right))
             .saturating_add(size_behind(*operator)),
     }
-}
-
-// How many instructions push so many scalars.
-fn scalars_size(scalars: &Scalars) -> u32 {
-    (scalars.len() as u64).min(u32::MAX as u64) as u32
 }
 
 // How many instructions stand before the one that takes out a part of a value.
 #[cycle(size)]
 fn part_size(parts: &[Part]) -> u32 {
     if has_index(parts) {
-        offset_size(parts)
+        indices_size(parts).saturating_add(member_size(i64::from(first_of_parts(parts))))
     } else {
         0
     }
 }
 
-// How many instructions find an offset.
+// How many instructions find the offset of indices.
 #[cycle(size)]
-fn offset_size(parts: &[Part]) -> u32 {
-    let mut size = 1u32;
+fn indices_size(parts: &[Part]) -> u32 {
+    let mut size = 0u32;
+    let mut sum = 0u32;
     for part in parts {
         match part {
             Part::Field { .. } => {}
             Part::Element { index, .. } => {
-                size = size.saturating_add(expr_size(index)).saturating_add(2);
+                size = size
+                    .saturating_add(expr_size(index))
+                    .saturating_add(1)
+                    .saturating_add(sum);
+                sum = 1;
             }
         }
     }
@@ -71,8 +72,11 @@ fn offset_size(parts: &[Part]) -> u32 {
 /// How many instructions the code of a location's place has.
 #[cycle(size)]
 pub fn place_size(location: &Location) -> u32 {
-    if has_offset(location) {
-        offset_size(location.parts.as_slice())
+    let parts = location.parts.as_slice();
+    if has_index(parts) {
+        indices_size(parts)
+    } else if has_offset(location) {
+        1
     } else {
         0
     }
@@ -81,7 +85,7 @@ pub fn place_size(location: &Location) -> u32 {
 /// How many instructions the code of a value that something takes has, with its test.
 #[cycle(size)]
 pub fn received_size(received: &Received) -> u32 {
-    expr_size(&received.value).saturating_add(check_size(received.bounds))
+    expr_size(&received.value).saturating_add(check_size(tested(received)))
 }
 
 /// How many instructions the code of values that are taken one behind the other has.
@@ -111,19 +115,6 @@ fn powerset_size(members: &[Range]) -> u32 {
     size
 }
 
-// How many instructions copy a value until there are so many of it.
-fn copies_size(elements: u32) -> u32 {
-    let mut there = 1u32;
-    let mut size = 0u32;
-    for _ in 0..32 {
-        if there < elements {
-            there = there.saturating_add(there.min(elements - there));
-            size = size.saturating_add(1);
-        }
-    }
-    size
-}
-
 /// How many instructions the code of a call has.
 #[cycle(size)]
 pub fn call_size(call: &Call) -> u32 {
@@ -144,10 +135,14 @@ fn argument_size(argument: &Argument) -> u32 {
         Argument::Out { target, .. } => place_size(target)
             .saturating_add(offsets_kept(target))
             .saturating_add(target.count),
-        Argument::InOut { target, taken, .. } => place_size(target)
+        Argument::InOut {
+            target,
+            taken,
+            bounds,
+        } => place_size(target)
             .saturating_add(offsets_kept(target))
             .saturating_add(offsets_kept(target))
             .saturating_add(1)
-            .saturating_add(check_size(*taken)),
+            .saturating_add(check_size(tested_in(*taken, *bounds))),
     }
 }

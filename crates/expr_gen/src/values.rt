@@ -1,10 +1,12 @@
 // Values: one recursion over expressions, the parts of locations, and arguments. `free` is the first free scratch local.
+use crate::bounds::{bounds_of_value, tested};
 use crate::building::Draft;
-use crate::copying::{keep_place, places_kept, put_copies_out, put_kept, put_lowest, put_scalars};
+use crate::copying::{keep_place, places_kept, put_copies_out, put_kept, put_lowest, tested_in};
 use crate::frames::{Site, body_of, call_results, first_free, parameter_scalars};
 use crate::locations::{first_of_parts, has_index, has_offset, put_check, put_contents};
-use crate::operators::{put_behind, put_between, put_prefix, put_routine};
+use crate::operators::{put_behind, put_between, put_member, put_prefix, put_routine};
 use crate::refusal::PartRefusal;
+use crate::repeating::{put_copies, put_scalars};
 use crate::sizes::expr_size;
 use checked_program::{
     Argument, Call, Checked, Expr, Location, Operation, Part, Range, Received, Start,
@@ -73,7 +75,7 @@ pub fn put_expr(expr: &Expr, site: &Site, free: u32, draft: &mut Draft) -> Resul
             right,
         } => {
             put_expr(left, site, free, draft)?;
-            put_between(*operator, expr_size(right), draft)?;
+            put_between(*operator, bounds_of_value(left), expr_size(right), draft)?;
             put_expr(right, site, free, draft)?;
             put_behind(*operator, left.count, draft)
         }
@@ -96,22 +98,24 @@ fn put_part(
     cut: Cut,
     draft: &mut Draft,
 ) -> Result<(), PartRefusal> {
+    let fields = first_of_parts(parts);
     if !has_index(parts) {
-        return draft.put(Instr::Part(first_of_parts(parts), cut.count, cut.of));
+        return draft.put(Instr::Part(fields, cut.count, cut.of));
     }
-    put_offset(parts, site, free, draft)?;
+    put_indices(parts, site, free, draft)?;
+    put_member(i64::from(fields), draft)?;
     draft.put(Instr::PartAt(cut.count, cut.of))
 }
 
-// The number of the first scalar that the parts lead to.
+// The offset to which the indices among the parts lead, of which there is one.
 #[cycle(value)]
-fn put_offset(
+fn put_indices(
     parts: &[Part],
     site: &Site,
     free: u32,
     draft: &mut Draft,
 ) -> Result<(), PartRefusal> {
-    draft.put(Instr::Push(i64::from(first_of_parts(parts))))?;
+    let mut is_first = true;
     for part in parts {
         match part {
             Part::Field { .. } => {}
@@ -122,14 +126,25 @@ fn put_offset(
             } => {
                 put_expr(index, site, free, draft)?;
                 draft.put(Instr::Index(bounds.low, bounds.high, *count))?;
-                draft.put(Instr::Add)?;
+                put_sum(is_first, draft)?;
+                is_first = false;
             }
         }
     }
     Ok(())
 }
 
-/// Appends the code of a location's place: its offset, where it has one. It stands below a value that is assigned.
+// The sum of the offset on top and the one below it, where that isn't the first one.
+fn put_sum(is_first: bool, draft: &mut Draft) -> Result<(), PartRefusal> {
+    if is_first {
+        Ok(())
+    } else {
+        draft.put(Instr::Add)
+    }
+}
+
+/// Appends the code of a location's place: the offset of its indices, where it has one. It stands below a value that is
+/// assigned.
 #[cycle(value)]
 pub fn put_place(
     location: &Location,
@@ -137,8 +152,11 @@ pub fn put_place(
     free: u32,
     draft: &mut Draft,
 ) -> Result<(), PartRefusal> {
-    if has_offset(location) {
-        put_offset(location.parts.as_slice(), site, free, draft)
+    let parts = location.parts.as_slice();
+    if has_index(parts) {
+        put_indices(parts, site, free, draft)
+    } else if has_offset(location) {
+        draft.put(Instr::Push(0))
     } else {
         Ok(())
     }
@@ -163,7 +181,7 @@ pub fn put_received(
     draft: &mut Draft,
 ) -> Result<(), PartRefusal> {
     put_expr(&received.value, site, free, draft)?;
-    put_check(received.bounds, draft)
+    put_check(tested(received), draft)
 }
 
 /// Appends the code of values that are taken one behind the other, each with its test.
@@ -229,19 +247,6 @@ fn put_powerset(
     Ok(())
 }
 
-// Copies of the value on top, until there are so many of it. Each time as many are copied as are there, or as are wanting.
-fn put_copies(elements: u32, count: u32, draft: &mut Draft) -> Result<(), PartRefusal> {
-    let mut there = 1u32;
-    for _ in 0..32 {
-        if there < elements {
-            let more = there.min(elements - there);
-            draft.put(Instr::Copy(more.saturating_mul(count)))?;
-            there = there.saturating_add(more);
-        }
-    }
-    Ok(())
-}
-
 /// Appends the code of a call, which leaves the scalars of its result on the stack. The places of its OUT and INOUT
 /// arguments that have an offset are kept in scratch locals, one behind the other.
 #[cycle(value)]
@@ -274,12 +279,16 @@ fn put_argument(
             put_place(target, site, free, draft)?;
             keep_place(target, free, draft)
         }
-        Argument::InOut { target, taken, .. } => {
+        Argument::InOut {
+            target,
+            taken,
+            bounds,
+        } => {
             put_place(target, site, free, draft)?;
             keep_place(target, free, draft)?;
             put_kept(target, free, draft)?;
             put_contents(target, site, draft)?;
-            put_check(*taken, draft)
+            put_check(tested_in(*taken, *bounds), draft)
         }
     }
 }

@@ -24,14 +24,14 @@ use Rattle.checked_program.specs.declared.expr.Location.{Location, out-Location,
 use Rattle.checked_program.specs.declared.expr.Range.{Range, out-Range, fold_out-Range, map-Range}
 use Rattle.checked_program.specs.declared.expr.Received.{Received, out-Received, fold_out-Received}
 use Rattle.checked_program.specs.declared.expr.Start.{Start, out-Start, fold_out-Start}
-use Rattle.program_ranges.specs.Around.{is_count, base_count, buffer_count, bounds_fit, is_passed}
+use Rattle.program_ranges.specs.Around.{is_count, base_count, buffer_count, bounds_fit, are_ints, are_members, is_passed}
 use Rattle.program_ranges.specs.ExprRanges.{Test, Counted, Cut, Called, ArgumentTest, OperationTest, all_hold, parts_lead, values_fill, is_taken, is_number, some_number, operands_fit, lies_in, call_fits, start_fits, result_count, operation_layer, expr_layer, range_layer, received_layer, location_layer, part_layer, start_layer, call_layer, argument_layer, expr_ranges, operation_in_range, range_in_range, received_ranges, location_ranges, part_ranges, start_in_range, call_ranges, argument_in_range}
 
 pub part_ranges-Field : (first : ℕ) (count : ℕ) → part_ranges (parts.Field first count) ≡ record { count = count; fits = λ of program body. nat_le (first + count) of }
 unfolding expr_ranges operation_in_range range_in_range received_ranges location_ranges part_ranges start_in_range call_ranges argument_in_range
 part_ranges-Field first count = ap (fold-Part ArgumentTest OperationTest Cut Called Counted Counted Test Counted Test argument_layer operation_layer part_layer call_layer expr_layer location_layer range_layer received_layer start_layer) (sym (parts.rolls-Field first count)) ∙ fold-roll-Part ArgumentTest OperationTest Cut Called Counted Counted Test Counted Test argument_layer operation_layer part_layer call_layer expr_layer location_layer range_layer received_layer start_layer (opens.Field first count)
 
-pub part_ranges-Element : (i : Box Expr Global) (bounds : Bounds) (count : ℕ) → part_ranges (parts.Element i bounds count) ≡ record { count = count; fits = λ of program body. is_number (expr_ranges i.value) program body && nat_le (count_between bounds.low bounds.high * count) of }
+pub part_ranges-Element : (i : Box Expr Global) (bounds : Bounds) (count : ℕ) → part_ranges (parts.Element i bounds count) ≡ record { count = count; fits = λ of program body. are_ints bounds && (is_number (expr_ranges i.value) program body && nat_le (count_between bounds.low bounds.high * count) of) }
 unfolding expr_ranges operation_in_range range_in_range received_ranges location_ranges part_ranges start_in_range call_ranges argument_in_range
 part_ranges-Element i bounds count = ap (fold-Part ArgumentTest OperationTest Cut Called Counted Counted Test Counted Test argument_layer operation_layer part_layer call_layer expr_layer location_layer range_layer received_layer start_layer) (sym (parts.rolls-Element i bounds count)) ∙ fold-roll-Part ArgumentTest OperationTest Cut Called Counted Counted Test Counted Test argument_layer operation_layer part_layer call_layer expr_layer location_layer range_layer received_layer start_layer (opens.Element i bounds count)
 
@@ -75,7 +75,7 @@ pub operation_in_range-Call : (c : Box Call Global) (n : ℕ) (program : Checked
 unfolding expr_ranges operation_in_range range_in_range received_ranges location_ranges part_ranges start_in_range call_ranges argument_in_range
 operation_in_range-Call c n program body = ap (λ f. f n program body) (ap (fold-Operation ArgumentTest OperationTest Cut Called Counted Counted Test Counted Test argument_layer operation_layer part_layer call_layer expr_layer location_layer range_layer received_layer start_layer) (sym (operations.rolls-Call c)) ∙ fold-roll-Operation ArgumentTest OperationTest Cut Called Counted Counted Test Counted Test argument_layer operation_layer part_layer call_layer expr_layer location_layer range_layer received_layer start_layer (opens.Call c))
 
-pub operation_in_range-Powerset : (bounds : Bounds) (rs : List Range) (n : ℕ) (program : Checked) (body : Body) → operation_in_range (operations.Powerset bounds rs) n program body ≡ all_hold (map range_in_range rs) program body && nat_eq n 1
+pub operation_in_range-Powerset : (bounds : Bounds) (rs : List Range) (n : ℕ) (program : Checked) (body : Body) → operation_in_range (operations.Powerset bounds rs) n program body ≡ are_members bounds && (all_hold (map range_in_range rs) program body && nat_eq n 1)
 unfolding expr_ranges operation_in_range range_in_range received_ranges location_ranges part_ranges start_in_range call_ranges argument_in_range
 operation_in_range-Powerset bounds rs n program body = ap (λ f. f n program body) (ap (fold-Operation ArgumentTest OperationTest Cut Called Counted Counted Test Counted Test argument_layer operation_layer part_layer call_layer expr_layer location_layer range_layer received_layer start_layer) (sym (operations.rolls-Powerset bounds rs)) ∙ fold-roll-Operation ArgumentTest OperationTest Cut Called Counted Counted Test Counted Test argument_layer operation_layer part_layer call_layer expr_layer location_layer range_layer received_layer start_layer (opens.Powerset bounds rs))
 

@@ -1,9 +1,10 @@
 -- What the numbers in a body name, and how many scalars that has.
-use Rattle.std.specs.Prelude.{ℕ, ◌+◌, min, Bool, true, false, ◌&&◌, nat_eq, nat_lt, List, [], ◌∷◌, length, slice_get, Option, Some, None}
+use Rattle.std.specs.Prelude.{ℕ, ◌+◌, min, ℤ, pos, neg_ℤ, int_le, Bool, true, false, ◌&&◌, nat_eq, nat_lt, nat_le, List, [], ◌∷◌, length, slice_get, Option, Some, None}
 use Rattle.std.specs.declared.alloc.Global.{Global}
 use Rattle.std.specs.declared.rc.Rc.{Rc}
 use Rattle.modes.specs.declared.mode.Mode.{Mode}
 use Rattle.modes.specs.declared.mode.Bounds.{Bounds}
+use Rattle.modes.specs.Bounds.{count_between}
 use Rattle.modes.specs.ModeTree.{mode_tree}
 use Rattle.modes.specs.Scalars.{scalars_of}
 use Rattle.checked_program.specs.declared.expr.Base.{Base}
@@ -63,6 +64,18 @@ base_count (Local n) program body = local_count (slice_get body.locals n)
 abbrev pub bounds_fit : Option Bounds → ℕ → Bool
 bounds_fit None n = true
 bounds_fit (Some b) n = nat_eq n 1
+
+-- a value of INT
+abbrev pub is_int : ℤ → Bool
+is_int z = int_le (neg_ℤ (pos 2147483648)) z && int_le z (pos 2147483647)
+
+-- both bounds are values of INT; those of a text of no characters aren't in order
+abbrev pub are_ints : Bounds → Bool
+are_ints b = is_int b.low && is_int b.high
+
+-- bounds of the members of a powerset that is one number: of at least 1 and at most 32 values of INT
+abbrev pub are_members : Bounds → Bool
+are_members b = are_ints b && (int_le b.low b.high && nat_le (count_between b.low b.high) 32)
 
 abbrev pub is_procedure : Sort → Bool
 is_procedure Procedure = true

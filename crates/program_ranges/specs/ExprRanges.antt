@@ -5,7 +5,7 @@ use Rattle.checked_program.specs.declared.program.Passing.TheVariants as passing
 use Rattle.checked_program.specs.declared.program.Checked.{Checked}
 use Rattle.checked_program.specs.declared.program.Body.{Body}
 use Rattle.checked_program.specs.declared.expr.Binary.{Binary}
-use Rattle.checked_program.specs.declared.expr.Binary.TheVariants.{Equal, NotEqual, Less, LessOrEqual, Greater, GreaterOrEqual}
+use Rattle.checked_program.specs.declared.expr.Binary.TheVariants.{Equal, NotEqual, Less, LessOrEqual, Greater, GreaterOrEqual, Member}
 use Rattle.checked_program.specs.declared.expr.Argument.TheOpen as opens
 use Rattle.checked_program.specs.declared.expr.Argument.{Argument, Argument-F, fold-Argument}
 use Rattle.checked_program.specs.declared.expr.Operation.{Operation, Operation-F, fold-Operation}
@@ -16,7 +16,7 @@ use Rattle.checked_program.specs.declared.expr.Location.{Location, Location-F, f
 use Rattle.checked_program.specs.declared.expr.Range.{Range, Range-F, fold-Range}
 use Rattle.checked_program.specs.declared.expr.Received.{Received, Received-F, fold-Received}
 use Rattle.checked_program.specs.declared.expr.Start.{Start, Start-F, fold-Start}
-use Rattle.program_ranges.specs.Around.{is_count, base_count, buffer_count, mode_count, bounds_fit, is_procedure, is_process, is_passed}
+use Rattle.program_ranges.specs.Around.{is_count, base_count, buffer_count, mode_count, bounds_fit, are_ints, are_members, is_procedure, is_process, is_passed}
 
 -- whether numbers are in range in a body of a program
 abbrev pub Test : Type 0
@@ -86,7 +86,7 @@ abbrev pub some_number : Option Counted → Test
 some_number None program body = true
 some_number (Some v) program body = is_number v program body
 
--- operands of so many scalars: of equally many where they are compared, else of one each
+-- operands of so many scalars: of equally many where they are compared, else of one each; the bounds of IN
 abbrev pub operands_fit : Binary → ℕ → ℕ → Bool
 operands_fit Equal m n = nat_eq m n
 operands_fit NotEqual m n = nat_eq m n
@@ -94,6 +94,7 @@ operands_fit Less m n = nat_eq m n
 operands_fit LessOrEqual m n = nat_eq m n
 operands_fit Greater m n = nat_eq m n
 operands_fit GreaterOrEqual m n = nat_eq m n
+operands_fit (Member b) m n = are_members b && (nat_eq m 1 && nat_eq n 1)
 operands_fit o m n = nat_eq m 1 && nat_eq n 1
 
 -- the parts lead from a location that is there to so many scalars
@@ -122,7 +123,7 @@ operation_layer (opens.PartOf of parts) n program body = of.value.holds program 
 operation_layer (opens.Receive b) n program body = is_count (buffer_count (slice_get program.buffers b)) n
 operation_layer (opens.Start s) n program body = s.value program body && nat_eq n 1
 operation_layer (opens.Call c) n program body = c.value.holds program body && is_count (result_count (slice_get program.bodies c.value.body)) n
-operation_layer (opens.Powerset bounds rs) n program body = all_hold rs program body && nat_eq n 1
+operation_layer (opens.Powerset bounds rs) n program body = are_members bounds && (all_hold rs program body && nat_eq n 1)
 operation_layer (opens.Parts vs) n program body = values_fill vs n program body
 operation_layer (opens.Uniform m v) n program body = v.holds program body && (nat_lt 0 m && nat_eq n (m * v.count))
 operation_layer (opens.Routine r e) n program body = is_number e.value program body && nat_eq n 1
@@ -145,7 +146,7 @@ location_layer l = record { count = l.count; holds = λ program body. lies_in (b
 -- a field or an element lies in what it is a part of: the elements that can be named have no more scalars
 abbrev pub part_layer : Part-F ArgumentTest OperationTest Cut Called Counted Counted Test Counted Test → Cut
 part_layer (opens.Field first count) = record { count = count; fits = λ of program body. nat_le (first + count) of }
-part_layer (opens.Element i bounds count) = record { count = count; fits = λ of program body. is_number i.value program body && nat_le (count_between bounds.low bounds.high * count) of }
+part_layer (opens.Element i bounds count) = record { count = count; fits = λ of program body. are_ints bounds && (is_number i.value program body && nat_le (count_between bounds.low bounds.high * count) of) }
 
 abbrev pub start_layer : Start-F ArgumentTest OperationTest Cut Called Counted Counted Test Counted Test → Test
 start_layer s program body = start_fits (slice_get program.bodies s.process) s.arguments program body

@@ -1,7 +1,7 @@
 // What the numbers in a body name, and how many scalars that has.
 ghost use Rattle.std.specs.Prelude.{◌≡◌, slice_get};
 ghost use Rattle.modes.specs.Bounds.{count_between};
-ghost use Rattle.program_ranges.specs.Around.{count_of, is_count, base_count, buffer_count, mode_count, bounds_fit, is_passed, is_exception, is_procedure, is_process, same_passing};
+ghost use Rattle.program_ranges.specs.Around.{count_of, is_count, base_count, buffer_count, mode_count, bounds_fit, is_int, are_ints, are_members, is_passed, is_exception, is_procedure, is_process, same_passing};
 
 use checked_program::{Base, Body, Checked, Passing, Sort};
 use modes::{Bounds, number_of_scalars};
@@ -70,6 +70,27 @@ pub(crate) fn count_between(bounds: Bounds) -> u64
         return 0;
     }
     bounds.high.abs_diff(bounds.low).saturating_add(1)
+}
+
+// Whether a number is a value of INT.
+fn is_int(number: i64) -> bool
+    ensures { result ≡ is_int number }
+{
+    -2147483648 <= number && number <= 2147483647
+}
+
+/// Whether both bounds are values of INT.
+pub(crate) fn are_ints(bounds: Bounds) -> bool
+    ensures { result ≡ are_ints bounds }
+{
+    is_int(bounds.low) && is_int(bounds.high)
+}
+
+/// Whether these are bounds of the members of a powerset that is one number.
+pub(crate) fn are_members(bounds: Bounds) -> bool
+    ensures { result ≡ are_members bounds }
+{
+    are_ints(bounds) && (bounds.low <= bounds.high && count_between(bounds) <= 32)
 }
 
 pub(crate) fn is_procedure(sort: Sort) -> bool

@@ -4,8 +4,8 @@ ghost use Rattle.program_ranges.specs.ExprRanges.{expr_ranges, operation_in_rang
 ghost use Rattle.program_ranges.specs.Around.{is_count};
 
 use crate::around::{
-    base_count, bounds_fit, buffer_count, count_between, is_count, is_passed, is_procedure,
-    is_process, result_count,
+    are_ints, are_members, base_count, bounds_fit, buffer_count, count_between, is_count,
+    is_passed, is_procedure, is_process, result_count,
 };
 use checked_program::{
     Argument, Binary, Body, Call, Checked, Expr, Location, Operation, Part, Passing, Range,
@@ -70,8 +70,9 @@ fn operation_in_range(operation: &Operation, count: u32, program: &Checked, body
         Operation::Call(call) => {
             call_in_range(call, program, body) && gives(call.body, count, program)
         }
-        Operation::Powerset { members, .. } => {
-            ranges_in_range(members.as_slice(), program, body) && count == 1
+        Operation::Powerset { bounds, members } => {
+            are_members(*bounds)
+                && (ranges_in_range(members.as_slice(), program, body) && count == 1)
         }
         Operation::Parts(parts) => values_fill(parts.as_slice(), count, program, body),
         Operation::Uniform { elements, value } => {
@@ -102,7 +103,8 @@ fn gives(callee: u32, count: u32, program: &Checked) -> bool
     }
 }
 
-/// Whether the operands of an operator may have so many scalars: equally many where they are compared, else one each.
+/// Whether the operands of an operator may have so many scalars: equally many where they are compared, else one
+/// each; and the bounds of IN are those of members.
 pub(crate) fn operands_fit(operator: Binary, left: u32, right: u32) -> bool
     ensures { result ≡ operands_fit operator left right }
 {
@@ -113,6 +115,7 @@ pub(crate) fn operands_fit(operator: Binary, left: u32, right: u32) -> bool
         | Binary::LessOrEqual
         | Binary::Greater
         | Binary::GreaterOrEqual => left == right,
+        Binary::Member(bounds) => are_members(bounds) && (left == 1 && right == 1),
         _ => left == 1 && right == 1,
     }
 }
@@ -145,8 +148,9 @@ fn part_fits(part: &Part, of: u32, program: &Checked, body: &Body) -> bool
             bounds,
             count,
         } => {
-            is_number(index, program, body)
-                && count_between(*bounds).saturating_mul(*count as u64) <= of as u64
+            are_ints(*bounds)
+                && (is_number(index, program, body)
+                    && count_between(*bounds).saturating_mul(*count as u64) <= of as u64)
         }
     }
 }

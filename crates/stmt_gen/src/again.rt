@@ -3,7 +3,7 @@ use crate::handlers::put_row;
 use checked_program::Checked;
 use chill_base::{List, Memory, Numbers};
 use code_types::Instr;
-use expr_gen::{Draft, PartRefusal, body_of};
+use expr_gen::{Draft, PartRefusal};
 use std::alloc::Global;
 
 /// How many exceptions the language has. The user's are numbered behind them.
@@ -38,59 +38,92 @@ pub fn raised_between(
     draft: &Draft,
 ) -> Result<Numbers, PartRefusal> {
     let alloc = draft.allocator();
-    let mut found = none_found(alloc, LANGUAGE.saturating_add(program.exceptions.len()))?;
+    let mut found = marks(alloc, LANGUAGE.saturating_add(program.exceptions.len()))?;
+    let mut called = marks(alloc, program.bodies.len())?;
     for number in 0..LANGUAGE {
         mark(number as u32, &mut found)?;
     }
-    let count = until.saturating_sub(from) as usize;
     let instrs = draft.code.instrs.as_slice();
-    for instr in instrs.iter().skip(from as usize).take(count) {
-        match instr {
-            Instr::Raise(exception) => mark(*exception, &mut found)?,
-            Instr::Call(body) => mark_listed(*body, program, &mut found)?,
+    for place in from as usize..(until as usize).min(instrs.len()) {
+        match instrs[place] {
+            Instr::Raise(exception) => mark(exception, &mut found)?,
+            Instr::Call(body) => mark(body, &mut called)?,
             _ => {}
         }
     }
-    numbers_of(alloc, &found)
+    mark_listed(&called, program, &mut found)?;
+    marked(alloc, &found)
 }
 
-// Nothing is found yet of so many exceptions.
-fn none_found(alloc: Global, count: usize) -> Result<Vec<bool>, Memory> {
-    let mut found = Vec::with_capacity(alloc, count)?;
+// So many marks, of which none is set.
+fn marks(alloc: Global, count: usize) -> Result<Vec<bool>, Memory> {
+    let mut marks = Vec::with_capacity(alloc, count)?;
     for _ in 0..count {
-        found.push(false)?;
+        marks.push(false)?;
     }
-    Ok(found)
+    Ok(marks)
 }
 
-// The exception is found.
-fn mark(exception: u32, found: &mut [bool]) -> Result<(), PartRefusal> {
-    let exception = exception as usize;
-    if exception < found.len() {
-        found[exception] = true;
+// The mark of this number is set, or Unsound where there is none.
+fn mark(number: u32, marks: &mut [bool]) -> Result<(), PartRefusal> {
+    let number = number as usize;
+    if number < marks.len() {
+        marks[number] = true;
         Ok(())
     } else {
         Err(PartRefusal::Unsound)
     }
 }
 
-// The exceptions that a procedure lists are found.
-fn mark_listed(body: u32, program: &Checked, found: &mut [bool]) -> Result<(), PartRefusal> {
-    for exception in body_of(program, body)?.listed.as_slice() {
+// The exceptions are marked that the marked bodies list.
+fn mark_listed(called: &[bool], program: &Checked, found: &mut [bool]) -> Result<(), PartRefusal> {
+    for (body, is_called) in program.bodies.as_slice().iter().zip(called) {
+        if *is_called {
+            mark_all(body.listed.as_slice(), found)?;
+        }
+    }
+    Ok(())
+}
+
+// Each of these exceptions is marked.
+fn mark_all(exceptions: &[u32], found: &mut [bool]) -> Result<(), PartRefusal> {
+    for exception in exceptions {
         mark(*exception, found)?;
     }
     Ok(())
 }
 
-// The numbers of what is found.
-fn numbers_of(alloc: Global, found: &[bool]) -> Result<Numbers, PartRefusal> {
+// The numbers that are marked, rising.
+fn marked(alloc: Global, marks: &[bool]) -> Result<Numbers, PartRefusal> {
     let mut numbers = List::new(alloc);
-    for (number, is_found) in found.iter().enumerate() {
-        if *is_found {
+    for (number, is_marked) in marks.iter().enumerate() {
+        if *is_marked {
             numbers.push((number as u64).min(u32::MAX as u64) as u32)?;
         }
     }
     Ok(numbers)
+}
+
+/// Those of the raised exceptions, which rise, that are listed.
+pub fn raised_and_listed(
+    raised: &Numbers,
+    listed: &Numbers,
+    program: &Checked,
+) -> Result<Numbers, PartRefusal> {
+    let alloc = raised.allocator();
+    let mut is_listed = marks(alloc, LANGUAGE.saturating_add(program.exceptions.len()))?;
+    mark_all(listed.as_slice(), &mut is_listed)?;
+    let mut both = List::new(alloc);
+    for exception in raised.as_slice() {
+        if is_marked(*exception, &is_listed) {
+            both.push(*exception)?;
+        }
+    }
+    Ok(both)
+}
+
+fn is_marked(number: u32, marks: &[bool]) -> bool {
+    (number as usize) < marks.len() && marks[number as usize]
 }
 
 /// Appends, for each of these exceptions, what releases the region and raises it again, with its row for the instructions

@@ -1,23 +1,28 @@
 // The rows of a handler.
 use crate::again::Span;
-use crate::sizes::handled_size;
-use checked_program::{Body, Handler};
+use crate::going_on::go_on;
+use crate::joining::leaving_size;
+use crate::sizes::statements_size;
+use checked_program::Handler;
 use chill_base::{Item, List, Numbers};
-use expr_gen::{Draft, PartRefusal};
+use expr_gen::{Draft, PartRefusal, Site};
 
-/// Appends the rows of a handler of a body, of which the first one's span is known: one for each alternative, and one for
-/// ELSE.
+/// Appends the rows of a handler, of which the first one's span is known, and the place behind the handler: one row for each
+/// alternative, and one for ELSE.
 pub fn put_rows(
     handler: &Handler,
     first: Span,
-    body: &Body,
+    behind: u32,
+    site: &Site,
     draft: &mut Draft,
 ) -> Result<(), PartRefusal> {
     let mut target = first.target;
     for alternative in handler.alternatives.as_slice() {
         let names = alternative.exceptions.copy()?;
         put_row(first.to(target), names, false, draft)?;
-        target = target.saturating_add(handled_size(alternative.actions.as_slice(), body));
+        let actions = alternative.actions.as_slice();
+        let end = target.saturating_add(statements_size(actions, site));
+        target = end.saturating_add(leaving_size(go_on(actions), end, behind));
     }
     match &handler.otherwise {
         Some(_) => put_row(first.to(target), List::new(draft.allocator()), true, draft),

@@ -1,12 +1,14 @@
 // Modules and regions at their places.
 use crate::again::{put_again, raised_between};
 use crate::around::Around;
+use crate::going_on::{go_on, goes_on};
 use crate::statements::{put_handler, put_statement, put_statements};
 use checked_program::{Action, Handler, Statement};
 use code_types::Instr;
 use expr_gen::{Draft, PartRefusal};
 
-/// Appends the code of what the outermost process does: statements, modules and regions in their order.
+/// Appends the code of what the outermost process does: statements, modules and regions in their order, as far as
+/// control comes.
 #[cycle(item)]
 pub fn put_items(
     items: &[Statement],
@@ -15,6 +17,9 @@ pub fn put_items(
 ) -> Result<(), PartRefusal> {
     for item in items {
         put_item(item, around, draft)?;
+        if !goes_on(item) {
+            return Ok(());
+        }
     }
     Ok(())
 }
@@ -42,18 +47,19 @@ fn put_module(
 ) -> Result<(), PartRefusal> {
     let from = draft.place();
     put_items(items, around, draft)?;
-    put_some_handler(handler, from, around, draft)
+    put_some_handler(handler, from, go_on(items), around, draft)
 }
 
 // The handler of what stands from this place up to the present one, where it has one.
 fn put_some_handler(
     handler: &Option<Box<Handler>>,
     from: u32,
+    comes: bool,
     around: &Around,
     draft: &mut Draft,
 ) -> Result<(), PartRefusal> {
     match handler {
-        Some(handler) => put_handler(handler, from, around, draft),
+        Some(handler) => put_handler(handler, from, comes, around, draft),
         None => Ok(()),
     }
 }
@@ -70,7 +76,7 @@ fn put_region(
     draft.put(Instr::Enter(region))?;
     let from = draft.place();
     put_statements(initialisations, around, draft)?;
-    put_some_handler(handler, from, around, draft)?;
+    put_some_handler(handler, from, true, around, draft)?;
     let until = draft.place();
     let raised = raised_between(from, until, around.site.program, draft)?;
     let count = (raised.len() as u64).min(u32::MAX as u64) as u32;

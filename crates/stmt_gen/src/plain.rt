@@ -5,11 +5,11 @@ use crate::assigning::{
     put_result, put_return, put_update, result_size, return_size, update_size,
 };
 use crate::requests::{put_delay, put_send, send_size};
-use checked_program::{Action, Body, Call, Expr, Routine, Start};
+use checked_program::{Action, Call, Expr, Routine, Start};
 use code_types::Instr;
 use expr_gen::{
-    Draft, PartRefusal, body_of, call_size, expr_size, put_call, put_expr, put_routine, put_start,
-    received_sizes, result_scalars, routine_size,
+    Branch, Draft, PartRefusal, Site, call_size, condition_size, expr_size, put_call,
+    put_condition, put_expr, put_routine, put_start, received_sizes, result_scalars, routine_size,
 };
 
 /// The number of ASSERTFAIL.
@@ -67,7 +67,7 @@ fn put_asking(action: &Action, around: &Around, draft: &mut Draft) -> Result<(),
 }
 
 /// How many instructions an action that holds no statements has. A modulion has none here.
-pub fn plain_size(action: &Action, body: &Body) -> u32 {
+pub fn plain_size(action: &Action, site: &Site) -> u32 {
     match action {
         Action::Declare { names, value } => declare_size(names.as_slice(), value),
         Action::Lowest { locals, value } => lowest_size(locals.as_slice(), value.as_slice()),
@@ -85,17 +85,19 @@ pub fn plain_size(action: &Action, body: &Body) -> u32 {
             };
             update_size(target, change)
         }
-        Action::Return { value } => return_size(value, body),
+        Action::Return { value } => return_size(value, site.body),
         Action::Result { value } => result_size(value),
-        Action::Assert(condition) => expr_size(condition).saturating_add(3),
+        Action::Assert(condition) => condition_size(condition, true).saturating_add(1),
         Action::Exit { .. } | Action::Cause { .. } | Action::Stop => 1,
-        _ => asking_size(action),
+        _ => asking_size(action, site),
     }
 }
 
-fn asking_size(action: &Action) -> u32 {
+fn asking_size(action: &Action, site: &Site) -> u32 {
     match action {
-        Action::Call(call) => call_size(call).saturating_add(1),
+        Action::Call(call) => {
+            call_size(call).saturating_add(u32::from(dropped_scalars(call, site) > 0))
+        }
         Action::Routine { routine, argument } => expr_size(argument)
             .saturating_add(routine_size(*routine))
             .saturating_add(1),
@@ -123,17 +125,32 @@ fn put_exit(outwards: u32, around: &Around, draft: &mut Draft) -> Result<(), Par
 
 // ASSERT.
 fn put_assert(condition: &Expr, around: &Around, draft: &mut Draft) -> Result<(), PartRefusal> {
-    put_expr(condition, &around.site, around.free, draft)?;
-    draft.put(Instr::Not)?;
-    draft.put(Instr::Unless(draft.place_behind(2)))?;
+    let size = condition_size(condition, true).saturating_add(1);
+    let branch = Branch {
+        when: true,
+        target: draft.place_behind(size),
+    };
+    put_condition(condition, branch, &around.site, around.free, draft)?;
     draft.put(Instr::Raise(ASSERTFAIL))
 }
 
-// A call whose result is dropped.
+// A call whose result is dropped, where it has one.
 fn put_dropped_call(call: &Call, around: &Around, draft: &mut Draft) -> Result<(), PartRefusal> {
-    let callee = body_of(around.site.program, call.body)?;
     put_call(call, &around.site, around.free, draft)?;
-    draft.put(Instr::Pop(result_scalars(callee)))
+    let count = dropped_scalars(call, &around.site);
+    if count > 0 {
+        draft.put(Instr::Pop(count))
+    } else {
+        Ok(())
+    }
+}
+
+// How many scalars the result of a call has.
+fn dropped_scalars(call: &Call, site: &Site) -> u32 {
+    match site.program.bodies.as_slice().get(call.body as usize) {
+        Some(callee) => result_scalars(callee),
+        None => 0,
+    }
 }
 
 // A routine whose value is dropped.

@@ -1,92 +1,113 @@
 // How many instructions statements have: what the targets of jumps are found from.
 use crate::cases::labels_size;
+use crate::going_on::{action_goes_on, go_on, goes_on};
+use crate::joining::Joined;
 use crate::loops::control_size;
 use crate::plain::plain_size;
 use crate::waits::{delay_wait_size, receive_wait_size};
 use checked_program::{
-    Action, Body, CaseAlternative, Choice, DelayAlternative, Handler, ReceiveAlternative, Statement,
+    Action, CaseAlternative, Choice, DelayAlternative, Handler, HandlerAlternative,
+    ReceiveAlternative, Statement,
 };
-use expr_gen::expr_size;
+use chill_base::List;
+use expr_gen::{Site, condition_size, expr_size};
 
-/// How many instructions statements of a body have.
+/// How many instructions statements have, as far as control comes.
 #[cycle(extent)]
-pub fn statements_size(statements: &[Statement], body: &Body) -> u32 {
+pub fn statements_size(statements: &[Statement], site: &Site) -> u32 {
     let mut size = 0u32;
     for statement in statements {
-        size = size.saturating_add(statement_size(statement, body));
+        size = size.saturating_add(statement_size(statement, site));
+        if !goes_on(statement) {
+            return size;
+        }
     }
     size
 }
 
-/// How many instructions a statement of a body has, with its handler.
+/// How many instructions a statement has, with its handler.
 #[cycle(extent)]
-pub fn statement_size(statement: &Statement, body: &Body) -> u32 {
-    let handler = match &statement.handler {
-        Some(handler) => handler_size(handler, body),
-        None => 0,
-    };
-    action_size(&statement.action, body).saturating_add(handler)
-}
-
-/// How many instructions a handler of a body has, with the jump over it.
-#[cycle(extent)]
-pub fn handler_size(handler: &Handler, body: &Body) -> u32 {
-    let mut size = 1u32;
-    for alternative in handler.alternatives.as_slice() {
-        size = size.saturating_add(handled_size(alternative.actions.as_slice(), body));
-    }
-    match &handler.otherwise {
-        Some(actions) => size.saturating_add(handled_size(actions.as_slice(), body)),
+pub fn statement_size(statement: &Statement, site: &Site) -> u32 {
+    let size = action_size(&statement.action, site);
+    match &statement.handler {
+        Some(handler) => Joined::none()
+            .then(size, action_goes_on(&statement.action))
+            .then(handled_size(handler, site), false)
+            .size,
         None => size,
     }
 }
 
-/// How many instructions the actions of a handler's alternative have, with the jump behind them.
+/// How many instructions the alternatives of a handler have.
 #[cycle(extent)]
-pub fn handled_size(actions: &[Statement], body: &Body) -> u32 {
-    statements_size(actions, body).saturating_add(1)
+pub fn handled_size(handler: &Handler, site: &Site) -> u32 {
+    handled_joined(handler.alternatives.as_slice(), site)
+        .then(some_size(&handler.otherwise, site), false)
+        .size
 }
 
-/// How many instructions an action of a body has.
 #[cycle(extent)]
-pub fn action_size(action: &Action, body: &Body) -> u32 {
+fn handled_joined(alternatives: &[HandlerAlternative], site: &Site) -> Joined {
+    let mut joined = Joined::none();
+    for alternative in alternatives {
+        let actions = alternative.actions.as_slice();
+        joined = joined.then(statements_size(actions, site), go_on(actions));
+    }
+    joined
+}
+
+/// How many instructions actions have that may be written.
+#[cycle(extent)]
+pub fn some_size(actions: &Option<List<Statement>>, site: &Site) -> u32 {
+    match actions {
+        Some(actions) => statements_size(actions.as_slice(), site),
+        None => 0,
+    }
+}
+
+/// How many instructions an action has.
+#[cycle(extent)]
+pub fn action_size(action: &Action, site: &Site) -> u32 {
     match action {
-        Action::If { choices, otherwise } => choices_size(choices.as_slice(), body).saturating_add(
-            statements_size(otherwise.as_slice(), body),
-        ),
+        Action::If { choices, otherwise } => choices_joined(choices.as_slice(), site)
+            .then(statements_size(otherwise.as_slice(), site), false)
+            .size,
         Action::Do { control, actions } => control_size(control)
-            .saturating_add(statements_size(actions.as_slice(), body))
-            .saturating_add(1),
-        Action::Begin { actions } => statements_size(actions.as_slice(), body),
+            .saturating_add(statements_size(actions.as_slice(), site))
+            .saturating_add(u32::from(go_on(actions.as_slice()))),
+        Action::Begin { actions } => statements_size(actions.as_slice(), site),
         Action::Case {
             selector,
             alternatives,
             otherwise,
-        } => {
-            let rest = match otherwise {
-                Some(actions) => statements_size(actions.as_slice(), body),
-                None => 1,
-            };
-            expr_size(selector)
-                .saturating_add(1)
-                .saturating_add(alternatives_size(alternatives.as_slice(), body))
-                .saturating_add(rest)
-        }
-        _ => waiting_size(action, body),
+        } => expr_size(selector).saturating_add(1).saturating_add(
+            cases_joined(alternatives.as_slice(), site)
+                .then(case_rest_size(otherwise, site), false)
+                .size,
+        ),
+        _ => waiting_size(action, site),
+    }
+}
+
+// How many instructions a CASE has for what no label holds.
+#[cycle(extent)]
+fn case_rest_size(otherwise: &Option<List<Statement>>, site: &Site) -> u32 {
+    match otherwise {
+        Some(actions) => statements_size(actions.as_slice(), site),
+        None => 1,
     }
 }
 
 #[cycle(extent)]
-fn waiting_size(action: &Action, body: &Body) -> u32 {
+fn waiting_size(action: &Action, site: &Site) -> u32 {
     match action {
         Action::DelayCase {
             set,
             alternatives,
             ..
-        } => delay_wait_size(alternatives.as_slice(), set).saturating_add(delays_size(
-            alternatives.as_slice(),
-            body,
-        )),
+        } => delay_wait_size(alternatives.as_slice(), set).saturating_add(
+            delays_joined(alternatives.as_slice(), site).size,
+        ),
         Action::ReceiveBuffers {
             set,
             alternatives,
@@ -96,65 +117,69 @@ fn waiting_size(action: &Action, body: &Body) -> u32 {
             set,
             alternatives,
             otherwise,
-        } => {
-            let rest = match otherwise {
-                Some(actions) => statements_size(actions.as_slice(), body),
-                None => 0,
-            };
-            receive_wait_size(alternatives.as_slice(), set, otherwise.is_some())
-                .saturating_add(receives_size(alternatives.as_slice(), body))
-                .saturating_add(rest)
-        }
-        _ => plain_size(action, body),
+        } => receive_wait_size(alternatives.as_slice(), set, otherwise.is_some()).saturating_add(
+            receives_joined(alternatives.as_slice(), site)
+                .then(some_size(otherwise, site), false)
+                .size,
+        ),
+        _ => plain_size(action, site),
     }
 }
 
-/// How many instructions actions have that are chosen by a Boolean, with the jump behind them.
+/// How many instructions actions have that are chosen by a Boolean, without the jump behind them.
 #[cycle(extent)]
-pub fn chosen_size(actions: &[Statement], body: &Body) -> u32 {
-    statements_size(actions, body).saturating_add(2)
+pub fn chosen_size(actions: &[Statement], site: &Site) -> u32 {
+    statements_size(actions, site).saturating_add(1)
+}
+
+/// How many instructions a condition and its actions have, without the jump behind them.
+#[cycle(extent)]
+pub fn choice_size(choice: &Choice, site: &Site) -> u32 {
+    condition_size(&choice.condition, false).saturating_add(statements_size(
+        choice.actions.as_slice(),
+        site,
+    ))
 }
 
 #[cycle(extent)]
-fn choices_size(choices: &[Choice], body: &Body) -> u32 {
-    let mut size = 0u32;
+fn choices_joined(choices: &[Choice], site: &Site) -> Joined {
+    let mut joined = Joined::none();
     for choice in choices {
-        size = size
-            .saturating_add(expr_size(&choice.condition))
-            .saturating_add(chosen_size(choice.actions.as_slice(), body));
+        joined = joined.then(choice_size(choice, site), go_on(choice.actions.as_slice()));
     }
-    size
+    joined
 }
 
 #[cycle(extent)]
-fn alternatives_size(alternatives: &[CaseAlternative], body: &Body) -> u32 {
-    let mut size = 0u32;
+fn cases_joined(alternatives: &[CaseAlternative], site: &Site) -> Joined {
+    let mut joined = Joined::none();
     for alternative in alternatives {
-        size = size
-            .saturating_add(labels_size(&alternative.labels))
-            .saturating_add(chosen_size(alternative.actions.as_slice(), body));
+        let actions = alternative.actions.as_slice();
+        let size = labels_size(alternative.labels.as_slice());
+        joined = joined.then(
+            size.saturating_add(chosen_size(actions, site)),
+            go_on(actions),
+        );
     }
-    size
+    joined
 }
 
 #[cycle(extent)]
-fn delays_size(alternatives: &[DelayAlternative], body: &Body) -> u32 {
-    let mut size = 0u32;
+fn delays_joined(alternatives: &[DelayAlternative], site: &Site) -> Joined {
+    let mut joined = Joined::none();
     for alternative in alternatives {
-        size = size
-            .saturating_add(3)
-            .saturating_add(chosen_size(alternative.actions.as_slice(), body));
+        let actions = alternative.actions.as_slice();
+        joined = joined.then(chosen_size(actions, site).saturating_add(3), go_on(actions));
     }
-    size
+    joined
 }
 
 #[cycle(extent)]
-fn receives_size(alternatives: &[ReceiveAlternative], body: &Body) -> u32 {
-    let mut size = 0u32;
+fn receives_joined(alternatives: &[ReceiveAlternative], site: &Site) -> Joined {
+    let mut joined = Joined::none();
     for alternative in alternatives {
-        size = size
-            .saturating_add(3)
-            .saturating_add(chosen_size(alternative.actions.as_slice(), body));
+        let actions = alternative.actions.as_slice();
+        joined = joined.then(chosen_size(actions, site).saturating_add(3), go_on(actions));
     }
-    size
+    joined
 }

@@ -2,22 +2,27 @@
 use crate::again::Span;
 use crate::around::{Around, with_exit};
 use crate::cases::{put_labels, put_selector};
+use crate::going_on::{action_goes_on, go_on, goes_on};
 use crate::handlers::put_rows;
+use crate::joining::{leaving_size, put_leaving};
 use crate::loops::{control_size, locals_kept, put_control};
 use crate::plain::put_plain;
-use crate::sizes::{action_size, handler_size, statement_size, statements_size};
+use crate::sizes::{
+    action_size, choice_size, chosen_size, handled_size, some_size, statement_size, statements_size,
+};
 use crate::waits::{Receives, chosen_local, put_delay_wait, put_is_chosen, put_receive_wait};
 use checked_program::{
     Action, CaseAlternative, Choice, Control, DelayAlternative, Handler, ReceiveAlternative,
     Statement,
 };
+use chill_base::List;
 use code_types::Instr;
-use expr_gen::{Draft, PartRefusal};
+use expr_gen::{Branch, Draft, PartRefusal, put_condition};
 
 /// The number of RANGEFAIL.
 const RANGEFAIL: u32 = 1;
 
-/// Appends the code of statements.
+/// Appends the code of statements, as far as control comes.
 #[cycle(statement)]
 pub fn put_statements(
     statements: &[Statement],
@@ -26,6 +31,9 @@ pub fn put_statements(
 ) -> Result<(), PartRefusal> {
     for statement in statements {
         put_statement(statement, around, draft)?;
+        if !goes_on(statement) {
+            return Ok(());
+        }
     }
     Ok(())
 }
@@ -40,7 +48,7 @@ pub fn put_statement(
     if !statement.labelled {
         return put_handled(statement, around, draft);
     }
-    let behind = draft.place_behind(statement_size(statement, around.site.body));
+    let behind = draft.place_behind(statement_size(statement, &around.site));
     let exits = with_exit(draft.allocator(), around.exits, behind)?;
     let inside = Around {
         site: around.site,
@@ -60,47 +68,70 @@ fn put_handled(
     let from = draft.place();
     put_action(&statement.action, around, draft)?;
     match &statement.handler {
-        Some(handler) => put_handler(handler, from, around, draft),
+        Some(handler) => {
+            let comes = action_goes_on(&statement.action);
+            put_handler(handler, from, comes, around, draft)
+        }
         None => Ok(()),
     }
 }
 
-/// Appends a handler of what stands from this place up to the present one, and control goes on behind it.
+/// Appends a handler of what stands from this place up to the present one, and control goes on behind it. It is told
+/// whether control comes from there.
 #[cycle(statement)]
 pub fn put_handler(
     handler: &Handler,
     from: u32,
+    comes: bool,
     around: &Around,
     draft: &mut Draft,
 ) -> Result<(), PartRefusal> {
-    let body = around.site.body;
-    let behind = draft.place_behind(handler_size(handler, body));
+    let until = draft.place();
+    let size = handled_size(handler, &around.site);
+    let jump = leaving_size(comes, 0, size);
+    let behind = draft.place_behind(jump.saturating_add(size));
     let span = Span {
         from,
-        until: draft.place(),
-        target: draft.place_behind(1),
+        until,
+        target: draft.place_behind(jump),
     };
-    put_rows(handler, span, body, draft)?;
-    draft.put(Instr::Jump(behind))?;
+    put_rows(handler, span, behind, &around.site, draft)?;
+    put_leaving(comes, behind, draft)?;
     for alternative in handler.alternatives.as_slice() {
-        put_then_jump(alternative.actions.as_slice(), behind, around, draft)?;
+        put_joining(alternative.actions.as_slice(), behind, around, draft)?;
     }
-    match &handler.otherwise {
-        Some(actions) => put_then_jump(actions.as_slice(), behind, around, draft),
+    put_some(&handler.otherwise, around, draft)
+}
+
+// Actions that may be written.
+#[cycle(statement)]
+fn put_some(
+    actions: &Option<List<Statement>>,
+    around: &Around,
+    draft: &mut Draft,
+) -> Result<(), PartRefusal> {
+    match actions {
+        Some(actions) => put_statements(actions.as_slice(), around, draft),
         None => Ok(()),
     }
 }
 
 // Actions, behind which control goes on at a place.
 #[cycle(statement)]
-fn put_then_jump(
+fn put_joining(
     actions: &[Statement],
     behind: u32,
     around: &Around,
     draft: &mut Draft,
 ) -> Result<(), PartRefusal> {
     put_statements(actions, around, draft)?;
-    draft.put(Instr::Jump(behind))
+    put_leaving(go_on(actions), behind, draft)
+}
+
+// The place behind a part, whose size is without the jump that it may have.
+fn next_place(size: u32, goes_on: bool, behind: u32, draft: &Draft) -> u32 {
+    let end = draft.place_behind(size);
+    end.saturating_add(leaving_size(goes_on, end, behind))
 }
 
 // Actions that are done where the Boolean on top is TRUE, and behind which control goes on at a place.
@@ -111,16 +142,15 @@ fn put_chosen(
     around: &Around,
     draft: &mut Draft,
 ) -> Result<(), PartRefusal> {
-    let size = statements_size(actions, around.site.body);
-    let next = draft.place_behind(size.saturating_add(2));
-    draft.put(Instr::Unless(next))?;
-    put_then_jump(actions, behind, around, draft)
+    let size = chosen_size(actions, &around.site);
+    draft.put(Instr::Unless(next_place(size, go_on(actions), behind, draft)))?;
+    put_joining(actions, behind, around, draft)
 }
 
 // The code of an action.
 #[cycle(statement)]
 fn put_action(action: &Action, around: &Around, draft: &mut Draft) -> Result<(), PartRefusal> {
-    let behind = draft.place_behind(action_size(action, around.site.body));
+    let behind = draft.place_behind(action_size(action, &around.site));
     match action {
         Action::If { choices, otherwise } => {
             put_choices(choices.as_slice(), behind, around, draft)?;
@@ -172,10 +202,7 @@ fn put_waiting(
             alternatives,
             otherwise,
         } => {
-            let rest = match otherwise {
-                Some(actions) => statements_size(actions.as_slice(), around.site.body),
-                None => 0,
-            };
+            let rest = some_size(otherwise, &around.site);
             let has_else = otherwise.is_some();
             let receives = match action {
                 Action::ReceiveBuffers { .. } => Receives::Buffers(has_else),
@@ -192,10 +219,7 @@ fn put_waiting(
             )?;
             let chosen = chosen_local(set, around);
             put_receives(alternatives.as_slice(), chosen, behind, around, draft)?;
-            match otherwise {
-                Some(actions) => put_statements(actions.as_slice(), around, draft),
-                None => Ok(()),
-            }
+            put_some(otherwise, around, draft)
         }
         _ => put_plain(action, around, draft),
     }
@@ -210,10 +234,27 @@ fn put_choices(
     draft: &mut Draft,
 ) -> Result<(), PartRefusal> {
     for choice in choices {
-        expr_gen::put_expr(&choice.condition, &around.site, around.free, draft)?;
-        put_chosen(choice.actions.as_slice(), behind, around, draft)?;
+        put_choice(choice, behind, around, draft)?;
     }
     Ok(())
+}
+
+// A condition, and the actions that are done where it is TRUE.
+#[cycle(statement)]
+fn put_choice(
+    choice: &Choice,
+    behind: u32,
+    around: &Around,
+    draft: &mut Draft,
+) -> Result<(), PartRefusal> {
+    let actions = choice.actions.as_slice();
+    let size = choice_size(choice, &around.site);
+    let branch = Branch {
+        when: false,
+        target: next_place(size, go_on(actions), behind, draft),
+    };
+    put_condition(&choice.condition, branch, &around.site, around.free, draft)?;
+    put_joining(actions, behind, around, draft)
 }
 
 // The alternatives of a CASE, whose selector is kept.
@@ -239,11 +280,16 @@ fn put_do(
     around: &Around,
     draft: &mut Draft,
 ) -> Result<(), PartRefusal> {
-    let turn = statements_size(actions, around.site.body).saturating_add(1);
+    let comes = go_on(actions);
+    let turn = statements_size(actions, &around.site).saturating_add(u32::from(comes));
     let behind = draft.place_behind(control_size(control).saturating_add(turn));
     let again = put_control(control, behind, around, draft)?;
     put_statements(actions, &around.taking(locals_kept(control)), draft)?;
-    draft.put(Instr::Again(again))
+    if comes {
+        draft.put(Instr::Again(again))
+    } else {
+        Ok(())
+    }
 }
 
 // The alternatives of a DELAY CASE, of which the chosen one's number is kept.

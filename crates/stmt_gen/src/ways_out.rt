@@ -21,7 +21,9 @@ fn put_return(body: &Body, draft: &mut Draft) -> Result<(), PartRefusal> {
     if let Some(region) = critical_region(body) {
         draft.put(Instr::Leave(region))?;
     }
-    draft.put(Instr::Local(declared_scalars(body), result_scalars(body)))?;
+    if result_scalars(body) > 0 {
+        draft.put(Instr::Local(declared_scalars(body), result_scalars(body)))?;
+    }
     put_parameters(body, draft)?;
     draft.put(Instr::Return)?;
     draft.come_with(0);
@@ -50,10 +52,9 @@ pub fn way_out_size(body: &Body) -> u32 {
 }
 
 fn return_size(body: &Body) -> u32 {
-    let mut size = match critical_region(body) {
-        Some(_) => 3u32,
-        None => 2,
-    };
+    let region = u32::from(critical_region(body).is_some());
+    let result = u32::from(result_scalars(body) > 0);
+    let mut size = region.saturating_add(result).saturating_add(1);
     let parameters = body.parameters.as_slice().iter();
     for (parameter, _) in parameters.zip(body.locals.as_slice()) {
         match parameter.passing {
