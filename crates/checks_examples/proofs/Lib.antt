@@ -37,3 +37,5 @@ mod RuleP5
 mod RuleP6
 mod RuleP7
 mod RuleP8
+mod Elaborating
+mod Becoming
