@@ -39,3 +39,4 @@ mod RuleP7
 mod RuleP8
 mod Elaborating
 mod Becoming
+mod Asked
