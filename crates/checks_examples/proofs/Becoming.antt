@@ -49,8 +49,17 @@ actions (a ∷ as') = done.more_statements (plain a) (actions as')
 
 abbrev outermost : done.StatementNodes → BodyRowTree
 outermost ss = record {
-  definition = None; name = codes "OUTER"; sort = sorts.Outermost; region = None; critical = false;
-  parameters = []; result = None; listed = []; locals = []; statements = ss; handler = done.no_handler;
+  definition = None;
+  name = codes "OUTER";
+  sort = sorts.Outermost;
+  region = None;
+  critical = false;
+  parameters = [];
+  result = None;
+  listed = [];
+  locals = [];
+  statements = ss;
+  handler = done.no_handler;
 }
 
 -- ---- a shared location, an operator and a constant
@@ -87,8 +96,14 @@ critical = program ((modul (n 1 1 (codes "r")) modulions.Region ((grant (at 1 11
 
 abbrev procedure_body : BodyRowTree
 procedure_body = record {
-  definition = Some 2; name = codes "f"; sort = sorts.Procedure; region = Some 0; critical = true;
-  parameters = record { passing = ways.Out } ∷ []; result = Some boolean; listed = 7 ∷ [];
+  definition = Some 2;
+  name = codes "f";
+  sort = sorts.Procedure;
+  region = Some 0;
+  critical = true;
+  parameters = record { passing = ways.Out } ∷ [];
+  result = Some boolean;
+  listed = 7 ∷ [];
   locals = record { name = codes "a"; mode = int; first = 0; count = 1 } ∷ [];
   statements = actions (
       done.assign (made.location (bases.Local 0) made.no_parts 1) (made.received (contents 0) (Some all_of_int))

@@ -37,6 +37,6 @@ mod RuleP5
 mod RuleP6
 mod RuleP7
 mod RuleP8
+mod Asked
 mod Elaborating
 mod Becoming
-mod Asked

@@ -4,7 +4,7 @@ use Rattle.std.specs.Prelude.{[], ◌∷◌, Some, None, codes}
 use Rattle.chill_tree.specs.declared.tree.expr.Prefix.TheVariants as prefixes
 use Rattle.chill_tree.specs.declared.tree.mode.PlaceForm.TheVariants as forms
 use Rattle.chill_tree.specs.declared.tree.item.ModulionKind.TheVariants as modulions
-use Rattle.chill_tree.specs.ExprTree.{whole, prefixed}
+use Rattle.chill_tree.specs.ExprTree.{whole, name, prefixed}
 use Rattle.chill_tree.specs.ModeTree as w
 use Rattle.chill_tree.specs.LocalTree.{locations}
 use Rattle.chill_tree.specs.ItemTree.{ProgramTree, local_item}
@@ -51,6 +51,71 @@ broken_3-ground = record { names = refl; entries = refl }
 broken_3-modes : broken_modes (ground_of broken_3) broken_3 ≡ (told_of rules.M14 1 25 (codes "a") ∷ told_of rules.M14 1 51 (codes "b") ∷ [])
 unfolding lib.Count.count_leading_zeros
 broken_3-modes = refl
+
+-- what isn't a scalar has no place
+--   m: MODULE DCL s STRUCT (a CHARS (1) POS (0, 0 : 7)); DCL u STRUCT (a ARRAY (1:1) BOOL POS (0, 0 : 0)); END m;
+abbrev broken_4 : ProgramTree
+broken_4 = program ((modul (n 1 1 (codes "m")) modulions.Module ((local_item (locations (at 1 11) ((decl ((n 1 15 (codes "s")) ∷ []) (w.base_mode (w.structure (at 1 17) (w.field_nodes ((fields ((n 1 25 (codes "a")) ∷ []) (w.chars (at 1 27) (whole (at 1 34) 1)) (Some (place (at 1 37) (whole (at 1 42) 0) (whole (at 1 45) 0) forms.End (whole (at 1 49) 7)))) ∷ [])) None)) None) ∷ []))) ∷ (local_item (locations (at 1 54) ((decl ((n 1 58 (codes "u")) ∷ []) (w.base_mode (w.structure (at 1 60) (w.field_nodes ((fields ((n 1 68 (codes "a")) ∷ []) (w.array (at 1 70) (w.index_bounded (whole (at 1 77) 1) (whole (at 1 79) 1)) (w.discrete (w.named (n 1 82 (codes "BOOL")))) None) (Some (place (at 1 87) (whole (at 1 92) 0) (whole (at 1 95) 0) forms.End (whole (at 1 99) 0)))) ∷ [])) None)) None) ∷ []))) ∷ []) None (Some (n 1 108 (codes "m")))) ∷ [])
+
+broken_4-ground : IsGroundOf broken_4 (ground_of broken_4)
+unfolding lib.Count.count_leading_zeros
+broken_4-ground = record { names = refl; entries = refl }
+
+broken_4-modes : broken_modes (ground_of broken_4) broken_4 ≡ (told_of rules.M14 1 25 (codes "a") ∷ told_of rules.M14 1 68 (codes "a") ∷ [])
+unfolding lib.Count.count_leading_zeros
+broken_4-modes = refl
+
+-- too few bits
+--   m: MODULE DCL s STRUCT (a INT (0:255) POS (0, 0 : 6), b INT POS (1, 0 : 30), c CHAR POS (2, 0, 7)); END m;
+abbrev broken_5 : ProgramTree
+broken_5 = program ((modul (n 1 1 (codes "m")) modulions.Module ((local_item (locations (at 1 11) ((decl ((n 1 15 (codes "s")) ∷ []) (w.base_mode (w.structure (at 1 17) (w.field_nodes ((fields ((n 1 25 (codes "a")) ∷ []) (w.discrete (w.bounded (n 1 27 (codes "INT")) (whole (at 1 32) 0) (whole (at 1 34) 255))) (Some (place (at 1 39) (whole (at 1 44) 0) (whole (at 1 47) 0) forms.End (whole (at 1 51) 6)))) ∷ (fields ((n 1 55 (codes "b")) ∷ []) (w.discrete (w.named (n 1 57 (codes "INT")))) (Some (place (at 1 61) (whole (at 1 66) 1) (whole (at 1 69) 0) forms.End (whole (at 1 73) 30)))) ∷ (fields ((n 1 78 (codes "c")) ∷ []) (w.discrete (w.named (n 1 80 (codes "CHAR")))) (Some (place (at 1 85) (whole (at 1 90) 2) (whole (at 1 93) 0) forms.Length (whole (at 1 96) 7)))) ∷ [])) None)) None) ∷ []))) ∷ []) None (Some (n 1 105 (codes "m")))) ∷ [])
+
+broken_5-ground : IsGroundOf broken_5 (ground_of broken_5)
+unfolding lib.Count.count_leading_zeros
+broken_5-ground = record { names = refl; entries = refl }
+
+broken_5-modes : broken_modes (ground_of broken_5) broken_5 ≡ (told_of rules.M14 1 25 (codes "a") ∷ told_of rules.M14 1 55 (codes "b") ∷ told_of rules.M14 1 78 (codes "c") ∷ [])
+unfolding lib.Count.count_leading_zeros
+broken_5-modes = refl
+
+-- a place for some fields and not for all
+--   m: MODULE DCL s STRUCT (a BOOL POS (0, 0 : 0), b BOOL, c BOOL POS (0, 1 : 1)); END m;
+abbrev broken_6 : ProgramTree
+broken_6 = program ((modul (n 1 1 (codes "m")) modulions.Module ((local_item (locations (at 1 11) ((decl ((n 1 15 (codes "s")) ∷ []) (w.base_mode (w.structure (at 1 17) (w.field_nodes ((fields ((n 1 25 (codes "a")) ∷ []) (w.discrete (w.named (n 1 27 (codes "BOOL")))) (Some (place (at 1 32) (whole (at 1 37) 0) (whole (at 1 40) 0) forms.End (whole (at 1 44) 0)))) ∷ (fields ((n 1 48 (codes "b")) ∷ []) (w.discrete (w.named (n 1 50 (codes "BOOL")))) None) ∷ (fields ((n 1 56 (codes "c")) ∷ []) (w.discrete (w.named (n 1 58 (codes "BOOL")))) (Some (place (at 1 63) (whole (at 1 68) 0) (whole (at 1 71) 1) forms.End (whole (at 1 75) 1)))) ∷ [])) None)) None) ∷ []))) ∷ []) None (Some (n 1 84 (codes "m")))) ∷ [])
+
+broken_6-ground : IsGroundOf broken_6 (ground_of broken_6)
+unfolding lib.Count.count_leading_zeros
+broken_6-ground = record { names = refl; entries = refl }
+
+broken_6-modes : broken_modes (ground_of broken_6) broken_6 ≡ (told_of rules.M14 1 25 (codes "a") ∷ told_of rules.M14 1 56 (codes "c") ∷ [])
+unfolding lib.Count.count_leading_zeros
+broken_6-modes = refl
+
+-- the same in STEP
+--   m: MODULE DCL a ARRAY (1:1) BOOL STEP (POS (0, 0 : 0), TRUE); END m;
+abbrev broken_7 : ProgramTree
+broken_7 = program ((modul (n 1 1 (codes "m")) modulions.Module ((local_item (locations (at 1 11) ((decl ((n 1 15 (codes "a")) ∷ []) (w.base_mode (w.array (at 1 17) (w.index_bounded (whole (at 1 24) 1) (whole (at 1 26) 1)) (w.discrete (w.named (n 1 29 (codes "BOOL")))) (Some (w.by_step (step_of (at 1 34) (place (at 1 40) (whole (at 1 45) 0) (whole (at 1 48) 0) forms.End (whole (at 1 52) 0)) (name (n 1 56 (codes "TRUE")))))))) None) ∷ []))) ∷ []) None (Some (n 1 67 (codes "m")))) ∷ [])
+
+broken_7-ground : IsGroundOf broken_7 (ground_of broken_7)
+unfolding lib.Count.count_leading_zeros
+broken_7-ground = record { names = refl; entries = refl }
+
+broken_7-modes : broken_modes (ground_of broken_7) broken_7 ≡ (told_of rules.M14 1 17 (codes "element") ∷ [])
+unfolding lib.Count.count_leading_zeros
+broken_7-modes = refl
+
+-- the step is below the bits of the place
+--   m: MODULE DCL a ARRAY (0:1) BOOL STEP (POS (0, 0 : 7), 7); END m;
+abbrev broken_8 : ProgramTree
+broken_8 = program ((modul (n 1 1 (codes "m")) modulions.Module ((local_item (locations (at 1 11) ((decl ((n 1 15 (codes "a")) ∷ []) (w.base_mode (w.array (at 1 17) (w.index_bounded (whole (at 1 24) 0) (whole (at 1 26) 1)) (w.discrete (w.named (n 1 29 (codes "BOOL")))) (Some (w.by_step (step_of (at 1 34) (place (at 1 40) (whole (at 1 45) 0) (whole (at 1 48) 0) forms.End (whole (at 1 52) 7)) (whole (at 1 56) 7)))))) None) ∷ []))) ∷ []) None (Some (n 1 64 (codes "m")))) ∷ [])
+
+broken_8-ground : IsGroundOf broken_8 (ground_of broken_8)
+unfolding lib.Count.count_leading_zeros
+broken_8-ground = record { names = refl; entries = refl }
+
+broken_8-modes : broken_modes (ground_of broken_8) broken_8 ≡ (told_of rules.M14 1 17 (codes "element") ∷ [])
+unfolding lib.Count.count_leading_zeros
+broken_8-modes = refl
 
 -- wider places than the bits
 --   m: MODULE DCL s STRUCT (a BOOL POS (0, 0 : 15), b BOOL POS (0, 16, 16)); DCL a ARRAY (0:7) BOOL STEP (POS (0, 0 : 3), 4); END m;

@@ -1,13 +1,13 @@
 -- Rule S1: texts that break it, and texts that nearly do.
 use Rattle.std.proofs.Common.{◌≡◌, refl}
-use Rattle.std.specs.Prelude.{[], ◌∷◌, Some, None, codes}
+use Rattle.std.specs.Prelude.{false, [], ◌∷◌, Some, None, codes}
 use Rattle.chill_tree.specs.declared.tree.expr.Operator.TheVariants as ops
 use Rattle.chill_tree.specs.declared.tree.expr.Prefix.TheVariants as prefixes
 use Rattle.chill_tree.specs.declared.tree.item.ModulionKind.TheVariants as modulions
-use Rattle.chill_tree.specs.ExprTree.{whole, text, tuple, name, prefixed, binary, range_nodes}
+use Rattle.chill_tree.specs.ExprTree.{whole, character, text, tuple, name, prefixed, binary, range_nodes}
 use Rattle.chill_tree.specs.ModeTree as w
 use Rattle.chill_tree.specs.LocalTree.{syn_modes, new_modes, locations}
-use Rattle.chill_tree.specs.SimpleTree.{assign}
+use Rattle.chill_tree.specs.SimpleTree.{assign, call_of}
 use Rattle.chill_tree.specs.StatementTree.{simple, handler_node}
 use Rattle.chill_tree.specs.ItemTree.{ProgramTree, local_item, action}
 use Rattle.diagnostics.specs.declared.rule.Rule.TheVariants as rules
@@ -65,6 +65,91 @@ broken_3-counted = record { names = refl; entries = refl }
 
 broken_3-statements : broken_statements (counted_ground_of broken_3) broken_3 ≡ (told rules.S1 1 37 ∷ told rules.S1 1 50 ∷ told rules.S1 1 64 ∷ told rules.S1 1 78 ∷ told rules.S1 1 93 ∷ [])
 broken_3-statements = refl
+
+-- arithmetic
+--   m: MODULE DCL x INT, b BOOL, c CHAR; x := x + b; x := b - x; x := x * c; x := c / x; x := x MOD b; x := b REM x; END m;
+abbrev broken_4 : ProgramTree
+broken_4 = program ((modul (n 1 1 (codes "m")) modulions.Module ((local_item (locations (at 1 11) ((decl ((n 1 15 (codes "x")) ∷ []) (w.base_mode (w.discrete (w.named (n 1 17 (codes "INT"))))) None) ∷ (decl ((n 1 22 (codes "b")) ∷ []) (w.base_mode (w.discrete (w.named (n 1 24 (codes "BOOL"))))) None) ∷ (decl ((n 1 30 (codes "c")) ∷ []) (w.base_mode (w.discrete (w.named (n 1 32 (codes "CHAR"))))) None) ∷ []))) ∷ (action (simple (at 1 38) (assign (at 1 38) (name (n 1 38 (codes "x"))) (binary (at 1 43) (name (n 1 43 (codes "x"))) ops.Plus (at 1 45) (name (n 1 47 (codes "b"))))) (handler_node None))) ∷ (action (simple (at 1 50) (assign (at 1 50) (name (n 1 50 (codes "x"))) (binary (at 1 55) (name (n 1 55 (codes "b"))) ops.Minus (at 1 57) (name (n 1 59 (codes "x"))))) (handler_node None))) ∷ (action (simple (at 1 62) (assign (at 1 62) (name (n 1 62 (codes "x"))) (binary (at 1 67) (name (n 1 67 (codes "x"))) ops.Times (at 1 69) (name (n 1 71 (codes "c"))))) (handler_node None))) ∷ (action (simple (at 1 74) (assign (at 1 74) (name (n 1 74 (codes "x"))) (binary (at 1 79) (name (n 1 79 (codes "c"))) ops.Divide (at 1 81) (name (n 1 83 (codes "x"))))) (handler_node None))) ∷ (action (simple (at 1 86) (assign (at 1 86) (name (n 1 86 (codes "x"))) (binary (at 1 91) (name (n 1 91 (codes "x"))) ops.Mod (at 1 93) (name (n 1 97 (codes "b"))))) (handler_node None))) ∷ (action (simple (at 1 100) (assign (at 1 100) (name (n 1 100 (codes "x"))) (binary (at 1 105) (name (n 1 105 (codes "b"))) ops.Rem (at 1 107) (name (n 1 111 (codes "x"))))) (handler_node None))) ∷ []) None (Some (n 1 118 (codes "m")))) ∷ [])
+
+broken_4-ground : IsGroundOf broken_4 (ground_of broken_4)
+broken_4-ground = record { names = refl; entries = refl }
+
+broken_4-modes : broken_modes (ground_of broken_4) broken_4 ≡ []
+broken_4-modes = refl
+
+broken_4-counted : IsStatementGroundOf broken_4 (counted_ground_of broken_4)
+broken_4-counted = record { names = refl; entries = refl }
+
+broken_4-statements : broken_statements (counted_ground_of broken_4) broken_4 ≡ (told rules.S1 1 45 ∷ told rules.S1 1 57 ∷ told rules.S1 1 69 ∷ told rules.S1 1 81 ∷ told rules.S1 1 93 ∷ told rules.S1 1 107 ∷ [])
+broken_4-statements = refl
+
+-- comparisons
+--   m: MODULE DCL x INT, b BOOL, t CHARS (2), u CHARS (3), i INSTANCE; b := x = b; b := t /= u; b := t < u; b := i < i; b := x >= b; END m;
+abbrev broken_5 : ProgramTree
+broken_5 = program ((modul (n 1 1 (codes "m")) modulions.Module ((local_item (locations (at 1 11) ((decl ((n 1 15 (codes "x")) ∷ []) (w.base_mode (w.discrete (w.named (n 1 17 (codes "INT"))))) None) ∷ (decl ((n 1 22 (codes "b")) ∷ []) (w.base_mode (w.discrete (w.named (n 1 24 (codes "BOOL"))))) None) ∷ (decl ((n 1 30 (codes "t")) ∷ []) (w.base_mode (w.chars (at 1 32) (whole (at 1 39) 2))) None) ∷ (decl ((n 1 43 (codes "u")) ∷ []) (w.base_mode (w.chars (at 1 45) (whole (at 1 52) 3))) None) ∷ (decl ((n 1 56 (codes "i")) ∷ []) (w.base_mode (w.discrete (w.named (n 1 58 (codes "INSTANCE"))))) None) ∷ []))) ∷ (action (simple (at 1 68) (assign (at 1 68) (name (n 1 68 (codes "b"))) (binary (at 1 73) (name (n 1 73 (codes "x"))) ops.Equal (at 1 75) (name (n 1 77 (codes "b"))))) (handler_node None))) ∷ (action (simple (at 1 80) (assign (at 1 80) (name (n 1 80 (codes "b"))) (binary (at 1 85) (name (n 1 85 (codes "t"))) ops.NotEqual (at 1 87) (name (n 1 90 (codes "u"))))) (handler_node None))) ∷ (action (simple (at 1 93) (assign (at 1 93) (name (n 1 93 (codes "b"))) (binary (at 1 98) (name (n 1 98 (codes "t"))) ops.Less (at 1 100) (name (n 1 102 (codes "u"))))) (handler_node None))) ∷ (action (simple (at 1 105) (assign (at 1 105) (name (n 1 105 (codes "b"))) (binary (at 1 110) (name (n 1 110 (codes "i"))) ops.Less (at 1 112) (name (n 1 114 (codes "i"))))) (handler_node None))) ∷ (action (simple (at 1 117) (assign (at 1 117) (name (n 1 117 (codes "b"))) (binary (at 1 122) (name (n 1 122 (codes "x"))) ops.GreaterOrEqual (at 1 124) (name (n 1 127 (codes "b"))))) (handler_node None))) ∷ []) None (Some (n 1 134 (codes "m")))) ∷ [])
+
+broken_5-ground : IsGroundOf broken_5 (ground_of broken_5)
+broken_5-ground = record { names = refl; entries = refl }
+
+broken_5-modes : broken_modes (ground_of broken_5) broken_5 ≡ []
+broken_5-modes = refl
+
+broken_5-counted : IsStatementGroundOf broken_5 (counted_ground_of broken_5)
+broken_5-counted = record { names = refl; entries = refl }
+
+broken_5-statements : broken_statements (counted_ground_of broken_5) broken_5 ≡ (told rules.S1 1 75 ∷ told rules.S1 1 87 ∷ told rules.S1 1 100 ∷ told rules.S1 1 112 ∷ told rules.S1 1 124 ∷ [])
+broken_5-statements = refl
+
+-- membership
+--   m: MODULE DCL x INT, c CHAR, p POWERSET INT (0:7), b BOOL; b := c IN p; b := x IN x; b := p IN p; b := x IN p; END m;
+abbrev broken_6 : ProgramTree
+broken_6 = program ((modul (n 1 1 (codes "m")) modulions.Module ((local_item (locations (at 1 11) ((decl ((n 1 15 (codes "x")) ∷ []) (w.base_mode (w.discrete (w.named (n 1 17 (codes "INT"))))) None) ∷ (decl ((n 1 22 (codes "c")) ∷ []) (w.base_mode (w.discrete (w.named (n 1 24 (codes "CHAR"))))) None) ∷ (decl ((n 1 30 (codes "p")) ∷ []) (w.base_mode (w.powerset (at 1 32) (w.bounded (n 1 41 (codes "INT")) (whole (at 1 46) 0) (whole (at 1 48) 7)))) None) ∷ (decl ((n 1 52 (codes "b")) ∷ []) (w.base_mode (w.discrete (w.named (n 1 54 (codes "BOOL"))))) None) ∷ []))) ∷ (action (simple (at 1 60) (assign (at 1 60) (name (n 1 60 (codes "b"))) (binary (at 1 65) (name (n 1 65 (codes "c"))) ops.In (at 1 67) (name (n 1 70 (codes "p"))))) (handler_node None))) ∷ (action (simple (at 1 73) (assign (at 1 73) (name (n 1 73 (codes "b"))) (binary (at 1 78) (name (n 1 78 (codes "x"))) ops.In (at 1 80) (name (n 1 83 (codes "x"))))) (handler_node None))) ∷ (action (simple (at 1 86) (assign (at 1 86) (name (n 1 86 (codes "b"))) (binary (at 1 91) (name (n 1 91 (codes "p"))) ops.In (at 1 93) (name (n 1 96 (codes "p"))))) (handler_node None))) ∷ (action (simple (at 1 99) (assign (at 1 99) (name (n 1 99 (codes "b"))) (binary (at 1 104) (name (n 1 104 (codes "x"))) ops.In (at 1 106) (name (n 1 109 (codes "p"))))) (handler_node None))) ∷ []) None (Some (n 1 116 (codes "m")))) ∷ [])
+
+broken_6-ground : IsGroundOf broken_6 (ground_of broken_6)
+broken_6-ground = record { names = refl; entries = refl }
+
+broken_6-modes : broken_modes (ground_of broken_6) broken_6 ≡ []
+broken_6-modes = refl
+
+broken_6-counted : IsStatementGroundOf broken_6 (counted_ground_of broken_6)
+broken_6-counted = record { names = refl; entries = refl }
+
+broken_6-statements : broken_statements (counted_ground_of broken_6) broken_6 ≡ (told rules.S1 1 67 ∷ told rules.S1 1 80 ∷ told rules.S1 1 93 ∷ [])
+broken_6-statements = refl
+
+-- values of different novelties
+--   m: MODULE NEWMODE o = INT; NEWMODE u = INT; DCL x INT, y o, z u, b BOOL; x := x + y; y := y * z; b := x = z; y := y + 1; END m;
+abbrev broken_7 : ProgramTree
+broken_7 = program ((modul (n 1 1 (codes "m")) modulions.Module ((local_item (new_modes (at 1 11) ((modedef (n 1 19 (codes "o")) (w.base_mode (w.discrete (w.named (n 1 23 (codes "INT")))))) ∷ []))) ∷ (local_item (new_modes (at 1 28) ((modedef (n 1 36 (codes "u")) (w.base_mode (w.discrete (w.named (n 1 40 (codes "INT")))))) ∷ []))) ∷ (local_item (locations (at 1 45) ((decl ((n 1 49 (codes "x")) ∷ []) (w.base_mode (w.discrete (w.named (n 1 51 (codes "INT"))))) None) ∷ (decl ((n 1 56 (codes "y")) ∷ []) (w.base_mode (w.discrete (w.named (n 1 58 (codes "o"))))) None) ∷ (decl ((n 1 61 (codes "z")) ∷ []) (w.base_mode (w.discrete (w.named (n 1 63 (codes "u"))))) None) ∷ (decl ((n 1 66 (codes "b")) ∷ []) (w.base_mode (w.discrete (w.named (n 1 68 (codes "BOOL"))))) None) ∷ []))) ∷ (action (simple (at 1 74) (assign (at 1 74) (name (n 1 74 (codes "x"))) (binary (at 1 79) (name (n 1 79 (codes "x"))) ops.Plus (at 1 81) (name (n 1 83 (codes "y"))))) (handler_node None))) ∷ (action (simple (at 1 86) (assign (at 1 86) (name (n 1 86 (codes "y"))) (binary (at 1 91) (name (n 1 91 (codes "y"))) ops.Times (at 1 93) (name (n 1 95 (codes "z"))))) (handler_node None))) ∷ (action (simple (at 1 98) (assign (at 1 98) (name (n 1 98 (codes "b"))) (binary (at 1 103) (name (n 1 103 (codes "x"))) ops.Equal (at 1 105) (name (n 1 107 (codes "z"))))) (handler_node None))) ∷ (action (simple (at 1 110) (assign (at 1 110) (name (n 1 110 (codes "y"))) (binary (at 1 115) (name (n 1 115 (codes "y"))) ops.Plus (at 1 117) (whole (at 1 119) 1))) (handler_node None))) ∷ []) None (Some (n 1 126 (codes "m")))) ∷ [])
+
+broken_7-ground : IsGroundOf broken_7 (ground_of broken_7)
+broken_7-ground = record { names = refl; entries = refl }
+
+broken_7-modes : broken_modes (ground_of broken_7) broken_7 ≡ []
+broken_7-modes = refl
+
+broken_7-counted : IsStatementGroundOf broken_7 (counted_ground_of broken_7)
+broken_7-counted = record { names = refl; entries = refl }
+
+broken_7-statements : broken_statements (counted_ground_of broken_7) broken_7 ≡ (told rules.S1 1 81 ∷ told rules.S1 1 93 ∷ told rules.S1 1 105 ∷ [])
+broken_7-statements = refl
+
+-- routines of output
+--   m: MODULE DCL x INT, t CHARS (2), b BOOL, c CHAR; PUT_INT(b); PUT_INT("1"); PUT_TEXT(x); PUT_TEXT(c); PUT_TEXT('a'); PUT_INT(x); PUT_TEXT(t); END m;
+abbrev broken_8 : ProgramTree
+broken_8 = program ((modul (n 1 1 (codes "m")) modulions.Module ((local_item (locations (at 1 11) ((decl ((n 1 15 (codes "x")) ∷ []) (w.base_mode (w.discrete (w.named (n 1 17 (codes "INT"))))) None) ∷ (decl ((n 1 22 (codes "t")) ∷ []) (w.base_mode (w.chars (at 1 24) (whole (at 1 31) 2))) None) ∷ (decl ((n 1 35 (codes "b")) ∷ []) (w.base_mode (w.discrete (w.named (n 1 37 (codes "BOOL"))))) None) ∷ (decl ((n 1 43 (codes "c")) ∷ []) (w.base_mode (w.discrete (w.named (n 1 45 (codes "CHAR"))))) None) ∷ []))) ∷ (action (simple (at 1 51) (call_of (at 1 51) false (n 1 51 (codes "PUT_INT")) ((name (n 1 59 (codes "b"))) ∷ [])) (handler_node None))) ∷ (action (simple (at 1 63) (call_of (at 1 63) false (n 1 63 (codes "PUT_INT")) ((text (at 1 71) (49 ∷ [])) ∷ [])) (handler_node None))) ∷ (action (simple (at 1 77) (call_of (at 1 77) false (n 1 77 (codes "PUT_TEXT")) ((name (n 1 86 (codes "x"))) ∷ [])) (handler_node None))) ∷ (action (simple (at 1 90) (call_of (at 1 90) false (n 1 90 (codes "PUT_TEXT")) ((name (n 1 99 (codes "c"))) ∷ [])) (handler_node None))) ∷ (action (simple (at 1 103) (call_of (at 1 103) false (n 1 103 (codes "PUT_TEXT")) ((character (at 1 112) 97) ∷ [])) (handler_node None))) ∷ (action (simple (at 1 118) (call_of (at 1 118) false (n 1 118 (codes "PUT_INT")) ((name (n 1 126 (codes "x"))) ∷ [])) (handler_node None))) ∷ (action (simple (at 1 130) (call_of (at 1 130) false (n 1 130 (codes "PUT_TEXT")) ((name (n 1 139 (codes "t"))) ∷ [])) (handler_node None))) ∷ []) None (Some (n 1 147 (codes "m")))) ∷ [])
+
+broken_8-ground : IsGroundOf broken_8 (ground_of broken_8)
+broken_8-ground = record { names = refl; entries = refl }
+
+broken_8-modes : broken_modes (ground_of broken_8) broken_8 ≡ []
+broken_8-modes = refl
+
+broken_8-counted : IsStatementGroundOf broken_8 (counted_ground_of broken_8)
+broken_8-counted = record { names = refl; entries = refl }
+
+broken_8-statements : broken_statements (counted_ground_of broken_8) broken_8 ≡ (told rules.S1 1 51 ∷ told rules.S1 1 63 ∷ told rules.S1 1 77 ∷ told rules.S1 1 90 ∷ told rules.S1 1 103 ∷ [])
+broken_8-statements = refl
 
 -- the operands of a comparison receive no mode for a tuple
 --   m: MODULE DCL p POWERSET INT (0:7), b BOOL; b := p <= []; SYNMODE q = POWERSET INT (0:7); b := p <= q []; END m;

@@ -6,14 +6,14 @@ use Rattle.chill_tree.specs.declared.tree.item.Passing.TheVariants as passings
 use Rattle.chill_tree.specs.declared.tree.item.ModulionKind.TheVariants as modulions
 use Rattle.chill_tree.specs.ExprTree.{whole, character, tuple, name, apply, field, alone, expr_nodes, range_nodes}
 use Rattle.chill_tree.specs.ModeTree as w
-use Rattle.chill_tree.specs.LocalTree.{synonyms, locations}
-use Rattle.chill_tree.specs.SimpleTree.{assign, update, for_members, for_steps}
-use Rattle.chill_tree.specs.StatementTree.{simple, bracketed, do_loop, begin_end, statement_nodes, handler_node, body_nodes, local_part, action_part}
-use Rattle.chill_tree.specs.ItemTree.{ProgramTree, local_item, procedure, action}
+use Rattle.chill_tree.specs.LocalTree.{synonyms, syn_modes, new_modes, locations}
+use Rattle.chill_tree.specs.SimpleTree.{assign, update, return_with, for_members, for_steps}
+use Rattle.chill_tree.specs.StatementTree.{simple, bracketed, do_loop, begin_end, receive_case, statement_nodes, receive_nodes, no_otherwise, handler_node, body_nodes, local_part, action_part}
+use Rattle.chill_tree.specs.ItemTree.{ProgramTree, local_item, signals, procedure, action}
 use Rattle.diagnostics.specs.declared.rule.Rule.TheVariants as rules
 use Rattle.checks_model.specs.Table.{IsGroundOf, IsStatementGroundOf}
 use Rattle.checks_model.specs.Phases.{broken_modes, broken_statements, broken_processes}
-use Rattle.checks_examples.proofs.Programs.{at, n, syn, init, decl, fields, param, proc, modul, program, ground_of, counted_ground_of, told}
+use Rattle.checks_examples.proofs.Programs.{at, n, syn, modedef, init, decl, fields, recv, sig, param, proc, modul, program, ground_of, counted_ground_of, told}
 
 -- no mode for a tuple where the target has none
 --   m: MODULE SYN k = 1; DCL x INT; k := [1]; x.f := [1, 2]; END m;
@@ -65,6 +65,92 @@ broken_3-counted = record { names = refl; entries = refl }
 
 broken_3-statements : broken_statements (counted_ground_of broken_3) broken_3 ≡ (told rules.S3 1 57 ∷ told rules.S3 1 84 ∷ [])
 broken_3-statements = refl
+
+-- a READ location, its parts, and one with a READ part
+--   m: MODULE SYNMODE r = READ INT; DCL x READ INT := 1, s READ STRUCT (f INT) := [1], u STRUCT (g r, h INT) := [1, 2];
+--   x := 2; s.f := 2; s := [3]; u := [3, 4]; u.g := 3; u.h := 4; END m;
+abbrev broken_4 : ProgramTree
+broken_4 = program ((modul (n 1 1 (codes "m")) modulions.Module ((local_item (syn_modes (at 1 11) ((modedef (n 1 19 (codes "r")) (w.read_mode (at 1 23) (w.discrete (w.named (n 1 28 (codes "INT")))))) ∷ []))) ∷ (local_item (locations (at 1 33) ((decl ((n 1 37 (codes "x")) ∷ []) (w.read_mode (at 1 39) (w.discrete (w.named (n 1 44 (codes "INT"))))) (Some (init (at 1 48) false (whole (at 1 51) 1)))) ∷ (decl ((n 1 54 (codes "s")) ∷ []) (w.read_mode (at 1 56) (w.structure (at 1 61) (w.field_nodes ((fields ((n 1 69 (codes "f")) ∷ []) (w.discrete (w.named (n 1 71 (codes "INT")))) None) ∷ [])) None)) (Some (init (at 1 76) false (tuple (at 1 79) None (at 1 79) (range_nodes ((alone (whole (at 1 80) 1)) ∷ [])))))) ∷ (decl ((n 1 84 (codes "u")) ∷ []) (w.base_mode (w.structure (at 1 86) (w.field_nodes ((fields ((n 1 94 (codes "g")) ∷ []) (w.discrete (w.named (n 1 96 (codes "r")))) None) ∷ (fields ((n 1 99 (codes "h")) ∷ []) (w.discrete (w.named (n 1 101 (codes "INT")))) None) ∷ [])) None)) (Some (init (at 1 106) false (tuple (at 1 109) None (at 1 109) (range_nodes ((alone (whole (at 1 110) 1)) ∷ (alone (whole (at 1 113) 2)) ∷ [])))))) ∷ []))) ∷ (action (simple (at 2 1) (assign (at 2 1) (name (n 2 1 (codes "x"))) (whole (at 2 6) 2)) (handler_node None))) ∷ (action (simple (at 2 9) (assign (at 2 9) (field (at 2 9) (name (n 2 9 (codes "s"))) (n 2 11 (codes "f"))) (whole (at 2 16) 2)) (handler_node None))) ∷ (action (simple (at 2 19) (assign (at 2 19) (name (n 2 19 (codes "s"))) (tuple (at 2 24) None (at 2 24) (range_nodes ((alone (whole (at 2 25) 3)) ∷ [])))) (handler_node None))) ∷ (action (simple (at 2 29) (assign (at 2 29) (name (n 2 29 (codes "u"))) (tuple (at 2 34) None (at 2 34) (range_nodes ((alone (whole (at 2 35) 3)) ∷ (alone (whole (at 2 38) 4)) ∷ [])))) (handler_node None))) ∷ (action (simple (at 2 42) (assign (at 2 42) (field (at 2 42) (name (n 2 42 (codes "u"))) (n 2 44 (codes "g"))) (whole (at 2 49) 3)) (handler_node None))) ∷ (action (simple (at 2 52) (assign (at 2 52) (field (at 2 52) (name (n 2 52 (codes "u"))) (n 2 54 (codes "h"))) (whole (at 2 59) 4)) (handler_node None))) ∷ []) None (Some (n 2 66 (codes "m")))) ∷ [])
+
+broken_4-ground : IsGroundOf broken_4 (ground_of broken_4)
+broken_4-ground = record { names = refl; entries = refl }
+
+broken_4-modes : broken_modes (ground_of broken_4) broken_4 ≡ []
+broken_4-modes = refl
+
+broken_4-counted : IsStatementGroundOf broken_4 (counted_ground_of broken_4)
+broken_4-counted = record { names = refl; entries = refl }
+
+broken_4-statements : broken_statements (counted_ground_of broken_4) broken_4 ≡ (told rules.S3 2 1 ∷ told rules.S3 2 9 ∷ told rules.S3 2 19 ∷ told rules.S3 2 29 ∷ told rules.S3 2 42 ∷ [])
+broken_4-statements = refl
+
+-- a READ parameter, and a READ element
+--   m: MODULE SYNMODE r = READ BOOL; DCL a ARRAY (1:2) r := [TRUE, FALSE]; p: PROC (k READ INT, l INT); k := 1; l := 1; END p; a(1) := TRUE; END m;
+abbrev broken_5 : ProgramTree
+broken_5 = program ((modul (n 1 1 (codes "m")) modulions.Module ((local_item (syn_modes (at 1 11) ((modedef (n 1 19 (codes "r")) (w.read_mode (at 1 23) (w.discrete (w.named (n 1 28 (codes "BOOL")))))) ∷ []))) ∷ (local_item (locations (at 1 34) ((decl ((n 1 38 (codes "a")) ∷ []) (w.base_mode (w.array (at 1 40) (w.index_bounded (whole (at 1 47) 1) (whole (at 1 49) 2)) (w.discrete (w.named (n 1 52 (codes "r")))) None)) (Some (init (at 1 54) false (tuple (at 1 57) None (at 1 57) (range_nodes ((alone (name (n 1 58 (codes "TRUE")))) ∷ (alone (name (n 1 64 (codes "FALSE")))) ∷ [])))))) ∷ []))) ∷ (procedure (proc (n 1 72 (codes "p")) ((param ((n 1 81 (codes "k")) ∷ []) (w.read_mode (at 1 83) (w.discrete (w.named (n 1 88 (codes "INT"))))) None) ∷ (param ((n 1 93 (codes "l")) ∷ []) (w.base_mode (w.discrete (w.named (n 1 95 (codes "INT"))))) None) ∷ []) None None ((action_part (simple (at 1 101) (assign (at 1 101) (name (n 1 101 (codes "k"))) (whole (at 1 106) 1)) (handler_node None))) ∷ (action_part (simple (at 1 109) (assign (at 1 109) (name (n 1 109 (codes "l"))) (whole (at 1 114) 1)) (handler_node None))) ∷ []) None (Some (n 1 121 (codes "p"))))) ∷ (action (simple (at 1 124) (assign (at 1 124) (apply (at 1 124) (name (n 1 124 (codes "a"))) (expr_nodes ((whole (at 1 126) 1) ∷ []))) (name (n 1 132 (codes "TRUE")))) (handler_node None))) ∷ []) None (Some (n 1 142 (codes "m")))) ∷ [])
+
+broken_5-ground : IsGroundOf broken_5 (ground_of broken_5)
+broken_5-ground = record { names = refl; entries = refl }
+
+broken_5-modes : broken_modes (ground_of broken_5) broken_5 ≡ []
+broken_5-modes = refl
+
+broken_5-counted : IsStatementGroundOf broken_5 (counted_ground_of broken_5)
+broken_5-counted = record { names = refl; entries = refl }
+
+broken_5-statements : broken_statements (counted_ground_of broken_5) broken_5 ≡ (told rules.S3 1 101 ∷ told rules.S3 1 124 ∷ [])
+broken_5-statements = refl
+
+-- a received name, and its parts
+--   m: MODULE DCL b BUFFER STRUCT (f INT); SIGNAL s = (INT); RECEIVE CASE (s IN v): v := 1; ESAC; RECEIVE CASE (b IN w): w.f := 1; ESAC; END m;
+abbrev broken_6 : ProgramTree
+broken_6 = program ((modul (n 1 1 (codes "m")) modulions.Module ((local_item (locations (at 1 11) ((decl ((n 1 15 (codes "b")) ∷ []) (w.buffer_mode (at 1 17) None (w.structure (at 1 24) (w.field_nodes ((fields ((n 1 32 (codes "f")) ∷ []) (w.discrete (w.named (n 1 34 (codes "INT")))) None) ∷ [])) None)) None) ∷ []))) ∷ (signals (at 1 40) ((sig (n 1 47 (codes "s")) (Some ((w.base_mode (w.discrete (w.named (n 1 52 (codes "INT"))))) ∷ [])) None) ∷ [])) ∷ (action (bracketed (at 1 58) None (receive_case (at 1 58) None (receive_nodes ((recv (at 1 71) (n 1 72 (codes "s")) (Some ((n 1 77 (codes "v")) ∷ [])) ((simple (at 1 81) (assign (at 1 81) (name (n 1 81 (codes "v"))) (whole (at 1 86) 1)) (handler_node None)) ∷ [])) ∷ [])) no_otherwise) (handler_node None) None)) ∷ (action (bracketed (at 1 95) None (receive_case (at 1 95) None (receive_nodes ((recv (at 1 108) (n 1 109 (codes "b")) (Some ((n 1 114 (codes "w")) ∷ [])) ((simple (at 1 118) (assign (at 1 118) (field (at 1 118) (name (n 1 118 (codes "w"))) (n 1 120 (codes "f"))) (whole (at 1 125) 1)) (handler_node None)) ∷ [])) ∷ [])) no_otherwise) (handler_node None) None)) ∷ []) None (Some (n 1 138 (codes "m")))) ∷ [])
+
+broken_6-ground : IsGroundOf broken_6 (ground_of broken_6)
+broken_6-ground = record { names = refl; entries = refl }
+
+broken_6-modes : broken_modes (ground_of broken_6) broken_6 ≡ []
+broken_6-modes = refl
+
+broken_6-counted : IsStatementGroundOf broken_6 (counted_ground_of broken_6)
+broken_6-counted = record { names = refl; entries = refl }
+
+broken_6-statements : broken_statements (counted_ground_of broken_6) broken_6 ≡ (told rules.S3 1 81 ∷ told rules.S3 1 118 ∷ [])
+broken_6-statements = refl
+
+-- a synonym, an element and a constant of the language
+--   m: MODULE SYN k = 1; NEWMODE c = SET (red, green); k := 2; red := green; TRUE := FALSE; NULL := NULL; END m;
+abbrev broken_7 : ProgramTree
+broken_7 = program ((modul (n 1 1 (codes "m")) modulions.Module ((local_item (synonyms (at 1 11) ((syn ((n 1 15 (codes "k")) ∷ []) None (whole (at 1 19) 1)) ∷ []))) ∷ (local_item (new_modes (at 1 22) ((modedef (n 1 30 (codes "c")) (w.base_mode (w.discrete (w.set_of (at 1 34) ((n 1 39 (codes "red")) ∷ (n 1 44 (codes "green")) ∷ []))))) ∷ []))) ∷ (action (simple (at 1 52) (assign (at 1 52) (name (n 1 52 (codes "k"))) (whole (at 1 57) 2)) (handler_node None))) ∷ (action (simple (at 1 60) (assign (at 1 60) (name (n 1 60 (codes "red"))) (name (n 1 67 (codes "green")))) (handler_node None))) ∷ (action (simple (at 1 74) (assign (at 1 74) (name (n 1 74 (codes "TRUE"))) (name (n 1 82 (codes "FALSE")))) (handler_node None))) ∷ (action (simple (at 1 89) (assign (at 1 89) (name (n 1 89 (codes "NULL"))) (name (n 1 97 (codes "NULL")))) (handler_node None))) ∷ []) None (Some (n 1 107 (codes "m")))) ∷ [])
+
+broken_7-ground : IsGroundOf broken_7 (ground_of broken_7)
+broken_7-ground = record { names = refl; entries = refl }
+
+broken_7-modes : broken_modes (ground_of broken_7) broken_7 ≡ []
+broken_7-modes = refl
+
+broken_7-counted : IsStatementGroundOf broken_7 (counted_ground_of broken_7)
+broken_7-counted = record { names = refl; entries = refl }
+
+broken_7-statements : broken_statements (counted_ground_of broken_7) broken_7 ≡ (told rules.S3 1 52 ∷ told rules.S3 1 60 ∷ told rules.S3 1 74 ∷ told rules.S3 1 89 ∷ [])
+broken_7-statements = refl
+
+-- a procedure and a routine
+--   m: MODULE f: PROC () RETURNS (INT); RETURN 1; END f; p: PROC (); END p; f := 1; p := 1; ABS := 1; f(1) := 2; GET_INT := 1; END m;
+abbrev broken_8 : ProgramTree
+broken_8 = program ((modul (n 1 1 (codes "m")) modulions.Module ((procedure (proc (n 1 11 (codes "f")) [] (Some (w.base_mode (w.discrete (w.named (n 1 31 (codes "INT")))))) None ((action_part (simple (at 1 37) (return_with (at 1 37) (Some (whole (at 1 44) 1))) (handler_node None))) ∷ []) None (Some (n 1 51 (codes "f"))))) ∷ (procedure (proc (n 1 54 (codes "p")) [] None None [] None (Some (n 1 70 (codes "p"))))) ∷ (action (simple (at 1 73) (assign (at 1 73) (name (n 1 73 (codes "f"))) (whole (at 1 78) 1)) (handler_node None))) ∷ (action (simple (at 1 81) (assign (at 1 81) (name (n 1 81 (codes "p"))) (whole (at 1 86) 1)) (handler_node None))) ∷ (action (simple (at 1 89) (assign (at 1 89) (name (n 1 89 (codes "ABS"))) (whole (at 1 96) 1)) (handler_node None))) ∷ (action (simple (at 1 99) (assign (at 1 99) (apply (at 1 99) (name (n 1 99 (codes "f"))) (expr_nodes ((whole (at 1 101) 1) ∷ []))) (whole (at 1 107) 2)) (handler_node None))) ∷ (action (simple (at 1 110) (assign (at 1 110) (name (n 1 110 (codes "GET_INT"))) (whole (at 1 121) 1)) (handler_node None))) ∷ []) None (Some (n 1 128 (codes "m")))) ∷ [])
+
+broken_8-ground : IsGroundOf broken_8 (ground_of broken_8)
+broken_8-ground = record { names = refl; entries = refl }
+
+broken_8-modes : broken_modes (ground_of broken_8) broken_8 ≡ []
+broken_8-modes = refl
+
+broken_8-counted : IsStatementGroundOf broken_8 (counted_ground_of broken_8)
+broken_8-counted = record { names = refl; entries = refl }
+
+broken_8-statements : broken_statements (counted_ground_of broken_8) broken_8 ≡ (told rules.S3 1 73 ∷ told rules.S3 1 81 ∷ told rules.S3 1 89 ∷ told rules.S3 1 99 ∷ told rules.S3 1 110 ∷ [])
+broken_8-statements = refl
 
 -- a location that has the name of a counter outside it
 --   m: MODULE DO FOR i := 1 TO 3; BEGIN DCL i INT; i := 2; END; OD; END m;
