@@ -1,18 +1,19 @@
 -- Rule S9: texts that break it, and texts that nearly do.
 use Rattle.std.proofs.Common.{◌≡◌, refl}
 use Rattle.std.specs.Prelude.{false, [], ◌∷◌, Some, None, codes}
+use Rattle.chill_tree.specs.declared.tree.expr.Operator.TheVariants as ops
 use Rattle.chill_tree.specs.declared.tree.item.ModulionKind.TheVariants as modulions
 use Rattle.chill_tree.specs.declared.tree.item.Passed.TheVariants.{Names}
-use Rattle.chill_tree.specs.ExprTree.{whole, name, apply, expr_nodes}
+use Rattle.chill_tree.specs.ExprTree.{whole, tuple, name, apply, binary, alone, expr_nodes, range_nodes}
 use Rattle.chill_tree.specs.ModeTree as w
 use Rattle.chill_tree.specs.LocalTree.{locations}
-use Rattle.chill_tree.specs.SimpleTree.{call_of, return_with, result_of}
-use Rattle.chill_tree.specs.StatementTree.{empty, simple, bracketed, if_then, begin_end, statement_nodes, branch_nodes, no_otherwise, handler_node, body_nodes, action_part}
-use Rattle.chill_tree.specs.ItemTree.{ProgramTree, seize, grant, local_item, procedure, action}
+use Rattle.chill_tree.specs.SimpleTree.{call_of, return_with, result_of, for_ever}
+use Rattle.chill_tree.specs.StatementTree.{empty, simple, bracketed, if_then, do_loop, begin_end, statement_nodes, branch_nodes, no_otherwise, handler_node, body_nodes, action_part}
+use Rattle.chill_tree.specs.ItemTree.{ProgramTree, seize, grant, local_item, procedure, process, action}
 use Rattle.diagnostics.specs.declared.rule.Rule.TheVariants as rules
 use Rattle.checks_model.specs.Table.{IsGroundOf, IsStatementGroundOf}
 use Rattle.checks_model.specs.Phases.{broken_modes, broken_statements, broken_processes}
-use Rattle.checks_examples.proofs.Programs.{at, n, decl, alt, hand, proc, modul, program, ground_of, counted_ground_of, told}
+use Rattle.checks_examples.proofs.Programs.{at, n, decl, alt, hand, proc, proce, modul, program, ground_of, counted_ground_of, told}
 
 -- in a handler of a module
 --   m: MODULE ; END ON ELSE RETURN; END m;
@@ -64,6 +65,57 @@ broken_3-counted = record { names = refl; entries = refl }
 
 broken_3-statements : broken_statements (counted_ground_of broken_3) broken_3 ≡ (told rules.S9 1 22 ∷ told rules.S9 1 45 ∷ [])
 broken_3-statements = refl
+
+-- outside a procedure
+--   m: MODULE RETURN; BEGIN RETURN; END; DO FOR EVER; RETURN 1; OD; END m;
+abbrev broken_4 : ProgramTree
+broken_4 = program ((modul (n 1 1 (codes "m")) modulions.Module ((action (simple (at 1 11) (return_with (at 1 11) None) (handler_node None))) ∷ (action (bracketed (at 1 19) None (begin_end (at 1 19) (body_nodes ((action_part (simple (at 1 25) (return_with (at 1 25) None) (handler_node None))) ∷ []))) (handler_node None) None)) ∷ (action (bracketed (at 1 38) None (do_loop (at 1 38) (for_ever (at 1 41)) (statement_nodes ((simple (at 1 51) (return_with (at 1 51) (Some (whole (at 1 58) 1))) (handler_node None)) ∷ []))) (handler_node None) None)) ∷ []) None (Some (n 1 69 (codes "m")))) ∷ [])
+
+broken_4-ground : IsGroundOf broken_4 (ground_of broken_4)
+broken_4-ground = record { names = refl; entries = refl }
+
+broken_4-modes : broken_modes (ground_of broken_4) broken_4 ≡ []
+broken_4-modes = refl
+
+broken_4-counted : IsStatementGroundOf broken_4 (counted_ground_of broken_4)
+broken_4-counted = record { names = refl; entries = refl }
+
+broken_4-statements : broken_statements (counted_ground_of broken_4) broken_4 ≡ (told rules.S9 1 11 ∷ told rules.S9 1 25 ∷ told rules.S9 1 51 ∷ [])
+broken_4-statements = refl
+
+-- in a process
+--   m: MODULE q: PROCESS (); RETURN; RESULT 1; RETURN 1; END ON ELSE RETURN; END q; END m;
+abbrev broken_5 : ProgramTree
+broken_5 = program ((modul (n 1 1 (codes "m")) modulions.Module ((process (proce (n 1 11 (codes "q")) [] ((action_part (simple (at 1 26) (return_with (at 1 26) None) (handler_node None))) ∷ (action_part (simple (at 1 34) (result_of (at 1 34) (whole (at 1 41) 1)) (handler_node None))) ∷ (action_part (simple (at 1 44) (return_with (at 1 44) (Some (whole (at 1 51) 1))) (handler_node None))) ∷ []) (Some (hand (at 1 58) [] (Some ((simple (at 1 66) (return_with (at 1 66) None) (handler_node None)) ∷ [])))) (Some (n 1 78 (codes "q"))))) ∷ []) None (Some (n 1 85 (codes "m")))) ∷ [])
+
+broken_5-ground : IsGroundOf broken_5 (ground_of broken_5)
+broken_5-ground = record { names = refl; entries = refl }
+
+broken_5-modes : broken_modes (ground_of broken_5) broken_5 ≡ []
+broken_5-modes = refl
+
+broken_5-counted : IsStatementGroundOf broken_5 (counted_ground_of broken_5)
+broken_5-counted = record { names = refl; entries = refl }
+
+broken_5-statements : broken_statements (counted_ground_of broken_5) broken_5 ≡ (told rules.S9 1 26 ∷ told rules.S9 1 34 ∷ told rules.S9 1 44 ∷ told rules.S9 1 66 ∷ [])
+broken_5-statements = refl
+
+-- the value has its own faults, and a tuple no mode
+--   m: MODULE DCL x INT; p: PROC (); RETURN x + TRUE; RESULT [1]; END p; END m;
+abbrev broken_6 : ProgramTree
+broken_6 = program ((modul (n 1 1 (codes "m")) modulions.Module ((local_item (locations (at 1 11) ((decl ((n 1 15 (codes "x")) ∷ []) (w.base_mode (w.discrete (w.named (n 1 17 (codes "INT"))))) None) ∷ []))) ∷ (procedure (proc (n 1 22 (codes "p")) [] None None ((action_part (simple (at 1 34) (return_with (at 1 34) (Some (binary (at 1 41) (name (n 1 41 (codes "x"))) ops.Plus (at 1 43) (name (n 1 45 (codes "TRUE")))))) (handler_node None))) ∷ (action_part (simple (at 1 51) (result_of (at 1 51) (tuple (at 1 58) None (at 1 58) (range_nodes ((alone (whole (at 1 59) 1)) ∷ [])))) (handler_node None))) ∷ []) None (Some (n 1 67 (codes "p"))))) ∷ []) None (Some (n 1 74 (codes "m")))) ∷ [])
+
+broken_6-ground : IsGroundOf broken_6 (ground_of broken_6)
+broken_6-ground = record { names = refl; entries = refl }
+
+broken_6-modes : broken_modes (ground_of broken_6) broken_6 ≡ []
+broken_6-modes = refl
+
+broken_6-counted : IsStatementGroundOf broken_6 (counted_ground_of broken_6)
+broken_6-counted = record { names = refl; entries = refl }
+
+broken_6-statements : broken_statements (counted_ground_of broken_6) broken_6 ≡ (told rules.S9 1 34 ∷ told rules.S1 1 43 ∷ told rules.S9 1 51 ∷ [])
+broken_6-statements = refl
 
 -- a procedure of a region
 --   r: REGION GRANT f; f: PROC () RETURNS (INT); RETURN 1; END f; END r; m: MODULE SEIZE f; PUT_INT(f()); END m;
