@@ -1,0 +1,3 @@
+pub mod ExprTree
+pub mod StatementTree
+pub mod ProgramTree
