@@ -1,5 +1,6 @@
 // Counts the events of a journal by their kinds.
-ghost use Rattle.std.specs.Prelude.{◌≡◌, [], ◌∷◌};
+ghost use Rattle.std.specs.Prelude.{◌≡◌, [], ◌∷◌, IsOk};
+ghost use Rattle.outside_ports.specs.Watcher.{Sees};
 ghost use Rattle.watchers.specs.Counts.{event_counter};
 
 use crate::text::append;
@@ -42,7 +43,11 @@ impl EventCounter {
 impl Watcher for EventCounter {
     ghost watching = { event_counter };
 
-    fn see(&mut self, event: &Event) -> Result<(), WatchFault> {
+    // It takes no memory.
+    fn see(&mut self, event: &Event) -> Result<(), WatchFault>
+        ensures sees { Sees (event_counter self.old) event.now result (event_counter self.new) }
+        ensures always { IsOk result }
+    {
         match event {
             Event::Did { .. } => self.did = self.did.saturating_add(1),
             Event::Waits { .. } => self.waits = self.waits.saturating_add(1),

@@ -1,6 +1,7 @@
 // Counts how often each region was entered.
-ghost use Rattle.std.specs.Prelude.{◌≡◌, ◌++◌, IfOk, OnOk, replicate};
-ghost use Rattle.watchers.specs.Counts.{entered as entered_region, region_counter, region_line};
+ghost use Rattle.std.specs.Prelude.{◌≡◌, ◌↔◌, ◌++◌, IfOk, OnOk, IsErr, IsErrOf, IsTrue, replicate};
+ghost use Rattle.outside_ports.specs.Watcher.{Sees};
+ghost use Rattle.watchers.specs.Counts.{entered as entered_region, is_past_table, region_counter, region_line};
 
 use crate::text::append;
 use chill_base::{Memory, Text};
@@ -69,7 +70,12 @@ fn push_line(alloc: Global, text: &mut Vec<u8>, region: usize, entries: u64) -> 
 impl Watcher for RegionCounter {
     ghost watching = { region_counter };
 
-    fn see(&mut self, event: &Event) -> Result<(), WatchFault> {
+    // It takes no memory: it fails exactly where it refuses the event.
+    fn see(&mut self, event: &Event) -> Result<(), WatchFault>
+        ensures sees { Sees (region_counter self.old) event.now result (region_counter self.new) }
+        ensures memory { IsErrOf result WatchFault.Memory → ⊥ }
+        ensures refuses { IsErr result ↔ IsTrue (is_past_table (entered_region event.now)) }
+    {
         let Some(region) = entered(event) else {
             return Ok(());
         };

@@ -1,0 +1,10 @@
+use Rattle.std.proofs.Common.{sym, ap}
+use Rattle.std.specs.Prelude.{Err}
+use Rattle.code_gen.proofs.Faults.{handed_on}
+use Rattle.code_gen.proofs.facts.layouts_of.Goals as goal
+
+-- this location has no layout
+pub returns-in_err-layout_of-clause-unsound : goal.returns-in_err-layout_of-clause-unsound
+returns-in_err-layout_of-clause-unsound c = λ fault.
+    let unsound = handed_on c.from_residual.result _ c.from_residual.ensures.1 fault in
+    (c.loop-location.location-index, c.location-item.result, c.loop-location-test.true, sym c.location-item.is, c.in_err-layout_of.ensures.unsound (ap (λ e. Err e) unsound))
