@@ -1,0 +1,6 @@
+mod Words
+mod ActionExamples
+mod CallExamples
+mod CompositeExamples
+mod MeetingExamples
+mod ValueExamples

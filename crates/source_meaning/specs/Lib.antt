@@ -1,0 +1,15 @@
+pub mod Store
+pub mod Flow
+pub mod Operators
+pub mod ExprMeaning
+pub mod StatementMeaning
+pub mod BodyMeaning
+pub mod Talk
+pub mod Runs
+pub mod OpenRegions
+pub mod Values
+pub mod Fitting
+pub mod Facts
+pub mod TypedValues
+pub mod TypedStatements
+pub mod Typed
