@@ -2,7 +2,6 @@
 use checked_program::{
     Action, CaseAlternative, Choice, Control, Handler, HandlerAlternative, Statement,
 };
-use chill_base::List;
 
 /// Whether control may come behind the statements.
 #[cycle(going_on)]
@@ -41,8 +40,11 @@ pub fn some_handler_goes_on(handler: &Option<Box<Handler>>) -> bool {
 // Whether control may come behind a handler.
 #[cycle(going_on)]
 fn handler_goes_on(handler: &Handler) -> bool {
-    some_alternative_goes_on(handler.alternatives.as_slice())
-        || otherwise_goes_on(&handler.otherwise)
+    let rest = match &handler.otherwise {
+        Some(actions) => go_on(actions.as_slice()),
+        None => false,
+    };
+    rest || some_alternative_goes_on(handler.alternatives.as_slice())
 }
 
 #[cycle(going_on)]
@@ -53,14 +55,6 @@ fn some_alternative_goes_on(alternatives: &[HandlerAlternative]) -> bool {
         }
     }
     false
-}
-
-#[cycle(going_on)]
-fn otherwise_goes_on(otherwise: &Option<List<Statement>>) -> bool {
-    match otherwise {
-        Some(actions) => go_on(actions.as_slice()),
-        None => false,
-    }
 }
 
 /// Whether control may come behind an action, an EXIT of a label aside.
@@ -75,7 +69,13 @@ pub fn action_goes_on(action: &Action) -> bool {
             alternatives,
             otherwise,
             ..
-        } => otherwise_goes_on(otherwise) || some_case_goes_on(alternatives.as_slice()),
+        } => {
+            let rest = match otherwise {
+                Some(actions) => go_on(actions.as_slice()),
+                None => false,
+            };
+            rest || some_case_goes_on(alternatives.as_slice())
+        }
         Action::Do { control, .. } => has_end(control),
         Action::Begin { actions } | Action::Module { actions } => go_on(actions.as_slice()),
         _ => true,

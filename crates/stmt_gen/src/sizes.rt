@@ -9,7 +9,6 @@ use checked_program::{
     Action, CaseAlternative, Choice, DelayAlternative, Handler, HandlerAlternative,
     ReceiveAlternative, Statement,
 };
-use chill_base::List;
 use expr_gen::{Site, condition_size, expr_size};
 
 /// How many instructions statements have, as far as control comes.
@@ -41,8 +40,12 @@ pub fn statement_size(statement: &Statement, site: &Site) -> u32 {
 /// How many instructions the alternatives of a handler have.
 #[cycle(extent)]
 pub fn handled_size(handler: &Handler, site: &Site) -> u32 {
+    let rest = match &handler.otherwise {
+        Some(actions) => statements_size(actions.as_slice(), site),
+        None => 0,
+    };
     handled_joined(handler.alternatives.as_slice(), site)
-        .then(some_size(&handler.otherwise, site), false)
+        .then(rest, false)
         .size
 }
 
@@ -54,15 +57,6 @@ fn handled_joined(alternatives: &[HandlerAlternative], site: &Site) -> Joined {
         joined = joined.then(statements_size(actions, site), go_on(actions));
     }
     joined
-}
-
-/// How many instructions actions have that may be written.
-#[cycle(extent)]
-pub fn some_size(actions: &Option<List<Statement>>, site: &Site) -> u32 {
-    match actions {
-        Some(actions) => statements_size(actions.as_slice(), site),
-        None => 0,
-    }
 }
 
 /// How many instructions an action has.
@@ -80,21 +74,19 @@ pub fn action_size(action: &Action, site: &Site) -> u32 {
             selector,
             alternatives,
             otherwise,
-        } => expr_size(selector).saturating_add(1).saturating_add(
-            cases_joined(alternatives.as_slice(), site)
-                .then(case_rest_size(otherwise, site), false)
-                .size,
-        ),
+        } => {
+            // what no label holds raises, where nothing is written for it
+            let rest = match otherwise {
+                Some(actions) => statements_size(actions.as_slice(), site),
+                None => 1,
+            };
+            expr_size(selector).saturating_add(1).saturating_add(
+                cases_joined(alternatives.as_slice(), site)
+                    .then(rest, false)
+                    .size,
+            )
+        }
         _ => waiting_size(action, site),
-    }
-}
-
-// How many instructions a CASE has for what no label holds.
-#[cycle(extent)]
-fn case_rest_size(otherwise: &Option<List<Statement>>, site: &Site) -> u32 {
-    match otherwise {
-        Some(actions) => statements_size(actions.as_slice(), site),
-        None => 1,
     }
 }
 
@@ -117,11 +109,17 @@ fn waiting_size(action: &Action, site: &Site) -> u32 {
             set,
             alternatives,
             otherwise,
-        } => receive_wait_size(alternatives.as_slice(), set, otherwise.is_some()).saturating_add(
-            receives_joined(alternatives.as_slice(), site)
-                .then(some_size(otherwise, site), false)
-                .size,
-        ),
+        } => {
+            let rest = match otherwise {
+                Some(actions) => statements_size(actions.as_slice(), site),
+                None => 0,
+            };
+            receive_wait_size(alternatives.as_slice(), set, otherwise.is_some()).saturating_add(
+                receives_joined(alternatives.as_slice(), site)
+                    .then(rest, false)
+                    .size,
+            )
+        }
         _ => plain_size(action, site),
     }
 }

@@ -8,14 +8,13 @@ use crate::joining::{leaving_size, put_leaving};
 use crate::loops::{control_size, locals_kept, put_control};
 use crate::plain::put_plain;
 use crate::sizes::{
-    action_size, choice_size, chosen_size, handled_size, some_size, statement_size, statements_size,
+    action_size, choice_size, chosen_size, handled_size, statement_size, statements_size,
 };
 use crate::waits::{Receives, chosen_local, put_delay_wait, put_is_chosen, put_receive_wait};
 use checked_program::{
     Action, CaseAlternative, Choice, Control, DelayAlternative, Handler, ReceiveAlternative,
     Statement,
 };
-use chill_base::List;
 use code_types::Instr;
 use expr_gen::{Branch, Draft, PartRefusal, put_condition};
 
@@ -100,17 +99,7 @@ pub fn put_handler(
     for alternative in handler.alternatives.as_slice() {
         put_joining(alternative.actions.as_slice(), behind, around, draft)?;
     }
-    put_some(&handler.otherwise, around, draft)
-}
-
-// Actions that may be written.
-#[cycle(statement)]
-fn put_some(
-    actions: &Option<List<Statement>>,
-    around: &Around,
-    draft: &mut Draft,
-) -> Result<(), PartRefusal> {
-    match actions {
+    match &handler.otherwise {
         Some(actions) => put_statements(actions.as_slice(), around, draft),
         None => Ok(()),
     }
@@ -202,7 +191,10 @@ fn put_waiting(
             alternatives,
             otherwise,
         } => {
-            let rest = some_size(otherwise, &around.site);
+            let rest = match otherwise {
+                Some(actions) => statements_size(actions.as_slice(), &around.site),
+                None => 0,
+            };
             let has_else = otherwise.is_some();
             let receives = match action {
                 Action::ReceiveBuffers { .. } => Receives::Buffers(has_else),
@@ -219,7 +211,10 @@ fn put_waiting(
             )?;
             let chosen = chosen_local(set, around);
             put_receives(alternatives.as_slice(), chosen, behind, around, draft)?;
-            put_some(otherwise, around, draft)
+            match otherwise {
+                Some(actions) => put_statements(actions.as_slice(), around, draft),
+                None => Ok(()),
+            }
         }
         _ => put_plain(action, around, draft),
     }
