@@ -1,3 +1,2 @@
 pub mod Labels
 pub mod Levels
-pub mod Nodes
