@@ -36,7 +36,7 @@ pub fn read_named_action(
 
 // A call, or what is assigned to an element, if the brackets have one expression and more of a location or of an
 // assignment follows.
-#[tactic(auto, unfolding(rules_model::specs::SimpleReading::applied_at))]
+#[tactic(auto, unfolding(rules_model::specs::SimpleReading::applied_at), using(crate::proofs::Counts::as_many))]
 fn applied(
     alloc: Global,
     name: Name,
@@ -66,7 +66,7 @@ fn begins_more(tokens: &[Token]) -> bool
     starts(tokens, Sign::Open)
         || starts(tokens, Sign::Dot)
         || starts(tokens, Sign::Becomes)
-        || update_of(tokens).is_some()
+        || matches!(update_of(tokens), Some(_))
 }
 
 // Reads the rest of a location, so many parts of which were read, and what is assigned to it.
