@@ -43,11 +43,14 @@ sound_range (suc n) p toks x rest e = sound_told IsRange toks (range_told n (tol
 data IsDotted (x : Name) : Toks → Toks → Type 0 where
   dotted : {p : Pos} {rest : Toks} → IsDotted x (sign p signs.Dot ∷ name_token x ∷ rest) rest
 
+dotted_name : (p : Pos) (toks m : Toks) → toks ≡ sign p signs.Dot ∷ m → (x : Name) (rest : Toks) → m ≡ name_token x ∷ rest → IsDotted x toks rest
+dotted_name p toks m e x rest g = subst (λ (z : Toks). IsDotted x z rest) (sym e) (subst (λ (z : Toks). IsDotted x (sign p signs.Dot ∷ z) rest) (sym g) dotted)
+
 sound_field : Sound IsDotted field_at
 unfolding field_at
 sound_field toks x rest =
     let P : Name × Toks → Type 0 = Was IsDotted toks in
-    sign_then P signs.Dot toks _ (λ p m e y h. rw (e, name_read m y.0 y.1 h) dotted) (x, rest)
+    sign_then P signs.Dot toks _ (λ p m e y h. dotted_name p toks m e y.0 y.1 (name_read m y.0 y.1 h)) (x, rest)
 
 with_dotted : {k : ℕ} {e : ExprTree} {x : Name} {toks m rest : Toks} → IsNamed k e toks m → IsDotted x m rest → k < 32 → IsNamed (suc k) (field (place_of e) e x) toks rest
 with_dotted d dotted lt = with_field d lt

@@ -1,5 +1,5 @@
 -- What is read as an action that holds no other, or as what controls a loop, is that.
-use Rattle.std.proofs.Common.{◌≡◌, ℕ, ◌+◌, Bool, true, false, cond, ◌&&◌, eqb, List, [], ◌∷◌, length, Option, Some, None, Ok, refl, subst, arith}
+use Rattle.std.proofs.Common.{◌≡◌, ℕ, suc, ◌+◌, Bool, true, false, cond, ◌&&◌, eqb, List, [], ◌∷◌, length, Option, Some, None, Ok, refl, subst, arith}
 use Rattle.std.proofs.lemmas.Bool.{eqb-true}
 use Rattle.chill_base.specs.declared.pos.Pos.{Pos}
 use Rattle.chill_tree.specs.declared.token.Word.{Word}
@@ -111,9 +111,9 @@ both_true true b h = h
 both_true false b h = absurd cc
 
 one_located : (x : Name) (es : List ExprTree) → eqb (length es) 1 ≡ true → is_location (apply x.at (name x) (expr_nodes es)) ≡ true
-one_located x [] h = absurd (omega (arith, eqb-true _ _ h))
+one_located x [] h = absurd cc
 one_located x (e ∷ []) h = refl
-one_located x (e ∷ f ∷ es) h = absurd (omega (arith, eqb-true _ _ h))
+one_located x (e ∷ f ∷ es) h = let n : suc (suc (length es)) ≡ 1 = eqb-true (suc (suc (length es))) 1 h in absurd (omega (arith, n))
 
 applied_is : (n : ℕ) (x : Name) (es : List ExprTree) (m2 m : Toks) → InBrackets es m2 m → (y : SimpleTree × Toks) → applied_at n x es m ≡ Ok y → Was IsSimple (name_token x ∷ m2) y
 unfolding applied_at
