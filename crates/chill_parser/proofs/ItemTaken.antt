@@ -12,7 +12,7 @@ use Rattle.chill_tree.specs.declared.tree.item.Passing.{Passing}
 use Rattle.chill_tree.specs.declared.tree.item.Passing.TheVariants as ways
 use Rattle.chill_tree.specs.ModeTree.{ModeTree}
 use Rattle.chill_tree.specs.ItemTree.{SignalTree, ParamTree, ProcedureTree, FormalTree, ProcessTree, ItemTree, seize, grant, local_item, signals, procedure, process, action, ModulionTree, modulion_item, ProgramTree}
-use Rattle.rules_model.specs.Marks.{Toks, sign, word, name_token, begins, begins_with}
+use Rattle.rules_model.specs.Marks.{Toks, sign, word, name_token, begins, begins_with, begins_name}
 use Rattle.rules_model.specs.ListGrammar.{AreListed, IsName, AreNames, IsClause, IsClosing}
 use Rattle.rules_model.specs.ModeGrammar.{IsMode}
 use Rattle.rules_model.specs.LocalGrammar.{IsLocal}
@@ -22,7 +22,7 @@ use Rattle.rules_model.specs.Nesting.{less}
 use Rattle.rules_model.specs.Reading.{Deep, Absent, Read, ◌>>=◌, push, name_at, many_at, listed_at}
 use Rattle.rules_model.specs.ModeReading.{mode_at, local_at}
 use Rattle.rules_model.specs.SimpleReading.{clause_at}
-use Rattle.rules_model.specs.StatementReading.{begins_label, begins_local, begins_statement, handler_at, closing_at, statement_at, actions_at, body_at}
+use Rattle.rules_model.specs.StatementReading.{begins_local, begins_statement, handler_at, closing_at, statement_at, actions_at, body_at}
 use Rattle.rules_model.specs.ItemReading.{passed_at, signal_parts_at, signal_at, passing_at, param_at, formal_at, within_at, result_at, exceptions_at, Block, block_at, procedure_rest_at, procedure_at, process_rest_at, process_at, kind_at, Items, modulion_at, begins_block, block_item_at, item_at, items_at, modulion_piece_at, nothing_left, program_at}
 use Rattle.chill_parser.proofs.Taken.{last_is, never, either, then_is, sign_then, word_then, name_then, Sound, Was, read_then, IfThere, sound_name, sound_listed, sound_names, sound_many, sound_clause}
 use Rattle.chill_parser.proofs.ModeTaken.{sound_mode}
@@ -204,7 +204,7 @@ modulion_piece_is : (n : ℕ) (toks : Toks) (xs : List ModulionTree) (m : Toks) 
 unfolding modulion_piece_at
 modulion_piece_is n toks xs m l =
     let P : Option (ModulionTree × Toks) → Type 0 = IfThere (λ (x : ModulionTree × Toks). AreModulions (push xs x.0) toks x.1) in
-    either P (begins_label m) _ _
+    either P (begins_name m) _ _
     (λ b. read_then P IsModulion (modulion_at n (items_at n)) (sound_modulion n (items_at n) (sound_items n)) m _ (λ x m2 d. last_is P (Some (x, m2)) (then_modulion l d)))
     (λ b. last_is P None tt)
 

@@ -1,5 +1,6 @@
 -- What is read as an action that holds no other, or as what controls a loop, is that.
-use Rattle.std.proofs.Common.{◌≡◌, ℕ, Bool, true, false, cond, List, [], ◌∷◌, Option, Some, None, Ok, refl, sym, ap, ◌∙◌, subst}
+use Rattle.std.proofs.Common.{◌≡◌, ℕ, suc, ◌+◌, Bool, true, false, cond, ◌&&◌, eqb, List, [], ◌∷◌, length, Option, Some, None, Ok, refl, subst, arith}
+use Rattle.std.proofs.lemmas.Bool.{eqb-true}
 use Rattle.chill_base.specs.declared.pos.Pos.{Pos}
 use Rattle.chill_tree.specs.declared.token.Word.{Word}
 use Rattle.chill_tree.specs.declared.token.Word.TheVariants as words
@@ -8,20 +9,19 @@ use Rattle.chill_tree.specs.declared.token.Token.{Token}
 use Rattle.chill_tree.specs.declared.token.TokenKind.{TokenKind}
 use Rattle.chill_tree.specs.declared.tree.name.Name.{Name}
 use Rattle.chill_tree.specs.declared.tree.expr.Operator.{Operator}
-use Rattle.chill_tree.specs.ExprTree.{ExprTree, place_of}
+use Rattle.chill_tree.specs.ExprTree.{ExprTree, name, apply, expr_nodes, place_of}
 use Rattle.chill_tree.specs.SimpleTree.{SimpleTree, assign, update, call_of, exit, return_with, result_of, assert_that, cause, stop, start_of, delay, continue_event, send, ControlTree, while_holds, for_ever, for_members, for_steps}
-use Rattle.rules_model.specs.Marks.{Toks, tok, word, name_token, begins, begins_with, begins_expr, behind, front, operator_of, may_update}
-use Rattle.rules_model.specs.ExprGrammar.{IsExpr, IsNamed, a_name, with_args, with_field, AreExprs, one_expr, and_expr, is_location, is_loc}
+use Rattle.rules_model.specs.Marks.{Toks, tok, sign, word, name_token, begins, begins_with, begins_expr, behind, front, operator_of, may_update}
+use Rattle.rules_model.specs.ExprGrammar.{IsExpr, a_name, with_args, AreExprs, one_expr, and_expr, is_location, IsLocation}
 use Rattle.rules_model.specs.ListGrammar.{IsClause, IsFlag}
 use Rattle.rules_model.specs.SimpleGrammar.{IsControl, is_while, is_ever, is_members, is_steps, no_value, with_value, IsMessage, no_message, with_message, IsSimple, is_assign, is_update, is_call, is_call_word, is_exit, is_return, is_result, is_assert, is_cause, is_stop, is_start, is_delay, is_continue, is_send}
 use Rattle.rules_model.specs.Reading.{Absent, chosen, listed_at}
-use Rattle.rules_model.specs.ExprReading.{expr_at, args_at, named_at}
+use Rattle.rules_model.specs.ExprReading.{expr_at, args_at, location_parts_at}
 use Rattle.rules_model.specs.ModeReading.{value_at}
-use Rattle.rules_model.specs.SimpleReading.{clause_at, flag_at, members_at, steps_at, for_at, control_at, update_of, call_in, called_at, assigned_at, updated_at, behind_name_at, named_action_at, call_at, return_at, start_at, delay_at, message_at, send_at, word_name_at, word_value_at, simple_at}
-use Rattle.rules_model.proofs.SimpleExact.{exprs_back}
-use Rattle.chill_parser.proofs.Taken.{last_is, never, either, chosen_is, sign_then, word_then, name_then, Sound, Was, read_then, sound_list, sound_clause, sound_flag}
+use Rattle.rules_model.specs.SimpleReading.{clause_at, flag_at, members_at, steps_at, for_at, control_at, update_of, begins_more, assigned_at, assignment_at, applied_at, named_action_at, call_at, return_at, start_at, delay_at, message_at, send_at, word_name_at, word_value_at, simple_at}
+use Rattle.chill_parser.proofs.Taken.{then_is, last_is, never, either, chosen_is, sign_then, word_then, name_then, Sound, Was, read_then, sound_list, sound_clause, sound_flag}
 use Rattle.expr_parser.proofs.ExprTaken.{InBrackets, bracketed}
-use Rattle.chill_parser.proofs.ExprTaken.{IsSomeNamed, some_named, sound_expr, sound_value, sound_named, sound_args}
+use Rattle.chill_parser.proofs.ExprTaken.{HasParts, sound_expr, sound_value, parts_located, sound_args}
 
 -- ---- what controls a loop
 
@@ -88,41 +88,49 @@ update_read : (m : Toks) (o : Pos × Operator) → update_of m ≡ Some o → Up
 update_read [] o e = absurd cc
 update_read (t ∷ rest) o e = updated_by t rest (operator_of t.kind) o refl e
 
-no_call : (c : Name × List ExprTree) → None ≡ Some c → ⊥
-no_call c e = cc
-
-call_made : {k : ℕ} {t : ExprTree} {toks m : Toks} → IsNamed k t toks m → (c : Name × List ExprTree) → call_in t ≡ Some c → IsSimple (call_of c.0.at false c.0 c.1) toks m
-call_made a_name c e = absurd (no_call c e)
-call_made {toks = toks} {m = m} (with_args {es = es} (a_name {n = x}) args lt) c e =
-    let same : (x, es) ≡ c = some_is (x, es) c (ap (λ (z : List ExprTree). Some (x, z)) (sym (exprs_back es)) ∙ e) in
-    subst (λ (z : Name × List ExprTree). IsSimple (call_of z.0.at false z.0 z.1) toks m) same (is_call args)
-call_made (with_args (with_args d a l) args lt) c e = absurd (no_call c e)
-call_made (with_args (with_field d l) args lt) c e = absurd (no_call c e)
-call_made (with_field d lt) c e = absurd (no_call c e)
-
-behind_name_is : (n : ℕ) (t : ExprTree) (toks m : Toks) → IsSomeNamed t toks m → (y : SimpleTree × Toks) → behind_name_at n t m ≡ Ok y → Was IsSimple toks y
-unfolding behind_name_at assigned_at updated_at called_at
-behind_name_is n t toks m (some_named {k = k} d) =
+assigned_is : (n : ℕ) (t : ExprTree) (toks m : Toks) → IsLocation t toks m → (y : SimpleTree × Toks) → assigned_at n t m ≡ Ok y → Was IsSimple toks y
+unfolding assigned_at
+assigned_is n t toks m d =
     let P : SimpleTree × Toks → Type 0 = Was IsSimple toks in
     either P (begins signs.Becomes m) _ _
-    (λ b. either P (is_location t) _ _
-    (λ loc. sign_then P signs.Becomes m _ (λ p m2 e. read_then P IsExpr (value_at n) (sound_value n) m2 _ (λ v m3 dv.
-    last_is P (assign (place_of t) t v, m3) (is_assign (is_loc (rw e at d) loc) dv))))
-    (λ loc. never P (Absent (front m))))
+    (λ b. sign_then P signs.Becomes m _ (λ p m2 e. read_then P IsExpr (value_at n) (sound_value n) m2 _ (λ v m3 dv.
+    last_is P (assign (place_of t) t v, m3) (is_assign (subst (λ (z : Toks). IsLocation t toks z) e d) dv))))
     (λ b. chosen_is P (update_of m) _ _
-    (λ no. chosen_is P (call_in t) _ _
-    (λ none. never P (Absent (front m)))
-    (λ c is. last_is P (call_of c.0.at false c.0 c.1, m) (call_made d c is)))
+    (λ no. never P (Absent (front m)))
     (λ o is. let u = update_read m o is in
-    either P (is_location t) _ _
-    (λ loc. sign_then P signs.Becomes (behind m) _ (λ p m2 e. read_then P IsExpr (value_at n) (sound_value n) m2 _ (λ v m3 dv.
-    last_is P (update (place_of t) t o.1 o.0 v, m3) (is_update (is_loc (subst (λ (z : Toks). IsNamed k t toks (tok o.0 u.kind ∷ z)) e (subst (λ (z : Toks). IsNamed k t toks z) u.here d)) loc) u.what u.may dv))))
-    (λ loc. never P (Absent (front (behind m))))))
+    sign_then P signs.Becomes (behind m) _ (λ p m2 e. read_then P IsExpr (value_at n) (sound_value n) m2 _ (λ v m3 dv.
+    last_is P (update (place_of t) t o.1 o.0 v, m3) (is_update (subst (λ (z : Toks). IsLocation t toks (tok o.0 u.kind ∷ z)) e (subst (λ (z : Toks). IsLocation t toks z) u.here d)) u.what u.may dv)))))
+
+assignment_is : (n : ℕ) (toks : Toks) (j k : ℕ) → j + k ≡ 32 → (t : ExprTree) (m : Toks) → HasParts toks k t m → (y : SimpleTree × Toks) → assignment_at n j t m ≡ Ok y → Was IsSimple toks y
+unfolding assignment_at
+assignment_is n toks j k all t m d =
+    then_is (Was IsSimple toks) (location_parts_at (expr_at n) j t m) _ (λ l m2 e. assigned_is n l toks m2 (parts_located n toks j k all t m d (l, m2) e))
+
+both_true : (a b : Bool) → (a && b) ≡ true → b ≡ true
+both_true true b h = h
+both_true false b h = absurd cc
+
+one_located : (x : Name) (es : List ExprTree) → eqb (length es) 1 ≡ true → is_location (apply x.at (name x) (expr_nodes es)) ≡ true
+one_located x [] h = absurd cc
+one_located x (e ∷ []) h = refl
+one_located x (e ∷ f ∷ es) h = let n : suc (suc (length es)) ≡ 1 = eqb-true (suc (suc (length es))) 1 h in absurd (omega (arith, n))
+
+applied_is : (n : ℕ) (x : Name) (es : List ExprTree) (m2 m : Toks) → InBrackets es m2 m → (y : SimpleTree × Toks) → applied_at n x es m ≡ Ok y → Was IsSimple (name_token x ∷ m2) y
+unfolding applied_at
+applied_is n x es m2 m (bracketed {p = p} {m = k} args) =
+    let toks : Toks = name_token x ∷ sign p signs.Open ∷ k in
+    let P : SimpleTree × Toks → Type 0 = Was IsSimple toks in
+    either P (begins_more m && eqb (length es) 1) _ _
+    (λ b. assignment_is n toks 31 1 refl (apply x.at (name x) (expr_nodes es)) m (with_args a_name args (omega arith), one_located x es (both_true (begins_more m) (eqb (length es) 1) b)))
+    (λ b. last_is P (call_of x.at false x es, m) (is_call args))
 
 sound_named_action : (n : ℕ) → Sound IsSimple (named_action_at n)
 unfolding named_action_at
 sound_named_action n toks x rest =
-    read_then (Was IsSimple toks) IsSomeNamed (named_at n (expr_at n)) (sound_named n) toks _ (λ t m d. behind_name_is n t toks m d) (x, rest)
+    let P : SimpleTree × Toks → Type 0 = Was IsSimple toks in
+    name_then P toks _ (λ y m e. either P (begins signs.Open m) _ _
+    (λ b. read_then P InBrackets (args_at n (expr_at n)) (sound_args n) m _ (λ es m2 d z h. rw e (applied_is n y es m m2 d z h)))
+    (λ b z h. assignment_is n toks 32 0 refl (name y) m (rw e a_name, refl) z h)) (x, rest)
 
 -- ---- actions that begin with a word
 

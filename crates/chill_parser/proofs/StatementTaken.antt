@@ -1,5 +1,5 @@
 -- What is read as a statement, a handler or a body is that.
-use Rattle.std.proofs.Common.{◌≡◌, ℕ, zero, suc, ◌<◌, Bool, true, false, cond, eqb, List, [], ◌∷◌, length, Option, Some, None, Result, Ok, Err, refl, arith}
+use Rattle.std.proofs.Common.{◌≡◌, ℕ, zero, suc, ◌<◌, Bool, true, false, cond, eqb, List, [], ◌∷◌, length, Option, Some, None, Result, Ok, refl, arith}
 use Rattle.std.proofs.lemmas.Bool.{eqb-true}
 use Rattle.chill_base.specs.declared.pos.Pos.{Pos}
 use Rattle.chill_tree.specs.declared.token.Word.TheVariants as words
@@ -10,19 +10,19 @@ use Rattle.chill_tree.specs.declared.tree.name.Name.{Name}
 use Rattle.chill_tree.specs.ExprTree.{ExprTree}
 use Rattle.chill_tree.specs.StatementTree.{StatementTree, empty, simple, bracketed, BracketedTree, if_then, case_of, do_loop, begin_end, delay_case, receive_case, ElsIfTree, CaseTree, NamedTree, ReceiveTree, HandlerTree, BodyTree, local_part, action_part, statement_nodes, branch_nodes, case_nodes, named_nodes, receive_nodes, otherwise_node, handler_node, body_nodes}
 use Rattle.rules_model.specs.Marks.{Toks, tok, begins, begins_with, front}
-use Rattle.rules_model.specs.ExprGrammar.{IsExpr, IsRange, AreRanges, one_range, and_range, is_location, IsLocation, is_loc}
+use Rattle.rules_model.specs.ExprGrammar.{IsExpr, IsRange, AreRanges, one_range, and_range, IsLocation}
 use Rattle.rules_model.specs.ListGrammar.{AreNames, IsClause, IsLabel, no_label, with_label, IsClosing, left_open, closed_by}
 use Rattle.rules_model.specs.LocalGrammar.{IsLocal}
 use Rattle.rules_model.specs.SimpleGrammar.{IsControl, IsSimple, place_of_simple}
 use Rattle.rules_model.specs.StatementGrammar.{place_of_labelled, IsDelayHead, no_head, head_sets, head_ranks, IsReceiveHead, sets_none, sets_one, handles, IsStatement, is_empty, is_simple, is_bracketed, AreStatements, no_statements, then_statement, IsBracketed, is_if, is_case, is_do, is_begin, is_delay_case, is_receive_case, AreBranches, no_branches, then_branch, AreCases, no_cases, then_case, AreNamed, no_named, then_named, AreReceives, no_receives, then_receive, IsOtherwise, no_else, with_else, IsHandler, no_handler, with_handler, AreBody, no_parts, then_local, then_action}
 use Rattle.rules_model.specs.Nesting.{less}
 use Rattle.rules_model.specs.Reading.{Fault, Deep, Absent, push, name_at, many_at, listed_at}
-use Rattle.rules_model.specs.ExprReading.{expr_at, named_at, range_at}
+use Rattle.rules_model.specs.ExprReading.{expr_at, location_at, range_at}
 use Rattle.rules_model.specs.ModeReading.{value_at, local_at}
 use Rattle.rules_model.specs.SimpleReading.{clause_at, control_at, simple_at}
-use Rattle.rules_model.specs.StatementReading.{begins_label, begins_bracketed, begins_statement, begins_local, Acts, Body, kept, location_at, otherwise_at, branch_at, case_at, alternative_at, receipt_at, handler_at, same_name, closing_at, if_at, case_of_at, do_at, begin_at, delay_head_at, delay_case_at, receive_head_at, receive_case_at, bracketed_at, holding_at, labelled_at, unlabelled_at, statement_at, action_at, body_part_at, inside_at, actions_at, body_at}
+use Rattle.rules_model.specs.StatementReading.{begins_label, begins_bracketed, begins_statement, begins_local, Acts, Body, kept, otherwise_at, branch_at, case_at, alternative_at, receipt_at, handler_at, same_name, closing_at, if_at, case_of_at, do_at, begin_at, delay_head_at, delay_case_at, receive_head_at, receive_case_at, bracketed_at, holding_at, labelled_at, unlabelled_at, statement_at, action_at, body_part_at, inside_at, actions_at, body_at}
 use Rattle.chill_parser.proofs.Taken.{last_is, never, either, then_is, sign_then, word_then, name_then, Sound, Was, read_then, IfThere, sound_list, sound_names, sound_many, sound_clause}
-use Rattle.chill_parser.proofs.ExprTaken.{IsSomeNamed, some_named, sound_value, sound_named, sound_range}
+use Rattle.chill_parser.proofs.ExprTaken.{sound_value, sound_location, sound_range}
 use Rattle.chill_parser.proofs.LocalTaken.{sound_local}
 use Rattle.chill_parser.proofs.SimpleTaken.{sound_value_clause, sound_control, sound_simple}
 
@@ -68,15 +68,6 @@ sound_closing label (t ∷ ts) x rest e = closing_is label t.at t.kind ts (x, re
 pub kept_is : {X B : Type 0} (P : B → Type 0) (xs : List X) (toks : Toks) (r : Result B Fault) → (0 < length xs → (y : B) → r ≡ Ok y → P y) → (y : B) → kept xs toks r ≡ Ok y → P y
 kept_is P [] toks r f y e = never P (Absent (front toks)) y e
 kept_is P (x ∷ xs) toks r f y e = f (omega arith) y e
-
-location_is : (n : ℕ) (toks : Toks) (l : ExprTree) (m : Toks) → IsSomeNamed l toks m → (y : ExprTree × Toks) → cond (is_location l) (Ok (l, m)) (Err (Absent (front toks))) ≡ Ok y → Was IsLocation toks y
-location_is n toks l m (some_named d) =
-    let P : ExprTree × Toks → Type 0 = Was IsLocation toks in
-    either P (is_location l) _ _ (λ loc. last_is P (l, m) (is_loc d loc)) (λ loc. never P (Absent (front toks)))
-
-sound_location : (n : ℕ) → Sound IsLocation (location_at n)
-unfolding location_at
-sound_location n toks x rest = read_then (Was IsLocation toks) IsSomeNamed (named_at n (expr_at n)) (sound_named n) toks _ (λ l m d. location_is n toks l m d) (x, rest)
 
 sound_ranges : (n : ℕ) (p : Pos) → Sound AreRanges (listed_at (range_at (expr_at n p)))
 sound_ranges n p = sound_list IsRange AreRanges (range_at (expr_at n p)) (sound_range n p) (λ x toks rest d. one_range d) (λ xs x q toks m rest l d. and_range l d)
@@ -178,7 +169,7 @@ module _ (acts : Acts) (sound_acts : SoundActs acts) where
   sound_delay_head n toks x rest =
       let P : (Option ExprTree × Option ExprTree) × Toks → Type 0 = λ y. IsDelayHead y.0.0 y.0.1 toks y.1 in
       either P (begins_with words.Set toks) _ _
-      (λ b. word_then P words.Set toks _ (λ at m e. read_then P IsLocation (location_at n) (sound_location n) m _ (λ l m2 dl. read_then P (IsClause words.Priority IsExpr) (clause_at words.Priority (value_at n)) (sound_value_clause words.Priority n) m2 _ (λ c m3 dc. sign_then P signs.Semicolon m3 _ (λ q m4 e2.
+      (λ b. word_then P words.Set toks _ (λ at m e. read_then P IsLocation (location_at (expr_at n)) (sound_location n) m _ (λ l m2 dl. read_then P (IsClause words.Priority IsExpr) (clause_at words.Priority (value_at n)) (sound_value_clause words.Priority n) m2 _ (λ c m3 dc. sign_then P signs.Semicolon m3 _ (λ q m4 e2.
       last_is P ((Some l, c), m4) (rw e (head_sets dl (rw e2 at dc))))))))
       (λ b. either P (begins_with words.Priority toks) _ _
       (λ b. word_then P words.Priority toks _ (λ at m e. read_then P IsExpr (value_at n) (sound_value n) m _ (λ c m2 dc. sign_then P signs.Semicolon m2 _ (λ q m3 e2.
@@ -198,7 +189,7 @@ module _ (acts : Acts) (sound_acts : SoundActs acts) where
   sound_receive_head n toks x rest =
       let P : Option ExprTree × Toks → Type 0 = Was IsReceiveHead toks in
       either P (begins_with words.Set toks) _ _
-      (λ b. word_then P words.Set toks _ (λ at m e. read_then P IsLocation (location_at n) (sound_location n) m _ (λ l m2 dl. sign_then P signs.Semicolon m2 _ (λ q m3 e2.
+      (λ b. word_then P words.Set toks _ (λ at m e. read_then P IsLocation (location_at (expr_at n)) (sound_location n) m _ (λ l m2 dl. sign_then P signs.Semicolon m2 _ (λ q m3 e2.
       last_is P (Some l, m3) (rw e (sets_one (rw e2 at dl)))))))
       (λ b. last_is P (None, toks) sets_none) (x, rest)
 

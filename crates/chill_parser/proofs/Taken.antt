@@ -1,5 +1,5 @@
 -- What a step that did not fail has read.
-use Rattle.std.proofs.Common.{◌≡◌, ℕ, zero, suc, Bool, true, false, cond, List, [], ◌∷◌, ◌++◌, length, Option, Some, None, Result, Ok, Err, refl, ap, subst}
+use Rattle.std.proofs.Common.{◌≡◌, ℕ, zero, suc, ◌+◌, ◌<◌, Bool, true, false, cond, List, [], ◌∷◌, ◌++◌, length, Option, Some, None, Result, Ok, Err, refl, ap, subst, arith}
 use Rattle.chill_base.specs.declared.pos.Pos.{Pos}
 use Rattle.chill_tree.specs.declared.token.Word.{Word}
 use Rattle.chill_tree.specs.declared.token.Sign.{Sign}
@@ -120,6 +120,24 @@ loop_keeps {S = S} {X = X} piece grow Q step (suc j) s m q y e = go (λ x h. loo
     go : ((x : X × Toks) → Q (grow s x.0) x.1 → repeat piece grow j (grow s x.0) x.1 ≡ Ok y → Q y.0 y.1)
         → (r : Piece X) → piece m ≡ r → (r >>= λ o. chosen {B = Result (S × Toks) Fault} o (Ok (s, m)) (λ x. repeat piece grow j (grow s x.0) x.1)) ≡ Ok y → Q y.0 y.1
     go again (Ok o) h e = inner again o (step s m q o h) e
+    go again (Err d) h e = absurd cc
+
+-- the same of a loop whose pieces are counted
+pub loop_counts : {S X : Type 0} (piece : Toks → Piece X) (grow : S → X → S) (limit : ℕ) (Q : ℕ → S → Toks → Type 0)
+    → ((k : ℕ) (s : S) (m : Toks) → k < limit → Q k s m → (o : Option (X × Toks)) → piece m ≡ Ok o → IfThere (λ (x : X × Toks). Q (suc k) (grow s x.0) x.1) o)
+    → (j k : ℕ) → j + k ≡ limit → (s : S) (m : Toks) → Q k s m → (y : S × Toks) → repeat piece grow j s m ≡ Ok y → (i : ℕ) × Q i y.0 y.1
+unfolding repeat
+loop_counts {S = S} piece grow limit Q step zero k all s m q y e = last_is (λ (y : S × Toks). (i : ℕ) × Q i y.0 y.1) (s, m) (k, q) y e
+loop_counts {S = S} {X = X} piece grow limit Q step (suc j) k all s m q y e = go (λ x h. loop_counts piece grow limit Q step j (suc k) (omega (arith, all)) (grow s x.0) x.1 h y) (piece m) refl e
+  where
+    inner : ((x : X × Toks) → Q (suc k) (grow s x.0) x.1 → repeat piece grow j (grow s x.0) x.1 ≡ Ok y → (i : ℕ) × Q i y.0 y.1)
+        → (o : Option (X × Toks)) → IfThere (λ (x : X × Toks). Q (suc k) (grow s x.0) x.1) o → chosen {B = Result (S × Toks) Fault} o (Ok (s, m)) (λ x. repeat piece grow j (grow s x.0) x.1) ≡ Ok y → (i : ℕ) × Q i y.0 y.1
+    inner again None h e = last_is (λ (y : S × Toks). (i : ℕ) × Q i y.0 y.1) (s, m) (k, q) y e
+    inner again (Some x) h e = again x h e
+
+    go : ((x : X × Toks) → Q (suc k) (grow s x.0) x.1 → repeat piece grow j (grow s x.0) x.1 ≡ Ok y → (i : ℕ) × Q i y.0 y.1)
+        → (r : Piece X) → piece m ≡ r → (r >>= λ o. chosen {B = Result (S × Toks) Fault} o (Ok (s, m)) (λ x. repeat piece grow j (grow s x.0) x.1)) ≡ Ok y → (i : ℕ) × Q i y.0 y.1
+    go again (Ok o) h e = inner again o (step k s m (omega (arith, all)) q o h) e
     go again (Err d) h e = absurd cc
 
 -- one, and one more behind each comma

@@ -11,8 +11,7 @@ use crate::item::read_modulion;
 use chill_base::{List, Pos};
 use chill_tree::tree::{Modulion, Tree};
 use chill_tree::{Sign, Token, TokenKind, Word};
-use expr_parser::{ParseRefusal, less, place};
-use statement_parser::begins_label;
+use expr_parser::{ParseRefusal, less, place, starts_name};
 use std::alloc::Global;
 
 /// The nesting that no token may reach.
@@ -167,7 +166,7 @@ fn another_modulion(
 ) -> Result<Option<(Modulion, &[Token])>, ParseRefusal>
     ensures { Gives (option_map (λ x. (modulion_tree x.0, x.1.now))) result (modulion_piece_at inner tokens.now) }
 {
-    if !begins_label(tokens) {
+    if !starts_name(tokens) {
         return Ok(None);
     }
     let (modulion, rest) = read_modulion(alloc, tokens, inner)?;

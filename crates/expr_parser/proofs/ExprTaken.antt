@@ -11,6 +11,8 @@ use Rattle.chill_tree.specs.declared.tree.name.Name.{Name}
 use Rattle.chill_tree.specs.declared.tree.expr.Operator.{Operator}
 use Rattle.chill_tree.specs.declared.tree.expr.Prefix.TheVariants as prefixes
 use Rattle.chill_tree.specs.ExprTree.{ExprTree, whole, character, text, this_instance, paren, receive, start, tuple, uniform, name, prefixed, alone, between, expr_nodes, range_nodes}
+use Rattle.rules_model.specs.declared.extent.Extent.{Extent}
+use Rattle.rules_model.specs.declared.extent.Extent.TheVariants as extents
 use Rattle.rules_model.specs.Marks.{Toks, tok, sign, word, name_token, begins, begins_with, operator_of, rank_of}
 use Rattle.rules_model.specs.ExprGrammar.{IsTupleHead, bare, of_mode, tuple_place, IsNamed, a_name, with_args, with_field, AreArgs, no_args, some_args, AreExprs, one_expr, and_expr, IsRange, is_alone, is_between, AreRanges, one_range, and_range, AreParts, no_parts, some_parts, IsOperand, is_whole, is_character, is_text, is_this, is_paren, is_receive, is_start, is_tuple, is_uniform, is_named, IsRanked, is_plain, is_minus, is_not, is_chain, IsChain, first, turn}
 use Rattle.rules_model.specs.Reading.{Read, ◌>>=◌, settle, chosen, sign_at, word_at, name_at, repeat, listed_at}
@@ -97,21 +99,21 @@ told_args (suc m) inner toks =
 field_of : (x : Name) (t u : Toks) → IsField x t u → IsPart (Field x) t u
 field_of x t u dotted = field_part
 
-pub part_told : (n : ℕ) → Inner n → (toks : Toks) → ToldPiece (suc n) IsPart toks (part_at n (expr_at n) toks)
+pub part_told : (extent : Extent) (n : ℕ) → Inner n → (toks : Toks) → ToldPiece (suc n) IsPart toks (part_at extent n (expr_at n) toks)
 unfolding part_at
-part_told n inner toks = go (begins signs.Open toks) (begins signs.Dot toks)
+part_told extent n inner toks = go (begins signs.Open toks) (begins signs.Dot toks)
   where
-    go : (b c : Bool) → ToldPiece (suc n) IsPart toks (cond b (settle (args_at n (expr_at n) toks) None (λ a. Ok (Some (Args a.0, a.1)))) (cond c (settle (field_at toks) None (λ f. Ok (Some (Field f.0, f.1)))) (Ok None)))
-    go true c = settled InBrackets IsPart Args (λ x t u d. args_part d) (told_args n inner toks)
-    go false true = settled IsField IsPart Field field_of (told_field n toks)
+    go : (b c : Bool) → ToldPiece (suc n) IsPart toks (cond b (settle extent (args_at n (expr_at n) toks) None (λ a. Ok (Some (Args a.0, a.1)))) (cond c (settle extent (field_at toks) None (λ f. Ok (Some (Field f.0, f.1)))) (Ok None)))
+    go true c = settled extent InBrackets IsPart Args (λ x t u d. args_part d) (told_args n inner toks)
+    go false true = settled extent IsField IsPart Field field_of (told_field n toks)
     go false false = no_piece
 
 -- the parts behind a name
-parts_told : (n : ℕ) → Inner n → (x : Name) (toks : Toks) → Told (suc n) (suc n) (Led (name_token x) IsOperand) toks (parts_at n (expr_at n) (name x) toks)
-parts_told n inner x toks =
-    told_as (After (suc n) (part_at n (expr_at n)) with_part IsNamed IsPart 32 named_part (part_told n inner) 0 (name x)) (Led (name_token x) IsOperand)
+parts_told : (extent : Extent) (n : ℕ) → Inner n → (x : Name) (toks : Toks) → Told (suc n) (suc n) (Led (name_token x) IsOperand) toks (parts_at extent n (expr_at n) (name x) toks)
+parts_told extent n inner x toks =
+    told_as (After (suc n) (part_at extent n (expr_at n)) with_part IsNamed IsPart 32 named_part (part_told extent n inner) 0 (name x)) (Led (name_token x) IsOperand)
     (λ y u v d. is_named (d (name_token x ∷ u) a_name).1)
-    (told_loop (suc n) (part_at n (expr_at n)) with_part IsNamed IsPart 32 named_part (part_told n inner) 32 0 (omega arith) (name x) toks)
+    (told_loop (suc n) (part_at extent n (expr_at n)) with_part IsNamed IsPart 32 named_part (part_told extent n inner) 32 0 (omega arith) (name x) toks)
 
 -- ---- tuples
 
@@ -218,18 +220,19 @@ tuple_told (suc m) inner mode toks = led_by_sign signs.OpenBracket (suc (suc m))
 -- ---- operands
 
 -- what is read where it is there, or else a name alone
-or_alone : (n : ℕ) (x : Name) (toks : Toks) {r : Read ExprTree} → Told (suc n) (suc n) (Headed (Some x)) toks r → Told (suc n) (suc n) (Led (name_token x) IsOperand) toks (settle r (name x, toks) (λ e. Ok e))
-or_alone n x toks (taken T) = taken T
-or_alone n x toks (broken V d) = broken V d
-or_alone n x toks (missing V e) = told_ok (Led (name_token x) IsOperand) (name x) toks (λ z. is_named a_name)
+or_alone : (extent : Extent) (n : ℕ) (x : Name) (toks : Toks) {r : Read ExprTree} → Told (suc n) (suc n) (Headed (Some x)) toks r → Told (suc n) (suc n) (Led (name_token x) IsOperand) toks (settle extent r (name x, toks) (λ e. Ok e))
+or_alone extent n x toks (taken T) = taken T
+or_alone extent n x toks (broken V d) = broken V d
+or_alone extents.Whole n x toks (missing V e) = missing V e
+or_alone extents.Longest n x toks (missing V e) = told_ok (Led (name_token x) IsOperand) (name x) toks (λ z. is_named a_name)
 
-pub begun_told : (n : ℕ) → Inner n → (x : Name) (toks : Toks) → Told (suc n) (suc n) (Led (name_token x) IsOperand) toks (begun_at n (expr_at n) x toks)
+pub begun_told : (extent : Extent) (n : ℕ) → Inner n → (x : Name) (toks : Toks) → Told (suc n) (suc n) (Led (name_token x) IsOperand) toks (begun_at extent n (expr_at n) x toks)
 unfolding begun_at
-begun_told n inner x toks = go (begins signs.OpenBracket toks)
+begun_told extent n inner x toks = go (begins signs.OpenBracket toks)
   where
-    go : (b : Bool) → Told (suc n) (suc n) (Led (name_token x) IsOperand) toks (cond b (settle (tuple_at n (expr_at n) (Some x) toks) (name x, toks) (λ e. Ok e)) (parts_at n (expr_at n) (name x) toks))
-    go true = or_alone n x toks (tuple_told n inner (Some x) toks)
-    go false = parts_told n inner x toks
+    go : (b : Bool) → Told (suc n) (suc n) (Led (name_token x) IsOperand) toks (cond b (settle extent (tuple_at n (expr_at n) (Some x) toks) (name x, toks) (λ e. Ok e)) (parts_at extent n (expr_at n) (name x) toks))
+    go true = or_alone extent n x toks (tuple_told n inner (Some x) toks)
+    go false = parts_told extent n inner x toks
 
 close_paren : (p : Pos) → Finish (Led (sign p signs.Open) IsOperand)
 close_paren p = record { more = tok p (kinds.Whole 0) ∷ sign p signs.Close ∷ []; tree = paren p (whole p 0); any = λ z. is_paren (one_whole 5 p (sign p signs.Close ∷ z)) }
@@ -248,16 +251,16 @@ paren_told (suc m) inner toks =
 started : (at : Pos) (x : Name) (es : List ExprTree) (t u : Toks) → InBrackets es t u → IsOperand (start at x (expr_nodes es)) (word at words.Start ∷ name_token x ∷ t) u
 started at x es t u (bracketed a) = is_start a
 
-operand_told : (n : ℕ) → Inner n → (toks : Toks) → Told (suc n) (suc n) IsOperand toks (operand_at n (expr_at n) toks)
+operand_told : (extent : Extent) (n : ℕ) → Inner n → (toks : Toks) → Told (suc n) (suc n) IsOperand toks (operand_at extent n (expr_at n) toks)
 unfolding operand_at
-operand_told n inner [] = missing (nothing_read [] any_operand) refl
-operand_told n inner (t ∷ rest) = of_kind t.at t.kind rest
+operand_told extent n inner [] = missing (nothing_read [] any_operand) refl
+operand_told extent n inner (t ∷ rest) = of_kind t.at t.kind rest
   where
-    of_kind : (at : Pos) (k : TokenKind) (rest : Toks) → Told (suc n) (suc n) IsOperand (tok at k ∷ rest) (operand_at n (expr_at n) (tok at k ∷ rest))
+    of_kind : (at : Pos) (k : TokenKind) (rest : Toks) → Told (suc n) (suc n) IsOperand (tok at k ∷ rest) (operand_at extent n (expr_at n) (tok at k ∷ rest))
     of_kind at (kinds.Whole v) rest = token_then at (kinds.Whole v) refl IsOperand (told_ok (Led (tok at (kinds.Whole v)) IsOperand) (whole at v) rest (λ z. is_whole))
     of_kind at (kinds.Char v) rest = token_then at (kinds.Char v) refl IsOperand (told_ok (Led (tok at (kinds.Char v)) IsOperand) (character at v) rest (λ z. is_character))
     of_kind at (kinds.Text v) rest = token_then at (kinds.Text v) refl IsOperand (told_ok (Led (tok at (kinds.Text v)) IsOperand) (text at v) rest (λ z. is_text))
-    of_kind at (kinds.Name s) rest = token_then at (kinds.Name s) refl IsOperand (begun_told n inner (record { at = at; text = s }) rest)
+    of_kind at (kinds.Name s) rest = token_then at (kinds.Name s) refl IsOperand (begun_told extent n inner (record { at = at; text = s }) rest)
     of_kind at (kinds.Word words.This) rest = token_then at (kinds.Word words.This) refl IsOperand (told_ok (Led (word at words.This) IsOperand) (this_instance at) rest (λ z. is_this))
     of_kind at (kinds.Word words.Receive) rest =
         token_then at (kinds.Word words.Receive) refl IsOperand (led_by_name n (Led (word at words.Receive) IsOperand) (λ x. Ok (receive at x.0, x.1))
@@ -279,18 +282,18 @@ operand_told n inner (t ∷ rest) = of_kind t.at t.kind rest
 
 -- ---- operators
 
-prefixed_told : (n : ℕ) → Inner n → (toks : Toks) → Told (suc n) (suc n) (IsRanked 0) toks (prefixed_at n (expr_at n) toks)
+prefixed_told : (extent : Extent) (n : ℕ) → Inner n → (toks : Toks) → Told (suc n) (suc n) (IsRanked 0) toks (prefixed_at extent n (expr_at n) toks)
 unfolding prefixed_at
-prefixed_told n inner toks = go (begins signs.Minus toks) (begins_with words.Not toks)
+prefixed_told extent n inner toks = go (begins signs.Minus toks) (begins_with words.Not toks)
   where
-    go : (b c : Bool) → Told (suc n) (suc n) (IsRanked 0) toks (cond b (sign_at signs.Minus toks >>= λ p. operand_at n (expr_at n) p.1 >>= λ e. Ok (prefixed p.0 prefixes.Minus e.0, e.1)) (cond c (word_at words.Not toks >>= λ p. operand_at n (expr_at n) p.1 >>= λ e. Ok (prefixed p.0 prefixes.Not e.0, e.1)) (operand_at n (expr_at n) toks)))
+    go : (b c : Bool) → Told (suc n) (suc n) (IsRanked 0) toks (cond b (sign_at signs.Minus toks >>= λ p. operand_at extent n (expr_at n) p.1 >>= λ e. Ok (prefixed p.0 prefixes.Minus e.0, e.1)) (cond c (word_at words.Not toks >>= λ p. operand_at extent n (expr_at n) p.1 >>= λ e. Ok (prefixed p.0 prefixes.Not e.0, e.1)) (operand_at extent n (expr_at n) toks)))
     go true c =
         led_by_sign signs.Minus (suc n) n refl (IsRanked 0) _
         (λ p. record { more = tok p (kinds.Whole 0) ∷ []; tree = prefixed p prefixes.Minus (whole p 0); any = λ z. is_minus is_whole })
         (λ p rest. told_then (Led (sign p signs.Minus) (IsRanked 0)) (λ e. Ok (prefixed p prefixes.Minus e.0, e.1))
         (λ e. record { more = []; tree = prefixed p prefixes.Minus e; any = λ z t d. is_minus d })
         (λ e last. told_ok (Behind IsOperand (Led (sign p signs.Minus) (IsRanked 0)) e) (prefixed p prefixes.Minus e) last (λ z t d. is_minus d))
-        (operand_told n inner rest))
+        (operand_told extent n inner rest))
         toks
     go false true =
         led_by_word words.Not (suc n) n refl (IsRanked 0) _
@@ -298,9 +301,9 @@ prefixed_told n inner toks = go (begins signs.Minus toks) (begins_with words.Not
         (λ p rest. told_then (Led (word p words.Not) (IsRanked 0)) (λ e. Ok (prefixed p prefixes.Not e.0, e.1))
         (λ e. record { more = []; tree = prefixed p prefixes.Not e; any = λ z t d. is_not d })
         (λ e last. told_ok (Behind IsOperand (Led (word p words.Not) (IsRanked 0)) e) (prefixed p prefixes.Not e) last (λ z t d. is_not d))
-        (operand_told n inner rest))
+        (operand_told extent n inner rest))
         toks
-    go false false = told_as IsOperand (IsRanked 0) (λ x t u d. is_plain d) (operand_told n inner toks)
+    go false false = told_as IsOperand (IsRanked 0) (λ x t u d. is_plain d) (operand_told extent n inner toks)
 
 -- an operator of a rank and what stands behind it
 pub data IsTurn (r : ℕ) : (Pos × Operator) × ExprTree → Toks → Toks → Type 0 where
@@ -317,42 +320,42 @@ ranked_is r (Some q) o e = go (eqb (rank_of q) r) refl e
     go true h e = let same : q ≡ o = cc in (e, ap rank_of (sym same) ∙ eqb-true _ _ h)
     go false h e = absurd cc
 
-pub turn_told : (n r : ℕ) → ((toks : Toks) → Told (suc n) (suc n) (IsRanked r) toks (ranked_at n (expr_at n) r toks)) → (toks : Toks) → ToldPiece (suc n) (IsTurn r) toks (turn_at (ranked_at n (expr_at n) r) (suc r) toks)
+pub turn_told : (extent : Extent) (n r : ℕ) → ((toks : Toks) → Told (suc n) (suc n) (IsRanked r) toks (ranked_at extent n (expr_at n) r toks)) → (toks : Toks) → ToldPiece (suc n) (IsTurn r) toks (turn_at extent (ranked_at extent n (expr_at n) r) (suc r) toks)
 unfolding turn_at operator_at
-turn_told n r next [] = no_piece
-turn_told n r next (t ∷ rest) = go (ranked_operator (suc r) (operator_of t.kind)) refl
+turn_told extent n r next [] = no_piece
+turn_told extent n r next (t ∷ rest) = go (ranked_operator (suc r) (operator_of t.kind)) refl
   where
-    go : (q : Option Operator) → ranked_operator (suc r) (operator_of t.kind) ≡ q → ToldPiece (suc n) (IsTurn r) (t ∷ rest) (chosen (chosen {B = Option ((Pos × Operator) × Toks)} q None (λ o. Some ((t.at, o), rest))) (Ok None) (λ o. settle (ranked_at n (expr_at n) r o.1) None (λ e. Ok (Some ((o.0, e.0), e.1)))))
+    go : (q : Option Operator) → ranked_operator (suc r) (operator_of t.kind) ≡ q → ToldPiece (suc n) (IsTurn r) (t ∷ rest) (chosen (chosen {B = Option ((Pos × Operator) × Toks)} q None (λ o. Some ((t.at, o), rest))) (Ok None) (λ o. settle extent (ranked_at extent n (expr_at n) r o.1) None (λ e. Ok (Some ((o.0, e.0), e.1)))))
     go None h = no_piece
     go (Some o) h =
         let found = ranked_is (suc r) (operator_of t.kind) o h in
-        settled (λ e t' u. IsTurn r ((t.at, o), e) t' u) (IsTurn r) (λ e. ((t.at, o), e)) (λ x t' u d. d)
+        settled extent (λ e t' u. IsTurn r ((t.at, o), e) t' u) (IsTurn r) (λ e. ((t.at, o), e)) (λ x t' u d. d)
         (token_then t.at t.kind ((operator_marks t.kind o found.0).room (suc n)) (λ e t' u. IsTurn r ((t.at, o), e) t' u)
         (told_as (IsRanked r) (Led (tok t.at t.kind) (λ e t' u. IsTurn r ((t.at, o), e) t' u)) (λ e u v d. turned found.0 found.1 d) (next rest)))
 
 -- a rank, and the operators of the next
-chained_told : (n r : ℕ) → ((toks : Toks) → Told (suc n) (suc n) (IsRanked r) toks (ranked_at n (expr_at n) r toks)) → (toks : Toks) → Told (suc n) (suc n) (IsRanked (suc r)) toks (ranked_at n (expr_at n) r toks >>= λ l. repeat (turn_at (ranked_at n (expr_at n) r) (suc r)) with_turn 32 l.0 l.1)
-chained_told n r next toks =
+chained_told : (extent : Extent) (n r : ℕ) → ((toks : Toks) → Told (suc n) (suc n) (IsRanked r) toks (ranked_at extent n (expr_at n) r toks)) → (toks : Toks) → Told (suc n) (suc n) (IsRanked (suc r)) toks (ranked_at extent n (expr_at n) r toks >>= λ l. repeat (turn_at extent (ranked_at extent n (expr_at n) r) (suc r)) with_turn 32 l.0 l.1)
+chained_told extent n r next toks =
     told_then (IsRanked (suc r)) _
     (λ l. record { more = []; tree = l; any = λ z t d. is_chain (first d) })
-    (λ l rest. told_as (After (suc n) (turn_at (ranked_at n (expr_at n) r) (suc r)) with_turn (IsChain r) (IsTurn r) 32 (chain_turn r) (turn_told n r next) 0 l) (Behind (IsRanked r) (IsRanked (suc r)) l) (λ y u v d t a. is_chain (d t (first a)).1)
-    (told_loop (suc n) (turn_at (ranked_at n (expr_at n) r) (suc r)) with_turn (IsChain r) (IsTurn r) 32 (chain_turn r) (turn_told n r next) 32 0 (omega arith) l rest))
+    (λ l rest. told_as (After (suc n) (turn_at extent (ranked_at extent n (expr_at n) r) (suc r)) with_turn (IsChain r) (IsTurn r) 32 (chain_turn r) (turn_told extent n r next) 0 l) (Behind (IsRanked r) (IsRanked (suc r)) l) (λ y u v d t a. is_chain (d t (first a)).1)
+    (told_loop (suc n) (turn_at extent (ranked_at extent n (expr_at n) r) (suc r)) with_turn (IsChain r) (IsTurn r) 32 (chain_turn r) (turn_told extent n r next) 32 0 (omega arith) l rest))
     (next toks)
 
-pub ranked_told : (n : ℕ) → Inner n → (r : ℕ) (toks : Toks) → Told (suc n) (suc n) (IsRanked r) toks (ranked_at n (expr_at n) r toks)
+pub ranked_told : (extent : Extent) (n : ℕ) → Inner n → (r : ℕ) (toks : Toks) → Told (suc n) (suc n) (IsRanked r) toks (ranked_at extent n (expr_at n) r toks)
 unfolding ranked_at
-ranked_told n inner zero toks = prefixed_told n inner toks
-ranked_told n inner (suc r) toks = chained_told n r (λ t. ranked_told n inner r t) toks
+ranked_told extent n inner zero toks = prefixed_told extent n inner toks
+ranked_told extent n inner (suc r) toks = chained_told extent n r (λ t. ranked_told extent n inner r t) toks
 
 pub told_inner : (n : ℕ) → Inner n
 unfolding expr_at
 told_inner zero = tt
-told_inner (suc n) = λ p toks. ranked_told n (told_inner n) 5 toks
+told_inner (suc n) = λ p toks. ranked_told extents.Whole n (told_inner n) 5 toks
 
 -- an expression where levels are left, at a place
 pub told_expr : (n : ℕ) (p : Pos) (toks : Toks) → Told (suc n) (suc n) (IsRanked 5) toks (expr_at (suc n) p toks)
 told_expr n p toks = told_inner (suc n) p toks
 
 -- the same of an expression that no opening token stands before
-pub told_value : (n : ℕ) (toks : Toks) → Told (suc n) (suc n) (IsRanked 5) toks (ranked_at n (expr_at n) 5 toks)
-told_value n toks = ranked_told n (told_inner n) 5 toks
+pub told_value : (extent : Extent) (n : ℕ) (toks : Toks) → Told (suc n) (suc n) (IsRanked 5) toks (ranked_at extent n (expr_at n) 5 toks)
+told_value extent n toks = ranked_told extent n (told_inner n) 5 toks

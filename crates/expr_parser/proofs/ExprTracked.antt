@@ -11,6 +11,8 @@ use Rattle.chill_tree.specs.declared.tree.name.Name.{Name}
 use Rattle.chill_tree.specs.declared.tree.expr.Operator.{Operator}
 use Rattle.chill_tree.specs.declared.tree.expr.Prefix.TheVariants as prefixes
 use Rattle.chill_tree.specs.ExprTree.{ExprTree, paren, tuple, uniform, name, prefixed, RangeTree, alone, between, range_nodes}
+use Rattle.rules_model.specs.declared.extent.Extent.{Extent}
+use Rattle.rules_model.specs.declared.extent.Extent.TheVariants as extents
 use Rattle.rules_model.specs.Marks.{Toks, tok, sign, is_sign, begins, begins_with, operator_of}
 use Rattle.rules_model.specs.ExprGrammar.{tuple_place, IsRange, IsRanked}
 use Rattle.rules_model.specs.Nesting.{room_after}
@@ -77,17 +79,17 @@ module _ (L : ℕ → Toks → Toks → Type 0) (look : Looks L) where
   unfolding field_at
   tracks_field n b a l = tracks_then L _ _ (λ p c d q. tracks_name n (look (suc n) c d q)) (tracks_sign signs.Dot (suc n) n refl (look (suc n) b a l))
 
-  tracks_part : (n m : ℕ) → Twin n m → (b a : Toks) → L (suc n) b a → TracksPiece L (suc n) (part_at n (expr_at n) b) (part_at m (expr_at m) a)
+  tracks_part : (extent : Extent) (n m : ℕ) → Twin n m → (b a : Toks) → L (suc n) b a → TracksPiece L (suc n) (part_at extent n (expr_at n) b) (part_at extent m (expr_at m) a)
   unfolding part_at
-  tracks_part n m twin b a l = rw (same_begins signs.Open (look (suc n) b a l), same_begins signs.Dot (look (suc n) b a l)) (go (begins signs.Open a) (begins signs.Dot a))
+  tracks_part extent n m twin b a l = rw (same_begins signs.Open (look (suc n) b a l), same_begins signs.Dot (look (suc n) b a l)) (go (begins signs.Open a) (begins signs.Dot a))
     where
-      go : (v w : Bool) → TracksPiece L (suc n) (cond v (settle (args_at n (expr_at n) b) None (λ a. Ok (Some (Args a.0, a.1)))) (cond w (settle (field_at b) None (λ f. Ok (Some (Field f.0, f.1)))) (Ok None))) (cond v (settle (args_at m (expr_at m) a) None (λ a. Ok (Some (Args a.0, a.1)))) (cond w (settle (field_at a) None (λ f. Ok (Some (Field f.0, f.1)))) (Ok None)))
-      go true w = tracks_settled L Args (tracks_args n m twin b a l)
-      go false true = tracks_settled L Field (tracks_field n b a l)
+      go : (v w : Bool) → TracksPiece L (suc n) (cond v (settle extent (args_at n (expr_at n) b) None (λ a. Ok (Some (Args a.0, a.1)))) (cond w (settle extent (field_at b) None (λ f. Ok (Some (Field f.0, f.1)))) (Ok None))) (cond v (settle extent (args_at m (expr_at m) a) None (λ a. Ok (Some (Args a.0, a.1)))) (cond w (settle extent (field_at a) None (λ f. Ok (Some (Field f.0, f.1)))) (Ok None)))
+      go true w = tracks_settled extent L Args (tracks_args n m twin b a l)
+      go false true = tracks_settled extent L Field (tracks_field n b a l)
       go false false = no_pieces
 
-  tracks_parts : (n m : ℕ) → Twin n m → (e : ExprTree) (b a : Toks) → L (suc n) b a → Tracks L (suc n) (parts_at n (expr_at n) e b) (parts_at m (expr_at m) e a)
-  tracks_parts n m twin e b a l = tracks_loop L (suc n) (part_at n (expr_at n)) (part_at m (expr_at m)) with_part (tracks_part n m twin) 32 e b a l
+  tracks_parts : (extent : Extent) (n m : ℕ) → Twin n m → (e : ExprTree) (b a : Toks) → L (suc n) b a → Tracks L (suc n) (parts_at extent n (expr_at n) e b) (parts_at extent m (expr_at m) e a)
+  tracks_parts extent n m twin e b a l = tracks_loop L (suc n) (part_at extent n (expr_at n)) (part_at extent m (expr_at m)) with_part (tracks_part extent n m twin) 32 e b a l
 
   -- ---- tuples
 
@@ -166,18 +168,19 @@ module _ (L : ℕ → Toks → Toks → Type 0) (look : Looks L) where
 
   -- ---- operands
 
-  alone_or : (n : ℕ) (x : Name) (b a : Toks) → L (suc n) b a → {s r : Read ExprTree} → Tracks L (suc n) s r → Tracks L (suc n) (settle s (name x, b) (λ e. Ok e)) (settle r (name x, a) (λ e. Ok e))
-  alone_or n x b a l runs_out = runs_out
-  alone_or n x b a l both_missing = both_read l
-  alone_or n x b a l (both_read q) = both_read q
+  alone_or : (extent : Extent) (n : ℕ) (x : Name) (b a : Toks) → L (suc n) b a → {s r : Read ExprTree} → Tracks L (suc n) s r → Tracks L (suc n) (settle extent s (name x, b) (λ e. Ok e)) (settle extent r (name x, a) (λ e. Ok e))
+  alone_or extent n x b a l runs_out = runs_out
+  alone_or extents.Longest n x b a l both_missing = both_read l
+  alone_or extents.Whole n x b a l both_missing = both_missing
+  alone_or extent n x b a l (both_read q) = both_read q
 
-  tracks_begun : (n m : ℕ) → n ≤ m → Twin n m → (x : Name) (b a : Toks) → L (suc n) b a → Tracks L (suc n) (begun_at n (expr_at n) x b) (begun_at m (expr_at m) x a)
+  tracks_begun : (extent : Extent) (n m : ℕ) → n ≤ m → Twin n m → (x : Name) (b a : Toks) → L (suc n) b a → Tracks L (suc n) (begun_at extent n (expr_at n) x b) (begun_at extent m (expr_at m) x a)
   unfolding begun_at
-  tracks_begun n m le twin x b a l = rw (same_begins signs.OpenBracket (look (suc n) b a l)) (go (begins signs.OpenBracket a))
+  tracks_begun extent n m le twin x b a l = rw (same_begins signs.OpenBracket (look (suc n) b a l)) (go (begins signs.OpenBracket a))
     where
-      go : (v : Bool) → Tracks L (suc n) (cond v (settle (tuple_at n (expr_at n) (Some x) b) (name x, b) (λ e. Ok e)) (parts_at n (expr_at n) (name x) b)) (cond v (settle (tuple_at m (expr_at m) (Some x) a) (name x, a) (λ e. Ok e)) (parts_at m (expr_at m) (name x) a))
-      go true = alone_or n x b a l (tracks_tuple n m le twin (Some x) b a l)
-      go false = tracks_parts n m twin (name x) b a l
+      go : (v : Bool) → Tracks L (suc n) (cond v (settle extent (tuple_at n (expr_at n) (Some x) b) (name x, b) (λ e. Ok e)) (parts_at extent n (expr_at n) (name x) b)) (cond v (settle extent (tuple_at m (expr_at m) (Some x) a) (name x, a) (λ e. Ok e)) (parts_at extent m (expr_at m) (name x) a))
+      go true = alone_or extent n x b a l (tracks_tuple n m le twin (Some x) b a l)
+      go false = tracks_parts extent n m twin (name x) b a l
 
   tracks_paren : (n m : ℕ) → Twin n m → (b a : Toks) → L (suc n) b a → Tracks L (suc n) (paren_at (expr_at n) b) (paren_at (expr_at m) a)
   unfolding paren_at expr_at
@@ -186,66 +189,66 @@ module _ (L : ℕ → Toks → Toks → Type 0) (look : Looks L) where
   tracks_paren (suc n) (suc m) twin b a l =
       tracks_then L _ _ (λ p c d q. tracks_then L _ _ (λ e f g r. close signs.Close (suc n) (suc n) refl (paren p e) f g r) (twin p c d q)) (tracks_sign signs.Open (suc (suc n)) n refl (look (suc (suc n)) b a l))
 
-  of_kind : (n m : ℕ) → n ≤ m → Twin n m → (at : Pos) (k : TokenKind) (b a : Toks) → L (suc n) (tok at k ∷ b) (tok at k ∷ a) → ((j : ℕ) → room_after k (suc n) ≡ suc j → L (suc j) b a) → Tracks L (suc n) (operand_at n (expr_at n) (tok at k ∷ b)) (operand_at m (expr_at m) (tok at k ∷ a))
+  of_kind : (extent : Extent) (n m : ℕ) → n ≤ m → Twin n m → (at : Pos) (k : TokenKind) (b a : Toks) → L (suc n) (tok at k ∷ b) (tok at k ∷ a) → ((j : ℕ) → room_after k (suc n) ≡ suc j → L (suc j) b a) → Tracks L (suc n) (operand_at extent n (expr_at n) (tok at k ∷ b)) (operand_at extent m (expr_at m) (tok at k ∷ a))
   unfolding operand_at
-  of_kind n m le twin at (kinds.Whole v) b a l f = both_read (f n refl)
-  of_kind n m le twin at (kinds.Char v) b a l f = both_read (f n refl)
-  of_kind n m le twin at (kinds.Text v) b a l f = both_read (f n refl)
-  of_kind n m le twin at (kinds.Name s) b a l f = tracks_begun n m le twin (record { at = at; text = s }) b a (f n refl)
-  of_kind n m le twin at (kinds.Word words.This) b a l f = both_read (f n refl)
-  of_kind n m le twin at (kinds.Word words.Receive) b a l f = tracks_then L _ _ (λ x c d q. both_read q) (tracks_name n (look (suc n) b a (f n refl)))
-  of_kind n m le twin at (kinds.Word words.Start) b a l f =
+  of_kind extent n m le twin at (kinds.Whole v) b a l f = both_read (f n refl)
+  of_kind extent n m le twin at (kinds.Char v) b a l f = both_read (f n refl)
+  of_kind extent n m le twin at (kinds.Text v) b a l f = both_read (f n refl)
+  of_kind extent n m le twin at (kinds.Name s) b a l f = tracks_begun extent n m le twin (record { at = at; text = s }) b a (f n refl)
+  of_kind extent n m le twin at (kinds.Word words.This) b a l f = both_read (f n refl)
+  of_kind extent n m le twin at (kinds.Word words.Receive) b a l f = tracks_then L _ _ (λ x c d q. both_read q) (tracks_name n (look (suc n) b a (f n refl)))
+  of_kind extent n m le twin at (kinds.Word words.Start) b a l f =
       tracks_then L _ _ (λ x c d q. tracks_then L _ _ (λ es g h r. both_read r) (tracks_args n m twin c d q)) (tracks_name n (look (suc n) b a (f n refl)))
-  of_kind n m le twin at (kinds.Word _) b a l f = both_missing
-  of_kind n m le twin at (kinds.Sign signs.Open) b a l f = tracks_paren n m twin (sign at signs.Open ∷ b) (sign at signs.Open ∷ a) l
-  of_kind n m le twin at (kinds.Sign signs.OpenBracket) b a l f = tracks_tuple n m le twin None (sign at signs.OpenBracket ∷ b) (sign at signs.OpenBracket ∷ a) l
-  of_kind n m le twin at (kinds.Sign _) b a l f = both_missing
+  of_kind extent n m le twin at (kinds.Word _) b a l f = both_missing
+  of_kind extent n m le twin at (kinds.Sign signs.Open) b a l f = tracks_paren n m twin (sign at signs.Open ∷ b) (sign at signs.Open ∷ a) l
+  of_kind extent n m le twin at (kinds.Sign signs.OpenBracket) b a l f = tracks_tuple n m le twin None (sign at signs.OpenBracket ∷ b) (sign at signs.OpenBracket ∷ a) l
+  of_kind extent n m le twin at (kinds.Sign _) b a l f = both_missing
 
-  at_front : (n m : ℕ) → n ≤ m → Twin n m → {b a : Toks} → L (suc n) b a → Front L (suc n) b a → Tracks L (suc n) (operand_at n (expr_at n) b) (operand_at m (expr_at m) a)
+  at_front : (extent : Extent) (n m : ℕ) → n ≤ m → Twin n m → {b a : Toks} → L (suc n) b a → Front L (suc n) b a → Tracks L (suc n) (operand_at extent n (expr_at n) b) (operand_at extent m (expr_at m) a)
   unfolding operand_at
-  at_front n m le twin l at_end = both_missing
-  at_front n m le twin l (at_token {t = t} {b = b} {a = a} f) = of_kind n m le twin t.at t.kind b a l f
+  at_front extent n m le twin l at_end = both_missing
+  at_front extent n m le twin l (at_token {t = t} {b = b} {a = a} f) = of_kind extent n m le twin t.at t.kind b a l f
 
-  tracks_operand : (n m : ℕ) → n ≤ m → Twin n m → (b a : Toks) → L (suc n) b a → Tracks L (suc n) (operand_at n (expr_at n) b) (operand_at m (expr_at m) a)
-  tracks_operand n m le twin b a l = at_front n m le twin l (look (suc n) b a l)
+  tracks_operand : (extent : Extent) (n m : ℕ) → n ≤ m → Twin n m → (b a : Toks) → L (suc n) b a → Tracks L (suc n) (operand_at extent n (expr_at n) b) (operand_at extent m (expr_at m) a)
+  tracks_operand extent n m le twin b a l = at_front extent n m le twin l (look (suc n) b a l)
 
   -- ---- operators
 
-  tracks_prefixed : (n m : ℕ) → n ≤ m → Twin n m → (b a : Toks) → L (suc n) b a → Tracks L (suc n) (prefixed_at n (expr_at n) b) (prefixed_at m (expr_at m) a)
+  tracks_prefixed : (extent : Extent) (n m : ℕ) → n ≤ m → Twin n m → (b a : Toks) → L (suc n) b a → Tracks L (suc n) (prefixed_at extent n (expr_at n) b) (prefixed_at extent m (expr_at m) a)
   unfolding prefixed_at
-  tracks_prefixed n m le twin b a l = rw (same_begins signs.Minus (look (suc n) b a l), same_word words.Not (look (suc n) b a l)) (go (begins signs.Minus a) (begins_with words.Not a))
+  tracks_prefixed extent n m le twin b a l = rw (same_begins signs.Minus (look (suc n) b a l), same_word words.Not (look (suc n) b a l)) (go (begins signs.Minus a) (begins_with words.Not a))
     where
-      go : (v w : Bool) → Tracks L (suc n) (cond v (sign_at signs.Minus b >>= λ p. operand_at n (expr_at n) p.1 >>= λ e. Ok (prefixed p.0 prefixes.Minus e.0, e.1)) (cond w (word_at words.Not b >>= λ p. operand_at n (expr_at n) p.1 >>= λ e. Ok (prefixed p.0 prefixes.Not e.0, e.1)) (operand_at n (expr_at n) b))) (cond v (sign_at signs.Minus a >>= λ p. operand_at m (expr_at m) p.1 >>= λ e. Ok (prefixed p.0 prefixes.Minus e.0, e.1)) (cond w (word_at words.Not a >>= λ p. operand_at m (expr_at m) p.1 >>= λ e. Ok (prefixed p.0 prefixes.Not e.0, e.1)) (operand_at m (expr_at m) a)))
-      go true w = tracks_then L _ _ (λ p c d q. tracks_then L _ _ (λ e f g r. both_read r) (tracks_operand n m le twin c d q)) (tracks_sign signs.Minus (suc n) n refl (look (suc n) b a l))
-      go false true = tracks_then L _ _ (λ p c d q. tracks_then L _ _ (λ e f g r. both_read r) (tracks_operand n m le twin c d q)) (tracks_word words.Not (suc n) n refl (look (suc n) b a l))
-      go false false = tracks_operand n m le twin b a l
+      go : (v w : Bool) → Tracks L (suc n) (cond v (sign_at signs.Minus b >>= λ p. operand_at extent n (expr_at n) p.1 >>= λ e. Ok (prefixed p.0 prefixes.Minus e.0, e.1)) (cond w (word_at words.Not b >>= λ p. operand_at extent n (expr_at n) p.1 >>= λ e. Ok (prefixed p.0 prefixes.Not e.0, e.1)) (operand_at extent n (expr_at n) b))) (cond v (sign_at signs.Minus a >>= λ p. operand_at extent m (expr_at m) p.1 >>= λ e. Ok (prefixed p.0 prefixes.Minus e.0, e.1)) (cond w (word_at words.Not a >>= λ p. operand_at extent m (expr_at m) p.1 >>= λ e. Ok (prefixed p.0 prefixes.Not e.0, e.1)) (operand_at extent m (expr_at m) a)))
+      go true w = tracks_then L _ _ (λ p c d q. tracks_then L _ _ (λ e f g r. both_read r) (tracks_operand extent n m le twin c d q)) (tracks_sign signs.Minus (suc n) n refl (look (suc n) b a l))
+      go false true = tracks_then L _ _ (λ p c d q. tracks_then L _ _ (λ e f g r. both_read r) (tracks_operand extent n m le twin c d q)) (tracks_word words.Not (suc n) n refl (look (suc n) b a l))
+      go false false = tracks_operand extent n m le twin b a l
 
-  abbrev Ranks : ℕ → ℕ → ℕ → Type 0
-  Ranks n m r = (b a : Toks) → L (suc n) b a → Tracks L (suc n) (ranked_at n (expr_at n) r b) (ranked_at m (expr_at m) r a)
+  abbrev Ranks : Extent → ℕ → ℕ → ℕ → Type 0
+  Ranks extent n m r = (b a : Toks) → L (suc n) b a → Tracks L (suc n) (ranked_at extent n (expr_at n) r b) (ranked_at extent m (expr_at m) r a)
 
-  turn_front : (n m r : ℕ) → Ranks n m r → {b a : Toks} → Front L (suc n) b a → TracksPiece L (suc n) (turn_at (ranked_at n (expr_at n) r) (suc r) b) (turn_at (ranked_at m (expr_at m) r) (suc r) a)
+  turn_front : (extent : Extent) (n m r : ℕ) → Ranks extent n m r → {b a : Toks} → Front L (suc n) b a → TracksPiece L (suc n) (turn_at extent (ranked_at extent n (expr_at n) r) (suc r) b) (turn_at extent (ranked_at extent m (expr_at m) r) (suc r) a)
   unfolding turn_at operator_at
-  turn_front n m r next at_end = no_pieces
-  turn_front n m r next (at_token {t = t} {b = b} {a = a} f) = go (ranked_operator (suc r) (operator_of t.kind)) refl
+  turn_front extent n m r next at_end = no_pieces
+  turn_front extent n m r next (at_token {t = t} {b = b} {a = a} f) = go (ranked_operator (suc r) (operator_of t.kind)) refl
     where
-      go : (o : Option Operator) → ranked_operator (suc r) (operator_of t.kind) ≡ o → TracksPiece {A = (Pos × Operator) × ExprTree} L (suc n) (chosen (chosen {B = Option ((Pos × Operator) × Toks)} o None (λ o. Some ((t.at, o), b))) (Ok None) (λ o. settle (ranked_at n (expr_at n) r o.1) None (λ e. Ok (Some ((o.0, e.0), e.1))))) (chosen (chosen {B = Option ((Pos × Operator) × Toks)} o None (λ o. Some ((t.at, o), a))) (Ok None) (λ o. settle (ranked_at m (expr_at m) r o.1) None (λ e. Ok (Some ((o.0, e.0), e.1)))))
+      go : (o : Option Operator) → ranked_operator (suc r) (operator_of t.kind) ≡ o → TracksPiece {A = (Pos × Operator) × ExprTree} L (suc n) (chosen (chosen {B = Option ((Pos × Operator) × Toks)} o None (λ o. Some ((t.at, o), b))) (Ok None) (λ o. settle extent (ranked_at extent n (expr_at n) r o.1) None (λ e. Ok (Some ((o.0, e.0), e.1))))) (chosen (chosen {B = Option ((Pos × Operator) × Toks)} o None (λ o. Some ((t.at, o), a))) (Ok None) (λ o. settle extent (ranked_at extent m (expr_at m) r o.1) None (λ e. Ok (Some ((o.0, e.0), e.1)))))
       go None e = no_pieces
       go (Some o) e =
           let flat = (operator_marks t.kind o (ranked_is (suc r) (operator_of t.kind) o e).0).room (suc n) in
-          tracks_settled L (λ (x : ExprTree). ((t.at, o), x)) (next b a (f n flat))
+          tracks_settled extent L (λ (x : ExprTree). ((t.at, o), x)) (next b a (f n flat))
 
-  tracks_ranked : (n m : ℕ) → n ≤ m → Twin n m → (r : ℕ) → Ranks n m r
+  tracks_ranked : (extent : Extent) (n m : ℕ) → n ≤ m → Twin n m → (r : ℕ) → Ranks extent n m r
   unfolding ranked_at
-  tracks_ranked n m le twin zero b a l = tracks_prefixed n m le twin b a l
-  tracks_ranked n m le twin (suc r) b a l =
-      tracks_then L _ _ (λ e c d q. tracks_loop L (suc n) (turn_at (ranked_at n (expr_at n) r) (suc r)) (turn_at (ranked_at m (expr_at m) r) (suc r)) with_turn (λ f g h. turn_front n m r (tracks_ranked n m le twin r) (look (suc n) f g h)) 32 e c d q)
-      (tracks_ranked n m le twin r b a l)
+  tracks_ranked extent n m le twin zero b a l = tracks_prefixed extent n m le twin b a l
+  tracks_ranked extent n m le twin (suc r) b a l =
+      tracks_then L _ _ (λ e c d q. tracks_loop L (suc n) (turn_at extent (ranked_at extent n (expr_at n) r) (suc r)) (turn_at extent (ranked_at extent m (expr_at m) r) (suc r)) with_turn (λ f g h. turn_front extent n m r (tracks_ranked extent n m le twin r) (look (suc n) f g h)) 32 e c d q)
+      (tracks_ranked extent n m le twin r b a l)
 
   tracks_twin : (n m : ℕ) → n ≤ m → Twin n m
   unfolding expr_at
   tracks_twin zero m le = tt
   tracks_twin (suc n) zero le = absurd (omega (arith, le))
-  tracks_twin (suc n) (suc m) le = λ p b a l. tracks_ranked n m (omega (arith, le)) (tracks_twin n m (omega (arith, le))) 5 b a l
+  tracks_twin (suc n) (suc m) le = λ p b a l. tracks_ranked extents.Whole n m (omega (arith, le)) (tracks_twin n m (omega (arith, le))) 5 b a l
 
-  pub tracks_expr : (n m : ℕ) → n ≤ m → (p : Pos) (b a : Toks) → L (suc n) b a → Tracks L (suc n) (expr_at (suc n) p b) (expr_at (suc m) p a)
-  tracks_expr n m le p b a l = tracks_twin (suc n) (suc m) (omega (arith, le)) p b a l
+  pub tracks_value : (extent : Extent) (n m : ℕ) → n ≤ m → (b a : Toks) → L (suc n) b a → Tracks L (suc n) (ranked_at extent n (expr_at n) 5 b) (ranked_at extent m (expr_at m) 5 a)
+  tracks_value extent n m le b a l = tracks_ranked extent n m le (tracks_twin n m le) 5 b a l

@@ -8,6 +8,7 @@ use Rattle.std.specs.declared.alloc.Global.{Global}
 use Rattle.std.specs.declared.boxed.Box.{Box}
 use Rattle.chill_tree.specs.declared.tree.expr.Expr.{Expr}
 use Rattle.chill_tree.specs.ExprTree.{ExprTree}
+use Rattle.rules_model.specs.declared.extent.Extent.TheVariants as extents
 use Rattle.rules_model.specs.Marks.{Toks}
 use Rattle.rules_model.specs.ExprGrammar.{IsRanked}
 use Rattle.rules_model.specs.Nesting.{room_after, deep_or, first_deep}
@@ -23,21 +24,11 @@ use Rattle.expr_parser.specs.Expressing.{IsLongest, HasNone, BeginsExpr, Reaches
 use Rattle.expr_parser.proofs.Taken.{Takes, Begun, Told, taken, broken, missing}
 use Rattle.expr_parser.proofs.ExprTaken.{told_value}
 use Rattle.expr_parser.proofs.Tracked.{Front, at_end, at_token, Tracks, runs_out, both_missing, both_read}
-use Rattle.expr_parser.proofs.ExprTracked.{tracks_expr}
+use Rattle.expr_parser.proofs.ExprTracked.{tracks_value}
 use Rattle.expr_parser.proofs.Longest.{AtLeast, reads, value_least}
 
 abbrev pub Value : ℕ → Toks → Read ExprTree
-Value n toks = ranked_at n (expr_at n) 5 toks
-
-abbrev somewhere : Pos
-somewhere = record { line = 0; column = 0 }
-
-value_is : (n : ℕ) (toks : Toks) → expr_at (suc n) somewhere toks ≡ Value n toks
-unfolding expr_at
-value_is n toks = refl
-
-tracks_value : (L : ℕ → Toks → Toks → Type 0) → ((n : ℕ) (b a : Toks) → L n b a → Front L n b a) → (n m : ℕ) → n ≤ m → (b a : Toks) → L (suc n) b a → Tracks L (suc n) (Value n b) (Value m a)
-tracks_value L look n m le b a l = rw (← value_is n b, ← value_is m a) (tracks_expr L look n m le somewhere b a l)
+Value n toks = ranked_at extents.Longest n (expr_at n) 5 toks
 
 abbrev OfDeep : Read ExprTree → Type 0
 OfDeep (Ok x) = ⊥
@@ -96,7 +87,7 @@ is_longer x more other (both_read {x = y} {b = b} {a = a} l) (reads le) e =
 
 pub longest : (toks more : Toks) (x : ExprTree) → Value 64 toks ≡ Ok (x, more) → (e : ExprTree) (rest : Toks) → IsRanked 5 e toks rest → length more ≤ length rest
 unfolding Same
-longest toks more x h e rest d = is_longer x more rest (tracks_value Same same_front 64 (64 + length toks) (omega arith) toks toks refl) (wide_least 64 e toks rest d) h
+longest toks more x h e rest d = is_longer x more rest (tracks_value Same same_front extents.Longest 64 (64 + length toks) (omega arith) toks toks refl) (wide_least 64 e toks rest d) h
 
 not_missing : {s r : Read ExprTree} (o : Option Pos) (other : Toks) → Tracks Same 65 s r → AtLeast other r → s ≡ Err (Absent o) → ⊥
 not_missing o other runs_out h e = subst OfDeep e tt
@@ -105,7 +96,7 @@ not_missing o other (both_read l) h e = subst OfAbsent (sym e) tt
 
 pub none_stands : (toks : Toks) (o : Option Pos) → Value 64 toks ≡ Err (Absent o) → HasNone toks
 unfolding Same
-none_stands toks o h f other d = not_missing o other (tracks_value Same same_front 64 (64 + length toks) (omega arith) toks toks refl) (wide_least 64 f toks other d) h
+none_stands toks o h f other d = not_missing o other (tracks_value Same same_front extents.Longest 64 (64 + length toks) (omega arith) toks toks refl) (wide_least 64 f toks other d) h
 
 -- ---- what was read too deep
 
@@ -123,7 +114,7 @@ fit_told toks o (broken V d) e = absurd (subst OfAbsent (sym e) tt)
 fit_told toks o (missing V d) e = record { used = V.used; rest = V.rest; here = V.here; begins = begins toks V; misfit = d ∙ ap place_of_misfit e }
 
 pub reaches : (toks : Toks) (p : Pos) → Value 64 toks ≡ Err (Deep p) → ReachesLimit toks p
-reaches toks p h = limit_told toks p (told_value 64 toks) h
+reaches toks p h = limit_told toks p (told_value extents.Longest 64 toks) h
 
 -- ---- tokens that agree up to the one at which levels are wanting
 
@@ -160,9 +151,9 @@ pub stays : (toks : Toks) → ((p : Pos) → Value 64 toks ≡ Err (Deep p) → 
 stays toks not at R =
     let full : Toks = R.used ++ R.begins.more in
     let m : ℕ = 64 + length full in
-    let exact = (exact_ranked R.begins.is m (enough_room (suc m) full (omega arith)) tt).0 in
+    let exact = (exact_ranked R.begins.is extents.Longest m (enough_room (suc m) full (omega arith)) tt).0 in
     let alike = subst (λ (t : Toks). Agree 65 t full) (sym R.here) (deep_agree 65 R.used R.rest R.begins.more at R.deep) in
-    not_whole R.begins.tree (tracks_value Agree agree_front 64 m (omega arith) toks full alike) exact not
+    not_whole R.begins.tree (tracks_value Agree agree_front extents.Longest 64 m (omega arith) toks full alike) exact not
 
 ok_deep : (r : Read ExprTree) (x : ExprTree × Toks) (p : Pos) → r ≡ Ok x → r ≡ Err (Deep p) → ⊥
 ok_deep r x p h e = subst OfDeep (sym e ∙ h) tt
@@ -189,7 +180,7 @@ pub expressed : (toks rest : Toks) (from : ℕ) (e : ExprTree) → from ≤ leng
     → IsLongest e (drop from toks) (drop (length toks - length rest) toks) × StaysBelowLimit (drop from toks) × (from < length toks - length rest) × (length toks - length rest ≤ length toks)
 expressed toks rest from e le h =
     let front : Toks = drop from toks in
-    let T = taken_of front rest e (told_value 64 front) h in
+    let T = taken_of front rest e (told_value extents.Longest 64 front) h in
     let d : IsRanked 5 e front rest = subst (λ (t : Toks). IsRanked 5 e t rest) (sym T.here) (T.any rest) in
     let short = ranked_shrinks d in
     let len = length-drop from toks in
@@ -200,7 +191,7 @@ expressed toks rest from e le h =
 
 pub refused : (toks : Toks) (r : ParseRefusal) → Fails r (Value 64 toks) → RefusesExpr toks r
 refused toks (refusals.TooDeep at) h = reaches toks at h
-refused toks (refusals.NoProgram at) h = (none_stands toks at h, stays toks (λ p x. absent_deep (Value 64 toks) at p h x), fit_told toks at (told_value 64 toks) h)
+refused toks (refusals.NoProgram at) h = (none_stands toks at h, stays toks (λ p x. absent_deep (Value 64 toks) at p h x), fit_told toks at (told_value extents.Longest 64 toks) h)
 refused toks refusals.Memory h = tt
 
 -- a slice to the end

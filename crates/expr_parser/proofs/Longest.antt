@@ -8,6 +8,7 @@ use Rattle.chill_tree.specs.declared.tree.name.Name.{Name}
 use Rattle.chill_tree.specs.declared.tree.expr.Operator.{Operator}
 use Rattle.chill_tree.specs.declared.tree.expr.Prefix.TheVariants as prefixes
 use Rattle.chill_tree.specs.ExprTree.{ExprTree, name, prefixed}
+use Rattle.rules_model.specs.declared.extent.Extent.TheVariants as extents
 use Rattle.rules_model.specs.Marks.{Toks, tok, sign, word, name_token, begins, begins_with, operator_of, rank_of}
 use Rattle.rules_model.specs.ExprGrammar.{IsNamed, a_name, with_args, with_field, IsOperand, IsRanked, is_plain, is_minus, is_not, is_chain, IsChain, first, turn}
 use Rattle.rules_model.specs.Nesting.{StaysBelow}
@@ -29,7 +30,7 @@ data Settles {A : Type 0} : Result A Fault → Type 0 where
   no_room : {p : Pos} → Settles (Err (Deep p))
   is_read : {x : A} → Settles (Ok x)
 
-settle_none : {A B : Type 0} (r : Result A Fault) (y : B) (f : A → B) → Settles (settle r y (λ x. Ok (f x)))
+settle_none : {A B : Type 0} (r : Result A Fault) (y : B) (f : A → B) → Settles (settle extents.Longest r y (λ x. Ok (f x)))
 settle_none (Ok x) y f = is_read
 settle_none (Err (Deep p)) y f = no_room
 settle_none (Err (Absent p)) y f = is_read
@@ -61,95 +62,95 @@ abbrev one_turn : Pos → Operator → ExprTree × Toks → Result (Option (((Po
 one_turn p o e = Ok (Some (((p, o), e.0), e.1))
 
 module _ (n : ℕ) where
-  part_settles : (t : Toks) → Settles (part_at n (expr_at n) t)
+  part_settles : (t : Toks) → Settles (part_at extents.Longest n (expr_at n) t)
   unfolding part_at
   part_settles t = go (begins signs.Open t) (begins signs.Dot t)
     where
-      go : (b c : Bool) → Settles {A = Option (NamePart × Toks)} (cond b (settle (args_at n (expr_at n) t) None (λ a. Ok (Some (Args a.0, a.1)))) (cond c (settle (field_at t) None (λ f. Ok (Some (Field f.0, f.1)))) (Ok None)))
+      go : (b c : Bool) → Settles {A = Option (NamePart × Toks)} (cond b (settle extents.Longest (args_at n (expr_at n) t) None (λ a. Ok (Some (Args a.0, a.1)))) (cond c (settle extents.Longest (field_at t) None (λ f. Ok (Some (Field f.0, f.1)))) (Ok None)))
       go true c = settle_none (args_at n (expr_at n) t) None (λ a. Some (Args a.0, a.1))
       go false true = settle_none (field_at t) None (λ f. Some (Field f.0, f.1))
       go false false = is_read
 
-  turn_settles : (r : ℕ) (t : Toks) → Settles (turn_at (ranked_at n (expr_at n) r) (suc r) t)
+  turn_settles : (r : ℕ) (t : Toks) → Settles (turn_at extents.Longest (ranked_at extents.Longest n (expr_at n) r) (suc r) t)
   unfolding turn_at
   turn_settles r t = go (operator_at (suc r) t)
     where
-      go : (o : Option ((Pos × Operator) × Toks)) → Settles {A = Option (((Pos × Operator) × ExprTree) × Toks)} (chosen o (Ok None) (λ o. settle (ranked_at n (expr_at n) r o.1) None (λ e. Ok (Some ((o.0, e.0), e.1)))))
+      go : (o : Option ((Pos × Operator) × Toks)) → Settles {A = Option (((Pos × Operator) × ExprTree) × Toks)} (chosen o (Ok None) (λ o. settle extents.Longest (ranked_at extents.Longest n (expr_at n) r o.1) None (λ e. Ok (Some ((o.0, e.0), e.1)))))
       go None = is_read
-      go (Some o) = settle_none (ranked_at n (expr_at n) r o.1) None (λ e. Some ((o.0, e.0), e.1))
+      go (Some o) = settle_none (ranked_at extents.Longest n (expr_at n) r o.1) None (λ e. Some ((o.0, e.0), e.1))
 
-  begun_settles : (x : Name) (t : Toks) → Settles (begun_at n (expr_at n) x t)
+  begun_settles : (x : Name) (t : Toks) → Settles (begun_at extents.Longest n (expr_at n) x t)
   unfolding begun_at
   begun_settles x t = go (begins signs.OpenBracket t)
     where
-      go : (b : Bool) → Settles (cond b (settle (tuple_at n (expr_at n) (Some x) t) (name x, t) (λ e. Ok e)) (parts_at n (expr_at n) (name x) t))
+      go : (b : Bool) → Settles (cond b (settle extents.Longest (tuple_at n (expr_at n) (Some x) t) (name x, t) (λ e. Ok e)) (parts_at extents.Longest n (expr_at n) (name x) t))
       go true = settle_none (tuple_at n (expr_at n) (Some x) t) (name x, t) (λ e. e)
-      go false = loop_settles (part_at n (expr_at n)) with_part part_settles 32 (name x) t
+      go false = loop_settles (part_at extents.Longest n (expr_at n)) with_part part_settles 32 (name x) t
 
-  parts_least : (k : ℕ) (e : ExprTree) (t rest : Toks) → length t ≤ length rest → AtLeast rest (repeat (part_at n (expr_at n)) with_part k e t)
-  parts_least k e t rest le = loop_least (suc n) (part_at n (expr_at n)) with_part IsPart (part_told n (told_inner n)) part_settles k e t rest le
+  parts_least : (k : ℕ) (e : ExprTree) (t rest : Toks) → length t ≤ length rest → AtLeast rest (repeat (part_at extents.Longest n (expr_at n)) with_part k e t)
+  parts_least k e t rest le = loop_least (suc n) (part_at extents.Longest n (expr_at n)) with_part IsPart (part_told extents.Longest n (told_inner n)) part_settles k e t rest le
 
-  turns_least : (r k : ℕ) (e : ExprTree) (t rest : Toks) → length t ≤ length rest → AtLeast rest (repeat (turn_at (ranked_at n (expr_at n) r) (suc r)) with_turn k e t)
-  turns_least r k e t rest le = loop_least (suc n) (turn_at (ranked_at n (expr_at n) r) (suc r)) with_turn (IsTurn r) (turn_told n r (ranked_told n (told_inner n) r)) (turn_settles r) k e t rest le
+  turns_least : (r k : ℕ) (e : ExprTree) (t rest : Toks) → length t ≤ length rest → AtLeast rest (repeat (turn_at extents.Longest (ranked_at extents.Longest n (expr_at n) r) (suc r)) with_turn k e t)
+  turns_least r k e t rest le = loop_least (suc n) (turn_at extents.Longest (ranked_at extents.Longest n (expr_at n) r) (suc r)) with_turn (IsTurn r) (turn_told extents.Longest n r (ranked_told extents.Longest n (told_inner n) r)) (turn_settles r) k e t rest le
 
-  begun_least : (x : Name) (rest : Toks) → AtLeast rest (operand_at n (expr_at n) (name_token x ∷ rest))
+  begun_least : (x : Name) (rest : Toks) → AtLeast rest (operand_at extents.Longest n (expr_at n) (name_token x ∷ rest))
   unfolding operand_at
-  begun_least x rest = least (begun_told n (told_inner n) x rest) (begun_settles x rest) rest (omega arith)
+  begun_least x rest = least (begun_told extents.Longest n (told_inner n) x rest) (begun_settles x rest) rest (omega arith)
 
-  parted_least : {k : ℕ} {e : ExprTree} {toks rest : Toks} → IsNamed (suc k) e toks rest → StaysBelow (suc n) toks → AtLeast rest (operand_at n (expr_at n) toks)
+  parted_least : {k : ℕ} {e : ExprTree} {toks rest : Toks} → IsNamed (suc k) e toks rest → StaysBelow (suc n) toks → AtLeast rest (operand_at extents.Longest n (expr_at n) toks)
   parted_least {k = k} {e = e} {rest = rest} d below =
       let few = named_few d in
-      rw (parted_operand d n, (exact_named d n below).0 (31 - k) (omega arith)) (parts_least (31 - k) e rest rest (omega arith))
+      rw (parted_operand d extents.Longest n, (exact_named d extents.Longest n below).0 (31 - k) (omega arith)) (parts_least (31 - k) e rest rest (omega arith))
 
-  named_least : {k : ℕ} {e : ExprTree} {toks rest : Toks} → IsNamed k e toks rest → StaysBelow (suc n) toks → AtLeast rest (operand_at n (expr_at n) toks)
+  named_least : {k : ℕ} {e : ExprTree} {toks rest : Toks} → IsNamed k e toks rest → StaysBelow (suc n) toks → AtLeast rest (operand_at extents.Longest n (expr_at n) toks)
   named_least (a_name {n = x} {rest = rest}) below = begun_least x rest
   named_least (with_args d a lt) below = parted_least (with_args d a lt) below
   named_least (with_field d lt) below = parted_least (with_field d lt) below
 
-  operand_least : {e : ExprTree} {toks rest : Toks} → IsOperand e toks rest → StaysBelow (suc n) toks → AtLeast rest (operand_at n (expr_at n) toks)
-  operand_least {e = e} {toks = toks} {rest = rest} d below = go (exact_closed d n below)
+  operand_least : {e : ExprTree} {toks rest : Toks} → IsOperand e toks rest → StaysBelow (suc n) toks → AtLeast rest (operand_at extents.Longest n (expr_at n) toks)
+  operand_least {e = e} {toks = toks} {rest = rest} d below = go (exact_closed d extents.Longest n below)
     where
-      go : (operand_at n (expr_at n) toks ≡ Ok (e, rest)) ⊎ ((k : ℕ) × IsNamed k e toks rest) → AtLeast rest (operand_at n (expr_at n) toks)
+      go : (operand_at extents.Longest n (expr_at n) toks ≡ Ok (e, rest)) ⊎ ((k : ℕ) × IsNamed k e toks rest) → AtLeast rest (operand_at extents.Longest n (expr_at n) toks)
       go (inl h) = rw h (reads {x = e} {more = rest} (omega arith))
       go (inr h) = named_least h.1 below
 
-  no_prefix : (toks : Toks) → begins signs.Minus toks ≡ false → begins_with words.Not toks ≡ false → ranked_at n (expr_at n) 0 toks ≡ operand_at n (expr_at n) toks
+  no_prefix : (toks : Toks) → begins signs.Minus toks ≡ false → begins_with words.Not toks ≡ false → ranked_at extents.Longest n (expr_at n) 0 toks ≡ operand_at extents.Longest n (expr_at n) toks
   unfolding ranked_at prefixed_at
   no_prefix toks h g = rw (h, g) refl
 
-  after_minus : (at : Pos) (m rest : Toks) → AtLeast rest (operand_at n (expr_at n) m) → AtLeast rest (ranked_at n (expr_at n) 0 (sign at signs.Minus ∷ m))
+  after_minus : (at : Pos) (m rest : Toks) → AtLeast rest (operand_at extents.Longest n (expr_at n) m) → AtLeast rest (ranked_at extents.Longest n (expr_at n) 0 (sign at signs.Minus ∷ m))
   unfolding ranked_at prefixed_at sign_at
   after_minus at m rest l = least_then (λ e. Ok (prefixed at prefixes.Minus e.0, e.1)) (λ x more le. reads le) l
 
-  after_not : (at : Pos) (m rest : Toks) → AtLeast rest (operand_at n (expr_at n) m) → AtLeast rest (ranked_at n (expr_at n) 0 (word at words.Not ∷ m))
+  after_not : (at : Pos) (m rest : Toks) → AtLeast rest (operand_at extents.Longest n (expr_at n) m) → AtLeast rest (ranked_at extents.Longest n (expr_at n) 0 (word at words.Not ∷ m))
   unfolding ranked_at prefixed_at word_at
   after_not at m rest l = least_then (λ e. Ok (prefixed at prefixes.Not e.0, e.1)) (λ x more le. reads le) l
 
-  after_first : (r : ℕ) (toks rest : Toks) → AtLeast rest (ranked_at n (expr_at n) r toks) → AtLeast rest (ranked_at n (expr_at n) (suc r) toks)
+  after_first : (r : ℕ) (toks rest : Toks) → AtLeast rest (ranked_at extents.Longest n (expr_at n) r toks) → AtLeast rest (ranked_at extents.Longest n (expr_at n) (suc r) toks)
   unfolding ranked_at
   after_first r toks rest l = least_then _ (λ x more le. turns_least r 32 x more rest le) l
 
-  after_turn : (r j : ℕ) (l : ExprTree) (p : Pos) (kind : TokenKind) (o : Operator) (m rest : Toks) → operator_of kind ≡ Some o → rank_of o ≡ suc r → AtLeast rest (ranked_at n (expr_at n) r m) → AtLeast rest (repeat (turn_at (ranked_at n (expr_at n) r) (suc r)) with_turn (suc j) l (tok p kind ∷ m))
+  after_turn : (r j : ℕ) (l : ExprTree) (p : Pos) (kind : TokenKind) (o : Operator) (m rest : Toks) → operator_of kind ≡ Some o → rank_of o ≡ suc r → AtLeast rest (ranked_at extents.Longest n (expr_at n) r m) → AtLeast rest (repeat (turn_at extents.Longest (ranked_at extents.Longest n (expr_at n) r) (suc r)) with_turn (suc j) l (tok p kind ∷ m))
   unfolding repeat turn_at
   after_turn r j l p kind o m rest is rank le = rw (operator_some (suc r) p kind o m is rank) (go le)
     where
-      go : {x : Read ExprTree} → AtLeast rest x → AtLeast rest (settle x None (one_turn p o) >>= λ q. chosen q (Ok (l, tok p kind ∷ m)) (λ y. repeat (turn_at (ranked_at n (expr_at n) r) (suc r)) with_turn j (with_turn l y.0) y.1))
+      go : {x : Read ExprTree} → AtLeast rest x → AtLeast rest (settle extents.Longest x None (one_turn p o) >>= λ q. chosen q (Ok (l, tok p kind ∷ m)) (λ y. repeat (turn_at extents.Longest (ranked_at extents.Longest n (expr_at n) r) (suc r)) with_turn j (with_turn l y.0) y.1))
       go is_deep = is_deep
       go (reads {x = x} {more = more} le) = turns_least r j (with_turn l ((p, o), x)) more rest le
 
   mutual
-    ranked_least : {r : ℕ} {e : ExprTree} {toks rest : Toks} → IsRanked r e toks rest → StaysBelow (suc n) toks → AtLeast rest (ranked_at n (expr_at n) r toks)
+    ranked_least : {r : ℕ} {e : ExprTree} {toks rest : Toks} → IsRanked r e toks rest → StaysBelow (suc n) toks → AtLeast rest (ranked_at extents.Longest n (expr_at n) r toks)
     ranked_least (is_plain {toks = toks} d) below = let u = operand_unsigned d in rw (no_prefix toks u.0 u.1) (operand_least d below)
     ranked_least (is_minus {at = at} {m = m} {rest = rest} d) below = after_minus at m rest (operand_least d below.1)
     ranked_least (is_not {at = at} {m = m} {rest = rest} d) below = after_not at m rest (operand_least d below.1)
     ranked_least (is_chain d) below = chain_least d below
 
-    chain_least : {r k : ℕ} {e : ExprTree} {toks rest : Toks} → IsChain r k e toks rest → StaysBelow (suc n) toks → AtLeast rest (ranked_at n (expr_at n) (suc r) toks)
+    chain_least : {r k : ℕ} {e : ExprTree} {toks rest : Toks} → IsChain r k e toks rest → StaysBelow (suc n) toks → AtLeast rest (ranked_at extents.Longest n (expr_at n) (suc r) toks)
     chain_least (first {r = r} {toks = toks} {rest = rest} d) below = after_first r toks rest (ranked_least d below)
     chain_least (turn {r = r} {k = k} {l = l} {o = o} {p = p} {kind = kind} {m = m} {rest = rest} c is rank d lt) below =
-        let ic = exact_chain c n below (turn_stops r p kind o m is rank) in
+        let ic = exact_chain c extents.Longest n below (turn_stops r p kind o m is rank) in
         let after = subst (λ j. StaysBelow j m) ((operator_marks kind o is).room (suc n)) ic.1.1 in
         rw (ic.0 (suc (31 - k)) (omega arith)) (after_turn r (31 - k) l p kind o m rest is rank (ranked_least d after))
 
-  pub value_least : {e : ExprTree} {toks rest : Toks} → IsRanked 5 e toks rest → StaysBelow (suc n) toks → AtLeast rest (ranked_at n (expr_at n) 5 toks)
+  pub value_least : {e : ExprTree} {toks rest : Toks} → IsRanked 5 e toks rest → StaysBelow (suc n) toks → AtLeast rest (ranked_at extents.Longest n (expr_at n) 5 toks)
   value_least d below = ranked_least d below

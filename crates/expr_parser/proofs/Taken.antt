@@ -8,6 +8,8 @@ use Rattle.chill_tree.specs.declared.token.Token.{Token}
 use Rattle.chill_tree.specs.declared.token.TokenKind.{TokenKind}
 use Rattle.chill_tree.specs.declared.token.TokenKind.TheVariants as kinds
 use Rattle.chill_tree.specs.declared.tree.name.Name.{Name}
+use Rattle.rules_model.specs.declared.extent.Extent.{Extent}
+use Rattle.rules_model.specs.declared.extent.Extent.TheVariants as extents
 use Rattle.rules_model.specs.Marks.{Toks, tok, sign, word, name_token, is_sign, is_word, begins, front}
 use Rattle.rules_model.specs.Nesting.{room_after, deep_or, first_deep}
 use Rattle.rules_model.specs.Reading.{Fault, Deep, Absent, Read, Piece, ◌>>=◌, settle, chosen, sign_at, word_at, name_of, name_at, repeat, push, another_at, listed_at}
@@ -240,11 +242,12 @@ closed s n m h Is y here toks =
 
 -- ---- pieces and loops
 
--- what was not there is left out
-pub settled : {A P : Type 0} {n : ℕ} {toks : Toks} (IsA : A → Toks → Toks → Type 0) (IsP : P → Toks → Toks → Type 0) (g : A → P) → ((x : A) (t u : Toks) → IsA x t u → IsP (g x) t u) → {r : Result (A × Toks) Fault} → Told n n IsA toks r → ToldPiece n IsP toks (settle r None (λ a. Ok (Some (g a.0, a.1))))
-settled IsA IsP g f (taken {x = x} T) = a_piece (record { used = T.used; here = T.here; any = λ z. f x (T.used ++ z) z (T.any z); level = T.level })
-settled IsA IsP g f (broken V d) = broken_piece (begun_as IsA IsP g f V) d
-settled IsA IsP g f (missing V e) = no_piece
+-- what was not there is left out of the longest, and missing in a whole
+pub settled : {A P : Type 0} {n : ℕ} {toks : Toks} (extent : Extent) (IsA : A → Toks → Toks → Type 0) (IsP : P → Toks → Toks → Type 0) (g : A → P) → ((x : A) (t u : Toks) → IsA x t u → IsP (g x) t u) → {r : Result (A × Toks) Fault} → Told n n IsA toks r → ToldPiece n IsP toks (settle extent r None (λ a. Ok (Some (g a.0, a.1))))
+settled extent IsA IsP g f (taken {x = x} T) = a_piece (record { used = T.used; here = T.here; any = λ z. f x (T.used ++ z) z (T.any z); level = T.level })
+settled extent IsA IsP g f (broken V d) = broken_piece (begun_as IsA IsP g f V) d
+settled extents.Longest IsA IsP g f (missing V e) = no_piece
+settled extents.Whole IsA IsP g f (missing V e) = missing_piece (begun_as IsA IsP g f V) e
 
 -- a piece that has to be there
 pub told_piece : {A : Type 0} {n : ℕ} {toks : Toks} (Is : A → Toks → Toks → Type 0) → {r : Result (A × Toks) Fault} → Told n n Is toks r → ToldPiece n Is toks (r >>= λ x. Ok (Some x))

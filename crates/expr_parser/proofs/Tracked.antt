@@ -8,6 +8,8 @@ use Rattle.chill_tree.specs.declared.token.Word.{Word}
 use Rattle.chill_tree.specs.declared.token.Token.{Token}
 use Rattle.chill_tree.specs.declared.token.TokenKind.{TokenKind}
 use Rattle.chill_tree.specs.declared.token.TokenKind.TheVariants as kinds
+use Rattle.rules_model.specs.declared.extent.Extent.{Extent}
+use Rattle.rules_model.specs.declared.extent.Extent.TheVariants as extents
 use Rattle.rules_model.specs.Marks.{Toks, tok, is_sign, is_word, begins, begins_with}
 use Rattle.rules_model.specs.Nesting.{room_after}
 use Rattle.rules_model.specs.Reading.{Fault, Deep, Absent, Read, Piece, ◌>>=◌, settle, chosen, sign_at, word_at, name_of, name_at, repeat, push, another_at, listed_at}
@@ -42,10 +44,11 @@ tracks_then L f g next runs_out = runs_out
 tracks_then L f g next both_missing = both_missing
 tracks_then L f g next (both_read {x = x} {b = b} {a = a} l) = next x b a l
 
-pub tracks_settled : {A P : Type 0} {n : ℕ} (L : ℕ → Toks → Toks → Type 0) (g : A → P) {s r : Result (A × Toks) Fault} → Tracks L n s r → TracksPiece L n (settle s None (λ a. Ok (Some (g a.0, a.1)))) (settle r None (λ a. Ok (Some (g a.0, a.1))))
-tracks_settled L g runs_out = piece_out
-tracks_settled L g both_missing = no_pieces
-tracks_settled L g (both_read l) = two_pieces l
+pub tracks_settled : {A P : Type 0} {n : ℕ} (extent : Extent) (L : ℕ → Toks → Toks → Type 0) (g : A → P) {s r : Result (A × Toks) Fault} → Tracks L n s r → TracksPiece L n (settle extent s None (λ a. Ok (Some (g a.0, a.1)))) (settle extent r None (λ a. Ok (Some (g a.0, a.1))))
+tracks_settled extent L g runs_out = piece_out
+tracks_settled extents.Longest L g both_missing = no_pieces
+tracks_settled extents.Whole L g both_missing = pieces_missing
+tracks_settled extent L g (both_read l) = two_pieces l
 
 -- ---- fronts
 

@@ -3,28 +3,31 @@ ghost use Rattle.std.specs.Prelude.{◌≡◌, ◌-◌, ◌<◌, map, option_map
 ghost use Rattle.chill_tree.specs.ExprTree.{boxed_expr, expr_tree, expr_trees, range_tree, range_trees};
 ghost use Rattle.expr_parser.specs.Giving.{Gives};
 ghost use Rattle.expr_parser.specs.Parts.{part_of};
+ghost use Rattle.rules_model.specs.declared.extent.Extent.TheVariants as extents;
 ghost use Rattle.rules_model.specs.Marks as marks;
 ghost use Rattle.rules_model.specs.ExprGrammar as grammar;
 ghost use Rattle.rules_model.specs.Reading.{repeat, listed_at};
-ghost use Rattle.rules_model.specs.ExprReading.{args_at, field_at, part_at, parts_at, named_at, paren_at, range_at, uniform_at, ranges_at, tuple_at, begun_at, operand_at, prefixed_at, operator_at, turn_at, ranked_at, expr_at};
+ghost use Rattle.rules_model.specs.ExprReading.{args_at, part_at, parts_at, paren_at, range_at, uniform_at, ranges_at, tuple_at, begun_at, operand_at, prefixed_at, operator_at, turn_at, ranked_at, expr_at};
 ghost use Rattle.rules_model.specs.ExprReading as reading;
 
 use crate::ParseRefusal;
 use crate::list::{Listed, read_list};
+use crate::part::{NamePart, read_field, with_part};
 use crate::reader::{operator_of, read_name, read_sign, read_word, starts, starts_with};
 use chill_base::{Item, List, Memory, Pos};
 use chill_tree::tree::{Expr, Name, Operator, Prefix, ValueRange};
 use chill_tree::{Sign, Token, TokenKind, Word};
+use rules_model::Extent;
 use std::alloc::Global;
 
 /// How many operators of one rank stand in a row, and how many parts behind a name, at most.
-const TURNS: usize = 32;
+pub const TURNS: usize = 32;
 
 /// The loosest rank of an operator.
 const LOOSEST: usize = 5;
 
-/// Reads the longest expression at the front, behind an opening token at the place `opened` where `room` levels of
-/// nesting are left.
+/// Reads an expression of a whole text, behind an opening token at the place `opened` where `room` levels of nesting
+/// are left.
 #[cycle(expr)]
 #[tactic(auto, unfolding(rules_model::specs::ExprReading::expr_at))]
 pub fn read_expr(
@@ -38,18 +41,29 @@ pub fn read_expr(
     if room == 0 {
         return Err(ParseRefusal::TooDeep { at: opened });
     }
-    ranked(alloc, tokens, LOOSEST, room - 1)
+    ranked(alloc, tokens, LOOSEST, room - 1, Extent::Whole)
 }
 
-/// Reads the longest expression at the front, where `inner` levels are left behind its opening tokens.
+/// Reads an expression of a whole text, where `inner` levels are left behind its opening tokens.
 pub fn read_value(
     alloc: Global,
     tokens: &[Token],
     inner: usize,
 ) -> Result<(Box<Expr>, &[Token]), ParseRefusal>
-    ensures { Gives (λ x. (boxed_expr x.0, x.1.now)) result (ranked_at inner (expr_at inner) 5 tokens.now) }
+    ensures { Gives (λ x. (boxed_expr x.0, x.1.now)) result (ranked_at extents.Whole inner (expr_at inner) 5 tokens.now) }
 {
-    ranked(alloc, tokens, LOOSEST, inner)
+    ranked(alloc, tokens, LOOSEST, inner, Extent::Whole)
+}
+
+/// Reads the longest expression at the front, where `inner` levels are left behind its opening tokens.
+pub fn read_longest(
+    alloc: Global,
+    tokens: &[Token],
+    inner: usize,
+) -> Result<(Box<Expr>, &[Token]), ParseRefusal>
+    ensures { Gives (λ x. (boxed_expr x.0, x.1.now)) result (ranked_at extents.Longest inner (expr_at inner) 5 tokens.now) }
+{
+    ranked(alloc, tokens, LOOSEST, inner, Extent::Longest)
 }
 
 // Reads an expression whose operators outside brackets have at most this rank.
@@ -60,14 +74,15 @@ fn ranked(
     tokens: &[Token],
     rank: usize,
     inner: usize,
+    extent: Extent,
 ) -> Result<(Box<Expr>, &[Token]), ParseRefusal>
-    ensures { Gives (λ x. (boxed_expr x.0, x.1.now)) result (ranked_at inner (expr_at inner) rank tokens.now) }
+    ensures { Gives (λ x. (boxed_expr x.0, x.1.now)) result (ranked_at extent inner (expr_at inner) rank tokens.now) }
 {
     if rank == 0 {
-        return prefixed(alloc, tokens, inner);
+        return prefixed(alloc, tokens, inner, extent);
     }
-    let (first, rest) = ranked(alloc, tokens, rank - 1, inner)?;
-    turns(alloc, first, rest, rank, inner)
+    let (first, rest) = ranked(alloc, tokens, rank - 1, inner, extent)?;
+    turns(alloc, first, rest, rank, inner, extent)
 }
 
 // Reads the operators of this rank behind an expression, with what they are for.
@@ -79,14 +94,15 @@ fn turns(
     tokens: &[Token],
     rank: usize,
     inner: usize,
+    extent: Extent,
 ) -> Result<(Box<Expr>, &[Token]), ParseRefusal>
     requires { 0 < rank }
-    ensures { Gives (λ x. (boxed_expr x.0, x.1.now)) result (repeat (turn_at (ranked_at inner (expr_at inner) (rank - 1)) rank) reading.with_turn 32 (boxed_expr first) tokens.now) }
+    ensures { Gives (λ x. (boxed_expr x.0, x.1.now)) result (repeat (turn_at extent (ranked_at extent inner (expr_at inner) (rank - 1)) rank) reading.with_turn 32 (boxed_expr first) tokens.now) }
 {
     let mut left = first;
     let mut rest = tokens;
     for _ in 0..TURNS {
-        let Some((turn, after)) = turn(alloc, rest, rank, inner)? else {
+        let Some((turn, after)) = turn(alloc, rest, rank, inner, extent)? else {
             return Ok((left, rest));
         };
         left = with_turn(alloc, left, turn)?;
@@ -110,7 +126,7 @@ fn with_turn(alloc: Global, left: Box<Expr>, turn: Behind) -> Result<Box<Expr>, 
     Expr::binary(alloc, left, turn.operator, turn.sign, turn.right)
 }
 
-// Reads an operator of this rank and what stands behind it, if both are there.
+// Reads an operator of this rank and what stands behind it, if the operator is there.
 #[cycle(expr)]
 #[tactic(auto, unfolding(rules_model::specs::ExprReading::turn_at))]
 fn turn(
@@ -118,12 +134,13 @@ fn turn(
     tokens: &[Token],
     rank: usize,
     inner: usize,
+    extent: Extent,
 ) -> Result<Option<(Behind, &[Token])>, ParseRefusal>
     requires { 0 < rank }
-    ensures { Gives (option_map (λ x. (((x.0.sign, x.0.operator), boxed_expr x.0.right), x.1.now))) result (turn_at (ranked_at inner (expr_at inner) (rank - 1)) rank tokens.now) }
+    ensures { Gives (option_map (λ x. (((x.0.sign, x.0.operator), boxed_expr x.0.right), x.1.now))) result (turn_at extent (ranked_at extent inner (expr_at inner) (rank - 1)) rank tokens.now) }
 {
     match operator(tokens, rank) {
-        Some((sign, operator, rest)) => match ranked(alloc, rest, rank - 1, inner) {
+        Some((sign, operator, rest)) => match ranked(alloc, rest, rank - 1, inner, extent) {
             Ok((right, after)) => Ok(Some((
                 Behind {
                     sign,
@@ -132,7 +149,7 @@ fn turn(
                 },
                 after,
             ))),
-            Err(ParseRefusal::NoProgram { .. }) => Ok(None),
+            Err(ParseRefusal::NoProgram { .. }) if matches!(extent, Extent::Longest) => Ok(None),
             Err(refusal) => Err(refusal),
         },
         None => Ok(None),
@@ -180,20 +197,21 @@ fn prefixed(
     alloc: Global,
     tokens: &[Token],
     inner: usize,
+    extent: Extent,
 ) -> Result<(Box<Expr>, &[Token]), ParseRefusal>
-    ensures { Gives (λ x. (boxed_expr x.0, x.1.now)) result (prefixed_at inner (expr_at inner) tokens.now) }
+    ensures { Gives (λ x. (boxed_expr x.0, x.1.now)) result (prefixed_at extent inner (expr_at inner) tokens.now) }
 {
     if starts(tokens, Sign::Minus) {
         let (at, rest) = read_sign(tokens, Sign::Minus)?;
-        let (number, rest) = operand(alloc, rest, inner)?;
+        let (number, rest) = operand(alloc, rest, inner, extent)?;
         return Ok((Expr::prefixed(alloc, at, Prefix::Minus, number)?, rest));
     }
     if starts_with(tokens, Word::Not) {
         let (at, rest) = read_word(tokens, Word::Not)?;
-        let (truth, rest) = operand(alloc, rest, inner)?;
+        let (truth, rest) = operand(alloc, rest, inner, extent)?;
         return Ok((Expr::prefixed(alloc, at, Prefix::Not, truth)?, rest));
     }
-    operand(alloc, tokens, inner)
+    operand(alloc, tokens, inner, extent)
 }
 
 // Reads a literal, an expression in parentheses, a tuple, or a name with its parts.
@@ -203,8 +221,9 @@ fn operand(
     alloc: Global,
     tokens: &[Token],
     inner: usize,
+    extent: Extent,
 ) -> Result<(Box<Expr>, &[Token]), ParseRefusal>
-    ensures { Gives (λ x. (boxed_expr x.0, x.1.now)) result (operand_at inner (expr_at inner) tokens.now) }
+    ensures { Gives (λ x. (boxed_expr x.0, x.1.now)) result (operand_at extent inner (expr_at inner) tokens.now) }
 {
     match tokens {
         [token, rest @ ..] => match &token.kind {
@@ -216,7 +235,7 @@ fn operand(
             }
             TokenKind::Name(text) => {
                 let text = text.copy()?;
-                begun(alloc, Name { at: token.at, text }, rest, inner)
+                begun(alloc, Name { at: token.at, text }, rest, inner, extent)
             }
             TokenKind::Word(Word::This) => Ok((Expr::this_instance(alloc, token.at)?, rest)),
             TokenKind::Word(Word::Receive) => {
@@ -260,40 +279,22 @@ fn begun(
     name: Name,
     tokens: &[Token],
     inner: usize,
+    extent: Extent,
 ) -> Result<(Box<Expr>, &[Token]), ParseRefusal>
-    ensures { Gives (λ x. (boxed_expr x.0, x.1.now)) result (begun_at inner (expr_at inner) name tokens.now) }
+    ensures { Gives (λ x. (boxed_expr x.0, x.1.now)) result (begun_at extent inner (expr_at inner) name tokens.now) }
 {
     if !starts(tokens, Sign::OpenBracket) {
-        return parts(alloc, Expr::name(alloc, name)?, tokens, inner);
+        return parts(alloc, Expr::name(alloc, name)?, tokens, inner, extent);
     }
     let text = name.text.copy()?;
     let mode = Name { at: name.at, text };
     match tuple(alloc, Some(mode), tokens, inner) {
         Ok((found, rest)) => Ok((found, rest)),
-        Err(ParseRefusal::NoProgram { .. }) => Ok((Expr::name(alloc, name)?, tokens)),
+        Err(ParseRefusal::NoProgram { .. }) if matches!(extent, Extent::Longest) => {
+            Ok((Expr::name(alloc, name)?, tokens))
+        }
         Err(refusal) => Err(refusal),
     }
-}
-
-/// Reads a name and the parts behind it, where `inner` levels are left behind an opening token: a location, or what
-/// a call begins with.
-#[tactic(auto, unfolding(rules_model::specs::ExprReading::named_at))]
-pub fn read_named(
-    alloc: Global,
-    tokens: &[Token],
-    inner: usize,
-) -> Result<(Box<Expr>, &[Token]), ParseRefusal>
-    ensures { Gives (λ x. (boxed_expr x.0, x.1.now)) result (named_at inner (expr_at inner) tokens.now) }
-{
-    let (name, rest) = read_name(tokens)?;
-    parts(alloc, Expr::name(alloc, name)?, rest, inner)
-}
-
-// A part behind a name.
-#[derive(Drop)]
-enum NamePart {
-    Args(List<Expr>),
-    Field(Name),
 }
 
 // Reads the parts behind a name.
@@ -304,13 +305,14 @@ fn parts(
     first: Box<Expr>,
     tokens: &[Token],
     inner: usize,
+    extent: Extent,
 ) -> Result<(Box<Expr>, &[Token]), ParseRefusal>
-    ensures { Gives (λ x. (boxed_expr x.0, x.1.now)) result (parts_at inner (expr_at inner) (boxed_expr first) tokens.now) }
+    ensures { Gives (λ x. (boxed_expr x.0, x.1.now)) result (parts_at extent inner (expr_at inner) (boxed_expr first) tokens.now) }
 {
     let mut of = first;
     let mut rest = tokens;
     for _ in 0..TURNS {
-        let Some((piece, after)) = part(alloc, rest, inner)? else {
+        let Some((piece, after)) = part(alloc, rest, inner, extent)? else {
             return Ok((of, rest));
         };
         of = with_part(alloc, of, piece)?;
@@ -319,50 +321,32 @@ fn parts(
     Ok((of, rest))
 }
 
-// An expression with one more part.
-fn with_part(alloc: Global, of: Box<Expr>, part: NamePart) -> Result<Box<Expr>, Memory>
-    ensures { IfOk result (λ e. boxed_expr e ≡ reading.with_part (boxed_expr of) (part_of part)) }
-{
-    match part {
-        NamePart::Args(args) => Expr::apply(alloc, of, args),
-        NamePart::Field(name) => Expr::field(alloc, of, name),
-    }
-}
-
-// Reads a part behind a name, if a whole one is there.
+// Reads a part behind a name, if one is there.
 #[cycle(expr)]
 #[tactic(auto, unfolding(rules_model::specs::ExprReading::part_at))]
 fn part(
     alloc: Global,
     tokens: &[Token],
     inner: usize,
+    extent: Extent,
 ) -> Result<Option<(NamePart, &[Token])>, ParseRefusal>
-    ensures { Gives (option_map (λ x. (part_of x.0, x.1.now))) result (part_at inner (expr_at inner) tokens.now) }
+    ensures { Gives (option_map (λ x. (part_of x.0, x.1.now))) result (part_at extent inner (expr_at inner) tokens.now) }
 {
     if starts(tokens, Sign::Open) {
         return match read_args(alloc, tokens, inner) {
             Ok((args, rest)) => Ok(Some((NamePart::Args(args), rest))),
-            Err(ParseRefusal::NoProgram { .. }) => Ok(None),
+            Err(ParseRefusal::NoProgram { .. }) if matches!(extent, Extent::Longest) => Ok(None),
             Err(refusal) => Err(refusal),
         };
     }
     if starts(tokens, Sign::Dot) {
-        return match field(tokens) {
+        return match read_field(tokens) {
             Ok((name, rest)) => Ok(Some((NamePart::Field(name), rest))),
-            Err(ParseRefusal::NoProgram { .. }) => Ok(None),
+            Err(ParseRefusal::NoProgram { .. }) if matches!(extent, Extent::Longest) => Ok(None),
             Err(refusal) => Err(refusal),
         };
     }
     Ok(None)
-}
-
-// Reads a field behind a dot.
-#[tactic(auto, unfolding(rules_model::specs::ExprReading::field_at))]
-fn field(tokens: &[Token]) -> Result<(Name, &[Token]), ParseRefusal>
-    ensures { Gives (λ x. (x.0, x.1.now)) result (field_at tokens.now) }
-{
-    let (_, rest) = read_sign(tokens, Sign::Dot)?;
-    read_name(rest)
 }
 
 /// Reads a list of arguments in its parentheses, in which `inner` levels are left.

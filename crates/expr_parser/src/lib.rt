@@ -6,17 +6,20 @@
 
 mod expr;
 mod list;
+mod location;
 mod names;
 mod parse;
+mod part;
 mod reader;
 mod refusal;
 
-pub use expr::{read_args, read_expr, read_exprs, read_named, read_range, read_ranges, read_value};
+pub use expr::{read_args, read_expr, read_exprs, read_range, read_ranges, read_value};
 pub use list::{Listed, read_list};
+pub use location::{read_location, read_location_parts};
 pub use names::read_names;
 pub use parse::parse_expr;
 pub use reader::{
     behind, boxed, less, operator_of, place, read_name, read_sign, read_word, starts, starts_expr,
-    starts_with,
+    starts_name, starts_with,
 };
 pub use refusal::ParseRefusal;

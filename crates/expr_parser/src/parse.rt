@@ -3,7 +3,7 @@ ghost use Rattle.std.specs.Prelude.{◌≤◌, length};
 ghost use Rattle.expr_parser.specs.Expressing.{Expresses};
 
 use crate::ParseRefusal;
-use crate::expr::read_value;
+use crate::expr::read_longest;
 use chill_tree::Tokens;
 use chill_tree::tree::Expr;
 use std::alloc::Global;
@@ -23,6 +23,6 @@ pub fn parse_expr(
     requires { from ≤ length tokens.now }
     ensures { Expresses tokens.now from result }
 {
-    let (found, rest) = read_value(alloc, &tokens.as_slice()[from..], LEVELS)?;
+    let (found, rest) = read_longest(alloc, &tokens.as_slice()[from..], LEVELS)?;
     Ok((found, tokens.len() - rest.len()))
 }

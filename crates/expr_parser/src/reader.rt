@@ -31,6 +31,19 @@ pub fn starts_with(tokens: &[Token], word: Word) -> bool
     }
 }
 
+/// Whether a name stands at the front.
+pub fn starts_name(tokens: &[Token]) -> bool
+    ensures { result ≡ marks.begins_name tokens.now }
+{
+    match tokens {
+        [token, ..] => match &token.kind {
+            TokenKind::Name(_) => true,
+            _ => false,
+        },
+        [] => false,
+    }
+}
+
 /// Whether an expression may begin with the first token.
 pub fn starts_expr(tokens: &[Token]) -> bool
     ensures { result ≡ marks.begins_expr tokens.now }

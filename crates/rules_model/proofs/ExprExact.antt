@@ -9,24 +9,26 @@ use Rattle.chill_tree.specs.declared.tree.name.Name.{Name}
 use Rattle.chill_tree.specs.declared.tree.expr.Operator.{Operator}
 use Rattle.chill_tree.specs.declared.tree.expr.Prefix.TheVariants as prefixes
 use Rattle.chill_tree.specs.ExprTree.{ExprTree, whole, character, text, this_instance, paren, receive, start, tuple, uniform, name, prefixed, RangeTree, alone, between, expr_nodes, range_nodes}
+use Rattle.rules_model.specs.declared.extent.Extent.{Extent}
+use Rattle.rules_model.specs.declared.extent.Extent.TheVariants as extents
 use Rattle.rules_model.specs.Marks.{Toks, tok, sign, word, name_token, begins, begins_with, operator_of, rank_of}
 use Rattle.rules_model.specs.ExprGrammar.{IsTupleHead, bare, of_mode, tuple_place, IsNamed, a_name, with_args, with_field, AreArgs, no_args, some_args, AreExprs, one_expr, and_expr, IsRange, is_alone, is_between, AreRanges, one_range, and_range, AreParts, no_parts, some_parts, IsOperand, is_whole, is_character, is_text, is_this, is_paren, is_receive, is_start, is_tuple, is_uniform, is_named, IsRanked, is_plain, is_minus, is_not, is_chain, IsChain, first, turn}
 use Rattle.rules_model.specs.Nesting.{less, StaysBelow}
-use Rattle.rules_model.specs.Reading.{Read, sign_at, word_at, name_at, repeat, listed_at}
-use Rattle.rules_model.specs.ExprReading.{Sub, args_at, field_at, Args, Field, with_part, part_at, named_at, paren_at, range_at, begins_uniform, uniform_at, ranges_at, tuple_at, begun_at, operand_at, prefixed_at, turn_at, with_turn, ranked_at, expr_at}
+use Rattle.rules_model.specs.Reading.{Read, ◌>>=◌, sign_at, word_at, name_at, repeat, listed_at}
+use Rattle.rules_model.specs.ExprReading.{Sub, args_at, field_at, Args, Field, with_part, part_at, parts_at, paren_at, range_at, begins_uniform, uniform_at, ranges_at, tuple_at, begun_at, operand_at, prefixed_at, turn_at, with_turn, ranked_at, expr_at}
 use Rattle.rules_model.proofs.Loops.{repeat_none, repeat_some, Listing, listing_one, listing_and, listing_all, room_left}
 use Rattle.rules_model.proofs.ExprStarts.{exprs_shrink, ranges_shrink, operand_unsigned, no_end, exprs_begin, ranges_begin, parts_uniform, named_few, chain_few, NameFirst, name_first}
 use Rattle.rules_model.proofs.ExprStops.{Stops, stops_less, stops_bracket, operator_marks, turn_stops, part_none, turn_none, operator_some}
 
 -- ---- one production each
 
-args_part : (n : ℕ) (sub : Sub) (p : Pos) (es : List ExprTree) (m rest : Toks) → args_at n sub (sign p signs.Open ∷ m) ≡ Ok (es, rest) → part_at n sub (sign p signs.Open ∷ m) ≡ Ok (Some (Args es, rest))
+args_part : (w : Extent) (n : ℕ) (sub : Sub) (p : Pos) (es : List ExprTree) (m rest : Toks) → args_at n sub (sign p signs.Open ∷ m) ≡ Ok (es, rest) → part_at w n sub (sign p signs.Open ∷ m) ≡ Ok (Some (Args es, rest))
 unfolding part_at
-args_part n sub p es m rest h = rw h refl
+args_part w n sub p es m rest h = rw h refl
 
-field_part : (n : ℕ) (sub : Sub) (p : Pos) (x : Name) (rest : Toks) → part_at n sub (sign p signs.Dot ∷ name_token x ∷ rest) ≡ Ok (Some (Field x, rest))
+field_part : (w : Extent) (n : ℕ) (sub : Sub) (p : Pos) (x : Name) (rest : Toks) → part_at w n sub (sign p signs.Dot ∷ name_token x ∷ rest) ≡ Ok (Some (Field x, rest))
 unfolding part_at field_at sign_at name_at
-field_part n sub p x rest = refl
+field_part w n sub p x rest = refl
 
 empty_args : (n : ℕ) (sub : Sub) (p q : Pos) (rest : Toks) → 0 < n → args_at n sub (sign p signs.Open ∷ sign q signs.Close ∷ rest) ≡ Ok ([], rest)
 unfolding args_at sign_at
@@ -36,33 +38,33 @@ filled_args : (n : ℕ) (sub : Sub) (p q : Pos) (es : List ExprTree) (m rest : T
 unfolding args_at sign_at
 filled_args n sub p q es m rest lt b h = room_left n p _ (Ok (es, rest)) lt (rw (b, h) refl)
 
-in_brackets : (n : ℕ) (sub : Sub) (at p : Pos) (e : ExprTree) (m rest : Toks) → sub at m ≡ Ok (e, sign p signs.Close ∷ rest) → operand_at n sub (sign at signs.Open ∷ m) ≡ Ok (paren at e, rest)
+in_brackets : (w : Extent) (n : ℕ) (sub : Sub) (at p : Pos) (e : ExprTree) (m rest : Toks) → sub at m ≡ Ok (e, sign p signs.Close ∷ rest) → operand_at w n sub (sign at signs.Open ∷ m) ≡ Ok (paren at e, rest)
 unfolding operand_at paren_at sign_at
-in_brackets n sub at p e m rest h = rw h refl
+in_brackets w n sub at p e m rest h = rw h refl
 
-a_whole : (n : ℕ) (sub : Sub) (at : Pos) (v : ℕ) (rest : Toks) → operand_at n sub (tok at (kinds.Whole v) ∷ rest) ≡ Ok (whole at v, rest)
+a_whole : (w : Extent) (n : ℕ) (sub : Sub) (at : Pos) (v : ℕ) (rest : Toks) → operand_at w n sub (tok at (kinds.Whole v) ∷ rest) ≡ Ok (whole at v, rest)
 unfolding operand_at
-a_whole n sub at v rest = refl
+a_whole w n sub at v rest = refl
 
-a_character : (n : ℕ) (sub : Sub) (at : Pos) (v : ℕ) (rest : Toks) → operand_at n sub (tok at (kinds.Char v) ∷ rest) ≡ Ok (character at v, rest)
+a_character : (w : Extent) (n : ℕ) (sub : Sub) (at : Pos) (v : ℕ) (rest : Toks) → operand_at w n sub (tok at (kinds.Char v) ∷ rest) ≡ Ok (character at v, rest)
 unfolding operand_at
-a_character n sub at v rest = refl
+a_character w n sub at v rest = refl
 
-a_text : (n : ℕ) (sub : Sub) (at : Pos) (v : List ℕ) (rest : Toks) → operand_at n sub (tok at (kinds.Text v) ∷ rest) ≡ Ok (text at v, rest)
+a_text : (w : Extent) (n : ℕ) (sub : Sub) (at : Pos) (v : List ℕ) (rest : Toks) → operand_at w n sub (tok at (kinds.Text v) ∷ rest) ≡ Ok (text at v, rest)
 unfolding operand_at
-a_text n sub at v rest = refl
+a_text w n sub at v rest = refl
 
-a_this : (n : ℕ) (sub : Sub) (at : Pos) (rest : Toks) → operand_at n sub (word at words.This ∷ rest) ≡ Ok (this_instance at, rest)
+a_this : (w : Extent) (n : ℕ) (sub : Sub) (at : Pos) (rest : Toks) → operand_at w n sub (word at words.This ∷ rest) ≡ Ok (this_instance at, rest)
 unfolding operand_at
-a_this n sub at rest = refl
+a_this w n sub at rest = refl
 
-a_receive : (n : ℕ) (sub : Sub) (at : Pos) (x : Name) (rest : Toks) → operand_at n sub (word at words.Receive ∷ name_token x ∷ rest) ≡ Ok (receive at x, rest)
+a_receive : (w : Extent) (n : ℕ) (sub : Sub) (at : Pos) (x : Name) (rest : Toks) → operand_at w n sub (word at words.Receive ∷ name_token x ∷ rest) ≡ Ok (receive at x, rest)
 unfolding operand_at name_at
-a_receive n sub at x rest = refl
+a_receive w n sub at x rest = refl
 
-a_start : (n : ℕ) (sub : Sub) (at p : Pos) (x : Name) (es : List ExprTree) (m rest : Toks) → args_at n sub (sign p signs.Open ∷ m) ≡ Ok (es, rest) → operand_at n sub (word at words.Start ∷ name_token x ∷ sign p signs.Open ∷ m) ≡ Ok (start at x (expr_nodes es), rest)
+a_start : (w : Extent) (n : ℕ) (sub : Sub) (at p : Pos) (x : Name) (es : List ExprTree) (m rest : Toks) → args_at n sub (sign p signs.Open ∷ m) ≡ Ok (es, rest) → operand_at w n sub (word at words.Start ∷ name_token x ∷ sign p signs.Open ∷ m) ≡ Ok (start at x (expr_nodes es), rest)
 unfolding operand_at name_at
-a_start n sub at p x es m rest h = rw h refl
+a_start w n sub at p x es m rest h = rw h refl
 
 -- ---- tuples
 
@@ -92,18 +94,18 @@ unfolding tuple_at uniform_at sign_at
 a_uniform n sub mode b p q r s t e m rest lt lt2 h =
     room_left n b _ (Ok (uniform (tuple_place mode b) mode b e, rest)) lt (room_left (less n) p _ (Ok (uniform (tuple_place mode b) mode b e, rest)) lt2 (rw h refl))
 
-bare_tuple : (n : ℕ) (sub : Sub) (b : Pos) (m : Toks) → operand_at n sub (sign b signs.OpenBracket ∷ m) ≡ tuple_at n sub None (sign b signs.OpenBracket ∷ m)
+bare_tuple : (w : Extent) (n : ℕ) (sub : Sub) (b : Pos) (m : Toks) → operand_at w n sub (sign b signs.OpenBracket ∷ m) ≡ tuple_at n sub None (sign b signs.OpenBracket ∷ m)
 unfolding operand_at
-bare_tuple n sub b m = refl
+bare_tuple w n sub b m = refl
 
-named_tuple : (n : ℕ) (sub : Sub) (x : Name) (b : Pos) (e : ExprTree) (m rest : Toks) → tuple_at n sub (Some x) (sign b signs.OpenBracket ∷ m) ≡ Ok (e, rest) → operand_at n sub (name_token x ∷ sign b signs.OpenBracket ∷ m) ≡ Ok (e, rest)
+named_tuple : (w : Extent) (n : ℕ) (sub : Sub) (x : Name) (b : Pos) (e : ExprTree) (m rest : Toks) → tuple_at n sub (Some x) (sign b signs.OpenBracket ∷ m) ≡ Ok (e, rest) → operand_at w n sub (name_token x ∷ sign b signs.OpenBracket ∷ m) ≡ Ok (e, rest)
 unfolding operand_at begun_at
-named_tuple n sub x b e m rest h = rw h refl
+named_tuple w n sub x b e m rest h = rw h refl
 
 -- what the reading of a tuple gives, whatever stands before its bracket
-headed : {mode : Option Name} {b : Pos} {toks m : Toks} → IsTupleHead mode b toks m → (n : ℕ) (sub : Sub) (e : ExprTree) (rest : Toks) → tuple_at n sub mode (sign b signs.OpenBracket ∷ m) ≡ Ok (e, rest) → operand_at n sub toks ≡ Ok (e, rest)
-headed (bare {b = b} {rest = m}) n sub e rest h = bare_tuple n sub b m ∙ h
-headed (of_mode {n = x} {b = b} {rest = m}) n sub e rest h = named_tuple n sub x b e m rest h
+headed : {mode : Option Name} {b : Pos} {toks m : Toks} → IsTupleHead mode b toks m → (w : Extent) (n : ℕ) (sub : Sub) (e : ExprTree) (rest : Toks) → tuple_at n sub mode (sign b signs.OpenBracket ∷ m) ≡ Ok (e, rest) → operand_at w n sub toks ≡ Ok (e, rest)
+headed (bare {b = b} {rest = m}) w n sub e rest h = bare_tuple w n sub b m ∙ h
+headed (of_mode {n = x} {b = b} {rest = m}) w n sub e rest h = named_tuple w n sub x b e m rest h
 
 head_below : {mode : Option Name} {b : Pos} {toks m : Toks} → IsTupleHead mode b toks m → (n : ℕ) → StaysBelow n toks → (0 < less n) × StaysBelow (less n) m
 head_below bare n below = below
@@ -111,58 +113,62 @@ head_below of_mode n below = below.1
 
 -- ---- names
 
-name_alone : (n : ℕ) (sub : Sub) (x : Name) (rest : Toks) → named_at n sub (name_token x ∷ rest) ≡ repeat (part_at n sub) with_part 32 (name x) rest
+-- a name with its parts
+pub named_at : Extent → ℕ → Sub → Toks → Read ExprTree
+named_at w n sub toks = name_at toks >>= λ x. parts_at w n sub (name x.0) x.1
+
+name_alone : (w : Extent) (n : ℕ) (sub : Sub) (x : Name) (rest : Toks) → named_at w n sub (name_token x ∷ rest) ≡ repeat (part_at w n sub) with_part 32 (name x) rest
 unfolding named_at name_at
-name_alone n sub x rest = refl
+name_alone w n sub x rest = refl
 
-begun : (n : ℕ) (sub : Sub) (x : Name) (rest : Toks) → begins signs.OpenBracket rest ≡ false → operand_at n sub (name_token x ∷ rest) ≡ named_at n sub (name_token x ∷ rest)
+begun : (w : Extent) (n : ℕ) (sub : Sub) (x : Name) (rest : Toks) → begins signs.OpenBracket rest ≡ false → operand_at w n sub (name_token x ∷ rest) ≡ named_at w n sub (name_token x ∷ rest)
 unfolding operand_at begun_at named_at name_at
-begun n sub x rest b = rw b refl
+begun w n sub x rest b = rw b refl
 
-operand_named : (n : ℕ) (sub : Sub) (toks : Toks) → NameFirst toks → operand_at n sub toks ≡ named_at n sub toks
-operand_named n sub toks f = rw f.here (begun n sub f.name f.others f.no_bracket)
+operand_named : (w : Extent) (n : ℕ) (sub : Sub) (toks : Toks) → NameFirst toks → operand_at w n sub toks ≡ named_at w n sub toks
+operand_named w n sub toks f = rw f.here (begun w n sub f.name f.others f.no_bracket)
 
 -- ---- ranks
 
-no_prefix : (n : ℕ) (sub : Sub) (toks : Toks) → begins signs.Minus toks ≡ false → begins_with words.Not toks ≡ false → prefixed_at n sub toks ≡ operand_at n sub toks
+no_prefix : (w : Extent) (n : ℕ) (sub : Sub) (toks : Toks) → begins signs.Minus toks ≡ false → begins_with words.Not toks ≡ false → prefixed_at w n sub toks ≡ operand_at w n sub toks
 unfolding prefixed_at
-no_prefix n sub toks h g = rw (h, g) refl
+no_prefix w n sub toks h g = rw (h, g) refl
 
-a_minus : (n : ℕ) (sub : Sub) (at : Pos) (e : ExprTree) (m rest : Toks) → operand_at n sub m ≡ Ok (e, rest) → prefixed_at n sub (sign at signs.Minus ∷ m) ≡ Ok (prefixed at prefixes.Minus e, rest)
+a_minus : (w : Extent) (n : ℕ) (sub : Sub) (at : Pos) (e : ExprTree) (m rest : Toks) → operand_at w n sub m ≡ Ok (e, rest) → prefixed_at w n sub (sign at signs.Minus ∷ m) ≡ Ok (prefixed at prefixes.Minus e, rest)
 unfolding prefixed_at sign_at
-a_minus n sub at e m rest h = rw h refl
+a_minus w n sub at e m rest h = rw h refl
 
-a_not : (n : ℕ) (sub : Sub) (at : Pos) (e : ExprTree) (m rest : Toks) → operand_at n sub m ≡ Ok (e, rest) → prefixed_at n sub (word at words.Not ∷ m) ≡ Ok (prefixed at prefixes.Not e, rest)
+a_not : (w : Extent) (n : ℕ) (sub : Sub) (at : Pos) (e : ExprTree) (m rest : Toks) → operand_at w n sub m ≡ Ok (e, rest) → prefixed_at w n sub (word at words.Not ∷ m) ≡ Ok (prefixed at prefixes.Not e, rest)
 unfolding prefixed_at word_at
-a_not n sub at e m rest h = rw h refl
+a_not w n sub at e m rest h = rw h refl
 
-rank_none : (n : ℕ) (sub : Sub) (toks : Toks) (x : Read ExprTree) → prefixed_at n sub toks ≡ x → ranked_at n sub 0 toks ≡ x
+rank_none : (w : Extent) (n : ℕ) (sub : Sub) (toks : Toks) (x : Read ExprTree) → prefixed_at w n sub toks ≡ x → ranked_at w n sub 0 toks ≡ x
 unfolding ranked_at
-rank_none n sub toks x h = h
+rank_none w n sub toks x h = h
 
-rank_begins : (n : ℕ) (sub : Sub) (r : ℕ) (e : ExprTree) (toks rest : Toks) → ranked_at n sub r toks ≡ Ok (e, rest) → ranked_at n sub (suc r) toks ≡ repeat (turn_at (ranked_at n sub r) (suc r)) with_turn 32 e rest
+rank_begins : (w : Extent) (n : ℕ) (sub : Sub) (r : ℕ) (e : ExprTree) (toks rest : Toks) → ranked_at w n sub r toks ≡ Ok (e, rest) → ranked_at w n sub (suc r) toks ≡ repeat (turn_at w (ranked_at w n sub r) (suc r)) with_turn 32 e rest
 unfolding ranked_at
-rank_begins n sub r e toks rest h = rw h refl
+rank_begins w n sub r e toks rest h = rw h refl
 
-one_turn : (next : Toks → Read ExprTree) (r : ℕ) (at : Pos) (kind : TokenKind) (o : Operator) (e : ExprTree) (m rest : Toks) → operator_of kind ≡ Some o → rank_of o ≡ r → next m ≡ Ok (e, rest) → turn_at next r (tok at kind ∷ m) ≡ Ok (Some (((at, o), e), rest))
+one_turn : (w : Extent) (next : Toks → Read ExprTree) (r : ℕ) (at : Pos) (kind : TokenKind) (o : Operator) (e : ExprTree) (m rest : Toks) → operator_of kind ≡ Some o → rank_of o ≡ r → next m ≡ Ok (e, rest) → turn_at w next r (tok at kind ∷ m) ≡ Ok (Some (((at, o), e), rest))
 unfolding turn_at
-one_turn next r at kind o e m rest is rank h = rw (operator_some r at kind o m is rank, h) refl
+one_turn w next r at kind o e m rest is rank h = rw (operator_some r at kind o m is rank, h) refl
 
-deeper : (n : ℕ) (p : Pos) (toks : Toks) (x : Read ExprTree) → ranked_at n (expr_at n) 5 toks ≡ x → expr_at (suc n) p toks ≡ x
+deeper : (n : ℕ) (p : Pos) (toks : Toks) (x : Read ExprTree) → ranked_at extents.Whole n (expr_at n) 5 toks ≡ x → expr_at (suc n) p toks ≡ x
 unfolding expr_at
 deeper n p toks x h = h
 
 mutual
   -- the state of the loop over parts
-  pub exact_named : {k : ℕ} {e : ExprTree} {toks rest : Toks} → IsNamed k e toks rest → (n : ℕ) → StaysBelow (suc n) toks → ((j : ℕ) → j + k ≡ 32 → named_at n (expr_at n) toks ≡ repeat (part_at n (expr_at n)) with_part j e rest) × StaysBelow (suc n) rest
-  exact_named (a_name {n = x} {rest = rest}) n below = ((λ j h. let e : j ≡ 32 = omega arith in rw e (name_alone n (expr_at n) x rest)), below.1)
-  exact_named (with_args {k = k} {e = f} {es = es} {p = p} {m = m} {rest = rest} d a lt) n below =
-      let ih = exact_named d n below in
+  pub exact_named : {k : ℕ} {e : ExprTree} {toks rest : Toks} → IsNamed k e toks rest → (w : Extent) (n : ℕ) → StaysBelow (suc n) toks → ((j : ℕ) → j + k ≡ 32 → named_at w n (expr_at n) toks ≡ repeat (part_at w n (expr_at n)) with_part j e rest) × StaysBelow (suc n) rest
+  exact_named (a_name {n = x} {rest = rest}) w n below = ((λ j h. let e : j ≡ 32 = omega arith in rw e (name_alone w n (expr_at n) x rest)), below.1)
+  exact_named (with_args {k = k} {e = f} {es = es} {p = p} {m = m} {rest = rest} d a lt) w n below =
+      let ih = exact_named d w n below in
       let given = exact_args a n p ih.1.0 ih.1.1 in
-      ((λ j h. ih.0 (suc j) (omega arith) ∙ repeat_some (part_at n (expr_at n)) with_part j f (sign p signs.Open ∷ m) (Args es) rest (args_part n (expr_at n) p es m rest given.0)), given.1)
-  exact_named (with_field {k = k} {e = f} {n = x} {p = p} {rest = rest} d lt) n below =
-      let ih = exact_named d n below in
-      ((λ j h. ih.0 (suc j) (omega arith) ∙ repeat_some (part_at n (expr_at n)) with_part j f (sign p signs.Dot ∷ name_token x ∷ rest) (Field x) rest (field_part n (expr_at n) p x rest)), ih.1.1.1)
+      ((λ j h. ih.0 (suc j) (omega arith) ∙ repeat_some (part_at w n (expr_at n)) with_part j f (sign p signs.Open ∷ m) (Args es) rest (args_part w n (expr_at n) p es m rest given.0)), given.1)
+  exact_named (with_field {k = k} {e = f} {n = x} {p = p} {rest = rest} d lt) w n below =
+      let ih = exact_named d w n below in
+      ((λ j h. ih.0 (suc j) (omega arith) ∙ repeat_some (part_at w n (expr_at n)) with_part j f (sign p signs.Dot ∷ name_token x ∷ rest) (Field x) rest (field_part w n (expr_at n) p x rest)), ih.1.1.1)
 
   pub exact_args : {es : List ExprTree} {toks rest : Toks} → AreArgs es toks rest → (n : ℕ) (p : Pos) → 0 < n → StaysBelow n toks → (args_at n (expr_at n) (sign p signs.Open ∷ toks) ≡ Ok (es, rest)) × StaysBelow (suc n) rest
   exact_args (no_args {p = q} {rest = rest}) n p pos below = (empty_args n (expr_at n) p q rest pos, below.1)
@@ -175,20 +181,20 @@ mutual
   -- the state of the loop over arguments
   pub exact_exprs : {es : List ExprTree} {toks rest : Toks} → AreExprs es toks rest → (n : ℕ) (p : Pos) → StaysBelow (suc n) toks → Stops 5 rest → Listing (expr_at (suc n) p) es toks rest × StaysBelow (suc n) rest × (0 < length es)
   exact_exprs (one_expr {e = e} {toks = toks} {rest = rest} d) n p below stops =
-      let ih = exact_ranked d n below stops in
+      let ih = exact_ranked d extents.Whole n below stops in
       (listing_one (expr_at (suc n) p) e toks rest (deeper n p toks (Ok (e, rest)) ih.0), ih.1, omega arith)
   exact_exprs (and_expr {es = es} {e = e} {p = q} {toks = toks} {m = m} {rest = rest} l d) n p below stops =
       let il = exact_exprs l n p below (refl, refl, refl, tt) in
-      let id = exact_ranked d n il.1.1 stops in
+      let id = exact_ranked d extents.Whole n il.1.1 stops in
       (listing_and (expr_at (suc n) p) es e q toks m rest il.0 (deeper n p m (Ok (e, rest)) id.0), id.1, omega (arith, length-append es (e ∷ [])))
 
   pub exact_range : {r : RangeTree} {toks rest : Toks} → IsRange r toks rest → (n : ℕ) (p : Pos) → StaysBelow (suc n) toks → Stops 5 rest → begins signs.Colon rest ≡ false → (range_at (expr_at (suc n) p) toks ≡ Ok (r, rest)) × StaysBelow (suc n) rest
   exact_range (is_alone {e = e} {toks = toks} {rest = rest} d) n p below stops c =
-      let ih = exact_ranked d n below stops in
+      let ih = exact_ranked d extents.Whole n below stops in
       (one_alone (expr_at (suc n) p) e toks rest (deeper n p toks (Ok (e, rest)) ih.0) c, ih.1)
   exact_range (is_between {e = e} {f = f} {p = q} {toks = toks} {m = m} {rest = rest} d g) n p below stops c =
-      let id = exact_ranked d n below (refl, refl, refl, tt) in
-      let ig = exact_ranked g n id.1.1 stops in
+      let id = exact_ranked d extents.Whole n below (refl, refl, refl, tt) in
+      let ig = exact_ranked g extents.Whole n id.1.1 stops in
       (two_between (expr_at (suc n) p) e f q toks m rest (deeper n p toks (Ok (e, sign q signs.Colon ∷ m)) id.0) (deeper n p m (Ok (f, rest)) ig.0), ig.1)
 
   -- the state of the loop over the parts of a tuple
@@ -208,102 +214,95 @@ mutual
       let all = listing_all (range_at (expr_at (suc n) b)) rs toks (sign p signs.CloseBracket ∷ rest) ih.0 refl (omega (arith, ranges_shrink d)) ih.2 in
       (filled_ranges (expr_at (suc n)) b p rs toks rest (no_end toks (ranges_begin d).0).bracket all, ih.1.1)
 
-  pub exact_operand : {e : ExprTree} {toks rest : Toks} → IsOperand e toks rest → (n : ℕ) → StaysBelow (suc n) toks → Stops 0 rest → (operand_at n (expr_at n) toks ≡ Ok (e, rest)) × StaysBelow (suc n) rest
-  exact_operand (is_whole {at = at} {n = v} {rest = rest}) n below stops = (a_whole n (expr_at n) at v rest, below.1)
-  exact_operand (is_character {at = at} {n = v} {rest = rest}) n below stops = (a_character n (expr_at n) at v rest, below.1)
-  exact_operand (is_text {at = at} {s = v} {rest = rest}) n below stops = (a_text n (expr_at n) at v rest, below.1)
-  exact_operand (is_this {at = at} {rest = rest}) n below stops = (a_this n (expr_at n) at rest, below.1)
-  exact_operand (is_paren d) zero below stops = absurd (omega (arith, below.0))
-  exact_operand (is_paren {at = at} {p = p} {e = e} {m = m} {rest = rest} d) (suc n) below stops =
-      let ih = exact_ranked d n below.1 (refl, refl, refl, tt) in
-      (in_brackets (suc n) (expr_at (suc n)) at p e m rest (deeper n at m (Ok (e, sign p signs.Close ∷ rest)) ih.0), ih.1.1)
-  exact_operand (is_receive {at = at} {n = x} {rest = rest}) n below stops = (a_receive n (expr_at n) at x rest, below.1.1)
-  exact_operand (is_start {at = at} {p = p} {n = x} {es = es} {m = m} {rest = rest} d) n below stops =
+  pub exact_operand : {e : ExprTree} {toks rest : Toks} → IsOperand e toks rest → (w : Extent) (n : ℕ) → StaysBelow (suc n) toks → Stops 0 rest → (operand_at w n (expr_at n) toks ≡ Ok (e, rest)) × StaysBelow (suc n) rest
+  exact_operand (is_whole {at = at} {n = v} {rest = rest}) w n below stops = (a_whole w n (expr_at n) at v rest, below.1)
+  exact_operand (is_character {at = at} {n = v} {rest = rest}) w n below stops = (a_character w n (expr_at n) at v rest, below.1)
+  exact_operand (is_text {at = at} {s = v} {rest = rest}) w n below stops = (a_text w n (expr_at n) at v rest, below.1)
+  exact_operand (is_this {at = at} {rest = rest}) w n below stops = (a_this w n (expr_at n) at rest, below.1)
+  exact_operand (is_paren d) w zero below stops = absurd (omega (arith, below.0))
+  exact_operand (is_paren {at = at} {p = p} {e = e} {m = m} {rest = rest} d) w (suc n) below stops =
+      let ih = exact_ranked d extents.Whole n below.1 (refl, refl, refl, tt) in
+      (in_brackets w (suc n) (expr_at (suc n)) at p e m rest (deeper n at m (Ok (e, sign p signs.Close ∷ rest)) ih.0), ih.1.1)
+  exact_operand (is_receive {at = at} {n = x} {rest = rest}) w n below stops = (a_receive w n (expr_at n) at x rest, below.1.1)
+  exact_operand (is_start {at = at} {p = p} {n = x} {es = es} {m = m} {rest = rest} d) w n below stops =
       let ih = exact_args d n p below.1.1.0 below.1.1.1 in
-      (a_start n (expr_at n) at p x es m rest ih.0, ih.1)
-  exact_operand (is_tuple {b = b} {mode = mode} {rs = rs} {m = m} {rest = rest} h d) zero below stops = let k = head_below h 1 below in absurd (omega (arith, k.0))
-  exact_operand (is_tuple {b = b} {mode = mode} {rs = rs} {m = m} {rest = rest} h d) (suc n) below stops =
+      (a_start w n (expr_at n) at p x es m rest ih.0, ih.1)
+  exact_operand (is_tuple {b = b} {mode = mode} {rs = rs} {m = m} {rest = rest} h d) w zero below stops = let k = head_below h 1 below in absurd (omega (arith, k.0))
+  exact_operand (is_tuple {b = b} {mode = mode} {rs = rs} {m = m} {rest = rest} h d) w (suc n) below stops =
       let k = head_below h (suc (suc n)) below in
       let ih = exact_parts d n b k.1 in
-      (headed h (suc n) (expr_at (suc n)) (tuple (tuple_place mode b) mode b (range_nodes rs)) rest (a_tuple (suc n) (expr_at (suc n)) mode b rs m rest (omega arith) (parts_uniform d) ih.0), ih.1)
-  exact_operand (is_uniform h d) zero below stops = let k = head_below h 1 below in absurd (omega (arith, k.0))
-  exact_operand (is_uniform {b = b} {p = p} {q = q} {r = r} {s = s} {t = t} {mode = mode} {e = e} {m = m} {rest = rest} h d) (suc zero) below stops = let k = head_below h 2 below in absurd (omega (arith, k.1.0))
-  exact_operand (is_uniform {b = b} {p = p} {q = q} {r = r} {s = s} {t = t} {mode = mode} {e = e} {m = m} {rest = rest} h d) (suc (suc n)) below stops =
+      (headed h w (suc n) (expr_at (suc n)) (tuple (tuple_place mode b) mode b (range_nodes rs)) rest (a_tuple (suc n) (expr_at (suc n)) mode b rs m rest (omega arith) (parts_uniform d) ih.0), ih.1)
+  exact_operand (is_uniform h d) w zero below stops = let k = head_below h 1 below in absurd (omega (arith, k.0))
+  exact_operand (is_uniform {b = b} {p = p} {q = q} {r = r} {s = s} {t = t} {mode = mode} {e = e} {m = m} {rest = rest} h d) w (suc zero) below stops = let k = head_below h 2 below in absurd (omega (arith, k.1.0))
+  exact_operand (is_uniform {b = b} {p = p} {q = q} {r = r} {s = s} {t = t} {mode = mode} {e = e} {m = m} {rest = rest} h d) w (suc (suc n)) below stops =
       let k = head_below h (suc (suc (suc n))) below in
-      let ih = exact_ranked d (suc n) k.1.1.1.1.1 (refl, refl, refl, tt) in
-      (headed h (suc (suc n)) (expr_at (suc (suc n))) (uniform (tuple_place mode b) mode b e) rest (a_uniform (suc (suc n)) (expr_at (suc (suc n))) mode b p q r s t e m rest (omega arith) (omega arith) (deeper (suc n) b m (Ok (e, sign t signs.CloseBracket ∷ rest)) ih.0)), ih.1.1)
-  exact_operand (is_named {k = k} {e = e} {toks = toks} {rest = rest} d) n below stops =
-      let ih = exact_named d n below in
+      let ih = exact_ranked d extents.Whole (suc n) k.1.1.1.1.1 (refl, refl, refl, tt) in
+      (headed h w (suc (suc n)) (expr_at (suc (suc n))) (uniform (tuple_place mode b) mode b e) rest (a_uniform (suc (suc n)) (expr_at (suc (suc n))) mode b p q r s t e m rest (omega arith) (omega arith) (deeper (suc n) b m (Ok (e, sign t signs.CloseBracket ∷ rest)) ih.0)), ih.1.1)
+  exact_operand (is_named {k = k} {e = e} {toks = toks} {rest = rest} d) w n below stops =
+      let ih = exact_named d w n below in
       let few = named_few d in
-      let whole_name : named_at n (expr_at n) toks ≡ Ok (e, rest) = ih.0 (32 - k) (omega arith) ∙ repeat_none (part_at n (expr_at n)) with_part (32 - k) e rest (part_none n (expr_at n) 0 rest stops) in
-      (named_operand d n whole_name stops, ih.1)
+      let whole_name : named_at w n (expr_at n) toks ≡ Ok (e, rest) = ih.0 (32 - k) (omega arith) ∙ repeat_none (part_at w n (expr_at n)) with_part (32 - k) e rest (part_none w n (expr_at n) 0 rest stops) in
+      (named_operand d w n whole_name stops, ih.1)
 
-  named_operand : {k : ℕ} {e : ExprTree} {toks rest : Toks} → IsNamed k e toks rest → (n : ℕ) → named_at n (expr_at n) toks ≡ Ok (e, rest) → Stops 0 rest → operand_at n (expr_at n) toks ≡ Ok (e, rest)
-  named_operand (a_name {n = x} {rest = rest}) n h stops = begun n (expr_at n) x rest (stops_bracket 0 rest stops) ∙ h
-  named_operand (with_args {toks = toks} d a lt) n h stops = operand_named n (expr_at n) toks (name_first d refl refl) ∙ h
-  named_operand (with_field {toks = toks} d lt) n h stops = operand_named n (expr_at n) toks (name_first d refl refl) ∙ h
+  named_operand : {k : ℕ} {e : ExprTree} {toks rest : Toks} → IsNamed k e toks rest → (w : Extent) (n : ℕ) → named_at w n (expr_at n) toks ≡ Ok (e, rest) → Stops 0 rest → operand_at w n (expr_at n) toks ≡ Ok (e, rest)
+  named_operand (a_name {n = x} {rest = rest}) w n h stops = begun w n (expr_at n) x rest (stops_bracket 0 rest stops) ∙ h
+  named_operand (with_args {toks = toks} d a lt) w n h stops = operand_named w n (expr_at n) toks (name_first d refl refl) ∙ h
+  named_operand (with_field {toks = toks} d lt) w n h stops = operand_named w n (expr_at n) toks (name_first d refl refl) ∙ h
 
-  pub exact_ranked : {r : ℕ} {e : ExprTree} {toks rest : Toks} → IsRanked r e toks rest → (n : ℕ) → StaysBelow (suc n) toks → Stops r rest → (ranked_at n (expr_at n) r toks ≡ Ok (e, rest)) × StaysBelow (suc n) rest
-  exact_ranked (is_plain {toks = toks} d) n below stops =
-      let ih = exact_operand d n below stops in
+  pub exact_ranked : {r : ℕ} {e : ExprTree} {toks rest : Toks} → IsRanked r e toks rest → (w : Extent) (n : ℕ) → StaysBelow (suc n) toks → Stops r rest → (ranked_at w n (expr_at n) r toks ≡ Ok (e, rest)) × StaysBelow (suc n) rest
+  exact_ranked (is_plain {toks = toks} d) w n below stops =
+      let ih = exact_operand d w n below stops in
       let u = operand_unsigned d in
-      (rank_none n (expr_at n) toks _ (no_prefix n (expr_at n) toks u.0 u.1 ∙ ih.0), ih.1)
-  exact_ranked (is_minus {at = at} {e = e} {m = m} {rest = rest} d) n below stops =
-      let ih = exact_operand d n below.1 stops in
-      (rank_none n (expr_at n) (sign at signs.Minus ∷ m) _ (a_minus n (expr_at n) at e m rest ih.0), ih.1)
-  exact_ranked (is_not {at = at} {e = e} {m = m} {rest = rest} d) n below stops =
-      let ih = exact_operand d n below.1 stops in
-      (rank_none n (expr_at n) (word at words.Not ∷ m) _ (a_not n (expr_at n) at e m rest ih.0), ih.1)
-  exact_ranked (is_chain {r = r} {k = k} {e = e} {rest = rest} d) n below stops =
-      let ih = exact_chain d n below (stops_less r rest stops) in
+      (rank_none w n (expr_at n) toks _ (no_prefix w n (expr_at n) toks u.0 u.1 ∙ ih.0), ih.1)
+  exact_ranked (is_minus {at = at} {e = e} {m = m} {rest = rest} d) w n below stops =
+      let ih = exact_operand d w n below.1 stops in
+      (rank_none w n (expr_at n) (sign at signs.Minus ∷ m) _ (a_minus w n (expr_at n) at e m rest ih.0), ih.1)
+  exact_ranked (is_not {at = at} {e = e} {m = m} {rest = rest} d) w n below stops =
+      let ih = exact_operand d w n below.1 stops in
+      (rank_none w n (expr_at n) (word at words.Not ∷ m) _ (a_not w n (expr_at n) at e m rest ih.0), ih.1)
+  exact_ranked (is_chain {r = r} {k = k} {e = e} {rest = rest} d) w n below stops =
+      let ih = exact_chain d w n below (stops_less r rest stops) in
       let few = chain_few d in
-      (ih.0 (32 - k) (omega arith) ∙ repeat_none (turn_at (ranked_at n (expr_at n) r) (suc r)) with_turn (32 - k) e rest (turn_none (ranked_at n (expr_at n) r) (suc r) rest stops), ih.1)
+      (ih.0 (32 - k) (omega arith) ∙ repeat_none (turn_at w (ranked_at w n (expr_at n) r) (suc r)) with_turn (32 - k) e rest (turn_none w (ranked_at w n (expr_at n) r) (suc r) rest stops), ih.1)
 
   -- the state of the loop over operators of a rank
-  pub exact_chain : {r k : ℕ} {e : ExprTree} {toks rest : Toks} → IsChain r k e toks rest → (n : ℕ) → StaysBelow (suc n) toks → Stops r rest → ((j : ℕ) → j + k ≡ 32 → ranked_at n (expr_at n) (suc r) toks ≡ repeat (turn_at (ranked_at n (expr_at n) r) (suc r)) with_turn j e rest) × StaysBelow (suc n) rest
-  exact_chain (first {r = r} {e = e} {toks = toks} {rest = rest} d) n below stops =
-      let ih = exact_ranked d n below stops in
-      ((λ j h. let k : j ≡ 32 = omega arith in rw k (rank_begins n (expr_at n) r e toks rest ih.0)), ih.1)
-  exact_chain (turn {r = r} {l = l} {e = e} {o = o} {p = p} {kind = kind} {m = m} {rest = rest} c is rank d lt) n below stops =
-      let ic = exact_chain c n below (turn_stops r p kind o m is rank) in
+  pub exact_chain : {r k : ℕ} {e : ExprTree} {toks rest : Toks} → IsChain r k e toks rest → (w : Extent) (n : ℕ) → StaysBelow (suc n) toks → Stops r rest → ((j : ℕ) → j + k ≡ 32 → ranked_at w n (expr_at n) (suc r) toks ≡ repeat (turn_at w (ranked_at w n (expr_at n) r) (suc r)) with_turn j e rest) × StaysBelow (suc n) rest
+  exact_chain (first {r = r} {e = e} {toks = toks} {rest = rest} d) w n below stops =
+      let ih = exact_ranked d w n below stops in
+      ((λ j h. let k : j ≡ 32 = omega arith in rw k (rank_begins w n (expr_at n) r e toks rest ih.0)), ih.1)
+  exact_chain (turn {r = r} {l = l} {e = e} {o = o} {p = p} {kind = kind} {m = m} {rest = rest} c is rank d lt) w n below stops =
+      let ic = exact_chain c w n below (turn_stops r p kind o m is rank) in
       let same = (operator_marks kind o is).room (suc n) in
       let after = subst (λ k. StaysBelow k m) same ic.1.1 in
-      let id = exact_ranked d n after stops in
-      ((λ j h. ic.0 (suc j) (omega arith) ∙ repeat_some (turn_at (ranked_at n (expr_at n) r) (suc r)) with_turn j l (tok p kind ∷ m) ((p, o), e) rest (one_turn (ranked_at n (expr_at n) r) (suc r) p kind o e m rest is rank id.0)), id.1)
+      let id = exact_ranked d w n after stops in
+      ((λ j h. ic.0 (suc j) (omega arith) ∙ repeat_some (turn_at w (ranked_at w n (expr_at n) r) (suc r)) with_turn j l (tok p kind ∷ m) ((p, o), e) rest (one_turn w (ranked_at w n (expr_at n) r) (suc r) p kind o e m rest is rank id.0)), id.1)
 
 -- an expression that is followed by nothing that goes on with it
 pub exact_expr : {e : ExprTree} {toks rest : Toks} → IsRanked 5 e toks rest → (n : ℕ) (p : Pos) → StaysBelow (suc n) toks → Stops 5 rest → (expr_at (suc n) p toks ≡ Ok (e, rest)) × StaysBelow (suc n) rest
-exact_expr {e = e} {toks = toks} {rest = rest} d n p below stops = let x = exact_ranked d n below stops in (deeper n p toks (Ok (e, rest)) x.0, x.1)
-
--- a name with parts that no other part follows
-pub exact_whole_name : {k : ℕ} {e : ExprTree} {toks rest : Toks} → IsNamed k e toks rest → (n : ℕ) → StaysBelow (suc n) toks → part_at n (expr_at n) rest ≡ Ok None → (named_at n (expr_at n) toks ≡ Ok (e, rest)) × StaysBelow (suc n) rest
-exact_whole_name {k = k} {e = e} {rest = rest} d n below stops =
-    let ih = exact_named d n below in
-    let few = named_few d in
-    (ih.0 (32 - k) (omega arith) ∙ repeat_none (part_at n (expr_at n)) with_part (32 - k) e rest stops, ih.1)
+exact_expr {e = e} {toks = toks} {rest = rest} d n p below stops = let x = exact_ranked d extents.Whole n below stops in (deeper n p toks (Ok (e, rest)) x.0, x.1)
 
 -- an operand that a token closes is read as it is, whatever stands behind it: all but names with parts
-pub exact_closed : {e : ExprTree} {toks rest : Toks} → IsOperand e toks rest → (n : ℕ) → StaysBelow (suc n) toks → (operand_at n (expr_at n) toks ≡ Ok (e, rest)) ⊎ ((k : ℕ) × IsNamed k e toks rest)
-exact_closed (is_whole {at = at} {n = v} {rest = rest}) n below = inl (a_whole n (expr_at n) at v rest)
-exact_closed (is_character {at = at} {n = v} {rest = rest}) n below = inl (a_character n (expr_at n) at v rest)
-exact_closed (is_text {at = at} {s = v} {rest = rest}) n below = inl (a_text n (expr_at n) at v rest)
-exact_closed (is_this {at = at} {rest = rest}) n below = inl (a_this n (expr_at n) at rest)
-exact_closed (is_paren d) zero below = absurd (omega (arith, below.0))
-exact_closed (is_paren {at = at} {p = p} {e = e} {m = m} {rest = rest} d) (suc n) below = inl (in_brackets (suc n) (expr_at (suc n)) at p e m rest (exact_expr d n at below.1 (refl, refl, refl, tt)).0)
-exact_closed (is_receive {at = at} {n = x} {rest = rest}) n below = inl (a_receive n (expr_at n) at x rest)
-exact_closed (is_start {at = at} {p = p} {n = x} {es = es} {m = m} {rest = rest} d) n below = inl (a_start n (expr_at n) at p x es m rest (exact_args d n p below.1.1.0 below.1.1.1).0)
-exact_closed (is_tuple h d) zero below = let k = head_below h 1 below in absurd (omega (arith, k.0))
-exact_closed (is_tuple {b = b} {mode = mode} {rs = rs} {m = m} {rest = rest} h d) (suc n) below =
+pub exact_closed : {e : ExprTree} {toks rest : Toks} → IsOperand e toks rest → (w : Extent) (n : ℕ) → StaysBelow (suc n) toks → (operand_at w n (expr_at n) toks ≡ Ok (e, rest)) ⊎ ((k : ℕ) × IsNamed k e toks rest)
+exact_closed (is_whole {at = at} {n = v} {rest = rest}) w n below = inl (a_whole w n (expr_at n) at v rest)
+exact_closed (is_character {at = at} {n = v} {rest = rest}) w n below = inl (a_character w n (expr_at n) at v rest)
+exact_closed (is_text {at = at} {s = v} {rest = rest}) w n below = inl (a_text w n (expr_at n) at v rest)
+exact_closed (is_this {at = at} {rest = rest}) w n below = inl (a_this w n (expr_at n) at rest)
+exact_closed (is_paren d) w zero below = absurd (omega (arith, below.0))
+exact_closed (is_paren {at = at} {p = p} {e = e} {m = m} {rest = rest} d) w (suc n) below = inl (in_brackets w (suc n) (expr_at (suc n)) at p e m rest (exact_expr d n at below.1 (refl, refl, refl, tt)).0)
+exact_closed (is_receive {at = at} {n = x} {rest = rest}) w n below = inl (a_receive w n (expr_at n) at x rest)
+exact_closed (is_start {at = at} {p = p} {n = x} {es = es} {m = m} {rest = rest} d) w n below = inl (a_start w n (expr_at n) at p x es m rest (exact_args d n p below.1.1.0 below.1.1.1).0)
+exact_closed (is_tuple h d) w zero below = let k = head_below h 1 below in absurd (omega (arith, k.0))
+exact_closed (is_tuple {b = b} {mode = mode} {rs = rs} {m = m} {rest = rest} h d) w (suc n) below =
     let k = head_below h (suc (suc n)) below in
-    inl (headed h (suc n) (expr_at (suc n)) (tuple (tuple_place mode b) mode b (range_nodes rs)) rest (a_tuple (suc n) (expr_at (suc n)) mode b rs m rest (omega arith) (parts_uniform d) (exact_parts d n b k.1).0))
-exact_closed (is_uniform h d) zero below = let k = head_below h 1 below in absurd (omega (arith, k.0))
-exact_closed (is_uniform h d) (suc zero) below = let k = head_below h 2 below in absurd (omega (arith, k.1.0))
-exact_closed (is_uniform {b = b} {p = p} {q = q} {r = r} {s = s} {t = t} {mode = mode} {e = e} {m = m} {rest = rest} h d) (suc (suc n)) below =
+    inl (headed h w (suc n) (expr_at (suc n)) (tuple (tuple_place mode b) mode b (range_nodes rs)) rest (a_tuple (suc n) (expr_at (suc n)) mode b rs m rest (omega arith) (parts_uniform d) (exact_parts d n b k.1).0))
+exact_closed (is_uniform h d) w zero below = let k = head_below h 1 below in absurd (omega (arith, k.0))
+exact_closed (is_uniform h d) w (suc zero) below = let k = head_below h 2 below in absurd (omega (arith, k.1.0))
+exact_closed (is_uniform {b = b} {p = p} {q = q} {r = r} {s = s} {t = t} {mode = mode} {e = e} {m = m} {rest = rest} h d) w (suc (suc n)) below =
     let k = head_below h (suc (suc (suc n))) below in
-    inl (headed h (suc (suc n)) (expr_at (suc (suc n))) (uniform (tuple_place mode b) mode b e) rest (a_uniform (suc (suc n)) (expr_at (suc (suc n))) mode b p q r s t e m rest (omega arith) (omega arith) (exact_expr d (suc n) b k.1.1.1.1.1 (refl, refl, refl, tt)).0))
-exact_closed (is_named {k = k} d) n below = inr (k, d)
+    inl (headed h w (suc (suc n)) (expr_at (suc (suc n))) (uniform (tuple_place mode b) mode b e) rest (a_uniform (suc (suc n)) (expr_at (suc (suc n))) mode b p q r s t e m rest (omega arith) (omega arith) (exact_expr d (suc n) b k.1.1.1.1.1 (refl, refl, refl, tt)).0))
+exact_closed (is_named {k = k} d) w n below = inr (k, d)
 
 -- a name with a part is read as that
-pub parted_operand : {k : ℕ} {e : ExprTree} {toks rest : Toks} → IsNamed (suc k) e toks rest → (n : ℕ) → operand_at n (expr_at n) toks ≡ named_at n (expr_at n) toks
-parted_operand (with_args {toks = toks} d a lt) n = operand_named n (expr_at n) toks (name_first d refl refl)
-parted_operand (with_field {toks = toks} d lt) n = operand_named n (expr_at n) toks (name_first d refl refl)
+pub parted_operand : {k : ℕ} {e : ExprTree} {toks rest : Toks} → IsNamed (suc k) e toks rest → (w : Extent) (n : ℕ) → operand_at w n (expr_at n) toks ≡ named_at w n (expr_at n) toks
+parted_operand (with_args {toks = toks} d a lt) w n = operand_named w n (expr_at n) toks (name_first d refl refl)
+parted_operand (with_field {toks = toks} d lt) w n = operand_named w n (expr_at n) toks (name_first d refl refl)

@@ -8,10 +8,11 @@ use Rattle.chill_tree.specs.declared.token.TokenKind.TheVariants as kinds
 use Rattle.chill_tree.specs.declared.tree.expr.Operator.{Operator}
 use Rattle.chill_tree.specs.declared.tree.expr.Operator.TheVariants as operators
 use Rattle.chill_tree.specs.ExprTree.{ExprTree}
+use Rattle.rules_model.specs.declared.extent.Extent.{Extent}
 use Rattle.rules_model.specs.Marks.{Toks, tok, is_sign, begins, operator_of, rank_of}
 use Rattle.rules_model.specs.Nesting.{room_after}
 use Rattle.rules_model.specs.Reading.{Read, chosen}
-use Rattle.rules_model.specs.ExprReading.{Sub, part_at, ranked_operator, operator_at, turn_at}
+use Rattle.rules_model.specs.ExprReading.{Sub, part_at, location_part_at, ranked_operator, operator_at, turn_at}
 
 abbrev pub AllAbove : ℕ → Option Operator → Type 0
 AllAbove r None = Unit {0}
@@ -104,10 +105,15 @@ operator_stops at kind o m e =
     (s.open_sign, s.dot, s.bracket, some_is o (operator_of kind) e (AllAbove 0) (rank_some o))
 
 -- no part
-pub part_none : (n : ℕ) (sub : Sub) (r : ℕ) (toks : Toks) → Stops r toks → part_at n sub toks ≡ Ok None
+pub part_none : (w : Extent) (n : ℕ) (sub : Sub) (r : ℕ) (toks : Toks) → Stops r toks → part_at w n sub toks ≡ Ok None
 unfolding part_at
-part_none n sub r [] h = refl
-part_none n sub r (t ∷ ts) h = rw (h.0, h.1) refl
+part_none w n sub r [] h = refl
+part_none w n sub r (t ∷ ts) h = rw (h.0, h.1) refl
+
+pub location_part_none : (sub : Sub) (r : ℕ) (toks : Toks) → Stops r toks → location_part_at sub toks ≡ Ok None
+unfolding location_part_at
+location_part_none sub r [] h = refl
+location_part_none sub r (t ∷ ts) h = rw (h.0, h.1) refl
 
 -- no operator
 ranked_none : (r : ℕ) (o : Option Operator) → AllAbove r o → ranked_operator r o ≡ None
@@ -122,9 +128,9 @@ unfolding operator_at
 operator_none r [] h = refl
 operator_none r (t ∷ ts) h = rw (ranked_none r (operator_of t.kind) h.3) refl
 
-pub turn_none : (next : Toks → Read ExprTree) (r : ℕ) (toks : Toks) → Stops r toks → turn_at next r toks ≡ Ok None
+pub turn_none : (w : Extent) (next : Toks → Read ExprTree) (r : ℕ) (toks : Toks) → Stops r toks → turn_at w next r toks ≡ Ok None
 unfolding turn_at
-turn_none next r toks h = rw (operator_none r toks h) refl
+turn_none w next r toks h = rw (operator_none r toks h) refl
 
 pub operator_some : (r : ℕ) (at : Pos) (kind : TokenKind) (o : Operator) (m : Toks) → operator_of kind ≡ Some o → rank_of o ≡ r → operator_at r (tok at kind ∷ m) ≡ Some ((at, o), m)
 unfolding operator_at

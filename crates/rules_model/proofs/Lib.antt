@@ -8,6 +8,7 @@ pub mod GrammarExamples
 pub mod ItemExact
 pub mod ListExact
 pub mod LocalExact
+pub mod LocationExact
 pub mod Loops
 pub mod ModeExact
 pub mod Names

@@ -9,6 +9,7 @@ use Rattle.chill_tree.specs.declared.tree.mode.Packing.TheVariants as packings
 use Rattle.chill_tree.specs.declared.tree.mode.PlaceForm.TheVariants as forms
 use Rattle.chill_tree.specs.ExprTree.{ExprTree, name}
 use Rattle.chill_tree.specs.ModeTree.{DiscreteTree, named, bounded, set_of, IndexTree, index_named, index_bounded, PlaceTree, StepTree, SpreadTree, by_packing, by_step, BaseTree, discrete, powerset, chars, structure, array, FieldTree, FieldNodes, field_nodes, ModeTree, base_mode, read_mode, event_mode, buffer_mode}
+use Rattle.rules_model.specs.declared.extent.Extent.TheVariants as extents
 use Rattle.rules_model.specs.Marks.{Toks, sign, word, name_token, begins, begins_with}
 use Rattle.rules_model.specs.ExprGrammar.{IsRanked, a_name, is_named, is_plain, is_chain, first}
 use Rattle.rules_model.specs.ListGrammar.{IsLength, no_length, with_length}
@@ -30,7 +31,7 @@ exact_inside d zero p pos below stops = absurd (omega (arith, pos))
 exact_inside d (suc n) p pos below stops = exact_expr d n p below stops
 
 pub exact_value : {e : ExprTree} {toks rest : Toks} → IsRanked 5 e toks rest → (n : ℕ) → StaysBelow (suc n) toks → Stops 5 rest → (value_at n toks ≡ Ok (e, rest)) × StaysBelow (suc n) rest
-exact_value d n below stops = exact_ranked d n below stops
+exact_value d n below stops = exact_ranked d extents.Whole n below stops
 
 a_length : (n : ℕ) (p q : Pos) (e : ExprTree) (m rest : Toks) → expr_at n p m ≡ Ok (e, sign q signs.Close ∷ rest) → length_at n (sign p signs.Open ∷ m) ≡ Ok (Some e, rest)
 unfolding length_at sign_at

@@ -1,5 +1,5 @@
 -- What is an action that holds no other, or controls a loop, is read as that.
-use Rattle.std.proofs.Common.{◌≡◌, ℕ, zero, suc, ◌<◌, ◌≤◌, Bool, true, false, eqb, List, [], ◌∷◌, length, Option, Some, None, Ok, refl, ap, subst, arith}
+use Rattle.std.proofs.Common.{◌≡◌, ℕ, zero, suc, ◌-◌, ◌<◌, ◌≤◌, Bool, true, false, eqb, List, ◌∷◌, length, Option, Some, None, Ok, refl, ◌∙◌, subst, arith}
 use Rattle.std.proofs.lemmas.Bool.{eq-eqb}
 use Rattle.chill_base.specs.declared.pos.Pos.{Pos}
 use Rattle.chill_tree.specs.declared.token.Word.{Word}
@@ -8,21 +8,22 @@ use Rattle.chill_tree.specs.declared.token.Sign.TheVariants as signs
 use Rattle.chill_tree.specs.declared.token.TokenKind.{TokenKind}
 use Rattle.chill_tree.specs.declared.tree.name.Name.{Name}
 use Rattle.chill_tree.specs.declared.tree.expr.Operator.{Operator}
-use Rattle.chill_tree.specs.ExprTree.{ExprTree, name, apply, expr_nodes, exprs_in, place_of}
+use Rattle.chill_tree.specs.ExprTree.{ExprTree, place_of}
 use Rattle.chill_tree.specs.SimpleTree.{SimpleTree, assign, update, call_of, exit, return_with, result_of, assert_that, cause, stop, start_of, delay, continue_event, send, ControlTree, while_holds, for_ever, for_members, for_steps}
 use Rattle.rules_model.specs.Marks.{Toks, tok, sign, word, name_token, word_code, begins, begins_with, begins_expr, operator_of, may_update}
-use Rattle.rules_model.specs.ExprGrammar.{a_name, with_args, IsExpr, is_location, IsLocation, is_loc}
+use Rattle.rules_model.specs.ExprGrammar.{IsExpr, IsLocation, is_loc}
 use Rattle.rules_model.specs.ListGrammar.{IsClause, no_clause, with_clause, IsFlag, no_flag, with_flag}
 use Rattle.rules_model.specs.SimpleGrammar.{IsControl, is_while, is_ever, is_members, is_steps, IsValue, no_value, with_value, IsMessage, no_message, with_message, IsSimple, is_assign, is_update, is_call, is_call_word, is_exit, is_return, is_result, is_assert, is_cause, is_stop, is_start, is_delay, is_continue, is_send}
 use Rattle.rules_model.specs.Nesting.{StaysBelow}
 use Rattle.rules_model.specs.Reading.{Read, sign_at, word_at, name_at, listed_at}
-use Rattle.rules_model.specs.ExprReading.{expr_at, args_at, named_at}
+use Rattle.rules_model.specs.ExprReading.{expr_at, args_at}
 use Rattle.rules_model.specs.ModeReading.{value_at}
-use Rattle.rules_model.specs.SimpleReading.{clause_at, flag_at, members_at, steps_at, for_at, control_at, update_of, called_at, assigned_at, updated_at, behind_name_at, named_action_at, call_at, return_at, start_at, delay_at, message_at, send_at, simple_at}
+use Rattle.rules_model.specs.SimpleReading.{clause_at, flag_at, members_at, steps_at, for_at, control_at, update_of, begins_more, assigned_at, named_action_at, call_at, return_at, start_at, delay_at, message_at, send_at, simple_at}
 use Rattle.rules_model.proofs.Loops.{listing_all}
-use Rattle.rules_model.proofs.ExprStarts.{args_shrink, exprs_shrink, ranked_shrinks, location_shrinks, ranked_begins, NameFirst, name_first}
-use Rattle.rules_model.proofs.ExprStops.{Stops, part_none, operator_marks, operator_stops}
-use Rattle.rules_model.proofs.ExprExact.{exact_args, exact_exprs, exact_whole_name}
+use Rattle.rules_model.proofs.ExprStarts.{args_shrink, exprs_shrink, ranked_shrinks, location_shrinks, named_few, ranked_begins, NameFirst, name_first}
+use Rattle.rules_model.proofs.ExprStops.{Stops, operator_marks, operator_stops}
+use Rattle.rules_model.proofs.ExprExact.{exact_args, exact_exprs}
+use Rattle.rules_model.proofs.LocationExact.{GoesOn, goes_on, a_call, no_part_more, assigning}
 use Rattle.rules_model.proofs.ListExact.{Exact}
 use Rattle.rules_model.proofs.ModeExact.{exact_value}
 
@@ -131,11 +132,8 @@ control_shrinks (is_steps e b d f c) = omega (arith, ranked_shrinks e, clause_sh
 -- what an action does not go on with
 pub record EndsSimple (toks : Toks) : Type 0 where
   pub stops : Stops 5 toks
-  pub plain_stops : Stops 0 toks
-  pub becomes : begins signs.Becomes toks ≡ false
   pub open_sign : begins signs.Open toks ≡ false
-  pub colon : begins signs.Colon toks ≡ false
-  pub no_update : update_of toks ≡ None
+  pub no_more : begins_more toks ≡ false
   pub no_expr : begins_expr toks ≡ false
   pub to : begins_with words.To toks ≡ false
   pub priority : begins_with words.Priority toks ≡ false
@@ -144,25 +142,20 @@ by_name : (n : ℕ) (toks : Toks) (x : Read SimpleTree) → NameFirst toks → n
 unfolding simple_at
 by_name n toks x f h = rw f.here (rw f.here at h)
 
-an_assignment : (n : ℕ) (t v : ExprTree) (p : Pos) (toks m rest : Toks) → named_at n (expr_at n) toks ≡ Ok (t, sign p signs.Becomes ∷ m) → is_location t ≡ true → value_at n m ≡ Ok (v, rest) → named_action_at n toks ≡ Ok (assign (place_of t) t v, rest)
-unfolding named_action_at behind_name_at assigned_at sign_at
-an_assignment n t v p toks m rest h l hv = rw (h, l, hv) refl
+an_assignment : (n : ℕ) (t v : ExprTree) (p : Pos) (m rest : Toks) → value_at n m ≡ Ok (v, rest) → assigned_at n t (sign p signs.Becomes ∷ m) ≡ Ok (assign (place_of t) t v, rest)
+unfolding assigned_at sign_at
+an_assignment n t v p m rest h = rw h refl
 
 update_is : (p : Pos) (kind : TokenKind) (o : Operator) (m : Toks) → operator_of kind ≡ Some o → may_update o ≡ true → update_of (tok p kind ∷ m) ≡ Some (p, o)
 update_is p kind o m is may = rw (is, may) refl
 
-an_update : (n : ℕ) (t v : ExprTree) (o : Operator) (kind : TokenKind) (p q : Pos) (toks m rest : Toks) → named_at n (expr_at n) toks ≡ Ok (t, tok p kind ∷ sign q signs.Becomes ∷ m) → begins signs.Becomes (tok p kind ∷ sign q signs.Becomes ∷ m) ≡ false → update_of (tok p kind ∷ sign q signs.Becomes ∷ m) ≡ Some (p, o) → is_location t ≡ true → value_at n m ≡ Ok (v, rest)
-    → named_action_at n toks ≡ Ok (update (place_of t) t o p v, rest)
-unfolding named_action_at behind_name_at updated_at sign_at
-an_update n t v o kind p q toks m rest h b u l hv = rw (h, b, u, l, hv) refl
+update_more : (toks : Toks) (o : Pos × Operator) → begins signs.Open toks ≡ false → begins signs.Dot toks ≡ false → begins signs.Becomes toks ≡ false → update_of toks ≡ Some o → begins_more toks ≡ true
+update_more toks o open_sign dot becomes u = rw (open_sign, dot, becomes, u) refl
 
-pub exprs_back : (es : List ExprTree) → exprs_in (expr_nodes es) ≡ es
-exprs_back [] = refl
-exprs_back (e ∷ es) = ap (λ xs. e ∷ xs) (exprs_back es)
-
-a_call : (n : ℕ) (x : Name) (es : List ExprTree) (toks rest : Toks) → named_at n (expr_at n) toks ≡ Ok (apply x.at (name x) (expr_nodes es), rest) → begins signs.Becomes rest ≡ false → update_of rest ≡ None → named_action_at n toks ≡ Ok (call_of x.at false x es, rest)
-unfolding named_action_at behind_name_at called_at
-a_call n x es toks rest h b u = rw (h, b, u, exprs_back es) refl
+an_update : (n : ℕ) (t v : ExprTree) (o : Operator) (kind : TokenKind) (p q : Pos) (m rest : Toks) → begins signs.Becomes (tok p kind ∷ sign q signs.Becomes ∷ m) ≡ false → update_of (tok p kind ∷ sign q signs.Becomes ∷ m) ≡ Some (p, o) → value_at n m ≡ Ok (v, rest)
+    → assigned_at n t (tok p kind ∷ sign q signs.Becomes ∷ m) ≡ Ok (update (place_of t) t o p v, rest)
+unfolding assigned_at sign_at
+an_update n t v o kind p q m rest b u h = rw (b, u, h) refl
 
 a_call_word : (n : ℕ) (at p : Pos) (x : Name) (es : List ExprTree) (m rest : Toks) → args_at n (expr_at n) (sign p signs.Open ∷ m) ≡ Ok (es, rest) → simple_at n (word at words.Call ∷ name_token x ∷ sign p signs.Open ∷ m) ≡ Ok (call_of at true x es, rest)
 unfolding simple_at call_at word_at name_at
@@ -229,31 +222,35 @@ exact_message (with_message {es = es} {p = p} {q = q} {m = m} {rest = rest} d) (
     let all = listing_all (expr_at (suc n) p) es m (sign q signs.Close ∷ rest) h.0 refl (omega (arith, exprs_shrink d)) h.2 in
     (a_message (suc n) p q es m rest all, h.1.1)
 
-pub exact_location : {t : ExprTree} {toks rest : Toks} → IsLocation t toks rest → (n : ℕ) → StaysBelow (suc n) toks → Stops 0 rest → (named_at n (expr_at n) toks ≡ Ok (t, rest)) × StaysBelow (suc n) rest × (is_location t ≡ true)
-exact_location {rest = rest} (is_loc d l) n below stops = let h = exact_whole_name d n below (part_none n (expr_at n) 0 rest stops) in (h.0, h.1, l)
-
 pub location_first : {t : ExprTree} {toks rest : Toks} → IsLocation t toks rest → begins signs.OpenBracket rest ≡ false → begins signs.Colon rest ≡ false → NameFirst toks
 location_first (is_loc d l) b c = name_first d b c
 
 pub marks_stop : (p : Pos) (kind : TokenKind) (o : Operator) (m : Toks) → operator_of kind ≡ Some o → Stops 0 (tok p kind ∷ m) × (begins signs.OpenBracket (tok p kind ∷ m) ≡ false) × (begins signs.Colon (tok p kind ∷ m) ≡ false) × (begins signs.Becomes (tok p kind ∷ m) ≡ false)
 marks_stop p kind o m is = let k = operator_marks kind o is in (operator_stops p kind o m is, k.bracket, k.colon, k.becomes)
 
+-- what is assigned to, up to what is assigned
+exact_target : {t : ExprTree} {toks rest : Toks} → IsLocation t toks rest → (n : ℕ) → StaysBelow (suc n) toks → ((k : ℕ) → GoesOn k rest) → Stops 0 rest → (named_action_at n toks ≡ assigned_at n t rest) × StaysBelow (suc n) rest
+exact_target {t = t} {rest = rest} (is_loc {k = k} d l) n below on stops =
+    let x = assigning d l n below (on k) in
+    let few = named_few d in
+    (x.0 (32 - k) (omega arith) ∙ no_part_more n (32 - k) t rest stops, x.1)
+
 pub exact_simple : {a : SimpleTree} {toks rest : Toks} → IsSimple a toks rest → (n : ℕ) → StaysBelow (suc n) toks → EndsSimple rest → (simple_at n toks ≡ Ok (a, rest)) × StaysBelow (suc n) rest
 exact_simple (is_assign {t = t} {v = v} {p = p} {toks = toks} {m = m} {rest = rest} dt dv) n below ends =
-    let xt = exact_location dt n below (refl, refl, refl, tt) in
+    let xt = exact_target dt n below (λ k. goes_on k (sign p signs.Becomes ∷ m) refl refl) (refl, refl, refl, tt) in
     let xv = exact_value dv n xt.1.1 ends.stops in
-    (by_name n toks (Ok (assign (place_of t) t v, rest)) (location_first dt refl refl) (an_assignment n t v p toks m rest xt.0 xt.2 xv.0), xv.1)
+    (by_name n toks (Ok (assign (place_of t) t v, rest)) (location_first dt refl refl) (xt.0 ∙ an_assignment n t v p m rest xv.0), xv.1)
 exact_simple (is_update {t = t} {v = v} {o = o} {kind = kind} {p = p} {q = q} {toks = toks} {m = m} {rest = rest} dt is may dv) n below ends =
     let k = marks_stop p kind o (sign q signs.Becomes ∷ m) is in
-    let xt = exact_location dt n below k.0 in
-    let same = (operator_marks kind o is).room (suc n) in
-    let after = subst (λ j. StaysBelow j (sign q signs.Becomes ∷ m)) same xt.1.1 in
+    let marks = operator_marks kind o is in
+    let u = update_is p kind o (sign q signs.Becomes ∷ m) is may in
+    let xt = exact_target dt n below (λ k. goes_on k (tok p kind ∷ sign q signs.Becomes ∷ m) marks.open_sign (update_more (tok p kind ∷ sign q signs.Becomes ∷ m) (p, o) marks.open_sign marks.dot marks.becomes u)) k.0 in
+    let after = subst (λ j. StaysBelow j (sign q signs.Becomes ∷ m)) (marks.room (suc n)) xt.1.1 in
     let xv = exact_value dv n after.1 ends.stops in
-    (by_name n toks (Ok (update (place_of t) t o p v, rest)) (location_first dt k.1 k.2) (an_update n t v o kind p q toks m rest xt.0 k.3 (update_is p kind o (sign q signs.Becomes ∷ m) is may) xt.2 xv.0), xv.1)
+    (by_name n toks (Ok (update (place_of t) t o p v, rest)) (location_first dt k.1 k.2) (xt.0 ∙ an_update n t v o kind p q m rest k.3 u xv.0), xv.1)
 exact_simple (is_call {n = x} {es = es} {p = p} {m = m} {rest = rest} d) n below ends =
-    let h = exact_whole_name (with_args (a_name {n = x} {rest = sign p signs.Open ∷ m}) d (omega arith)) n below (part_none n (expr_at n) 0 rest ends.plain_stops) in (
-      by_name n (name_token x ∷ sign p signs.Open ∷ m) (Ok (call_of x.at false x es, rest)) (record { name = x; others = sign p signs.Open ∷ m; here = refl; no_bracket = refl; no_colon = refl })
-          (a_call n x es (name_token x ∷ sign p signs.Open ∷ m) rest h.0 ends.becomes ends.no_update),
+    let h = exact_args d n p below.1.0 below.1.1 in (
+      by_name n (name_token x ∷ sign p signs.Open ∷ m) (Ok (call_of x.at false x es, rest)) (record { name = x; others = sign p signs.Open ∷ m; here = refl; no_bracket = refl; no_colon = refl }) (a_call n x p es m rest h.0 ends.no_more),
       h.1,
     )
 exact_simple (is_call_word {at = at} {p = p} {n = x} {es = es} {m = m} {rest = rest} d) n below ends =

@@ -9,25 +9,26 @@ use Rattle.chill_tree.specs.LocalTree.{LocalTree}
 use Rattle.chill_tree.specs.SimpleTree.{SimpleTree, ControlTree}
 use Rattle.chill_tree.specs.StatementTree.{StatementTree, empty, simple, bracketed, BracketedTree, if_then, case_of, do_loop, begin_end, delay_case, receive_case, ElsIfTree, CaseTree, NamedTree, ReceiveTree, HandlerTree, BodyTree, local_part, action_part, statement_nodes, branch_nodes, case_nodes, named_nodes, receive_nodes, otherwise_node, handler_node, body_nodes}
 use Rattle.rules_model.specs.Marks.{Toks, sign, word, name_token, begins, begins_with}
-use Rattle.rules_model.specs.ExprGrammar.{is_location, AreRanges}
+use Rattle.rules_model.specs.ExprGrammar.{AreRanges}
 use Rattle.rules_model.specs.ListGrammar.{AreNames, IsLabel, no_label, with_label, IsClosing, left_open, closed_by}
 use Rattle.rules_model.specs.SimpleGrammar.{place_of_simple}
 use Rattle.rules_model.specs.StatementGrammar.{place_of_labelled, handles, IsDelayHead, no_head, head_sets, head_ranks, IsReceiveHead, sets_none, sets_one, IsStatement, is_empty, is_simple, is_bracketed, AreStatements, no_statements, then_statement, IsBracketed, is_if, is_case, is_do, is_begin, is_delay_case, is_receive_case, AreBranches, no_branches, then_branch, AreCases, no_cases, then_case, AreNamed, no_named, then_named, AreReceives, no_receives, then_receive, IsOtherwise, no_else, with_else, IsHandler, no_handler, with_handler, AreBody, no_parts, then_local, then_action}
 use Rattle.rules_model.specs.Nesting.{less, StaysBelow}
 use Rattle.rules_model.specs.Reading.{Fault, Read, sign_at, word_at, name_at, many_at, listed_at}
-use Rattle.rules_model.specs.ExprReading.{expr_at, named_at, range_at}
+use Rattle.rules_model.specs.ExprReading.{expr_at, location_at, range_at}
 use Rattle.rules_model.specs.ModeReading.{value_at, local_at}
 use Rattle.rules_model.specs.SimpleReading.{clause_at, control_at, simple_at}
-use Rattle.rules_model.specs.StatementReading.{begins_statement, begins_local, Acts, Body, kept, location_at, otherwise_at, branch_at, case_at, alternative_at, receipt_at, handler_at, closing_at, if_at, case_of_at, do_at, begin_at, delay_head_at, delay_case_at, receive_head_at, receive_case_at, bracketed_at, holding_at, labelled_at, unlabelled_at, statement_at, action_at, body_part_at, inside_at, actions_at, body_at}
+use Rattle.rules_model.specs.StatementReading.{begins_statement, begins_local, Acts, Body, kept, otherwise_at, branch_at, case_at, alternative_at, receipt_at, handler_at, closing_at, if_at, case_of_at, do_at, begin_at, delay_head_at, delay_case_at, receive_head_at, receive_case_at, bracketed_at, holding_at, labelled_at, unlabelled_at, statement_at, action_at, body_part_at, inside_at, actions_at, body_at}
 use Rattle.rules_model.proofs.Names.{same_equal}
 use Rattle.rules_model.proofs.Loops.{Gathering, gathering_none, gathering_then, gathering_all, listing_all}
 use Rattle.rules_model.proofs.ExprStarts.{ranges_shrink}
 use Rattle.rules_model.proofs.ExprStops.{Stops}
 use Rattle.rules_model.proofs.ExprExact.{exact_ranges}
+use Rattle.rules_model.proofs.LocationExact.{exact_location}
 use Rattle.rules_model.proofs.ListExact.{Exact, exact_names}
 use Rattle.rules_model.proofs.ModeExact.{exact_value}
 use Rattle.rules_model.proofs.LocalExact.{exact_local}
-use Rattle.rules_model.proofs.SimpleExact.{EndsSimple, exact_clause, clause_front, value_exact, exact_control, exact_location, exact_simple}
+use Rattle.rules_model.proofs.SimpleExact.{EndsSimple, exact_clause, clause_front, value_exact, exact_control, exact_simple}
 use Rattle.rules_model.proofs.StatementStarts.{statements_shrink, branches_shrink, cases_shrink, named_shrink, receives_shrink, body_shrinks, otherwise_front, handler_front, branches_front, named_front, receives_front, closing_front, BracketedFirst, bracketed_first, SimpleFirst, simple_first, statement_first, local_first}
 
 -- ---- one production each
@@ -35,10 +36,6 @@ use Rattle.rules_model.proofs.StatementStarts.{statements_shrink, branches_shrin
 kept_some : {X B : Type 0} (xs : List X) (toks : Toks) (r x : Result B Fault) → 0 < length xs → r ≡ x → kept xs toks r ≡ x
 kept_some [] toks r x lt h = absurd (omega (arith, lt))
 kept_some (y ∷ ys) toks r x lt h = h
-
-a_location : (n : ℕ) (l : ExprTree) (toks rest : Toks) → named_at n (expr_at n) toks ≡ Ok (l, rest) → is_location l ≡ true → location_at n toks ≡ Ok (l, rest)
-unfolding location_at
-a_location n l toks rest h b = rw (h, b) refl
 
 an_else : (acts : Acts) (at p : Pos) (ss : List StatementTree) (m rest : Toks) → acts at m ≡ Ok (ss, rest) → otherwise_at acts at (word p words.Else ∷ m) ≡ Ok (Some ss, rest)
 unfolding otherwise_at word_at
@@ -129,7 +126,7 @@ a_receive_case n acts body at p q l rs o m m2 m3 rest hh hr lt ho = rw (hh, hr) 
 
 -- ---- heads
 
-a_setting_head : (n : ℕ) (p q : Pos) (l : ExprTree) (c : Option ExprTree) (m m2 rest : Toks) → location_at n m ≡ Ok (l, m2) → clause_at words.Priority (value_at n) m2 ≡ Ok (c, sign q signs.Semicolon ∷ rest) → delay_head_at n (word p words.Set ∷ m) ≡ Ok ((Some l, c), rest)
+a_setting_head : (n : ℕ) (p q : Pos) (l : ExprTree) (c : Option ExprTree) (m m2 rest : Toks) → location_at (expr_at n) m ≡ Ok (l, m2) → clause_at words.Priority (value_at n) m2 ≡ Ok (c, sign q signs.Semicolon ∷ rest) → delay_head_at n (word p words.Set ∷ m) ≡ Ok ((Some l, c), rest)
 unfolding delay_head_at word_at sign_at
 a_setting_head n p q l c m m2 rest h g = rw (h, g) refl
 
@@ -146,12 +143,12 @@ exact_delay_head (no_head {toks = toks}) n below b k = (without_head n toks b k,
 exact_delay_head (head_sets {l = l} {c = c} {p = p} {q = q} {m = m} {m2 = m2} {rest = rest} dl dc) n below b k =
     let xl = exact_location dl n below.1 (clause_front (Stops 0) (λ u v. (refl, refl, refl, tt)) dc (refl, refl, refl, tt)) in
     let xc = exact_clause words.Priority (value_at n) (suc n) (Stops 5) (value_exact n) (λ u v w. w.1) dc xl.1 refl (refl, refl, refl, tt) in
-    (a_setting_head n p q l c m m2 rest (a_location n l m m2 xl.0 xl.2) xc.0, xc.1.1)
+    (a_setting_head n p q l c m m2 rest xl.0 xc.0, xc.1.1)
 exact_delay_head (head_ranks {e = e} {p = p} {q = q} {m = m} {rest = rest} d) n below b k =
     let x = exact_value d n below.1 (refl, refl, refl, tt) in
     (a_ranking_head n p q e m rest x.0, x.1.1)
 
-a_receive_head : (n : ℕ) (p q : Pos) (l : ExprTree) (m rest : Toks) → location_at n m ≡ Ok (l, sign q signs.Semicolon ∷ rest) → receive_head_at n (word p words.Set ∷ m) ≡ Ok (Some l, rest)
+a_receive_head : (n : ℕ) (p q : Pos) (l : ExprTree) (m rest : Toks) → location_at (expr_at n) m ≡ Ok (l, sign q signs.Semicolon ∷ rest) → receive_head_at n (word p words.Set ∷ m) ≡ Ok (Some l, rest)
 unfolding receive_head_at word_at sign_at
 a_receive_head n p q l m rest h = rw h refl
 
@@ -163,7 +160,7 @@ exact_receive_head : {l : Option ExprTree} {toks rest : Toks} → IsReceiveHead 
 exact_receive_head (sets_none {toks = toks}) n below b = (without_receive_head n toks b, below)
 exact_receive_head (sets_one {l = l} {p = p} {q = q} {m = m} {rest = rest} d) n below b =
     let x = exact_location d n below.1 (refl, refl, refl, tt) in
-    (a_receive_head n p q l m rest (a_location n l m (sign q signs.Semicolon ∷ rest) x.0 x.2), x.1.1)
+    (a_receive_head n p q l m rest x.0, x.1.1)
 
 -- ---- statements
 
@@ -248,8 +245,8 @@ mutual
   pub exact_statement : {s : StatementTree} {toks rest : Toks} → IsStatement s toks rest → (n : ℕ) → StaysBelow (suc n) toks → (statement_at n (actions_at n) (body_at n) toks ≡ Ok (s, rest)) × StaysBelow (suc n) rest
   exact_statement (is_empty {at = at} {rest = rest}) n below = (an_empty n (actions_at n) (body_at n) at rest, below.1)
   exact_statement (is_simple {a = a} {h = h} {p = p} {toks = toks} {m = m} {rest = rest} da dh) n below =
-      let ends = handler_front EndsSimple (λ q k. record { stops = (refl, refl, refl, tt); plain_stops = (refl, refl, refl, tt); becomes = refl; open_sign = refl; colon = refl; no_update = refl; no_expr = refl; to = refl; priority = refl }) dh
-      (record { stops = (refl, refl, refl, tt); plain_stops = (refl, refl, refl, tt); becomes = refl; open_sign = refl; colon = refl; no_update = refl; no_expr = refl; to = refl; priority = refl }) in
+      let ends = handler_front EndsSimple (λ q k. record { stops = (refl, refl, refl, tt); open_sign = refl; no_more = refl; no_expr = refl; to = refl; priority = refl }) dh
+      (record { stops = (refl, refl, refl, tt); open_sign = refl; no_more = refl; no_expr = refl; to = refl; priority = refl }) in
       let xa = exact_simple da n below ends in
       let xh = exact_handler dh n xa.1 refl in
       (a_simple n (actions_at n) (body_at n) a h p toks m rest (simple_first da) xa.0 xh.0, xh.1.1)

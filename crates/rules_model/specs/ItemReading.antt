@@ -14,7 +14,7 @@ use Rattle.chill_tree.specs.declared.tree.item.Passing.TheVariants as ways
 use Rattle.chill_tree.specs.ModeTree.{ModeTree}
 use Rattle.chill_tree.specs.StatementTree.{HandlerTree, BodyTree}
 use Rattle.chill_tree.specs.ItemTree.{SignalTree, ParamTree, ProcedureTree, FormalTree, ProcessTree, ItemTree, seize, grant, local_item, signals, procedure, process, action, ModulionTree, modulion_item, ProgramTree}
-use Rattle.rules_model.specs.Marks.{Toks, begins, begins_with, behind}
+use Rattle.rules_model.specs.Marks.{Toks, begins, begins_with, begins_name, behind}
 use Rattle.rules_model.specs.Nesting.{less}
 use Rattle.rules_model.specs.Reading.{Fault, Deep, Absent, Read, Piece, ◌>>=◌, sign_at, word_at, name_at, many_at, listed_at}
 use Rattle.rules_model.specs.ModeReading.{mode_at, local_at}
@@ -120,7 +120,7 @@ items_at (suc n) p toks = many_at (item_at n (items_at n)) toks
 
 -- a modulion, if one begins here
 unfoldable pub modulion_piece_at : ℕ → Toks → Piece ModulionTree
-modulion_piece_at n toks = if begins_label toks then (modulion_at n (items_at n) toks >>= λ x. Ok (Some x)) else Ok None
+modulion_piece_at n toks = if begins_name toks then (modulion_at n (items_at n) toks >>= λ x. Ok (Some x)) else Ok None
 
 abbrev pub nothing_left : Toks → ProgramTree → Result ProgramTree Fault
 nothing_left [] x = Ok x

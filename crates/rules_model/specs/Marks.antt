@@ -153,6 +153,16 @@ abbrev pub begins_with : Word → Toks → Bool
 begins_with w [] = false
 begins_with w (t ∷ rest) = is_word w t.kind
 
+-- whether a token is a name
+abbrev pub is_name : TokenKind → Bool
+is_name (kinds.Name n) = true
+is_name _ = false
+
+-- whether a name stands at the front
+abbrev pub begins_name : Toks → Bool
+begins_name [] = false
+begins_name (t ∷ rest) = is_name t.kind
+
 -- the tokens behind the first
 abbrev pub behind : Toks → Toks
 behind [] = []

@@ -10,6 +10,7 @@ use Rattle.chill_tree.specs.declared.tree.mode.PlaceForm.TheVariants as forms
 use Rattle.chill_tree.specs.ExprTree.{ExprTree, name_in}
 use Rattle.chill_tree.specs.ModeTree.{DiscreteTree, named, bounded, set_of, IndexTree, index_named, index_bounded, PlaceTree, StepTree, SpreadTree, by_packing, by_step, BaseTree, discrete, powerset, chars, structure, array, FieldTree, field_nodes, ModeTree, base_mode, read_mode, event_mode, buffer_mode}
 use Rattle.chill_tree.specs.LocalTree.{SynonymTree, ModeDefinitionTree, InitialTree, DeclarationTree, LocalTree, synonyms, syn_modes, new_modes, locations}
+use Rattle.rules_model.specs.declared.extent.Extent.TheVariants as extents
 use Rattle.rules_model.specs.Marks.{Toks, begins, begins_with, front}
 use Rattle.rules_model.specs.Nesting.{less}
 use Rattle.rules_model.specs.Reading.{Deep, Absent, Read, ◌>>=◌, chosen, sign_at, word_at, name_at, listed_at}
@@ -19,7 +20,7 @@ use Rattle.rules_model.specs.ExprReading.{ranked_at, expr_at}
 
 -- an expression that no opening token stands before
 abbrev pub value_at : ℕ → Toks → Read ExprTree
-value_at n toks = ranked_at n (expr_at n) 5 toks
+value_at n toks = ranked_at extents.Whole n (expr_at n) 5 toks
 
 -- a length in its brackets, if the bracket is there
 unfoldable pub length_at : ℕ → Toks → Read (Option ExprTree)

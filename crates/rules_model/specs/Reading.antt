@@ -8,6 +8,8 @@ use Rattle.chill_tree.specs.declared.token.Token.{Token}
 use Rattle.chill_tree.specs.declared.token.TokenKind.{TokenKind}
 use Rattle.chill_tree.specs.declared.token.TokenKind.TheVariants as kinds
 use Rattle.chill_tree.specs.declared.tree.name.Name.{Name}
+use Rattle.rules_model.specs.declared.extent.Extent.{Extent}
+use Rattle.rules_model.specs.declared.extent.Extent.TheVariants as extents
 use Rattle.rules_model.specs.Marks.{Toks, is_sign, is_word, begins}
 
 -- why there is no tree: the nesting is too deep at a place, or a token or the end doesn't fit
@@ -28,11 +30,12 @@ abbrev pub ◌>>=◌ : {A B : Type 0} → Result A Fault → (A → Result B Fau
 (Ok x) >>= f = f x
 (Err e) >>= f = Err e
 
--- goes on where something is, and keeps y where nothing is
-abbrev pub settle : {A B : Type 0} → Result A Fault → B → (A → Result B Fault) → Result B Fault
-settle (Ok x) y f = f x
-settle (Err (Deep p)) y f = Err (Deep p)
-settle (Err (Absent p)) y f = Ok y
+-- goes on where something is; where nothing is, the longest reading keeps y, and a whole one fails
+abbrev pub settle : {A B : Type 0} → Extent → Result A Fault → B → (A → Result B Fault) → Result B Fault
+settle w (Ok x) y f = f x
+settle w (Err (Deep p)) y f = Err (Deep p)
+settle extents.Longest (Err (Absent p)) y f = Ok y
+settle extents.Whole (Err (Absent p)) y f = Err (Absent p)
 
 abbrev pub chosen : {A B : Type 0} → Option A → B → (A → B) → B
 chosen None y f = y

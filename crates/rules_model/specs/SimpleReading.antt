@@ -1,17 +1,16 @@
 -- Reading actions that hold no other, and what controls a loop, from the front.
-use Rattle.std.specs.Prelude.{ℕ, Bool, true, false, List, [], ◌∷◌, Option, Some, None, option_map, Ok, Err, if◌then◌else◌}
+use Rattle.std.specs.Prelude.{ℕ, ◌==◌, ◌&&◌, ◌||◌, Bool, true, false, List, [], ◌∷◌, length, Option, Some, None, is_some, Ok, Err, if◌then◌else◌}
 use Rattle.chill_base.specs.declared.pos.Pos.{Pos}
 use Rattle.chill_tree.specs.declared.token.Word.{Word}
 use Rattle.chill_tree.specs.declared.token.Word.TheVariants as words
 use Rattle.chill_tree.specs.declared.token.Sign.TheVariants as signs
 use Rattle.chill_tree.specs.declared.tree.name.Name.{Name}
 use Rattle.chill_tree.specs.declared.tree.expr.Operator.{Operator}
-use Rattle.chill_tree.specs.ExprTree.{ExprTree, exprs_in, applied_in, place_of}
+use Rattle.chill_tree.specs.ExprTree.{ExprTree, name, apply, expr_nodes, place_of}
 use Rattle.chill_tree.specs.SimpleTree.{SimpleTree, assign, update, call_of, exit, return_with, result_of, assert_that, cause, stop, start_of, delay, continue_event, send, ControlTree, while_holds, for_ever, for_members, for_steps}
 use Rattle.rules_model.specs.Marks.{Toks, begins, begins_with, begins_expr, behind, front, operator_of, may_update}
-use Rattle.rules_model.specs.ExprGrammar.{is_location}
 use Rattle.rules_model.specs.Reading.{Absent, Read, ◌>>=◌, chosen, sign_at, word_at, name_at, listed_at}
-use Rattle.rules_model.specs.ExprReading.{expr_at, args_at, named_at}
+use Rattle.rules_model.specs.ExprReading.{expr_at, args_at, location_parts_at}
 use Rattle.rules_model.specs.ModeReading.{value_at}
 
 -- In what follows n is the number of levels of nesting that are left behind an opening token.
@@ -48,28 +47,26 @@ abbrev pub update_of : Toks → Option (Pos × Operator)
 update_of [] = None
 update_of (t ∷ rest) = chosen (operator_of t.kind) None (λ o. if may_update o then Some (t.at, o) else None)
 
--- the name and the arguments of a name with one part in brackets
-abbrev pub call_in : ExprTree → Option (Name × List ExprTree)
-call_in t = option_map (λ a. (a.0, exprs_in a.1)) (applied_in t)
+-- whether more of a location or of an assignment stands there
+abbrev pub begins_more : Toks → Bool
+begins_more toks = begins signs.Open toks || begins signs.Dot toks || begins signs.Becomes toks || is_some (update_of toks)
 
-unfoldable pub called_at : ExprTree → Toks → Read SimpleTree
-called_at t toks = chosen (call_in t) (Err (Absent (front toks))) (λ c. Ok (call_of c.0.at false c.0 c.1, toks))
-
+-- what is assigned to a location
 unfoldable pub assigned_at : ℕ → ExprTree → Toks → Read SimpleTree
 assigned_at n t toks =
-    if is_location t then (sign_at signs.Becomes toks >>= λ p. value_at n p.1 >>= λ v. Ok (assign (place_of t) t v.0, v.1)) else Err (Absent (front toks))
+    if begins signs.Becomes toks then (sign_at signs.Becomes toks >>= λ p. value_at n p.1 >>= λ v. Ok (assign (place_of t) t v.0, v.1))
+    else chosen (update_of toks) (Err (Absent (front toks))) (λ o. sign_at signs.Becomes (behind toks) >>= λ p. value_at n p.1 >>= λ v. Ok (update (place_of t) t o.1 o.0 v.0, v.1))
 
-unfoldable pub updated_at : ℕ → ExprTree → Pos × Operator → Toks → Read SimpleTree
-updated_at n t o toks =
-    if is_location t then (sign_at signs.Becomes toks >>= λ p. value_at n p.1 >>= λ v. Ok (update (place_of t) t o.1 o.0 v.0, v.1)) else Err (Absent (front toks))
+-- what there is with at most so many more parts, and what is assigned to it
+unfoldable pub assignment_at : ℕ → ℕ → ExprTree → Toks → Read SimpleTree
+assignment_at n k t toks = location_parts_at (expr_at n) k t toks >>= λ l. assigned_at n l.0 l.1
 
--- what stands behind a name with its parts decides
-unfoldable pub behind_name_at : ℕ → ExprTree → Toks → Read SimpleTree
-behind_name_at n t toks =
-    if begins signs.Becomes toks then assigned_at n t toks else chosen (update_of toks) (called_at t toks) (λ o. updated_at n t o (behind toks))
+-- a name with arguments is a call, unless it is one expression and more of a location or of an assignment follows
+unfoldable pub applied_at : ℕ → Name → List ExprTree → Toks → Read SimpleTree
+applied_at n x es toks = if begins_more toks && length es == 1 then assignment_at n 31 (apply x.at (name x) (expr_nodes es)) toks else Ok (call_of x.at false x es, toks)
 
 unfoldable pub named_action_at : ℕ → Toks → Read SimpleTree
-named_action_at n toks = named_at n (expr_at n) toks >>= λ t. behind_name_at n t.0 t.1
+named_action_at n toks = name_at toks >>= λ x. if begins signs.Open x.1 then (args_at n (expr_at n) x.1 >>= λ es. applied_at n x.0 es.0 es.1) else assignment_at n 32 (name x.0) x.1
 
 unfoldable pub call_at : ℕ → Toks → Read SimpleTree
 call_at n toks = word_at words.Call toks >>= λ w. name_at w.1 >>= λ x. args_at n (expr_at n) x.1 >>= λ es. Ok (call_of w.0 true x.0 es.0, es.1)

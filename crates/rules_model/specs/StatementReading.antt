@@ -10,12 +10,11 @@ use Rattle.chill_tree.specs.declared.tree.name.Name.{Name}
 use Rattle.chill_tree.specs.ExprTree.{ExprTree}
 use Rattle.chill_tree.specs.StatementTree.{StatementTree, empty, simple, bracketed, BracketedTree, if_then, case_of, do_loop, begin_end, delay_case, receive_case, ElsIfTree, CaseTree, NamedTree, ReceiveTree, HandlerTree, BodyTree, local_part, action_part, statement_nodes, branch_nodes, case_nodes, named_nodes, receive_nodes, otherwise_node, handler_node, body_nodes}
 use Rattle.rules_model.specs.Marks.{Toks, begins, begins_with, front}
-use Rattle.rules_model.specs.ExprGrammar.{is_location}
 use Rattle.rules_model.specs.SimpleGrammar.{place_of_simple}
 use Rattle.rules_model.specs.StatementGrammar.{place_of_labelled, handles}
 use Rattle.rules_model.specs.Nesting.{less}
 use Rattle.rules_model.specs.Reading.{Fault, Deep, Absent, Read, Piece, ◌>>=◌, sign_at, word_at, name_at, many_at, listed_at}
-use Rattle.rules_model.specs.ExprReading.{expr_at, named_at, range_at}
+use Rattle.rules_model.specs.ExprReading.{expr_at, location_at, range_at}
 use Rattle.rules_model.specs.ModeReading.{value_at, local_at}
 use Rattle.rules_model.specs.SimpleReading.{clause_at, control_at, simple_at}
 
@@ -41,7 +40,7 @@ begins_bracketed (t ∷ rest) = go t.kind
     go (kinds.Word words.Do) = true
     go (kinds.Word words.Begin) = true
     go (kinds.Word words.Delay) = begins_with words.Case rest
-    go (kinds.Word words.Receive) = begins_with words.Case rest
+    go (kinds.Word words.Receive) = true
     go _ = false
 
 -- whether a statement may begin with the token
@@ -96,9 +95,6 @@ Body = Pos → Toks → Read (List BodyTree)
 abbrev pub kept : {X B : Type 0} → List X → Toks → Result B Fault → Result B Fault
 kept [] toks r = Err (Absent (front toks))
 kept (x ∷ xs) toks r = r
-
-unfoldable pub location_at : ℕ → Toks → Read ExprTree
-location_at n toks = named_at n (expr_at n) toks >>= λ l. if is_location l.0 then Ok l else Err (Absent (front toks))
 
 unfoldable pub otherwise_at : Acts → Pos → Toks → Read (Option (List StatementTree))
 otherwise_at acts p toks = if begins_with words.Else toks then (word_at words.Else toks >>= λ w. acts p w.1 >>= λ ss. Ok (Some ss.0, ss.1)) else Ok (None, toks)
@@ -162,7 +158,7 @@ begin_at body toks = word_at words.Begin toks >>= λ w. body w.0 w.1 >>= λ ps. 
 
 unfoldable pub delay_head_at : ℕ → Toks → Read (Option ExprTree × Option ExprTree)
 delay_head_at n toks =
-    if begins_with words.Set toks then (word_at words.Set toks >>= λ w. location_at n w.1 >>= λ l. clause_at words.Priority (value_at n) l.1 >>= λ c. sign_at signs.Semicolon c.1 >>= λ s. Ok ((Some l.0, c.0), s.1))
+    if begins_with words.Set toks then (word_at words.Set toks >>= λ w. location_at (expr_at n) w.1 >>= λ l. clause_at words.Priority (value_at n) l.1 >>= λ c. sign_at signs.Semicolon c.1 >>= λ s. Ok ((Some l.0, c.0), s.1))
     else if begins_with words.Priority toks then (word_at words.Priority toks >>= λ w. value_at n w.1 >>= λ e. sign_at signs.Semicolon e.1 >>= λ s. Ok ((None, Some e.0), s.1))
     else Ok ((None, None), toks)
 
@@ -172,7 +168,7 @@ delay_case_at n acts toks =
 
 unfoldable pub receive_head_at : ℕ → Toks → Read (Option ExprTree)
 receive_head_at n toks =
-    if begins_with words.Set toks then (word_at words.Set toks >>= λ w. location_at n w.1 >>= λ l. sign_at signs.Semicolon l.1 >>= λ s. Ok (Some l.0, s.1)) else Ok (None, toks)
+    if begins_with words.Set toks then (word_at words.Set toks >>= λ w. location_at (expr_at n) w.1 >>= λ l. sign_at signs.Semicolon l.1 >>= λ s. Ok (Some l.0, s.1)) else Ok (None, toks)
 
 unfoldable pub receive_case_at : ℕ → Acts → Toks → Read BracketedTree
 receive_case_at n acts toks =

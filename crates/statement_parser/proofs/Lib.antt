@@ -1,3 +1,3 @@
+pub mod Counts
 pub mod Labels
 pub mod Levels
-pub mod Nodes

@@ -2,12 +2,14 @@
 use Rattle.std.specs.Prelude.{ℕ, Bool, List, Option, Ok, if◌then◌else◌}
 use Rattle.chill_base.specs.declared.pos.Pos.{Pos}
 use Rattle.chill_tree.specs.declared.token.Word.TheVariants as words
+use Rattle.chill_tree.specs.declared.token.Sign.TheVariants as signs
 use Rattle.chill_tree.specs.declared.tree.name.Name.{Name}
-use Rattle.chill_tree.specs.ExprTree.{ExprTree}
-use Rattle.chill_tree.specs.SimpleTree.{ControlTree, for_steps, SimpleTree, stop, continue_event}
+use Rattle.chill_tree.specs.declared.tree.expr.Operator.{Operator}
+use Rattle.chill_tree.specs.ExprTree.{ExprTree, place_of}
+use Rattle.chill_tree.specs.SimpleTree.{ControlTree, for_steps, SimpleTree, stop, continue_event, update}
 use Rattle.chill_tree.specs.StatementTree.{StatementTree, BracketedTree, if_then, case_of, delay_case, receive_case, CaseTree, statement_nodes, branch_nodes, case_nodes, named_nodes, receive_nodes, otherwise_node}
 use Rattle.rules_model.specs.Marks.{Toks, begins_with}
-use Rattle.rules_model.specs.Reading.{Read, ◌>>=◌, word_at, many_at}
+use Rattle.rules_model.specs.Reading.{Read, ◌>>=◌, sign_at, word_at, many_at}
 use Rattle.rules_model.specs.Nesting.{less}
 use Rattle.rules_model.specs.ModeReading.{value_at}
 use Rattle.rules_model.specs.SimpleReading.{clause_at, word_name_at, start_at, delay_at, send_at, named_action_at}
@@ -26,6 +28,10 @@ other_simple_at n toks =
     else if begins_with words.Continue toks then word_name_at words.Continue continue_event toks
     else if begins_with words.Send toks then send_at n toks
     else named_action_at n toks
+
+-- what is assigned with an operator, from behind that on
+unfoldable pub updated_at : ℕ → ExprTree → Pos × Operator → Toks → Read SimpleTree
+updated_at n t o toks = sign_at signs.Becomes toks >>= λ p. value_at n p.1 >>= λ v. Ok (update (place_of t) t o.1 o.0 v.0, v.1)
 
 -- In what follows acts reads the actions in what opened at a place, and n is the number of levels that are left inside.
 

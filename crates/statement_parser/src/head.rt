@@ -5,10 +5,9 @@ ghost use Rattle.expr_parser.specs.Giving.{Gives};
 ghost use Rattle.rules_model.specs.StatementReading.{delay_head_at, receive_head_at};
 
 use crate::clause::value_clause;
-use crate::location::read_location;
 use chill_tree::tree::Expr;
 use chill_tree::{Sign, Token, Word};
-use expr_parser::{ParseRefusal, read_sign, read_value, read_word, starts_with};
+use expr_parser::{ParseRefusal, read_location, read_sign, read_value, read_word, starts_with};
 use std::alloc::Global;
 
 /// What stands before the alternatives of DELAY CASE: a location that gets the instance which continued it, and a

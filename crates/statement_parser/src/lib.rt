@@ -11,7 +11,6 @@ mod closing;
 mod control;
 mod handler;
 mod head;
-mod location;
 mod mark;
 mod named;
 mod simple;

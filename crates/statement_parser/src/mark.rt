@@ -18,14 +18,15 @@ pub fn begins_label(tokens: &[Token]) -> bool
     }
 }
 
-/// Whether an action that holds others stands at the front.
+/// Whether an action that holds others stands at the front. No other action begins with RECEIVE, and one that begins
+/// with DELAY holds others where CASE follows.
 pub fn begins_bracketed(tokens: &[Token]) -> bool
     ensures { result ≡ reading.begins_bracketed tokens.now }
 {
     match tokens {
         [token, rest @ ..] => match &token.kind {
-            TokenKind::Word(Word::If | Word::Case | Word::Do | Word::Begin) => true,
-            TokenKind::Word(Word::Delay | Word::Receive) => starts_with(rest, Word::Case),
+            TokenKind::Word(Word::If | Word::Case | Word::Do | Word::Begin | Word::Receive) => true,
+            TokenKind::Word(Word::Delay) => starts_with(rest, Word::Case),
             _ => false,
         },
         [] => false,

@@ -1,18 +1,19 @@
 // Readers of actions that begin with a name: assignments and calls (Z.200, assignment action, call action).
-ghost use Rattle.std.specs.Prelude.{◌≡◌, option_map};
-ghost use Rattle.chill_tree.specs.ExprTree.{boxed_expr};
+ghost use Rattle.std.specs.Prelude.{◌≡◌, ◌-◌, option_map};
+ghost use Rattle.chill_tree.specs.ExprTree.{boxed_expr, expr_trees};
 ghost use Rattle.chill_tree.specs.SimpleTree.{simple_tree};
 ghost use Rattle.expr_parser.specs.Giving.{Gives};
 ghost use Rattle.rules_model.specs.Marks as marks;
-ghost use Rattle.rules_model.specs.SimpleReading.{called_at, assigned_at, updated_at, behind_name_at, named_action_at};
+ghost use Rattle.rules_model.specs.SimpleReading.{applied_at, assigned_at, assignment_at, named_action_at};
 ghost use Rattle.rules_model.specs.SimpleReading as reading;
+ghost use Rattle.statement_parser.specs.Tails.{updated_at};
 
-use crate::location::{call_in, is_location};
-use chill_base::Pos;
-use chill_tree::tree::{Expr, Operator, Simple};
+use chill_base::{List, Pos};
+use chill_tree::tree::{Expr, Name, Operator, Simple};
 use chill_tree::{Sign, Token};
 use expr_parser::{
-    ParseRefusal, behind, operator_of, place, read_named, read_sign, read_value, starts,
+    ParseRefusal, behind, operator_of, place, read_args, read_location_parts, read_name, read_sign,
+    read_value, starts,
 };
 use std::alloc::Global;
 
@@ -25,31 +26,66 @@ pub fn read_named_action(
 ) -> Result<(Simple, &[Token]), ParseRefusal>
     ensures { Gives (λ x. (simple_tree x.0, x.1.now)) result (named_action_at inner tokens.now) }
 {
-    let (target, rest) = read_named(alloc, tokens, inner)?;
-    behind_name(alloc, target, rest, inner)
+    let (name, rest) = read_name(tokens)?;
+    if !starts(rest, Sign::Open) {
+        return assignment(alloc, Expr::name(alloc, name)?, rest, inner, 0);
+    }
+    let (args, rest) = read_args(alloc, rest, inner)?;
+    applied(alloc, name, args, rest, inner)
 }
 
-// Reads what stands behind a name with its parts.
-#[tactic(auto, unfolding(rules_model::specs::SimpleReading::behind_name_at))]
-fn behind_name(
+// A call, or what is assigned to an element, if the brackets have one expression and more of a location or of an
+// assignment follows.
+#[tactic(auto, unfolding(rules_model::specs::SimpleReading::applied_at), using(crate::proofs::Counts::as_many))]
+fn applied(
     alloc: Global,
-    target: Box<Expr>,
+    name: Name,
+    args: List<Expr>,
     tokens: &[Token],
     inner: usize,
 ) -> Result<(Simple, &[Token]), ParseRefusal>
-    ensures { Gives (λ x. (simple_tree x.0, x.1.now)) result (behind_name_at inner (boxed_expr target) tokens.now) }
+    ensures { Gives (λ x. (simple_tree x.0, x.1.now)) result (applied_at inner name (expr_trees args) tokens.now) }
 {
-    if starts(tokens, Sign::Becomes) {
-        return assigned(alloc, target, tokens, inner);
+    if begins_more(tokens) && args.len() == 1 {
+        let element = Expr::apply(alloc, Expr::name(alloc, name)?, args)?;
+        return assignment(alloc, element, tokens, inner, 1);
     }
-    match update_of(tokens) {
-        Some((sign, operator)) => updated(alloc, target, operator, sign, behind(tokens), inner),
-        None => called(target, tokens),
-    }
+    let action = Simple::Call {
+        at: name.at,
+        call: false,
+        name,
+        args,
+    };
+    Ok((action, tokens))
+}
+
+// Whether more of a location or of an assignment stands at the front.
+fn begins_more(tokens: &[Token]) -> bool
+    ensures { result ≡ reading.begins_more tokens.now }
+{
+    starts(tokens, Sign::Open)
+        || starts(tokens, Sign::Dot)
+        || starts(tokens, Sign::Becomes)
+        || matches!(update_of(tokens), Some(_))
+}
+
+// Reads the rest of a location, so many parts of which were read, and what is assigned to it.
+#[tactic(auto, unfolding(rules_model::specs::SimpleReading::assignment_at))]
+fn assignment(
+    alloc: Global,
+    first: Box<Expr>,
+    tokens: &[Token],
+    inner: usize,
+    read: usize,
+) -> Result<(Simple, &[Token]), ParseRefusal>
+    ensures { Gives (λ x. (simple_tree x.0, x.1.now)) result (assignment_at inner (32 - read) (boxed_expr first) tokens.now) }
+{
+    let (target, rest) = read_location_parts(alloc, first, tokens, inner, read)?;
+    assigned(alloc, target, rest, inner)
 }
 
 // Reads what is assigned to a location.
-#[tactic(auto, unfolding(rules_model::specs::SimpleReading::assigned_at))]
+#[tactic(auto, unfolding(rules_model::specs::SimpleReading::assigned_at, crate::specs::Tails::updated_at))]
 fn assigned(
     alloc: Global,
     target: Box<Expr>,
@@ -58,17 +94,20 @@ fn assigned(
 ) -> Result<(Simple, &[Token]), ParseRefusal>
     ensures { Gives (λ x. (simple_tree x.0, x.1.now)) result (assigned_at inner (boxed_expr target) tokens.now) }
 {
-    if !is_location(&target) {
-        return Err(ParseRefusal::NoProgram { at: place(tokens) });
+    if starts(tokens, Sign::Becomes) {
+        let (_, rest) = read_sign(tokens, Sign::Becomes)?;
+        let (value, rest) = read_value(alloc, rest, inner)?;
+        let at = target.at();
+        return Ok((Simple::Assign { at, target, value }, rest));
     }
-    let (_, rest) = read_sign(tokens, Sign::Becomes)?;
-    let (value, rest) = read_value(alloc, rest, inner)?;
-    let at = target.at();
-    Ok((Simple::Assign { at, target, value }, rest))
+    match update_of(tokens) {
+        Some((sign, operator)) => updated(alloc, target, operator, sign, behind(tokens), inner),
+        None => Err(ParseRefusal::NoProgram { at: place(tokens) }),
+    }
 }
 
 // Reads the other operand of an assignment with an operator, from behind that on.
-#[tactic(auto, unfolding(rules_model::specs::SimpleReading::updated_at))]
+#[tactic(auto, unfolding(crate::specs::Tails::updated_at))]
 fn updated(
     alloc: Global,
     target: Box<Expr>,
@@ -79,9 +118,6 @@ fn updated(
 ) -> Result<(Simple, &[Token]), ParseRefusal>
     ensures { Gives (λ x. (simple_tree x.0, x.1.now)) result (updated_at inner (boxed_expr target) (sign, operator) tokens.now) }
 {
-    if !is_location(&target) {
-        return Err(ParseRefusal::NoProgram { at: place(tokens) });
-    }
     let (_, rest) = read_sign(tokens, Sign::Becomes)?;
     let (value, rest) = read_value(alloc, rest, inner)?;
     let at = target.at();
@@ -93,25 +129,6 @@ fn updated(
         value,
     };
     Ok((action, rest))
-}
-
-// A call, if the name has one part in brackets.
-#[tactic(auto, unfolding(rules_model::specs::SimpleReading::called_at))]
-fn called(target: Box<Expr>, tokens: &[Token]) -> Result<(Simple, &[Token]), ParseRefusal>
-    ensures { Gives (λ x. (simple_tree x.0, x.1.now)) result (called_at (boxed_expr target) tokens.now) }
-{
-    match call_in(target) {
-        Some((name, args)) => {
-            let action = Simple::Call {
-                at: name.at,
-                call: false,
-                name,
-                args,
-            };
-            Ok((action, tokens))
-        }
-        None => Err(ParseRefusal::NoProgram { at: place(tokens) }),
-    }
 }
 
 // The operator of an assignment at the front, with its place.

@@ -137,6 +137,7 @@ fn the_longest_expression(rt: HostRuntime) -> Result<(), Fail> {
             ("NOT a AND b", 4, Root::Conjunction),
             ("- a * * b", 2, Root::Prefixed),
             ("a ( ) . b +", 5, Root::Field),
+            ("a ( b + ) ;", 1, Root::Name),
         ],
     )
 }
@@ -150,6 +151,8 @@ fn no_expression(rt: HostRuntime) -> Result<(), Fail> {
         ("RECEIVE 1", 2),
         ("START p ;", 3),
         ("[ 1 : , ]", 4),
+        ("( a + ) ;", 4),
+        ("( f ( 1 , ) )", 6),
     ] {
         let mut tokens = List::new(rt.alloc());
         put(rt.alloc(), &mut tokens, text)?;

@@ -64,8 +64,8 @@ decreases-read_range l = 40 * l.room + 21
 -- what is still read from here is what was read from the start
 abbrev pub invariant-parts-loop : goal.invariant-parts-loop
 invariant-parts-loop l =
-    repeat (part_at l.inner (expr_at l.inner)) with_part (32 - l.counter) (boxed_expr l.of) l.rest ≡ repeat (part_at l.inner (expr_at l.inner)) with_part 32 (boxed_expr l.fn.first) l.tokens
+    repeat (part_at l.extent l.inner (expr_at l.inner)) with_part (32 - l.counter) (boxed_expr l.of) l.rest ≡ repeat (part_at l.extent l.inner (expr_at l.inner)) with_part 32 (boxed_expr l.fn.first) l.tokens
 
 abbrev pub invariant-turns-loop : goal.invariant-turns-loop
 invariant-turns-loop l =
-    repeat (turn_at (ranked_at l.inner (expr_at l.inner) (l.rank - 1)) l.rank) with_turn (32 - l.counter) (boxed_expr l.left) l.rest ≡ repeat (turn_at (ranked_at l.inner (expr_at l.inner) (l.rank - 1)) l.rank) with_turn 32 (boxed_expr l.fn.first) l.tokens
+    repeat (turn_at l.extent (ranked_at l.extent l.inner (expr_at l.inner) (l.rank - 1)) l.rank) with_turn (32 - l.counter) (boxed_expr l.left) l.rest ≡ repeat (turn_at l.extent (ranked_at l.extent l.inner (expr_at l.inner) (l.rank - 1)) l.rank) with_turn 32 (boxed_expr l.fn.first) l.tokens
