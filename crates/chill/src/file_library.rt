@@ -1,33 +1,66 @@
-// Real files as a library. It keeps one count of faults for all names.
+// Real files as a library. It keeps one count of faults for all names, and the file that was read last stays open: what follows
+// the bytes that were read is read on from it, so a pipe is read as a whole, and a file that is replaced meanwhile isn't mixed.
 ghost use Rattle.std.specs.Prelude.{None};
 ghost use Rattle.std.specs.Io.{ReadsAtMost};
 
+use crate::patience::read_patiently;
 use outside_ports::{Library, PortFault};
 use std::fs;
 use std::io::{self, Read, Seek, SeekFrom};
 use std::rt::Files;
+use std::time::Clock;
+
+// An open file, and the place up to which it was read.
+#[derive(Drop)]
+struct OpenText<F: Drop> {
+    name: String,
+    at: u64,
+    file: F,
+}
 
 #[derive(Drop)]
 pub struct FileLibrary<'a, R: Files> {
     rt: &'a R,
+    open: Option<OpenText<R::File>>,
     faults: u64,
 }
 
-impl<'a, R: Files> FileLibrary<'a, R> {
+impl<'a, R: Files + Clock + AllocGlobal> FileLibrary<'a, R> {
     pub fn new(rt: &'a R) -> Self {
-        FileLibrary { rt, faults: 0 }
+        FileLibrary {
+            rt,
+            open: None,
+            faults: 0,
+        }
     }
 
-    fn read_at(&self, name: &str, at: u64, into: &mut [u8]) -> io::Result<usize>
+    // The open file where it was read up to that place, and else the file opened anew, at that place.
+    fn open_at(&mut self, name: &str, at: u64) -> io::Result<OpenText<R::File>> {
+        match self.open.take() {
+            Some(open) if open.at == at && open.name.as_str() == name => Ok(open),
+            _ => {
+                let name = String::from_str(self.rt.alloc(), name)?;
+                let mut file = fs::open(self.rt, name.as_str())?;
+                if at > 0 {
+                    file.seek(SeekFrom::Start(at))?;
+                }
+                Ok(OpenText { name, at, file })
+            }
+        }
+    }
+
+    fn read_at(&mut self, name: &str, at: u64, into: &mut [u8]) -> io::Result<usize>
         ensures { ReadsAtMost result into.new }
     {
-        let mut file = fs::open(self.rt, name)?;
-        file.seek(SeekFrom::Start(at))?;
-        file.read(into)
+        let mut open = self.open_at(name, at)?;
+        let count = read_patiently(self.rt, &mut open.file, into)?;
+        open.at = at.saturating_add(count as u64);
+        self.open = Some(open);
+        Ok(count)
     }
 }
 
-impl<R: Files> Library for FileLibrary<'_, R> {
+impl<R: Files + Clock + AllocGlobal> Library for FileLibrary<'_, R> {
     ghost bytes = { λ _ _. None };
 
     ghost faults = { λ l _. l.faults };
