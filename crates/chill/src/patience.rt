@@ -9,7 +9,11 @@ use std::time::{Clock, Duration};
 const PAUSE: u64 = 10;
 
 /// Reads as `read` does, but where there is nothing yet it waits.
-pub fn read_patiently<C: Clock, F: Read>(clock: &C, stream: &mut F, into: &mut [u8]) -> io::Result<usize>
+pub fn read_patiently<C: Clock, F: Read>(
+    clock: &C,
+    stream: &mut F,
+    into: &mut [u8],
+) -> io::Result<usize>
     ensures { ReadsAtMost result into.new }
 {
     for _ in 0..u64::MAX {
@@ -24,7 +28,11 @@ pub fn read_patiently<C: Clock, F: Read>(clock: &C, stream: &mut F, into: &mut [
 }
 
 /// Writes as `write` does, but where nothing is taken yet it waits.
-pub fn write_patiently<C: Clock, F: Write>(clock: &C, stream: &mut F, piece: &[u8]) -> io::Result<usize>
+pub fn write_patiently<C: Clock, F: Write>(
+    clock: &C,
+    stream: &mut F,
+    piece: &[u8],
+) -> io::Result<usize>
     ensures { WritesAtMost result piece.now }
 {
     for _ in 0..u64::MAX {
