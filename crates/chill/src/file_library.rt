@@ -25,7 +25,7 @@ pub struct FileLibrary<'a, R: Files> {
     faults: u64,
 }
 
-impl<'a, R: Files + Clock + AllocGlobal> FileLibrary<'a, R> {
+impl<'a, R: Files> FileLibrary<'a, R> {
     pub fn new(rt: &'a R) -> Self {
         FileLibrary {
             rt,
@@ -33,31 +33,36 @@ impl<'a, R: Files + Clock + AllocGlobal> FileLibrary<'a, R> {
             faults: 0,
         }
     }
+}
 
-    // The open file where it was read up to that place, and else the file opened anew, at that place.
-    fn open_at(&mut self, name: &str, at: u64) -> io::Result<OpenText<R::File>> {
-        match self.open.take() {
-            Some(open) if open.at == at && open.name.as_str() == name => Ok(open),
-            _ => {
-                let name = String::from_str(self.rt.alloc(), name)?;
-                let mut file = fs::open(self.rt, name.as_str())?;
-                if at > 0 {
-                    file.seek(SeekFrom::Start(at))?;
-                }
-                Ok(OpenText { name, at, file })
-            }
-        }
+// The file, opened at that place.
+fn open_at<R: Files + AllocGlobal>(rt: &R, name: &str, at: u64) -> io::Result<OpenText<R::File>> {
+    let name = String::from_str(rt.alloc(), name)?;
+    let mut file = fs::open(rt, name.as_str())?;
+    if at > 0 {
+        file.seek(SeekFrom::Start(at))?;
     }
+    Ok(OpenText { name, at, file })
+}
 
-    fn read_at(&mut self, name: &str, at: u64, into: &mut [u8]) -> io::Result<usize>
-        ensures { ReadsAtMost result into.new }
-    {
-        let mut open = self.open_at(name, at)?;
-        let count = read_patiently(self.rt, &mut open.file, into)?;
-        open.at = at.saturating_add(count as u64);
-        self.open = Some(open);
-        Ok(count)
-    }
+// Reads on where the open file was read up to that place, and else from the file opened anew. After a fault none is open.
+fn read_on<R: Files + Clock + AllocGlobal>(
+    rt: &R,
+    open: &mut Option<OpenText<R::File>>,
+    name: &str,
+    at: u64,
+    into: &mut [u8],
+) -> io::Result<usize>
+    ensures { ReadsAtMost result into.new }
+{
+    let mut text = match open.take() {
+        Some(text) if text.at == at && text.name.as_str() == name => text,
+        _ => open_at(rt, name, at)?,
+    };
+    let count = read_patiently(rt, &mut text.file, into)?;
+    text.at = at.saturating_add(count as u64);
+    *open = Some(text);
+    Ok(count)
 }
 
 impl<R: Files + Clock + AllocGlobal> Library for FileLibrary<'_, R> {
@@ -66,7 +71,7 @@ impl<R: Files + Clock + AllocGlobal> Library for FileLibrary<'_, R> {
     ghost faults = { λ l _. l.faults };
 
     fn read(&mut self, name: &str, at: u64, into: &mut [u8]) -> Result<usize, PortFault> {
-        match self.read_at(name, at, into) {
+        match read_on(self.rt, &mut self.open, name, at, into) {
             Ok(count) => Ok(count),
             Err(_) => {
                 self.faults = self.faults.saturating_add(1);
