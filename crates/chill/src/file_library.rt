@@ -1,39 +1,77 @@
-// Real files as a library. It keeps one count of faults for all names.
+// Real files as a library. It keeps one count of faults for all names, and the file that was read last stays open: what follows
+// the bytes that were read is read on from it, so a pipe is read as a whole, and a file that is replaced meanwhile isn't mixed.
 ghost use Rattle.std.specs.Prelude.{None};
 ghost use Rattle.std.specs.Io.{ReadsAtMost};
 
+use crate::patience::read_patiently;
 use outside_ports::{Library, PortFault};
 use std::fs;
 use std::io::{self, Read, Seek, SeekFrom};
 use std::rt::Files;
+use std::time::Clock;
+
+// An open file, and the place up to which it was read.
+#[derive(Drop)]
+struct OpenText<F: Drop> {
+    name: String,
+    at: u64,
+    file: F,
+}
 
 #[derive(Drop)]
 pub struct FileLibrary<'a, R: Files> {
     rt: &'a R,
+    open: Option<OpenText<R::File>>,
     faults: u64,
 }
 
 impl<'a, R: Files> FileLibrary<'a, R> {
     pub fn new(rt: &'a R) -> Self {
-        FileLibrary { rt, faults: 0 }
-    }
-
-    fn read_at(&self, name: &str, at: u64, into: &mut [u8]) -> io::Result<usize>
-        ensures { ReadsAtMost result into.new }
-    {
-        let mut file = fs::open(self.rt, name)?;
-        file.seek(SeekFrom::Start(at))?;
-        file.read(into)
+        FileLibrary {
+            rt,
+            open: None,
+            faults: 0,
+        }
     }
 }
 
-impl<R: Files> Library for FileLibrary<'_, R> {
+// The file, opened at that place.
+fn open_at<R: Files + AllocGlobal>(rt: &R, name: &str, at: u64) -> io::Result<OpenText<R::File>> {
+    let name = String::from_str(rt.alloc(), name)?;
+    let mut file = fs::open(rt, name.as_str())?;
+    if at > 0 {
+        file.seek(SeekFrom::Start(at))?;
+    }
+    Ok(OpenText { name, at, file })
+}
+
+// Reads on where the open file was read up to that place, and else from the file opened anew. After a fault none is open.
+fn read_on<R: Files + Clock + AllocGlobal>(
+    rt: &R,
+    open: &mut Option<OpenText<R::File>>,
+    name: &str,
+    at: u64,
+    into: &mut [u8],
+) -> io::Result<usize>
+    ensures { ReadsAtMost result into.new }
+{
+    let mut text = match open.take() {
+        Some(text) if text.at == at && text.name.as_str() == name => text,
+        _ => open_at(rt, name, at)?,
+    };
+    let count = read_patiently(rt, &mut text.file, into)?;
+    text.at = at.saturating_add(count as u64);
+    *open = Some(text);
+    Ok(count)
+}
+
+impl<R: Files + Clock + AllocGlobal> Library for FileLibrary<'_, R> {
     ghost bytes = { λ _ _. None };
 
     ghost faults = { λ l _. l.faults };
 
     fn read(&mut self, name: &str, at: u64, into: &mut [u8]) -> Result<usize, PortFault> {
-        match self.read_at(name, at, into) {
+        match read_on(self.rt, &mut self.open, name, at, into) {
             Ok(count) => Ok(count),
             Err(_) => {
                 self.faults = self.faults.saturating_add(1);

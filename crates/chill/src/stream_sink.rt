@@ -1,28 +1,35 @@
 // A standard stream as a sink.
 ghost use Rattle.std.specs.Prelude.{None};
 
+use crate::patience::write_patiently;
 use outside_ports::{PortFault, Sink};
 use std::io::Write;
+use std::time::Clock;
 
 #[derive(Drop)]
-pub struct StreamSink<W: Write> {
+pub struct StreamSink<'a, C: Clock, W: Write> {
+    clock: &'a C,
     stream: W,
     faults: u64,
 }
 
-impl<W: Write> StreamSink<W> {
-    pub fn new(stream: W) -> Self {
-        StreamSink { stream, faults: 0 }
+impl<'a, C: Clock, W: Write> StreamSink<'a, C, W> {
+    pub fn new(clock: &'a C, stream: W) -> Self {
+        StreamSink {
+            clock,
+            stream,
+            faults: 0,
+        }
     }
 }
 
-impl<W: Write> Sink for StreamSink<W> {
+impl<C: Clock, W: Write> Sink for StreamSink<'_, C, W> {
     ghost taken = { λ _. None };
 
     ghost faults = { λ s. s.faults };
 
     fn put(&mut self, piece: &[u8]) -> Result<usize, PortFault> {
-        match self.stream.write(piece) {
+        match write_patiently(self.clock, &mut self.stream, piece) {
             Ok(count) if count > 0 || piece.is_empty() => Ok(count),
             _ => {
                 self.faults = self.faults.saturating_add(1);
