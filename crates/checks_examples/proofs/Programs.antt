@@ -34,7 +34,7 @@ abbrev pub decl : List Name → w.ModeTree → Option InitialTree → Declaratio
 decl names mode initial = record { names = names; mode = mode; initial = initial }
 
 abbrev pub place : Pos → ExprTree → ExprTree → PlaceForm → ExprTree → w.PlaceTree
-place at word first form bound = record { at = at; word = word; start = first; form = form; bound = bound }
+place at word start form bound = record { at = at; word = word; start = start; form = form; bound = bound }
 
 abbrev pub step_of : Pos → w.PlaceTree → ExprTree → w.StepTree
 step_of at place distance = record { at = at; place = place; distance = distance }
