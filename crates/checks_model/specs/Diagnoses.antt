@@ -20,14 +20,14 @@ pub record HasNames (text : List ℕ) (tree : ProgramTree) : Type 0 where
 -- its ground is this, and it breaks no rule on modes and constants
 pub record HasModes (text : List ℕ) (tree : ProgramTree) (g : Ground) : Type 0 where
   pub has_names : HasNames text tree
-  pub ground : IsGroundOf tree g
+  pub is_ground : IsGroundOf tree g
   pub modes : broken_modes g tree ≡ []
 
 -- with its counters the ground is this, and the text breaks no rule of any phase
 pub record BreaksNoRule (text : List ℕ) (tree : ProgramTree) (g : Ground) : Type 0 where
   pub plain_ground : Ground
   pub has_modes : HasModes text tree plain_ground
-  pub ground : IsStatementGroundOf tree g
+  pub is_ground : IsStatementGroundOf tree g
   pub statements : broken_statements g tree ≡ []
   pub processes : broken_processes g tree ≡ []
 

@@ -84,7 +84,7 @@ parts_known g d = option_and_then (λ e. made_each (λ m. m) e.parts) (slice_get
 
 abbrev pub signal_as : Source → ℕ → Row → Origin → Option SignalRowTree
 signal_as s d r (a_signal own) =
-    made_of (λ ms to. record { definition = d; name = r.name; parts = ms; process = to }) (parts_known s.ground d) (made_of_some (body_used s) own.process)
+    made_of (λ ms to. record { definition = d; name = r.name; parts = ms; process = to }) (parts_known s.known d) (made_of_some (body_used s) own.process)
 signal_as s d r _ = None
 
 abbrev pub signal_row : Source → ℕ → Row → Option SignalRowTree
@@ -235,7 +235,7 @@ abbrev pub reads_input : Ground → Bool
 reads_input g = list_any (λ u. holds_of is_get_int (slice_get g.origins u.to)) g.uses
 
 abbrev pub source_of : Ground → ProgramTree → Source
-source_of g t = record { ground = g; rows = rows (text_definitions (level_of t)) g.origins g.entries; own_exceptions = own_exceptions t }
+source_of g t = record { known = g; rows = rows (text_definitions (level_of t)) g.origins g.entries; own_exceptions = own_exceptions t }
 
 -- the program of its locations, events, buffers, signals and bodies
 abbrev pub program_of : Source → ProgramTree → List LocationRowTree → List EventRow → List BufferRowTree → List SignalRowTree → List BodyRowTree → CheckedTree
@@ -247,7 +247,7 @@ program_of s t ls es bs ss bodies = record {
   buffers = bs;
   signals = ss;
   exceptions = s.own_exceptions;
-  reads_input = reads_input s.ground;
+  reads_input = reads_input s.known;
   size = program_size t;
   definitions = map (definition_row s.rows) s.rows;
   modulions = modulion_rows s t;

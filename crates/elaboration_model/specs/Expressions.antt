@@ -119,8 +119,8 @@ constant_expr c v = made_of (λ c v. made.expr (count_in c) (made.constant (scal
 -- an expression that goes to a place of a mode: one of constant form is a constant, and any other is found by its operation
 abbrev pub folded : Source → Option ModeTree → ExprTree → Option made.OperationTree → Option made.ExprTree
 folded s m e operation =
-    if has_form s.ground false e then constant_expr (class_as s.ground m e) (constant_as s.ground m e)
-    else made_of (λ c o. made.expr (count_in c) o) (class_as s.ground m e) operation
+    if has_form s.known false e then constant_expr (class_as s.known m e) (constant_as s.known m e)
+    else made_of (λ c o. made.expr (count_in c) o) (class_as s.known m e) operation
 
 -- a value that something of a mode takes: where the mode is discrete it is tested by its bounds
 abbrev pub received_as : Option ModeTree → Option made.ExprTree → Option made.ReceivedTree
@@ -204,7 +204,7 @@ passing_of None = passings.In
 passing_of (Some p) = p
 
 abbrev pub mode_defined : Source → Name → Option ModeTree
-mode_defined s n = mode_of_entry (entry_defined s.ground n)
+mode_defined s n = mode_of_entry (entry_defined s.known n)
 
 abbrev pub formals_of_param : Source → ParamTree → List Formal
 formals_of_param s p = map (λ n. (passing_of p.passing, mode_defined s n)) p.names
@@ -294,23 +294,23 @@ applied_path no_callee v c path = path
 
 abbrev pub class_first : Source → ExprNodes → Option ClassTree
 class_first s no_exprs = None
-class_first s (more_exprs e es) = class_of s.ground e
+class_first s (more_exprs e es) = class_of s.known e
 
 -- the mode that the first thing in brackets goes to: that of an index
 abbrev pub mode_in_brackets : Source → Callee → ExprTree → Option ModeTree
-mode_in_brackets s no_callee e = index_mode_of (class_of s.ground e)
+mode_in_brackets s no_callee e = index_mode_of (class_of s.known e)
 mode_in_brackets s _ e = None
 
 abbrev pub formals_called : Source → Callee → List Formal
-formals_called s (calls n) = formals_by s (origin_of s.ground n)
+formals_called s (calls n) = formals_by s (origin_of s.known n)
 formals_called s _ = []
 
 -- a name alone: a location, or the value of a constant
 abbrev pub location_named : Source → Name → Option Path
-location_named s n = path_at (option_and_then base_of (thing_used s n)) (option_and_then mode_in (class_of s.ground (name n)))
+location_named s n = path_at (option_and_then base_of (thing_used s n)) (option_and_then mode_in (class_of s.known (name n)))
 
 abbrev pub path_of_name : Source → Name → Option Path
-path_of_name s n = if has_form s.ground false (name n) then path_of_value (folded s None (name n) None) (class_of s.ground (name n)) else location_named s n
+path_of_name s n = if has_form s.known false (name n) then path_of_value (folded s None (name n) None) (class_of s.known (name n)) else location_named s n
 
 abbrev mutual
   -- an expression that goes to a place of a mode, where that has one
@@ -321,35 +321,35 @@ abbrev mutual
   expr_as s m (this_instance at) = folded s m (this_instance at) (Some made.own_instance)
   expr_as s m (paren at e) = expr_as s m e
   expr_as s m (receive at n) = folded s m (receive at n) (option_map made.receive (buffer_used s n))
-  expr_as s m (start at n es) = folded s m (start at n es) (made_of (λ b rs. made.start (made.started b rs)) (body_used s n) (received_each s (modes_by s (origin_of s.ground n)) es))
+  expr_as s m (start at n es) = folded s m (start at n es) (made_of (λ b rs. made.start (made.started b rs)) (body_used s n) (received_each s (modes_by s (origin_of s.known n)) es))
   expr_as s m (tuple at n b rs) =
       folded s m (tuple at n b rs)
-      (option_and_then (λ own. tuple_operation (form_of own) (ranges_as s own rs) (parts_as s (shape_fits rs) 0 (Some own) rs)) (tuple_mode s.ground n m))
+      (option_and_then (λ own. tuple_operation (form_of own) (ranges_as s own rs) (parts_as s (shape_fits rs) 0 (Some own) rs)) (tuple_mode s.known n m))
   expr_as s m (uniform at n b e) =
       folded s m (uniform at n b e)
-      (made_if (λ own r. uniform_operation (form_of own) r) (tuple_mode s.ground n m)
-      (received_as (mode_of_part uniform_fits 0 (tuple_mode s.ground n m)) (expr_as s (mode_of_part uniform_fits 0 (tuple_mode s.ground n m)) e)))
+      (made_if (λ own r. uniform_operation (form_of own) r) (tuple_mode s.known n m)
+      (received_as (mode_of_part uniform_fits 0 (tuple_mode s.known n m)) (expr_as s (mode_of_part uniform_fits 0 (tuple_mode s.known n m)) e)))
   expr_as s m (name n) = folded s m (name n) (option_map operation_at (location_named s n))
   expr_as s m (apply at e es) =
       folded s m (apply at e es)
-      (applied_operation s (callee_of s.ground e) (arguments s (formals_called s (callee_of s.ground e)) es) (class_first s es) (only_one s (mode_in_brackets s (callee_of s.ground e) e) es)
-      (made_if element_path (only_one s (mode_in_brackets s (callee_of s.ground e) e) es) (path s e)))
+      (applied_operation s (callee_of s.known e) (arguments s (formals_called s (callee_of s.known e)) es) (class_first s es) (only_one s (mode_in_brackets s (callee_of s.known e) e) es)
+      (made_if element_path (only_one s (mode_in_brackets s (callee_of s.known e) e) es) (path s e)))
   expr_as s m (field at e n) = folded s m (field at e n) (option_map operation_at (option_and_then (field_path n.text) (path s e)))
-  expr_as s m (prefixed at o e) = folded s m (prefixed at o e) (made_of (λ c e. made.prefixed (operator_before o c) e) (class_of s.ground e) (expr_as s None e))
+  expr_as s m (prefixed at o e) = folded s m (prefixed at o e) (made_of (λ c e. made.prefixed (operator_before o c) e) (class_of s.known e) (expr_as s None e))
   expr_as s m (binary at l o p r) =
       folded s m (binary at l o p r)
-      (made_of_three made.binary (made_if (operator_between o) (class_of s.ground l) (class_of s.ground r)) (expr_as s None l) (expr_as s None r))
+      (made_of_three made.binary (made_if (operator_between o) (class_of s.known l) (class_of s.known r)) (expr_as s None l) (expr_as s None r))
 
   -- a name with its parts
   pub path : Source → ExprTree → Option Path
   path s (name n) = path_of_name s n
   path s (field at e n) = option_and_then (field_path n.text) (path s e)
   path s (apply at e es) =
-      applied_path (callee_of s.ground e)
+      applied_path (callee_of s.known e)
       (folded s None (apply at e es)
-      (applied_operation s (callee_of s.ground e) (arguments s (formals_called s (callee_of s.ground e)) es) (class_first s es) (only_one s None es) None))
-      (class_of s.ground (apply at e es))
-      (made_if element_path (only_one s (mode_in_brackets s (callee_of s.ground e) e) es) (path s e))
+      (applied_operation s (callee_of s.known e) (arguments s (formals_called s (callee_of s.known e)) es) (class_first s es) (only_one s None es) None))
+      (class_of s.known (apply at e es))
+      (made_if element_path (only_one s (mode_in_brackets s (callee_of s.known e) e) es) (path s e))
   path s _ = None
 
   -- what a parameter takes, or the location that it gives back to

@@ -88,7 +88,7 @@ number_list None = []
 number_list (Some d) = d ∷ []
 
 abbrev pub numbers_used : Source → List reach.PartTree → List ℕ
-numbers_used s ps = flat_map (λ n. number_list (number_at s.ground.uses n.at)) (flat_map used_in ps)
+numbers_used s ps = flat_map (λ n. number_list (number_at s.known.uses n.at)) (flat_map used_in ps)
 
 -- a definition of the text that isn't one of so many from a number on
 abbrev pub is_outside : Source → ℕ → ℕ → ℕ → Bool
@@ -100,7 +100,7 @@ outside_from s i (Some first) = once_behind [] (filter (is_outside s first (size
 
 -- the definitions outside a modulion that it uses, in the order of their first uses in it
 abbrev pub uses_outside : Source → Name → ItemTree → List ℕ
-uses_outside s n i = outside_from s i (number_at s.ground.defined n.at)
+uses_outside s n i = outside_from s i (number_at s.known.defined n.at)
 
 abbrev pub modulion_row : Source → ModulionTree → Option ℕ → ModulionRow
 modulion_row s m around = record { name = m.name.text; around = around; size = modulion_size m; uses = uses_outside s m.name (modulion_item m) }

@@ -26,7 +26,7 @@ rows _ _ _ = []
 -- what an elaborated program is made of: what is known of its names, the definitions of its text, and the spellings of the
 -- exceptions that are its own, by their numbers
 pub record Source : Type 0 where
-  pub ground : Ground
+  pub known : Ground
   pub rows : List Row
   pub own_exceptions : List (List ℕ)
 
@@ -143,10 +143,10 @@ thing_of rs d = thing_by rs d (slice_get rs d)
 
 -- what the name used there, or defined there, is
 abbrev pub thing_used : Source → Name → Option Thing
-thing_used s n = option_map (thing_of s.rows) (number_at s.ground.uses n.at)
+thing_used s n = option_map (thing_of s.rows) (number_at s.known.uses n.at)
 
 abbrev pub thing_defined : Source → Name → Option Thing
-thing_defined s n = option_map (thing_of s.rows) (number_at s.ground.defined n.at)
+thing_defined s n = option_map (thing_of s.rows) (number_at s.known.defined n.at)
 
 abbrev pub event_number : Thing → Option ℕ
 event_number (an_event k) = Some k

@@ -50,7 +50,7 @@ number_in (number k) = Some k
 number_in _ = None
 
 abbrev pub constant_number : Source → ExprTree → Option ℤ
-constant_number s e = option_and_then number_in (constant_of s.ground e)
+constant_number s e = option_and_then number_in (constant_of s.known e)
 
 abbrev pub natural_in : ℤ → Option ℕ
 natural_in (pos k) = Some k
@@ -112,7 +112,7 @@ before (x ∷ xs) rest = done.more_statements x (before xs rest)
 -- ---- calls that stand as actions
 
 abbrev pub called : Source → Name → List ExprTree → Option done.ActionTree
-called s n es = made_of (λ b as'. done.perform (made.called b as')) (body_used s n) (arguments s (formals_by s (origin_of s.ground n)) (expr_nodes es))
+called s n es = made_of (λ b as'. done.perform (made.called b as')) (body_used s n) (arguments s (formals_by s (origin_of s.known n)) (expr_nodes es))
 
 -- GET_INT, UPPER, LOWER and SIZE are evaluated, and the other routines of one value keep their routine
 abbrev pub routine_action : Source → Predefined → Option done.ActionTree → Name → List ExprTree → Option done.ActionTree
@@ -155,7 +155,7 @@ abbrev pub receiver : Source → Option ExprTree → Option (Option made.ExprTre
 receiver s to = made_of_some (expr_as s (Some instance)) to
 
 abbrev pub parts_sent : Source → Name → ExprNodes → Option made.ReceivedNodes
-parts_sent s n es = option_and_then (λ ms. received_each s ms es) (message_parts s.ground n)
+parts_sent s n es = option_and_then (λ ms. received_each s ms es) (message_parts s.known n)
 
 abbrev pub sent : Source → Name → Option (List ExprTree) → Option ExprTree → Option done.SentTree
 sent s n es to = option_and_then (λ f. made_if f (parts_sent s n (some_args es)) (receiver s to)) (option_map sent_by (thing_used s n))
@@ -172,15 +172,15 @@ updated o _ _ _ = None
 
 abbrev pub action_of : Source → Around → SimpleTree → Option done.ActionTree
 action_of s a (assign at t v) = option_and_then (λ t. option_map (done.assign t.0) (received_by s (Some t.1) v)) (target s t)
-action_of s a (update at t o p v) = updated o (target s t) (expr_alone s v) (class_of s.ground v)
-action_of s a (call_of at word n es) = call_action s (callee_named s.ground n) n es
+action_of s a (update at t o p v) = updated o (target s t) (expr_alone s v) (class_of s.known v)
+action_of s a (call_of at word n es) = call_action s (callee_named s.known n) n es
 action_of s a (exit at n) = option_map done.exit_from (outwards n a.labels)
 action_of s a (return_with at v) = option_map done.return_with (made_of_some (given_back s a) v)
 action_of s a (result_of at v) = option_map done.set_result (given_back s a v)
 action_of s a (assert_that at c) = option_map done.assert_that (expr_alone s c)
 action_of s a (cause at n) = option_map done.cause (exception_number s.own_exceptions n)
 action_of s a (stop at) = Some done.stop
-action_of s a (start_of at n es) = made_of (λ b rs. done.start_of (made.started b rs)) (body_used s n) (received_each s (modes_by s (origin_of s.ground n)) (expr_nodes es))
+action_of s a (start_of at n es) = made_of (λ b rs. done.start_of (made.started b rs)) (body_used s n) (received_each s (modes_by s (origin_of s.known n)) (expr_nodes es))
 action_of s a (delay at n p) = made_of done.delay (event_used s n) (priority s p)
 action_of s a (continue_event at n) = option_map done.continue_at (event_used s n)
 action_of s a (send at n es to p) = made_of done.send (sent s n es to) (priority s p)
@@ -195,15 +195,15 @@ members_loop (Some k) (Some set) (Some low) (Some c) = Some (done.for_members k 
 members_loop _ _ _ _ = None
 
 abbrev pub steps_loop : Bool → Option ℕ → Option made.ExprTree → Option (Option made.ExprTree) → Option made.ExprTree → Option (Option made.ExprTree) → Option done.ControlTree
-steps_loop down (Some k) (Some start) (Some step) (Some end) (Some c) = Some (done.for_steps k start step end down c)
+steps_loop down (Some k) (Some from) (Some step) (Some to) (Some c) = Some (done.for_steps k from step to down c)
 steps_loop down _ _ _ _ _ = None
 
 abbrev pub control : Source → ControlTree → Option done.ControlTree
 control s (while_holds at c) = option_map done.while_true (expr_alone s c)
 control s (for_ever at) = Some done.for_ever
 control s (for_members at n set c) = members_loop (local_defined s n) (expr_alone s set) (low_of (mode_defined s n)) (made_of_some (expr_alone s) c)
-control s (for_steps at n start step down end c) =
-    steps_loop down (local_defined s n) (expr_alone s start) (made_of_some (expr_alone s) step) (expr_alone s end) (made_of_some (expr_alone s) c)
+control s (for_steps at n from step down to c) =
+    steps_loop down (local_defined s n) (expr_alone s from) (made_of_some (expr_alone s) step) (expr_alone s to) (made_of_some (expr_alone s) c)
 
 -- ---- RECEIVE CASE
 
