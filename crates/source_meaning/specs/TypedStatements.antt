@@ -12,7 +12,7 @@ use Rattle.checked_program.specs.declared.program.Sort.TheVariants.{Outermost, P
 use Rattle.program_trees.specs.ExprTree.{ExprTree, ReceivedTree, ReceivedNodes, LocationTree, StartTree, CallTree}
 use Rattle.program_trees.specs.StatementTree.{SentTree, to_buffer, signal, ControlTree, while_true, for_ever, for_members, for_steps, StatementTree, statement, ActionTree, do_nothing, declare, set_lowest, module_at, region_at, assign, update, perform, drop_routine, evaluate, put_int, put_text, put_line, exit_from, return_with, set_result, assert_that, cause, stop, start_of, delay, continue_at, send, if_then, case_of, do_loop, begin_end, delay_case, receive_buffers, receive_signals, StatementNodes, no_statements, more_statements, ChoiceNodes, no_choices, more_choices, CaseNodes, no_cases, more_cases, DelayNodes, no_delays, more_delays, ReceiveNodes, no_receives, more_receives, OtherwiseNode, no_otherwise, otherwise, HandledNodes, no_handled, more_handled, HandlerNode, no_handler, handler}
 use Rattle.program_trees.specs.ProgramTree.{SignalRowTree, LocalRowTree, CheckedTree}
-use Rattle.source_meaning.specs.TypedValues.{Context, BaseHas, BufferHas, BinaryHas, RoutineHas, HasMode, IsTakenBy, AllHave, LocationHas, IsTypedStart, IsTypedCall}
+use Rattle.source_meaning.specs.TypedValues.{Context, BaseHas, BufferHas, IsRootOfEither, BinaryHas, RoutineHas, HasMode, IsTakenBy, AllHave, LocationHas, IsTypedStart, IsTypedCall}
 use Rattle.source_meaning.specs.StatementMeaning.{is_label}
 
 -- where a statement stands, besides: what its body is of, the mode of the result, and how many labelled statements are around
@@ -80,14 +80,14 @@ IsStepped c None f = Unit {0}
 IsStepped c (Some e) f = IsOfInt c e × (f ≡ of_int)
 
 -- What controls a loop: members are counted from the lower bound of their mode, which is the counter's; start and end are
--- similar, and the counter is a discrete location of such values.
+-- similar and discrete, and the counter's mode is the root of one of theirs, so that each value between them is one of its.
 abbrev pub IsTypedControl : Context → ControlTree → Type 0
 IsTypedControl c (while_true e) = IsCondition c e
 IsTypedControl c for_ever = Unit {0}
 IsTypedControl c (for_members counter e low condition) =
     ((m : ModeTree) × (own : ModeTree) × (b : Bounds) × HasMode c e m × (form_of m ≡ of_powerset own) × (bounds_of own ≡ Some b) × (b.low ≡ low) × LocalHas c own counter) × IsSomeCondition c condition
 IsTypedControl c (for_steps counter e step f down condition) =
-    ((m : ModeTree) × (own : ModeTree) × (other : ModeTree) × (b : Bounds) × HasMode c e own × HasMode c f other × Similar own other × LocalHas c m counter × Similar own m × (bounds_of m ≡ Some b) × IsStepped c step (form_of own)) × IsSomeCondition c condition
+    ((m : ModeTree) × (own : ModeTree) × (other : ModeTree) × (b : Bounds) × HasMode c e own × HasMode c f other × Similar own other × LocalHas c m counter × IsRootOfEither m own other × (bounds_of m ≡ Some b) × IsStepped c step (form_of own)) × IsSomeCondition c condition
 
 -- RETURN and RESULT stand in procedures, and have a value where there is a result alone
 abbrev pub IsTypedReturn : Around → Option ReceivedTree → Type 0
