@@ -1,5 +1,5 @@
 -- Which arguments and answers fit: those whose scalars are those of values of the modes that the text gives them.
-use Rattle.std.specs.Prelude.{◌≡◌, ℕ, zero, suc, Bool, true, List, [], ◌∷◌, ◌++◌, ℤ, take, drop, Option, Some, None, slice_get, All}
+use Rattle.std.specs.Prelude.{◌≡◌, ℕ, ◌==◌, true, List, [], ◌∷◌, ◌++◌, ℤ, take, drop, Option, Some, None, slice_get, All, if◌then◌else◌}
 use Rattle.std.specs.List.{flat_map}
 use Rattle.kernel_base.specs.declared.request.Request.{Request}
 use Rattle.kernel_base.specs.declared.request.Request.TheVariants.{Read, ReceiveBuffer, ReceiveSignal}
@@ -27,11 +27,10 @@ abbrev pub spans_in_signal : Option SignalRowTree → List Span
 spans_in_signal None = []
 spans_in_signal (Some row) = flat_map spans_of row.parts
 
--- the thing that the alternative of a number lists
+-- the thing that the first alternative of a number lists
 abbrev pub thing_of : List Alternative → ℕ → ℕ
-thing_of [] k = 0
-thing_of (a ∷ as') zero = a.thing
-thing_of (a ∷ as') (suc k) = thing_of as' k
+thing_of [] number = 0
+thing_of (a ∷ as') number = if a.number == number then a.thing else thing_of as' number
 
 -- the scalars of an answer are those of a value of the mode that the text gives to the place, the buffer or the signal
 abbrev pub BringsValue : CheckedTree → Request → Answer → Type 0
