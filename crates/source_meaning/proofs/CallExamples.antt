@@ -106,7 +106,7 @@ element_of l e = location (Shared l) (part_nodes (one_element e (record { low = 
 
 -- DCL n INT, a ARRAY (1:3) INT; DCL u, v INT := n; a(n) +:= n; PUT_INT(a(1)); where n is shared location 0, a 1, u 2, v 3
 abbrev shared_locations : CheckedTree
-shared_locations = program (main [] (plain do_nothing ∷ plain (declare (Shared 2 ∷ Shared 3 ∷ []) (taken (value_in (shared 0)))) ∷ plain (update (element_of 1 (value_in (shared 0))) Add (value_in (shared 0)) (Some int_bounds)) ∷ put (value_in (element_of 1 (number (pos 1)))) ∷ []) ∷ []) (location_row int None ∷ location_row three None ∷ location_row int None ∷ location_row int None ∷ [])
+shared_locations = program (main [] (plain do_nothing ∷ plain do_nothing ∷ plain (declare (Shared 2 ∷ Shared 3 ∷ []) (taken (value_in (shared 0)))) ∷ plain (update (element_of 1 (value_in (shared 0))) Add (value_in (shared 0)) (Some int_bounds)) ∷ put (value_in (element_of 1 (number (pos 1)))) ∷ []) ∷ []) (location_row int None ∷ location_row three None ∷ location_row int None ∷ location_row int None ∷ [])
 
 shared_locations_do : Does shared_locations (asks (AsksRead (place 0 0 1)) (Value (pos 4 ∷ [])) ∷ asks (AsksWrite (place 2 0 1) (pos 4 ∷ [])) Done ∷ asks (AsksWrite (place 3 0 1) (pos 4 ∷ [])) Done ∷ asks (AsksRead (place 0 0 1)) (Value (pos 3 ∷ [])) ∷ asks (AsksRead (place 1 2 1)) (Value (pos 10 ∷ [])) ∷ asks (AsksRead (place 0 0 1)) (Value (pos 5 ∷ [])) ∷ asks (AsksWrite (place 1 2 1) (pos 15 ∷ [])) Done ∷ asks (AsksRead (place 1 0 1)) (Value (pos 0 ∷ [])) ∷ says (pos 0) ∷ ends)
 shared_locations_do = refl
@@ -138,9 +138,10 @@ region_with_procedures_does : Does region_with_procedures (asks (Enter 0) Done �
     ∷ ticks ∷ asks (Enter 0) Done ∷ asks (Leave 0) Done ∷ says (pos 7) ∷ ends)
 region_with_procedures_does = refl
 
--- R: REGION GRANT fails; DCL n INT := 1; fails: PROC (); CAUSE busy; END fails; END R; M: MODULE .. fails(); END M;
+-- R: REGION GRANT fails; fails: PROC (); CAUSE busy; END fails; END R; M: MODULE .. fails(); END M; a region without
+-- initialisations isn't entered for them
 abbrev unlisted_in_a_region : CheckedTree
-unlisted_in_a_region = program (main [] (plain (perform (call_of 1 [])) ∷ []) ∷ critical_procedure [] None [] [] (plain (cause 7) ∷ []) ∷ []) []
+unlisted_in_a_region = program (body Outermost [] None [] [] (plain do_nothing ∷ plain (module_at (statement_nodes (plain (perform (call_of 1 [])) ∷ []))) ∷ []) ∷ critical_procedure [] None [] [] (plain (cause 7) ∷ []) ∷ []) []
 
 unlisted_in_a_region_does : Does unlisted_in_a_region (ticks ∷ asks (Enter 0) Done ∷ raises (User 0))
 unlisted_in_a_region_does = refl
