@@ -5,7 +5,7 @@ use Rattle.modes.specs.ModeTree.{ModeTree, int, boolean, char, instance, set_of,
 use Rattle.modes.specs.Bounds.{bounds_of, values_of}
 use Rattle.modes.specs.Scalars.{repeated, numbers_of}
 use Rattle.kernel_base.specs.Facts.{TellsMembers}
-use Rattle.scalar_operators.specs.Members.{members_each}
+use Rattle.scalar_operators.specs.Powersets.{members_each}
 
 -- which numbers a scalar may be: those within bounds, an instance, or the members of a powerset of so many from an offset on
 pub data Span : Type 0 where
