@@ -1,5 +1,5 @@
 -- What bodies and calls mean.
-use Rattle.std.specs.Prelude.{ℕ, zero, suc, ◌+◌, Bool, true, false, List, [], ◌∷◌, ◌++◌, ℤ, length, Option, Some, None, slice_get, nat_lt, option_map, if◌then◌else◌}
+use Rattle.std.specs.Prelude.{ℕ, zero, suc, ◌+◌, Bool, true, false, List, [], ◌∷◌, ◌++◌, Option, Some, None, slice_get, nat_lt, if◌then◌else◌}
 use Rattle.kernel_base.specs.declared.ends.Exc.{Exc}
 use Rattle.kernel_base.specs.declared.ends.Exc.TheVariants.{Spacefail}
 use Rattle.kernel_base.specs.declared.ends.How.TheVariants.{Raised as RaisedHow}

@@ -1,6 +1,5 @@
 -- What expressions and locations mean.
-use Rattle.std.specs.Prelude.{ℕ, zero, suc, ◌+◌, Bool, true, false, List, [], ◌∷◌, ◌++◌, ℤ, pos, nat_abs, Option, Some, None, slice_index_or, if◌then◌else◌}
-use Rattle.kernel_base.specs.declared.ends.Exc.{Exc}
+use Rattle.std.specs.Prelude.{ℕ, ◌+◌, false, List, [], ◌∷◌, ◌++◌, ℤ, pos, nat_abs, Option, Some, None, if◌then◌else◌}
 use Rattle.kernel_base.specs.declared.ends.Exc.TheVariants.{Rangefail}
 use Rattle.kernel_base.specs.declared.request.Request.{Request}
 use Rattle.kernel_base.specs.declared.request.Request.TheVariants.{Read, Write, ReceiveBuffer, Start, Get}
@@ -15,7 +14,7 @@ use Rattle.scalar_operators.specs.Numbers.{is_between}
 use Rattle.program_trees.specs.ProgramTree.{LocalRowTree}
 use Rattle.program_trees.specs.ExprTree.{ExprTree, expr, OperationTree, constant, own_instance, contents, part_of, receive, start, call, powerset, parts, uniform, routine, get_int, prefixed, binary, ReceivedTree, received, ReceivedNodes, no_received, more_received, PartNodes, no_parts, field, element, RangeNodes, no_ranges, one_member, members, LocationTree, location, StartTree, started, CallTree, called, ArgumentNodes, no_arguments, in_argument, out_argument, inout_argument}
 use Rattle.source_meaning.specs.Store.{Store, local_value, with_part, Address, in_local, in_shared, address_of, Taken, brings, lowest}
-use Rattle.source_meaning.specs.Flow.{Flow, Goes, Raised, Exits, Returned, Stops, Gone, Bound, Meaning, then_do, asked, done}
+use Rattle.source_meaning.specs.Flow.{Goes, Raised, Meaning, then_do, asked, done}
 use Rattle.source_meaning.specs.Operators.{sole_number, one, Computed, Yields, Throws, offset_within, empty_within, with_span, binary_value, takes_second, prefix_value, routine_value}
 
 -- what a call of each body means, with what its parameters begin with: it gives the store at its end

@@ -1,5 +1,5 @@
 -- The facts of a program with an input and a budget: what a run of it starts from.
-use Rattle.std.specs.Prelude.{◌≡◌, ℕ, suc, ◌+◌, List, [], ◌∷◌, ◌++◌, ℤ, map, replicate, Option, Some, None}
+use Rattle.std.specs.Prelude.{◌≡◌, ℕ, suc, ◌+◌, List, [], ◌∷◌, ◌++◌, map}
 use Rattle.kernel_base.specs.declared.facts.Facts.{Facts}
 use Rattle.kernel_base.specs.declared.value.ScalarKind.{ScalarKind}
 use Rattle.kernel_base.specs.declared.value.ScalarKind.TheVariants.{Plain, Powerset}

@@ -1,7 +1,6 @@
 -- Runs of a program.
 use Rattle.std.specs.Prelude.{◌≡◌, ℕ, suc, List, ◌++◌, Some}
 use Rattle.kernel_base.specs.declared.facts.Facts.{Facts}
-use Rattle.kernel_base.specs.declared.answer.Answer.{Answer}
 use Rattle.kernel_base.specs.declared.event.Event.{Event}
 use Rattle.world_model.specs.Journal.{line_of, answers_of, Birth, born_of}
 use Rattle.world_model.specs.Allowed.{IsRun}

@@ -8,7 +8,7 @@ use Rattle.checked_program.specs.declared.program.Sort.{Sort}
 use Rattle.checked_program.specs.declared.program.Sort.TheVariants.{Outermost, Process, Procedure}
 use Rattle.world_model.specs.Session.{Item, Session, session_of}
 use Rattle.source_meaning.specs.Store.{Store, OpenCall, Taken, brings}
-use Rattle.source_meaning.specs.Flow.{Flow, Goes, Raised, Exits, Returned, Stops, Gone, Bound, Meaning, finish}
+use Rattle.source_meaning.specs.Flow.{Flow, Goes, Raised, Exits, Returned, Stops, Gone, Bound, finish}
 use Rattle.source_meaning.specs.BodyMeaning.{Ending, Through, Out, Halted, Ended, Unknown, body_mean}
 
 -- what was told, and the calls that are open where it stops: the process's own body first, the innermost call last; none
