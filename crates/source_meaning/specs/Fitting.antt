@@ -1,5 +1,5 @@
 -- Which arguments and answers fit: those whose scalars are those of values of the modes that the text gives them.
-use Rattle.std.specs.Prelude.{◌≡◌, ℕ, ◌==◌, true, List, [], ◌∷◌, ◌++◌, ℤ, take, drop, Option, Some, None, slice_get, All, if◌then◌else◌}
+use Rattle.std.specs.Prelude.{◌≡◌, ℕ, ◌==◌, Bool, true, false, List, [], ◌∷◌, ◌++◌, ℤ, take, drop, Option, Some, None, slice_get, All, if◌then◌else◌}
 use Rattle.std.specs.List.{flat_map}
 use Rattle.kernel_base.specs.declared.request.Request.{Request}
 use Rattle.kernel_base.specs.declared.request.Request.TheVariants.{Read, ReceiveBuffer, ReceiveSignal}
@@ -10,9 +10,11 @@ use Rattle.world_model.specs.Session.{Item, Tick, Ask}
 use Rattle.world_model.specs.Gives.{Gives}
 use Rattle.world_model.specs.Ranges.{IsNumber, AreScalars, IsAnswerInRange}
 use Rattle.checked_program.specs.declared.program.Parameter.{Parameter}
+use Rattle.checked_program.specs.declared.program.Sort.{Sort}
+use Rattle.checked_program.specs.declared.program.Sort.TheVariants.{Outermost, Process, Procedure}
 use Rattle.program_trees.specs.ProgramTree.{LocationRowTree, BufferRowTree, SignalRowTree, LocalRowTree, BodyRowTree, CheckedTree}
 use Rattle.source_meaning.specs.Values.{Domain, domains_of, AreWithin}
-use Rattle.source_meaning.specs.Talk.{talk, is_process}
+use Rattle.source_meaning.specs.Talk.{talk}
 
 -- what the scalars of a shared location may be, of the values of a buffer, and of a signal
 abbrev pub domains_at : Option LocationRowTree → ℕ → ℕ → List Domain
@@ -56,9 +58,15 @@ domains_of_parameters rows [] = []
 domains_of_parameters [] (q ∷ qs) = []
 domains_of_parameters (row ∷ rows) (q ∷ qs) = domains_of row.mode ++ domains_of_parameters rows qs
 
--- the body is a process, and the arguments are values of its parameters' modes
+-- instances run the body: it is that of the outermost process or of a process
+abbrev pub has_instances : Sort → Bool
+has_instances Outermost = true
+has_instances Process = true
+has_instances Procedure = false
+
+-- instances run the body, and the arguments are values of its parameters' modes
 pub record FitsBody (b : BodyRowTree) (zs : List ℤ) : Type 0 where
-  pub process : is_process b.sort ≡ true
+  pub process : has_instances b.sort ≡ true
   pub values : AreWithin (domains_of_parameters b.locals b.parameters) zs
 
 -- an instance, arguments and answers have the ranges of their types
