@@ -1,11 +1,7 @@
 -- Powersets as values have them: a list of numbers, each of which tells 32 members. Bit k of number j tells the member at
 -- offset 32 * j + k. Two powersets of one mode have lists of one length.
 use Rattle.std.specs.Prelude.{ℕ, zero, suc, ◌+◌, ◌-◌, nat_lt, Bool, true, false, ◌&&◌, List, [], ◌∷◌, ◌++◌, ℤ, pos, negsuc, ◌-ℤ◌, map, replicate, if◌then◌else◌}
-use Rattle.scalar_operators.specs.Powersets.{members_of, has_member, complement_in, union, intersection, symmetric_difference, difference, is_included, span_of}
-
--- how many members one number tells
-abbrev pub members_each : ℕ
-members_each = 32
+use Rattle.scalar_operators.specs.Powersets.{members_each, members_of, has_member, complement_in, union, intersection, symmetric_difference, difference, is_included, span_of}
 
 -- a powerset of so many numbers without members
 abbrev pub no_members : ℕ → List ℤ

@@ -7,9 +7,16 @@ use Rattle.std.specs.declared.option.Option.{Option}
 abbrev pub is_between : ℤ → ℤ → ℤ → Bool
 is_between low high z = int_le low z && int_le z high
 
+-- the least and the greatest value of INT
+abbrev pub least_int : ℤ
+least_int = neg_ℤ (pos 2147483648)
+
+abbrev pub greatest_int : ℤ
+greatest_int = pos 2147483647
+
 -- a value of INT
 abbrev pub is_int : ℤ → Bool
-is_int = is_between (neg_ℤ (pos 2147483648)) (pos 2147483647)
+is_int = is_between least_int greatest_int
 
 -- a number of the stack: 64 bits with sign
 abbrev pub is_scalar : ℤ → Bool

@@ -4,10 +4,14 @@ use Rattle.std.specs.Int.{bit_at}
 use Rattle.std.specs.List.{filter, list_all}
 use Rattle.std.specs.declared.option.Option.{Option}
 
--- the low 32 bits of a number in two's complement
+-- how many members one number tells
+abbrev pub members_each : ℕ
+members_each = 32
+
+-- the low bits of a number in two's complement, one for each of these members
 abbrev pub low_word : ℤ → ℕ
-low_word (pos n) = n % 2 ^ 32
-low_word (negsuc n) = 2 ^ 32 - 1 - n % 2 ^ 32
+low_word (pos n) = n % 2 ^ members_each
+low_word (negsuc n) = 2 ^ members_each - 1 - n % 2 ^ members_each
 
 -- the numbers from one on, so many
 abbrev pub numbers_up : ℕ → ℕ → List ℕ
@@ -16,7 +20,7 @@ numbers_up k (suc count) = k ∷ numbers_up (suc k) count
 
 -- the offsets that a powerset may have
 abbrev pub offsets : List ℕ
-offsets = numbers_up 0 32
+offsets = numbers_up 0 members_each
 
 -- there is a member at the offset
 abbrev pub has_member : ℤ → ℕ → Bool
@@ -54,7 +58,7 @@ is_included a b = list_all (has_member b) (members_of a)
 
 -- the number is the offset of a member
 abbrev pub has_offset : ℤ → ℤ → Bool
-has_offset (pos k) set = nat_lt k 32 && has_member set k
+has_offset (pos k) set = nat_lt k members_each && has_member set k
 has_offset (negsuc n) set = false
 
 -- the powerset of the offsets from the first number to the second

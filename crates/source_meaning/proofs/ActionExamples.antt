@@ -4,12 +4,13 @@ use Rattle.kernel_base.specs.declared.ends.Exc.TheVariants.{Overflow, Rangefail,
 use Rattle.kernel_base.specs.declared.ends.How.TheVariants.{Stopped}
 use Rattle.kernel_base.specs.declared.request.Request.TheVariants.{Get, End}
 use Rattle.kernel_base.specs.declared.answer.Answer.TheVariants.{Value, Done}
+use Rattle.modes.specs.ModeTree.{int, range}
 use Rattle.checked_program.specs.declared.expr.Binary.TheVariants.{Add, Subtract, Equal, Less}
 use Rattle.checked_program.specs.declared.expr.Routine.TheVariants.{Absolute, Successor}
 use Rattle.program_trees.specs.ExprTree.{ExprTree, expr, constant, get_int}
 use Rattle.program_trees.specs.StatementTree.{StatementTree, statement, ActionTree, ControlTree, ChoiceTree, OtherwiseNode, do_nothing, set_lowest, update, drop_routine, put_text, put_line, exit_from, assert_that, cause, stop, if_then, case_of, do_loop, begin_end, while_true, for_ever, for_members, for_steps, statement_nodes, choice_nodes, case_nodes, handled_nodes, handler, no_otherwise, otherwise}
 use Rattle.program_trees.specs.ProgramTree.{CheckedTree}
-use Rattle.source_meaning.proofs.Words.{Does, alone, asks, dcl, ends, int_bounds, ints, labelled, number, on, on_else, op, own, plain, put, puts, raises, says, set, ticks, value_in}
+use Rattle.source_meaning.proofs.Words.{Does, alone, asks, dcl, dcl_in, ends, int_bounds, ints, labelled, local_row, number, on, on_else, op, own, plain, put, puts, raises, says, set, ticks, value_in}
 
 abbrev x : ExprTree
 x = value_in (own 0)
@@ -28,7 +29,8 @@ choice e ss = record { condition = e; actions = statement_nodes ss }
 abbrev do_for : ControlTree → List StatementTree → StatementTree
 do_for c ss = plain (do_loop c (statement_nodes ss))
 
--- BEGIN x := 5; DCL x INT; PUT_INT(x); END, where a local has its lowest value from the start, and a declaration sets it again
+-- BEGIN PUT_INT(x); x := 5; DCL x INT; PUT_INT(x); END; ; a local has its lowest value from the start, and a declaration sets it
+-- again
 abbrev declared_late : CheckedTree
 declared_late = alone (ints 1) (plain (begin_end (statement_nodes (put x ∷ plain (set (own 0) (number (pos 5))) ∷ plain (set_lowest (0 ∷ []) (pos 0 ∷ [])) ∷ put x ∷ []))) ∷ plain do_nothing ∷ [])
 
@@ -117,11 +119,11 @@ label_around_a_handler_does : Does label_around_a_handler (says (pos 1) ∷ ends
 label_around_a_handler_does = refl
 
 -- CAUSE lost ON (busy): PUT_INT(1); ELSE PUT_INT(2); END; BEGIN CAUSE busy ON (busy): CAUSE lost; END; END ON ELSE PUT_INT(3);
--- END; CAUSE busy; PUT_INT(4); where busy is exception 7 and lost 8
+-- END; CAUSE busy; PUT_INT(4); where lost, which is the first in the text, is exception 7 and busy 8
 abbrev causes : CheckedTree
-causes = alone [] (statement false (cause 8) (handler (handled_nodes (record { numbers = 7 ∷ []; actions = statement_nodes (put (number (pos 1)) ∷ []) } ∷ [])) (otherwise (statement_nodes (put (number (pos 2)) ∷ [])))) ∷ statement false (begin_end (statement_nodes (statement false (cause 7) (on 7 (plain (cause 8) ∷ [])) ∷ []))) (on_else (put (number (pos 3)) ∷ [])) ∷ plain (cause 7) ∷ put (number (pos 4)) ∷ [])
+causes = alone [] (statement false (cause 7) (handler (handled_nodes (record { numbers = 8 ∷ []; actions = statement_nodes (put (number (pos 1)) ∷ []) } ∷ [])) (otherwise (statement_nodes (put (number (pos 2)) ∷ [])))) ∷ statement false (begin_end (statement_nodes (statement false (cause 8) (on 8 (plain (cause 7) ∷ [])) ∷ []))) (on_else (put (number (pos 3)) ∷ [])) ∷ plain (cause 8) ∷ put (number (pos 4)) ∷ [])
 
-causes_do : Does causes (says (pos 2) ∷ says (pos 3) ∷ raises (User 0))
+causes_do : Does causes (says (pos 2) ∷ says (pos 3) ∷ raises (User 1))
 causes_do = refl
 
 -- ASSERT TRUE; ASSERT FALSE; PUT_INT(1);
@@ -138,9 +140,9 @@ stopping = alone [] (text (pos 97 ∷ []) ∷ plain put_line ∷ plain (drop_rou
 stopping_does : Does stopping (puts (97 ∷ []) ∷ puts (10 ∷ []) ∷ asks (End Stopped) Done ∷ [])
 stopping_does = refl
 
--- SUCC(9); of a routine that stands as an action the value is dropped, and not its exception
+-- DCL x INT (0:9) := 9; SUCC(x); of a routine that stands as an action the value is dropped, and not its exception
 abbrev dropped_routine : CheckedTree
-dropped_routine = alone (ints 1) (dcl 0 (number (pos 9)) ∷ plain (drop_routine (Successor (pos 9)) x) ∷ [])
+dropped_routine = alone (local_row (range int (pos 0) (pos 9)) 0 1 ∷ []) (dcl_in (pos 0) (pos 9) 0 (number (pos 9)) ∷ plain (drop_routine (Successor (pos 9)) x) ∷ [])
 
 dropped_routine_does : Does dropped_routine (raises Overflow)
 dropped_routine_does = refl

@@ -1,5 +1,5 @@
 -- Calls, regions and shared locations.
-use Rattle.std.specs.Prelude.{◌≡◌, refl, ℕ, zero, suc, List, [], ◌∷◌, pos, Option, Some, None, false}
+use Rattle.std.specs.Prelude.{◌≡◌, refl, ℕ, zero, suc, List, [], ◌∷◌, pos, Option, Some, None, true, false}
 use Rattle.kernel_base.specs.declared.ends.Exc.TheVariants.{Rangefail, Empty, User}
 use Rattle.kernel_base.specs.declared.request.Request.TheVariants.{Read as AsksRead, Write as AsksWrite, Enter, Leave, Get}
 use Rattle.kernel_base.specs.declared.answer.Answer.TheVariants.{Value, Done, Fail}
@@ -74,6 +74,36 @@ results = with_bodies [] (put (expr 1 (call (call_of 1 []))) ∷ put (expr 1 (ca
 results_are : Does results (ticks ∷ says (pos 1) ∷ says (pos 3) ∷ ticks ∷ says (pos 0) ∷ ends)
 results_are = refl
 
+-- f: PROC () RETURNS (INT); CAUSE busy; END ON ELSE RETURN 4; PUT_INT(0); END f; PUT_INT(f()); RETURN in the procedure's own
+-- handler ends the call with that result
+abbrev return_in_a_handler : CheckedTree
+return_in_a_handler = with_bodies [] (put (expr 1 (call (call_of 1 []))) ∷ []) (with_handler (on_else (plain (return_with (Some (taken (number (pos 4))))) ∷ put (number (pos 0)) ∷ [])) (procedure [] (Some int) [] [] (plain (cause 7) ∷ [])) ∷ [])
+
+return_in_a_handler_does : Does return_in_a_handler (ticks ∷ says (pos 4) ∷ ends)
+return_in_a_handler_does = refl
+
+-- f: PROC () RETURNS (INT (0:5)); RETURN 9; END ON (RANGEFAIL): RESULT 3; END f; PUT_INT(f()); a result is tested where it is set
+abbrev result_outside_its_mode : CheckedTree
+result_outside_its_mode = with_bodies [] (put (expr 1 (call (call_of 1 []))) ∷ []) (with_handler (on 1 (plain (set_result (within (pos 0) (pos 5) (number (pos 3)))) ∷ [])) (procedure [] (Some (range int (pos 0) (pos 5))) [] [] (plain (return_with (Some (within (pos 0) (pos 5) (number (pos 9))))) ∷ [])) ∷ [])
+
+result_outside_its_mode_does : Does result_outside_its_mode (ticks ∷ says (pos 3) ∷ ends)
+result_outside_its_mode_does = refl
+
+-- p: PROC (a INT (0:5) INOUT); PUT_INT(a); END p; DCL x INT := 9; p(x) ON (RANGEFAIL): PUT_INT(1); END; what is copied in is
+-- tested before the call makes its tick
+abbrev copied_in_outside : CheckedTree
+copied_in_outside = with_bodies (ints 1) (dcl 0 (number (pos 9)) ∷ statement false (perform (call_of 1 (both (own 0) (Some (record { low = (pos 0); high = (pos 5) })) (Some int_bounds) ∷ []))) (on 1 (put (number (pos 1)) ∷ [])) ∷ []) (procedure (passed_both ∷ []) None [] (local_row (range int (pos 0) (pos 5)) 0 1 ∷ []) (put x ∷ []) ∷ [])
+
+copied_in_outside_does : Does copied_in_outside (says (pos 1) ∷ ends)
+copied_in_outside_does = refl
+
+-- M: MODULE CAUSE busy; PUT_INT(1); END ON (busy): PUT_INT(2); END M; N: MODULE PUT_INT(3); END N;
+abbrev handler_of_a_module : CheckedTree
+handler_of_a_module = program (body Outermost [] None [] [] (statement false (module_at (statement_nodes (plain (cause 7) ∷ put (number (pos 1)) ∷ []))) (on 7 (put (number (pos 2)) ∷ [])) ∷ plain (module_at (statement_nodes (put (number (pos 3)) ∷ []))) ∷ []) ∷ []) []
+
+handler_of_a_module_does : Does handler_of_a_module (says (pos 2) ∷ says (pos 3) ∷ ends)
+handler_of_a_module_does = refl
+
 -- p: PROC () EXCEPTIONS (busy); CAUSE busy; END p; q: PROC (); CAUSE lost; END q; p() ON (busy): PUT_INT(1); END;
 -- q() ON (lost): PUT_INT(2); END; where busy is exception 7 and lost 8
 abbrev listed_exceptions : CheckedTree
@@ -106,7 +136,7 @@ element_of l e = location (Shared l) (part_nodes (one_element e (record { low = 
 
 -- DCL n INT, a ARRAY (1:3) INT; DCL u, v INT := n; a(n) +:= n; PUT_INT(a(1)); where n is shared location 0, a 1, u 2, v 3
 abbrev shared_locations : CheckedTree
-shared_locations = program (main [] (plain do_nothing ∷ plain (declare (Shared 2 ∷ Shared 3 ∷ []) (taken (value_in (shared 0)))) ∷ plain (update (element_of 1 (value_in (shared 0))) Add (value_in (shared 0)) (Some int_bounds)) ∷ put (value_in (element_of 1 (number (pos 1)))) ∷ []) ∷ []) (location_row int None ∷ location_row three None ∷ location_row int None ∷ location_row int None ∷ [])
+shared_locations = program (main [] (plain do_nothing ∷ plain do_nothing ∷ plain (declare (Shared 2 ∷ Shared 3 ∷ []) (taken (value_in (shared 0)))) ∷ plain (update (element_of 1 (value_in (shared 0))) Add (value_in (shared 0)) (Some int_bounds)) ∷ put (value_in (element_of 1 (number (pos 1)))) ∷ []) ∷ []) (location_row int None ∷ location_row three None ∷ location_row int None ∷ location_row int None ∷ [])
 
 shared_locations_do : Does shared_locations (asks (AsksRead (place 0 0 1)) (Value (pos 4 ∷ [])) ∷ asks (AsksWrite (place 2 0 1) (pos 4 ∷ [])) Done ∷ asks (AsksWrite (place 3 0 1) (pos 4 ∷ [])) Done ∷ asks (AsksRead (place 0 0 1)) (Value (pos 3 ∷ [])) ∷ asks (AsksRead (place 1 2 1)) (Value (pos 10 ∷ [])) ∷ asks (AsksRead (place 0 0 1)) (Value (pos 5 ∷ [])) ∷ asks (AsksWrite (place 1 2 1) (pos 15 ∷ [])) Done ∷ asks (AsksRead (place 1 0 1)) (Value (pos 0 ∷ [])) ∷ says (pos 0) ∷ ends)
 shared_locations_do = refl
@@ -138,12 +168,28 @@ region_with_procedures_does : Does region_with_procedures (asks (Enter 0) Done �
     ∷ ticks ∷ asks (Enter 0) Done ∷ asks (Leave 0) Done ∷ says (pos 7) ∷ ends)
 region_with_procedures_does = refl
 
--- R: REGION GRANT fails; DCL n INT := 1; fails: PROC (); CAUSE busy; END fails; END R; M: MODULE .. fails(); END M;
+-- R: REGION GRANT fails; fails: PROC (); CAUSE busy; END fails; END R; M: MODULE .. fails(); END M; a region without
+-- initialisations isn't entered for them
 abbrev unlisted_in_a_region : CheckedTree
-unlisted_in_a_region = program (main [] (plain (perform (call_of 1 [])) ∷ []) ∷ critical_procedure [] None [] [] (plain (cause 7) ∷ []) ∷ []) []
+unlisted_in_a_region = program (body Outermost [] None [] [] (plain do_nothing ∷ plain (module_at (statement_nodes (plain (perform (call_of 1 [])) ∷ []))) ∷ []) ∷ critical_procedure [] None [] [] (plain (cause 7) ∷ []) ∷ []) []
 
 unlisted_in_a_region_does : Does unlisted_in_a_region (ticks ∷ asks (Enter 0) Done ∷ raises (User 0))
 unlisted_in_a_region_does = refl
+
+-- B: REGION GRANT inner; inner: PROC (); PUT_INT(1); END inner; END B; A: REGION GRANT outer; SEIZE inner;
+-- outer: PROC (); inner(); END outer; END A; M: MODULE .. outer(); END M; where A is region 1, and outer body 2
+abbrev inside_of_region_1 : BodyRowTree → BodyRowTree
+inside_of_region_1 b = record b { region = Some 1; critical = true }
+
+abbrev region_in_region : CheckedTree
+region_in_region = program (main [] (plain (perform (call_of 2 [])) ∷ []) ∷ critical_procedure [] None [] [] (put (number (pos 1)) ∷ []) ∷ inside_of_region_1 (procedure [] None [] [] (plain (perform (call_of 1 [])) ∷ [])) ∷ []) []
+
+region_in_region_does : Does region_in_region (ticks ∷ asks (Enter 1) Done ∷ ticks ∷ asks (Enter 0) Done ∷ says (pos 1) ∷ asks (Leave 0) Done ∷ asks (Leave 1) Done ∷ ends)
+region_in_region_does = refl
+
+-- the regions are open in the order in which they were entered
+open_in_order : open_behind [] (talk region_in_region 1 0 [] (Done ∷ Done ∷ []) 3).trace ≡ (1 ∷ 0 ∷ [])
+open_in_order = refl
 
 -- R: REGION DCL n INT (0:5) := GET_INT(); END ON (EMPTY): n := 2; END R; and the end of the input, and then a value outside
 abbrev initialised_region : CheckedTree

@@ -90,7 +90,8 @@ parts_of_locations = alone rows (dcl 1 (number (pos 2)) ∷ dcl_any 0 (expr 4 (p
 parts_of_locations_do : Does parts_of_locations (says (pos 5) ∷ says (pos 2) ∷ says (pos 9) ∷ raises Rangefail)
 parts_of_locations_do = refl
 
--- DCL v ARRAY (1:3) INT := [(*) : GET_INT()], w .. := v; PUT_INT(v(3)); PUT_INT(NUM(v = w)); PUT_INT([GET_INT(), 5, 6](2));
+-- SYN k ARRAY (1:3) INT = [8, 5, 6]; DCL v ARRAY (1:3) INT := [(*) : GET_INT()], w .. := v; PUT_INT(v(3)); PUT_INT(NUM(v = w));
+-- PUT_INT(k(2));
 abbrev three : ModeTree
 three = array (range int (pos 1) (pos 3)) int words
 
@@ -101,9 +102,9 @@ abbrev w : LocationTree
 w = location (Local 1) no_parts 3
 
 abbrev uniform_tuples : CheckedTree
-uniform_tuples = alone (local_row three 0 3 ∷ local_row three 3 3 ∷ []) (dcl_any 0 (expr 3 (uniform 3 (taken (expr 1 get_int)))) ∷ dcl_any 1 (expr 3 (contents v)) ∷ put (expr 1 (contents (location (Local 0) (part_nodes (one_element (number (pos 3)) (record { low = (pos 1); high = (pos 3) }) 1 ∷ [])) 1))) ∷ put (of Number (op Equal (expr 3 (contents v)) (expr 3 (contents w)))) ∷ put (expr 1 (part_of (expr 3 (parts (received_nodes (taken (expr 1 get_int) ∷ taken (number (pos 5)) ∷ taken (number (pos 6)) ∷ [])))) (part_nodes (one_element (number (pos 2)) (record { low = (pos 1); high = (pos 3) }) 1 ∷ [])))) ∷ [])
+uniform_tuples = alone (local_row three 0 3 ∷ local_row three 3 3 ∷ []) (dcl_any 0 (expr 3 (uniform 3 (taken (expr 1 get_int)))) ∷ dcl_any 1 (expr 3 (contents v)) ∷ put (expr 1 (contents (location (Local 0) (part_nodes (one_element (number (pos 3)) (record { low = (pos 1); high = (pos 3) }) 1 ∷ [])) 1))) ∷ put (of Number (op Equal (expr 3 (contents v)) (expr 3 (contents w)))) ∷ put (expr 1 (part_of (expr 3 (constant (pos 8 ∷ pos 5 ∷ pos 6 ∷ []))) (part_nodes (one_element (number (pos 2)) (record { low = (pos 1); high = (pos 3) }) 1 ∷ [])))) ∷ [])
 
-uniform_tuples_do : Does uniform_tuples (asks Get (Value (pos 7 ∷ [])) ∷ says (pos 7) ∷ says (pos 1) ∷ asks Get (Value (pos 8 ∷ [])) ∷ says (pos 5) ∷ ends)
+uniform_tuples_do : Does uniform_tuples (asks Get (Value (pos 7 ∷ [])) ∷ says (pos 7) ∷ says (pos 1) ∷ says (pos 5) ∷ ends)
 uniform_tuples_do = refl
 
 -- Powersets of 40 members have two numbers: 0 and 33 are bit 0 of the first and bit 1 of the second.

@@ -1,7 +1,7 @@
 -- Processes, events, buffers and signals.
 use Rattle.std.specs.Prelude.{◌≡◌, refl, ℕ, List, [], ◌∷◌, pos, Some, None, true, false}
 use Rattle.kernel_base.specs.declared.ends.Exc.TheVariants.{Rangefail, Empty, Delayfail, Spacefail, Extinct}
-use Rattle.kernel_base.specs.declared.request.Request.TheVariants.{Delay, Continue, SendBuffer, ReceiveBuffer, SendSignal, ReceiveSignal, Start, Get}
+use Rattle.kernel_base.specs.declared.request.Request.TheVariants.{Delay, Continue, SendBuffer, ReceiveBuffer, SendSignal, ReceiveSignal, Start, Get, Write}
 use Rattle.kernel_base.specs.declared.answer.Answer.TheVariants.{Value, Done, Woken, Got, Otherwise, Instance, Fail, Chose, Handed, Stored}
 use Rattle.modes.specs.ModeTree.{ModeTree, int, instance, range, chars, array, words}
 use Rattle.checked_program.specs.declared.expr.Base.TheVariants.{Local}
@@ -15,7 +15,7 @@ use Rattle.program_trees.specs.ExprTree.{ExprTree, expr, own_instance, contents,
 use Rattle.program_trees.specs.StatementTree.{StatementTree, statement, NumbersTree, ReceiveTree, put_text, cause, start_of, delay, continue_at, send, to_buffer, signal, delay_case, receive_buffers, receive_signals, statement_nodes, delay_nodes, receive_nodes, no_otherwise, otherwise}
 use Rattle.program_trees.specs.ProgramTree.{CheckedTree}
 use Rattle.source_meaning.specs.Talk.{talk}
-use Rattle.source_meaning.proofs.Words.{Does, alone, asks, body, dcl_any, ends, ints, local_row, main, number, of, on, op, own, plain, program, put, puts, raises, says, taken, trace_of, value_in, with_handler, within}
+use Rattle.source_meaning.proofs.Words.{Does, alone, asks, body, dcl_any, ends, ints, local_row, location_row, main, number, of, on, op, own, plain, program, put, puts, raises, says, shared, taken, trace_of, value_in, with_handler, within}
 
 abbrev x : ExprTree
 x = value_in (own 0)
@@ -90,6 +90,14 @@ receive_cases = alone (local_row instance 0 1 ∷ local_row (chars 2) 1 2 ∷ lo
 
 receive_cases_do : Does receive_cases (asks (ReceiveBuffer (listed 0 0 ∷ listed 1 1 ∷ []) true) (Got 1 5 (pos 42 ∷ []) 9) ∷ says (pos 42) ∷ says (pos 1) ∷ asks (ReceiveBuffer (listed 0 0 ∷ listed 1 1 ∷ []) true) Otherwise ∷ says (pos 3) ∷ ends)
 receive_cases_do = refl
+
+-- RECEIVE CASE SET j; (b IN v): PUT_INT(v); ESAC; where j is shared location 0 and v local 0: the name is set with the answer, and
+-- SET is assigned before the actions
+abbrev set_of_a_shared_location : CheckedTree
+set_of_a_shared_location = program (main (ints 1) (plain (receive_buffers (Some (shared 0)) (receive_nodes (got_from 0 (0 ∷ []) (put x ∷ []) ∷ [])) no_otherwise) ∷ []) ∷ []) (location_row instance None ∷ [])
+
+set_of_a_shared_location_does : Does set_of_a_shared_location (asks (ReceiveBuffer (listed 0 0 ∷ []) false) (Got 0 1 (pos 20 ∷ []) 3) ∷ asks (Write (record { location = 0; first = 0; count = 1 }) (pos 3 ∷ [])) Done ∷ says (pos 20) ∷ ends)
+set_of_a_shared_location_does = refl
 
 -- RECEIVE CASE (s IN v, w): PUT_TEXT(v); PUT_INT(w); (t): ESAC; twice; where s has the parts CHARS (2) and INT, and t none
 abbrev receive_signal_cases : CheckedTree

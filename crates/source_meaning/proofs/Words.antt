@@ -116,7 +116,8 @@ with_handler h b = record b { handler = h }
 abbrev pub granted : BodyRowTree → BodyRowTree
 granted b = record b { region = Some 0; critical = true }
 
--- the outermost process: one module with these statements, and these locals of its blocks
+-- The outermost process: one module with these statements. Where they declare locals, a BEGIN and an END stand round them in
+-- the text, which are left out here, since a block adds nothing to what it holds.
 abbrev pub main : List LocalRowTree → List StatementTree → BodyRowTree
 main rows ss = body Outermost [] None [] rows (plain (module_at (statement_nodes ss)) ∷ [])
 

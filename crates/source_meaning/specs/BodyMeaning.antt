@@ -1,5 +1,5 @@
 -- What bodies and calls mean.
-use Rattle.std.specs.Prelude.{ℕ, zero, suc, ◌+◌, Bool, true, false, List, [], ◌∷◌, ◌++◌, ℤ, length, Option, Some, None, slice_get, nat_lt, option_map, if◌then◌else◌}
+use Rattle.std.specs.Prelude.{ℕ, zero, suc, ◌+◌, Bool, true, false, List, [], ◌∷◌, ◌++◌, Option, Some, None, slice_get, nat_lt, if◌then◌else◌}
 use Rattle.kernel_base.specs.declared.ends.Exc.{Exc}
 use Rattle.kernel_base.specs.declared.ends.Exc.TheVariants.{Spacefail}
 use Rattle.kernel_base.specs.declared.ends.How.TheVariants.{Raised as RaisedHow}
@@ -41,21 +41,21 @@ listed_by None = []
 listed_by (Some b) = b.listed
 
 -- what a call makes of its body's end: a listed exception is raised at the call, and any other ends the process
-abbrev pub back : ℕ → Option BodyRowTree → Store → Ending → Flow Store
-back b o store (Through inner s) = Goes inner store s
-back b o store (Out x inner s) =
+abbrev pub at_call : ℕ → Option BodyRowTree → Store → Ending → Flow Store
+at_call b o store (Through inner s) = Goes inner store s
+at_call b o store (Out x inner s) =
     if names_exception (listed_by o) x
     then Raised x store s
     else finish (RaisedHow x) (record { body = b; store = inner } ∷ []) store s
-back b o store (Halted t calls inner) = Stops t (record { body = b; store = inner } ∷ calls) store
-back b o store (Ended t) = Gone t
-back b o store Unknown = Bound
+at_call b o store (Halted t calls inner) = Stops t (record { body = b; store = inner } ∷ calls) store
+at_call b o store (Ended t) = Gone t
+at_call b o store Unknown = Bound
 
 -- a call in frame number `frames`: SPACEFAIL, or a tick and the body
 abbrev pub calls_in : CheckedTree → Bodies → ℕ → List ℕ → Calls
 calls_in p bodies frames open_now b ts store s =
     if nat_lt frames most_frames
-    then after_tick (tick s) store (λ s1. back b (slice_get p.bodies b) store (bodies b (frames + 1) open_now ts s1))
+    then after_tick (tick s) store (λ s1. at_call b (slice_get p.bodies b) store (bodies b (frames + 1) open_now ts s1))
     else Raised Spacefail store s
 
 -- at the end of a critical body its region is left, also before a listed exception goes out

@@ -1,6 +1,5 @@
 -- What expressions and locations mean.
-use Rattle.std.specs.Prelude.{ℕ, zero, suc, ◌+◌, Bool, true, false, List, [], ◌∷◌, ◌++◌, ℤ, pos, nat_abs, Option, Some, None, slice_index_or, if◌then◌else◌}
-use Rattle.kernel_base.specs.declared.ends.Exc.{Exc}
+use Rattle.std.specs.Prelude.{ℕ, ◌+◌, false, List, [], ◌∷◌, ◌++◌, ℤ, pos, nat_abs, Option, Some, None, if◌then◌else◌}
 use Rattle.kernel_base.specs.declared.ends.Exc.TheVariants.{Rangefail}
 use Rattle.kernel_base.specs.declared.request.Request.{Request}
 use Rattle.kernel_base.specs.declared.request.Request.TheVariants.{Read, Write, ReceiveBuffer, Start, Get}
@@ -15,7 +14,7 @@ use Rattle.scalar_operators.specs.Numbers.{is_between}
 use Rattle.program_trees.specs.ProgramTree.{LocalRowTree}
 use Rattle.program_trees.specs.ExprTree.{ExprTree, expr, OperationTree, constant, own_instance, contents, part_of, receive, start, call, powerset, parts, uniform, routine, get_int, prefixed, binary, ReceivedTree, received, ReceivedNodes, no_received, more_received, PartNodes, no_parts, field, element, RangeNodes, no_ranges, one_member, members, LocationTree, location, StartTree, started, CallTree, called, ArgumentNodes, no_arguments, in_argument, out_argument, inout_argument}
 use Rattle.source_meaning.specs.Store.{Store, local_value, with_part, Address, in_local, in_shared, address_of, Taken, brings, lowest}
-use Rattle.source_meaning.specs.Flow.{Flow, Goes, Raised, Exits, Returned, Stops, Gone, Bound, Meaning, then_do, asked, done}
+use Rattle.source_meaning.specs.Flow.{Goes, Raised, Meaning, then_do, asked, done}
 use Rattle.source_meaning.specs.Operators.{sole_number, one, Computed, Yields, Throws, offset_within, empty_within, with_span, binary_value, takes_second, prefix_value, routine_value}
 
 -- what a call of each body means, with what its parameters begin with: it gives the store at its end
@@ -66,21 +65,21 @@ assign_at count (in_local i first) xs store s = Goes tt (with_part store i first
 assign_at count (in_shared l first) xs store s = done (Write (record { location = l; first = first; count = count }) xs) store s
 
 -- an argument whose parts are evaluated: what its parameter begins with, and where the parameter is copied out to
-pub record Back : Type 0 where
+pub record CopyOut : Type 0 where
   pub address : Address
   pub count : ℕ
   pub bounds : Option Bounds
 
 pub record Passed : Type 0 where
   pub begins : Taken
-  pub back : Option Back
+  pub copy_out : Option CopyOut
 
 abbrev pub takens : List Passed → List Taken
 takens [] = []
 takens (p ∷ ps) = p.begins ∷ takens ps
 
 -- the parameter of an argument is copied out, once it is tested
-abbrev pub copied_out : Option Back → List ℤ → Meaning (Unit {0})
+abbrev pub copied_out : Option CopyOut → List ℤ → Meaning (Unit {0})
 copied_out None xs store s = Goes tt store s
 copied_out (Some b) xs store s = then_do (tested b.bounds xs store s) (assign_at b.count b.address)
 
@@ -89,7 +88,7 @@ copied_out (Some b) xs store s = then_do (tested b.bounds xs store s) (assign_at
 abbrev pub all_copied_out : List Passed → List (List ℤ) → Meaning (Unit {0})
 all_copied_out [] values store s = Goes tt store s
 all_copied_out (p ∷ ps) [] store s = Goes tt store s
-all_copied_out (p ∷ ps) (xs ∷ values) store s = then_do (copied_out p.back xs store s) (λ _. all_copied_out ps values)
+all_copied_out (p ∷ ps) (xs ∷ values) store s = then_do (copied_out p.copy_out xs store s) (λ _. all_copied_out ps values)
 
 -- a call whose arguments are evaluated: the result
 abbrev pub call_with : Setting → ℕ → List Passed → Meaning (List ℤ)
@@ -174,16 +173,16 @@ abbrev mutual
   arguments_mean w no_arguments store s = Goes [] store s
   arguments_mean w (in_argument r as') store s =
       then_do (received_mean w r store s) (λ xs store1 s1.
-      then_do (arguments_mean w as' store1 s1) (λ ps. Goes (record { begins = brings xs; back = None } ∷ ps)))
+      then_do (arguments_mean w as' store1 s1) (λ ps. Goes (record { begins = brings xs; copy_out = None } ∷ ps)))
   arguments_mean w (out_argument l b as') store s =
-      then_do (place_mean w l b store s) (λ back store1 s1.
-      then_do (arguments_mean w as' store1 s1) (λ ps. Goes (record { begins = lowest; back = Some back } ∷ ps)))
+      then_do (place_mean w l b store s) (λ place store1 s1.
+      then_do (arguments_mean w as' store1 s1) (λ ps. Goes (record { begins = lowest; copy_out = Some place } ∷ ps)))
   arguments_mean w (inout_argument l t b as') store s =
-      then_do (place_mean w l b store s) (λ back store1 s1.
-      then_do (read_at back.count back.address store1 s1) (λ xs store2 s2.
+      then_do (place_mean w l b store s) (λ place store1 s1.
+      then_do (read_at place.count place.address store1 s1) (λ xs store2 s2.
       then_do (tested t xs store2 s2) (λ ys store3 s3.
-      then_do (arguments_mean w as' store3 s3) (λ ps. Goes (record { begins = brings ys; back = Some back } ∷ ps)))))
+      then_do (arguments_mean w as' store3 s3) (λ ps. Goes (record { begins = brings ys; copy_out = Some place } ∷ ps)))))
 
   -- the place of an OUT or INOUT argument
-  pub place_mean : Setting → LocationTree → Option Bounds → Meaning Back
+  pub place_mean : Setting → LocationTree → Option Bounds → Meaning CopyOut
   place_mean w (location b ps n) bounds store s = then_do (offset_mean w ps 0 store s) (λ k. Goes (record { address = address_of b k; count = n; bounds = bounds }))

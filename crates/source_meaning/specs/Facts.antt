@@ -1,5 +1,5 @@
 -- The facts of a program with an input and a budget: what a run of it starts from.
-use Rattle.std.specs.Prelude.{◌≡◌, ℕ, suc, ◌+◌, List, [], ◌∷◌, ◌++◌, ℤ, map, replicate, Option, Some, None}
+use Rattle.std.specs.Prelude.{◌≡◌, ℕ, suc, ◌+◌, List, [], ◌∷◌, ◌++◌, map}
 use Rattle.kernel_base.specs.declared.facts.Facts.{Facts}
 use Rattle.kernel_base.specs.declared.value.ScalarKind.{ScalarKind}
 use Rattle.kernel_base.specs.declared.value.ScalarKind.TheVariants.{Plain, Powerset}
@@ -12,10 +12,10 @@ use Rattle.checked_program.specs.declared.program.EventRow.{EventRow}
 use Rattle.checked_program.specs.declared.program.Sort.{Sort}
 use Rattle.checked_program.specs.declared.program.Sort.TheVariants.{Outermost, Process, Procedure}
 use Rattle.program_trees.specs.ProgramTree.{LocationRowTree, BufferRowTree, SignalRowTree, BodyRowTree, CheckedTree}
-use Rattle.source_meaning.specs.Values.{Span, within, any_instance, members_from, spans_of}
+use Rattle.source_meaning.specs.Values.{Domain, within, any_instance, members_from, domains_of}
 
 -- what a scalar is, by what it may be
-abbrev pub kind_of : Span → ScalarKind
+abbrev pub kind_of : Domain → ScalarKind
 kind_of (within b) = Plain
 kind_of any_instance = Plain
 kind_of (members_from size first) = Powerset size first
@@ -23,25 +23,25 @@ kind_of (members_from size first) = Powerset size first
 abbrev mutual
   -- The powersets in the lowest value of a mode: how many values the member mode has, and the offsets of the members, of which
   -- there is none.
-  pub powersets_in : ModeTree → List (ℕ × List ℕ)
-  powersets_in int = []
-  powersets_in boolean = []
-  powersets_in char = []
-  powersets_in instance = []
-  powersets_in (set_of d n) = []
-  powersets_in (range p l h) = []
-  powersets_in (powerset m) = (values_of m, []) ∷ []
-  powersets_in (chars n) = []
-  powersets_in (array i e how) = repeated (values_of i) (powersets_in e)
-  powersets_in (structure fs p) = powersets_in_fields fs
-  powersets_in (event l) = []
-  powersets_in (buffer l e) = []
-  powersets_in (read m) = powersets_in m
-  powersets_in (named d n m) = powersets_in m
+  pub lowest_powersets_of : ModeTree → List (ℕ × List ℕ)
+  lowest_powersets_of int = []
+  lowest_powersets_of boolean = []
+  lowest_powersets_of char = []
+  lowest_powersets_of instance = []
+  lowest_powersets_of (set_of d n) = []
+  lowest_powersets_of (range p l h) = []
+  lowest_powersets_of (powerset m) = (values_of m, []) ∷ []
+  lowest_powersets_of (chars n) = []
+  lowest_powersets_of (array i e how) = repeated (values_of i) (lowest_powersets_of e)
+  lowest_powersets_of (structure fs p) = lowest_powersets_of_fields fs
+  lowest_powersets_of (event l) = []
+  lowest_powersets_of (buffer l e) = []
+  lowest_powersets_of (read m) = lowest_powersets_of m
+  lowest_powersets_of (named d n m) = lowest_powersets_of m
 
-  pub powersets_in_fields : FieldNodes → List (ℕ × List ℕ)
-  powersets_in_fields no_fields = []
-  powersets_in_fields (more_fields name m at fs) = powersets_in m ++ powersets_in_fields fs
+  pub lowest_powersets_of_fields : FieldNodes → List (ℕ × List ℕ)
+  lowest_powersets_of_fields no_fields = []
+  lowest_powersets_of_fields (more_fields name m at fs) = lowest_powersets_of m ++ lowest_powersets_of_fields fs
 
 -- the number behind that of the last process: bodies from this number on, behind a process or none
 abbrev pub behind_body : Sort → ℕ → ℕ → ℕ
@@ -57,8 +57,8 @@ processes_from k behind (b ∷ bs) = processes_from (suc k) (behind_body b.sort 
 -- their powersets.
 pub record AreLowest (p : CheckedTree) (facts : Facts) : Type 0 where
   pub scalars : map scalars_of facts.store ≡ map (λ row. lowest_of row.mode) p.locations
-  pub kinds : map kinds_of facts.store ≡ map (λ row. map kind_of (spans_of row.mode)) p.locations
-  pub powersets : map powersets_of facts.store ≡ map (λ row. powersets_in row.mode) p.locations
+  pub kinds : map kinds_of facts.store ≡ map (λ row. map kind_of (domains_of row.mode)) p.locations
+  pub powersets : map powersets_of facts.store ≡ map (λ row. lowest_powersets_of row.mode) p.locations
 
 -- The facts are those of the program with this input and this budget. A process has the number of its body.
 pub record AreFactsOf (p : CheckedTree) (input : List ℕ) (units : ℕ) (facts : Facts) : Type 0 where

@@ -1,5 +1,5 @@
 -- Operators and routines on values, by `scalar_operators`, with the exceptions that they raise.
-use Rattle.std.specs.Prelude.{ℕ, ◌+◌, Bool, true, false, not, ◌&&◌, List, [], ◌∷◌, ℤ, pos, ◌+ℤ◌, ◌-ℤ◌, ◌*ℤ◌, neg_ℤ, nat_abs, int_le, length, Option, Some, None, if◌then◌else◌}
+use Rattle.std.specs.Prelude.{ℕ, ◌+◌, Bool, true, not, ◌&&◌, List, [], ◌∷◌, ℤ, pos, ◌+ℤ◌, ◌-ℤ◌, ◌*ℤ◌, neg_ℤ, int_le, length, Option, Some, None, if◌then◌else◌}
 use Rattle.kernel_base.specs.declared.ends.Exc.{Exc}
 use Rattle.kernel_base.specs.declared.ends.Exc.TheVariants.{Overflow, Empty}
 use Rattle.modes.specs.declared.mode.Bounds.{Bounds}

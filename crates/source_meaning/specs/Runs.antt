@@ -1,17 +1,16 @@
 -- Runs of a program.
 use Rattle.std.specs.Prelude.{◌≡◌, ℕ, suc, List, ◌++◌, Some}
 use Rattle.kernel_base.specs.declared.facts.Facts.{Facts}
-use Rattle.kernel_base.specs.declared.answer.Answer.{Answer}
 use Rattle.kernel_base.specs.declared.event.Event.{Event}
 use Rattle.world_model.specs.Journal.{line_of, answers_of, Birth, born_of}
 use Rattle.world_model.specs.Allowed.{IsRun}
 use Rattle.program_trees.specs.ProgramTree.{CheckedTree}
 use Rattle.code_types.specs.Runs.{Begins, ticks_in}
 use Rattle.source_meaning.specs.Store.{OpenCall}
-use Rattle.source_meaning.specs.Talk.{Told, talk}
+use Rattle.source_meaning.specs.Talk.{Talk, talk}
 
 -- the talk of an instance with the answers of a journal, and one tick more than it made there
-abbrev pub talk_in_journal : CheckedTree → List Event → ℕ → Birth → Told
+abbrev pub talk_in_journal : CheckedTree → List Event → ℕ → Birth → Talk
 talk_in_journal p events who birth = talk p who birth.process birth.arguments (answers_of who events) (suc (ticks_in (line_of who events)))
 
 -- what an instance did in a journal begins its talk

@@ -11,7 +11,6 @@ use Rattle.kernel_base.specs.declared.answer.Answer.{Answer}
 use Rattle.kernel_base.specs.declared.answer.Answer.TheVariants.{Woken, Got}
 use Rattle.modes.specs.declared.mode.Bounds.{Bounds}
 use Rattle.checked_program.specs.declared.expr.Base.{Base}
-use Rattle.checked_program.specs.declared.expr.Binary.{Binary}
 use Rattle.world_model.specs.Session.{Session, tick}
 use Rattle.scalar_operators.specs.Numbers.{is_between, is_int, where_true, decimal_text}
 use Rattle.scalar_operators.specs.Powersets.{first_of_list}
@@ -19,13 +18,13 @@ use Rattle.scalar_operators.specs.Members.{offsets_of}
 use Rattle.code_types.specs.Numbers.{exception_of}
 use Rattle.code_types.specs.Operands.{number_in as number_of_32, bytes_of}
 use Rattle.code_types.specs.Places.{names_exception}
-use Rattle.program_trees.specs.ExprTree.{ExprTree, ReceivedTree, LocationTree, location, location_count, RangeNodes}
+use Rattle.program_trees.specs.ExprTree.{ExprTree, ReceivedTree, LocationTree, location, location_count}
 use Rattle.program_trees.specs.ProgramTree.{LocalRowTree}
 use Rattle.program_trees.specs.StatementTree.{SentTree, to_buffer, signal, ControlTree, while_true, for_ever, for_members, for_steps, StatementTree, statement, ActionTree, do_nothing, declare, set_lowest, module_at, region_at, assign, update, perform, drop_routine, evaluate, put_int, put_text, put_line, exit_from, return_with, set_result, assert_that, cause, stop, start_of, delay, continue_at, send, if_then, case_of, do_loop, begin_end, delay_case, receive_buffers, receive_signals, StatementNodes, no_statements, more_statements, ChoiceNodes, no_choices, more_choices, CaseNodes, no_cases, more_cases, DelayNodes, no_delays, more_delays, ReceiveNodes, no_receives, more_receives, OtherwiseNode, no_otherwise, otherwise, HandledNodes, no_handled, more_handled, HandlerNode, no_handler, handler}
 use Rattle.source_meaning.specs.Store.{Store, Address, address_of, with_local, with_result, count_in}
 use Rattle.source_meaning.specs.Flow.{Flow, Goes, Raised, Exits, Returned, Stops, Gone, Bound, Meaning, then_do, asked, done, finish, after_tick}
 use Rattle.source_meaning.specs.Operators.{sole_number, one, is_true, member_at, routine_value, without_offset}
-use Rattle.source_meaning.specs.ExprMeaning.{Setting, as_computed, or_rangefail, tested, asked_value, read_at, assign_at, expr_mean, binary_with, received_mean, all_received_mean, location_mean, start_mean, call_mean}
+use Rattle.source_meaning.specs.ExprMeaning.{Setting, as_computed, or_rangefail, tested, read_at, assign_at, expr_mean, binary_with, received_mean, all_received_mean, location_mean, start_mean, call_mean}
 
 -- ---- parts of actions
 

@@ -8,11 +8,12 @@ use Rattle.modes.specs.Scalars.{lowest_of}
 use Rattle.modes.specs.Similar.{Similar}
 use Rattle.checked_program.specs.declared.expr.Base.{Base}
 use Rattle.checked_program.specs.declared.program.Sort.{Sort}
-use Rattle.checked_program.specs.declared.program.Sort.TheVariants.{Procedure}
+use Rattle.checked_program.specs.declared.program.Sort.TheVariants.{Outermost, Procedure}
 use Rattle.program_trees.specs.ExprTree.{ExprTree, ReceivedTree, ReceivedNodes, LocationTree, StartTree, CallTree}
 use Rattle.program_trees.specs.StatementTree.{SentTree, to_buffer, signal, ControlTree, while_true, for_ever, for_members, for_steps, StatementTree, statement, ActionTree, do_nothing, declare, set_lowest, module_at, region_at, assign, update, perform, drop_routine, evaluate, put_int, put_text, put_line, exit_from, return_with, set_result, assert_that, cause, stop, start_of, delay, continue_at, send, if_then, case_of, do_loop, begin_end, delay_case, receive_buffers, receive_signals, StatementNodes, no_statements, more_statements, ChoiceNodes, no_choices, more_choices, CaseNodes, no_cases, more_cases, DelayNodes, no_delays, more_delays, ReceiveNodes, no_receives, more_receives, OtherwiseNode, no_otherwise, otherwise, HandledNodes, no_handled, more_handled, HandlerNode, no_handler, handler}
 use Rattle.program_trees.specs.ProgramTree.{SignalRowTree, LocalRowTree, CheckedTree}
-use Rattle.source_meaning.specs.TypedValues.{Context, BaseHas, BufferHas, BinaryHas, RoutineHas, HasMode, IsTakenBy, AllHave, LocationHas, IsTypedStart, IsTypedCall}
+use Rattle.source_meaning.specs.TypedValues.{Context, BaseHas, BufferHas, IsRootOfEither, BinaryHas, RoutineHas, HasMode, IsTakenBy, AllHave, LocationHas, IsTypedStart, IsTypedCall}
+use Rattle.source_meaning.specs.StatementMeaning.{is_label}
 
 -- where a statement stands, besides: what its body is of, the mode of the result, and how many labelled statements are around
 -- it
@@ -79,14 +80,14 @@ IsStepped c None f = Unit {0}
 IsStepped c (Some e) f = IsOfInt c e × (f ≡ of_int)
 
 -- What controls a loop: members are counted from the lower bound of their mode, which is the counter's; start and end are
--- similar, and the counter is a discrete location of such values.
+-- similar and discrete, and the counter's mode is the root of one of theirs, so that each value between them is one of its.
 abbrev pub IsTypedControl : Context → ControlTree → Type 0
 IsTypedControl c (while_true e) = IsCondition c e
 IsTypedControl c for_ever = Unit {0}
 IsTypedControl c (for_members counter e low condition) =
     ((m : ModeTree) × (own : ModeTree) × (b : Bounds) × HasMode c e m × (form_of m ≡ of_powerset own) × (bounds_of own ≡ Some b) × (b.low ≡ low) × LocalHas c own counter) × IsSomeCondition c condition
 IsTypedControl c (for_steps counter e step f down condition) =
-    ((m : ModeTree) × (own : ModeTree) × (other : ModeTree) × (b : Bounds) × HasMode c e own × HasMode c f other × Similar own other × LocalHas c m counter × Similar own m × (bounds_of m ≡ Some b) × IsStepped c step (form_of own)) × IsSomeCondition c condition
+    ((m : ModeTree) × (own : ModeTree) × (other : ModeTree) × (b : Bounds) × HasMode c e own × HasMode c f other × Similar own other × LocalHas c m counter × IsRootOfEither m own other × (bounds_of m ≡ Some b) × IsStepped c step (form_of own)) × IsSomeCondition c condition
 
 -- RETURN and RESULT stand in procedures, and have a value where there is a result alone
 abbrev pub IsTypedReturn : Around → Option ReceivedTree → Type 0
@@ -104,23 +105,50 @@ Brings = ℕ → List ModeTree → Type 0
 abbrev pub BufferBrings : Context → ℕ → List ModeTree → Type 0
 BufferBrings c b ms = (m : ModeTree) × (ms ≡ m ∷ []) × BufferHas c b m
 
--- inside a labelled statement, and inside the initialisations of a region
+-- inside a labelled statement, and inside a region
 abbrev pub labelled_around : Bool → Around → Around
 labelled_around false at = at
 labelled_around true at = record at { labels = suc at.labels }
 
-abbrev pub inside_region : ActionTree → Context → Context
-inside_region (region_at r ss) c = record c { region = Some r }
-inside_region a c = c
+abbrev pub with_region : Option ℕ → Context → Context
+with_region region c = record c { region = region }
 
+abbrev pub in_region_around : Option ℕ → Around → Around
+in_region_around region at = record at { context = with_region region at.context }
+
+-- what stands around what a region's initialisations do is the region
 abbrev pub around_in : ActionTree → Around → Around
-around_in a at = record at { context = inside_region a at.context }
+around_in (region_at r ss) at = in_region_around (Some r) at
+around_in a at = at
+
+-- what stands around a statement's action
+abbrev pub around_action : Bool → ActionTree → Around → Around
+around_action labelled a at = labelled_around (is_label labelled a) (around_in a at)
+
+-- What stands around a statement's handler: what stands around its action. A region whose declarations have no values does
+-- nothing; its handler, which nothing comes to, stands in the region all the same.
+abbrev pub around_handler : Option ℕ → Bool → ActionTree → Around → Around
+around_handler region labelled do_nothing at = labelled_around labelled (in_region_around region at)
+around_handler region labelled a at = around_action labelled a at
+
+-- in the outermost process, in no labelled statement and in no region
+pub record StandsAtTop (at : Around) : Type 0 where
+  pub outermost : at.sort ≡ Outermost
+  pub unlabelled : at.labels ≡ 0
+  pub outside : at.context.region ≡ None
+
+-- modules and regions stand at the top alone
+abbrev pub HasPlace : ActionTree → Around → Type 0
+HasPlace (module_at ss) at = StandsAtTop at
+HasPlace (region_at r ss) at = StandsAtTop at
+HasPlace a at = Unit {0}
 
 -- ---- statements
 
 abbrev mutual
   pub IsTypedStatement : Around → StatementTree → Type 0
-  IsTypedStatement at (statement labelled a h) = IsTypedAction (labelled_around labelled (around_in a at)) a × IsTypedHandler (labelled_around labelled (around_in a at)) h
+  IsTypedStatement at (statement labelled a h) =
+      HasPlace a at × IsTypedAction (around_action labelled a at) a × ((region : Option ℕ) × IsTypedHandler (around_handler region labelled a at) h)
 
   pub AreTyped : Around → StatementNodes → Type 0
   AreTyped at no_statements = Unit {0}

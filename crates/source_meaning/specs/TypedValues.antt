@@ -2,12 +2,13 @@
 -- scalar, bound, number of members and operator. The meaning takes these numbers as they are.
 use Rattle.std.specs.Prelude.{◌≡◌, ◌⊎◌, ℕ, suc, ◌+◌, Bool, true, false, List, [], ◌∷◌, ℤ, pos, ◌-ℤ◌, Option, Some, None, slice_get}
 use Rattle.modes.specs.declared.mode.Bounds.{Bounds}
-use Rattle.modes.specs.ModeTree.{ModeTree, int, boolean, char, instance, FieldNodes, no_fields, more_fields, SpreadTree}
+use Rattle.modes.specs.ModeTree.{ModeTree, int, boolean, char, instance, FieldNodes, no_fields, more_fields}
 use Rattle.modes.specs.Form.{FormTree, of_int, of_boolean, of_powerset, of_chars, of_array, of_structure, form_of}
 use Rattle.modes.specs.Roots.{root_of}
 use Rattle.modes.specs.Bounds.{bounds_of, values_of}
 use Rattle.modes.specs.Scalars.{scalars_of}
 use Rattle.modes.specs.Similar.{Similar, VEquivalent}
+use Rattle.modes.specs.Language.{IsOfLanguage}
 use Rattle.checked_program.specs.declared.expr.Base.{Base}
 use Rattle.checked_program.specs.declared.expr.Base.TheVariants.{Shared, Local}
 use Rattle.checked_program.specs.declared.expr.Binary.{Binary}
@@ -153,9 +154,9 @@ abbrev pub IsCalledFrom : BodyRowTree → Option ℕ → Type 0
 IsCalledFrom b around = IsReachedFrom b.critical b.region around
 
 abbrev mutual
-  -- the expression has so many scalars as a value of the mode, and its value is one
+  -- a text can give the mode, the expression has so many scalars as a value of it, and its value is one
   pub HasMode : Context → ExprTree → ModeTree → Type 0
-  HasMode c (expr n o) m = (n ≡ scalars_of m) × OperationHas c o m
+  HasMode c (expr n o) m = IsOfLanguage m × (n ≡ scalars_of m) × OperationHas c o m
 
   pub OperationHas : Context → OperationTree → ModeTree → Type 0
   OperationHas c (constant xs) m = IsValueOf m xs
