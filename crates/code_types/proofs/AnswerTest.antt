@@ -15,7 +15,7 @@ use Rattle.kernel_base.specs.declared.answer.Answer.TheVariants.{Value, Done, Wo
 use Rattle.world_model.specs.Lists.{number_for}
 use Rattle.world_model.specs.Gives.{IsListed, GivesRead, GivesDelay, GivesContinue, GivesSendBuffer, GivesReceive, GivesSendSignal, GivesStart, GivesGet, IsInt, Gives}
 use Rattle.code_types.specs.Answers.{is_some_number, is_listed, is_done, gives_read, gives_delay, gives_continue, gives_send_buffer, gives_receive, gives_send_signal, gives_start, gives_get, gives}
-use Rattle.code_types.specs.Numbers.{is_int}
+use Rattle.scalar_operators.specs.Numbers.{is_int}
 
 or-left : (a b : Bool) → IsTrue a → IsTrue (a || b)
 or-left true b h = refl

@@ -10,8 +10,9 @@ use Rattle.kernel_base.specs.declared.request.Request.{Request}
 use Rattle.kernel_base.specs.declared.request.Request.TheVariants.{Read as AsksRead, Write as AsksWrite, Enter as AsksEnter, Leave as AsksLeave, Delay as AsksDelay, Continue as AsksContinue, SendBuffer, ReceiveBuffer, SendSignal, ReceiveSignal, Start as AsksStart, Put, Get, End}
 use Rattle.code_types.specs.declared.instr.Instr.{Instr}
 use Rattle.code_types.specs.declared.instr.Instr.TheVariants.{Push, Pop, Copy, Thing, Local, SetLocal, LocalAt, SetLocalAt, Part, PartAt, Index, Check, Add, Sub, Mul, Div, Mod, Rem, Neg, Abs, Succ, Pred, Same, Less, Not, And, Or, Xor, BitNot, BitAnd, BitOr, BitXor, BitMinus, Within, Has, Card, Least, Most, Span, Jump, Unless, Again, Call, Return, Enter, Leave, Raise, This, Read, Write, Delay, Continue, Send, Signal, Take, Hear, Start, PutInt, PutText, PutLine, GetInt, Stop, Finish}
-use Rattle.code_types.specs.Numbers.{is_between, is_scalar, where_true, truth_number, truth_of, int_result, quotient, remainder, modulus, magnitude, same_numbers, comes_before, decimal_text, exception_of}
-use Rattle.code_types.specs.Powersets.{members_of, complement_in, intersection, union, symmetric_difference, difference, is_included, has_offset, span_of, first_of_list, last_of_list}
+use Rattle.code_types.specs.Exceptions.{exception_of}
+use Rattle.scalar_operators.specs.Numbers.{is_between, is_scalar, where_true, truth_number, truth_of, int_result, quotient, remainder, modulus, magnitude, same_numbers, comes_before, decimal_text}
+use Rattle.scalar_operators.specs.Powersets.{members_of, complement_in, intersection, union, symmetric_difference, difference, is_included, has_offset, span_of, first_of_list, last_of_list}
 use Rattle.code_types.specs.Operands.{part_of, offset_of, number_in, pairs_of, Triples, triples_of, bytes_of}
 use Rattle.code_types.specs.State.{Frame, Slot, OpenRegion, State}
 

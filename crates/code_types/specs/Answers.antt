@@ -10,7 +10,7 @@ use Rattle.kernel_base.specs.declared.request.Request.TheVariants.{Read, Write, 
 use Rattle.kernel_base.specs.declared.answer.Answer.{Answer}
 use Rattle.kernel_base.specs.declared.answer.Answer.TheVariants.{Value, Done, Woken, Got, Otherwise, Instance, Fail, Chose, Handed, Stored}
 use Rattle.world_model.specs.Lists.{number_for, with_scalars}
-use Rattle.code_types.specs.Numbers.{is_int}
+use Rattle.scalar_operators.specs.Numbers.{is_int}
 use Rattle.code_types.specs.State.{Frame, Slot, OpenRegion, State, Running, Raising, Ended}
 
 abbrev pub is_some_number : Option ℕ → ℕ → Bool

@@ -1,5 +1,4 @@
-pub mod Numbers
-pub mod Powersets
+pub mod Exceptions
 pub mod Places
 pub mod State
 pub mod Answers

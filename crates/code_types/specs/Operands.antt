@@ -3,7 +3,7 @@ use Rattle.std.specs.Prelude.{ℕ, suc, ◌+◌, ◌-◌, nat_le, List, [], ◌�
 use Rattle.std.specs.List.{list_all}
 use Rattle.std.specs.declared.option.Option.{Option}
 use Rattle.kernel_base.specs.declared.request.Alternative.{Alternative}
-use Rattle.code_types.specs.Numbers.{is_number, is_between, where_true}
+use Rattle.scalar_operators.specs.Numbers.{is_number, is_between, where_true}
 use Rattle.code_types.specs.State.{Slot}
 
 -- so many topmost numbers, and what lies below them

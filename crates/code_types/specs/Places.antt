@@ -8,7 +8,7 @@ use Rattle.code_types.specs.declared.instr.Instr.TheVariants.{Push, Pop, Copy, T
 use Rattle.code_types.specs.declared.code.Handler.{Handler}
 use Rattle.code_types.specs.declared.code.BodyRow.{BodyRow}
 use Rattle.code_types.specs.declared.code.Code.{Code}
-use Rattle.code_types.specs.Numbers.{exception_number}
+use Rattle.code_types.specs.Exceptions.{exception_number}
 
 abbrev pub params_of : Option BodyRow → ℕ
 params_of None = 0

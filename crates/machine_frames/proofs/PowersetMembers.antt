@@ -1,6 +1,6 @@
 -- The members of a powerset, offset by offset.
 use Rattle.std.proofs.Common.{◌≡◌, ℕ, zero, suc, ◌+◌, ◌-◌, ◌<◌, List, [], ◌∷◌, ℤ, Option, Some, None, refl, ap, sym, ◌∙◌, arith}
-use Rattle.code_types.specs.Powersets.{has_member, numbers_up, last_of_list}
+use Rattle.scalar_operators.specs.Powersets.{has_member, numbers_up, last_of_list}
 
 -- the offsets from one on are that offset and those from the next on
 pub offsets_more : (k n : ℕ) → k < n → numbers_up k (n - k) ≡ k ∷ numbers_up (k + 1) (n - (k + 1))

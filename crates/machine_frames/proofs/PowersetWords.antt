@@ -9,7 +9,7 @@ use Rattle.std.proofs.lemmas.Bool.{cases_lt}
 use Rattle.std.proofs.lemmas.List.Sums.{sum_by-cons}
 use Rattle.std.proofs.lemmas.Nat.Bits.{bit_at_and, bit_at_or, bit_at_xor, bit_at-lt, bit_at_ones, bit_at_ones_above}
 use Rattle.machine_frames.specs.Words.{HasFirstBits, HasBitsTo}
-use Rattle.code_types.specs.Powersets.{numbers_up, offsets, powerset_where, has_member, low_word, intersection, union, symmetric_difference, difference, complement_in, span_of}
+use Rattle.scalar_operators.specs.Powersets.{numbers_up, offsets, powerset_where, has_member, low_word, intersection, union, symmetric_difference, difference, complement_in, span_of}
 
 -- a test of the offsets, as the sum of what each adds
 abbrev worth : (ℕ → Bool) → ℕ → ℕ

@@ -1,5 +1,5 @@
 -- How instances are born.
-use Rattle.std.proofs.Common.{◌≡◌, ◌⊎◌, ℕ, zero, suc, ◌+◌, ◌≤◌, ◌<◌, List, [], ◌∷◌, ◌++◌, ℤ, length, map, length-set, length-append, refl, sym, ap, ◌∙◌, inl, inr, arith, subst, append_assoc, append-nil, Bool, true, false, Option, Some, None, slice_get}
+use Rattle.std.proofs.Common.{◌≡◌, ◌⊎◌, ℕ, zero, suc, ◌+◌, ◌≤◌, ◌<◌, List, [], ◌∷◌, ◌++◌, ℤ, length, map, length-set, refl, sym, ap, ◌∙◌, inl, inr, arith, subst, append_assoc, append-nil, true, false, Option, Some, None, slice_get}
 use Rattle.std.specs.Prelude.{◌==◌, if◌then◌else◌}
 use Rattle.std.specs.List.{flat_map}
 use Rattle.std.proofs.lemmas.Bool.{cases_Bool, cases_eq, cases_lt, eqb-true, eq-eqb}
@@ -11,7 +11,7 @@ use Rattle.kernel_base.specs.declared.facts.Facts.{Facts}
 use Rattle.kernel_base.specs.declared.request.Request.{Request}
 use Rattle.kernel_base.specs.declared.request.Request.TheVariants.{Read, Write, Enter, Leave, Delay, Continue, SendBuffer, ReceiveBuffer, SendSignal, ReceiveSignal, Start, Put, Get, End}
 use Rattle.kernel_base.specs.declared.answer.Answer.{Answer}
-use Rattle.kernel_base.specs.declared.answer.Answer.TheVariants.{Value, Done, Woken, Got, Otherwise, Instance, Fail, Chose, Handed, Stored}
+use Rattle.kernel_base.specs.declared.answer.Answer.TheVariants.{Got, Instance, Chose, Handed, Stored}
 use Rattle.kernel_base.specs.declared.event.Event.{Event}
 use Rattle.kernel_base.specs.declared.event.Event.TheVariants.{Did, Waits, Goes, Runs}
 use Rattle.world_model.specs.declared.world.Phase.{Phase}
@@ -20,15 +20,14 @@ use Rattle.world_model.specs.declared.world.World.{World}
 use Rattle.world_model.specs.declared.waiting.Waiter.{Waiter}
 use Rattle.world_model.specs.declared.waiting.Offer.{Offer}
 use Rattle.world_model.specs.Lists.{last_of}
-use Rattle.world_model.specs.Session.{Item, Ask}
-use Rattle.world_model.specs.Journal.{ticks_of, items_by, line_of, answers_by, answers_of, Birth, births_by, first_birth, started_as}
+use Rattle.world_model.specs.Journal.{items_by, line_of, answers_by, answers_of, Birth, births_by, first_birth, started_as}
 use Rattle.world_model.specs.Waiting.{phase_of, sleeper, buffer_receiver, signal_receiver, offer}
-use Rattle.world_model.specs.Allowed.{IsAllowed, IsPossible, IsRunFrom, IsRun}
-use Rattle.world_model.specs.World.{opening, occupant, held_by, with_phase, values_but, entered, left, freed_last, locked_back, back_in, chosen, with_next_send, buffer_length, refilled_buffer, refilled_by, refilled, with_drawn, drawn, after_continue, after_send_buffer, after_receive_buffer, after_send_signal, after_receive_signal, after_start, after_request, after_waits, after, after_all, world_of}
+use Rattle.world_model.specs.Allowed.{IsAllowed, IsPossible, IsRunFrom}
+use Rattle.world_model.specs.World.{opening, occupant, held_by, with_phase, values_but, entered, left, freed_last, locked_back, back_in, chosen, with_next_send, buffer_length, refilled_buffer, refilled_by, refilled, with_drawn, drawn, after_continue, after_send_buffer, after_receive_buffer, after_send_signal, after_receive_signal, after_start, after_request, after_waits, after, after_all}
 use Rattle.run_laws.specs.Laws.{birth_in, birth_at, Births, BirthsLaw}
 
 -- no instance is made
-record Keeps (w w' : World) : Type 0 where
+pub record Keeps (w w' : World) : Type 0 where
   pub processes : w'.processes ≡ w.processes
   pub arguments : w'.arguments ≡ w.arguments
   pub phases : length w'.phases ≡ length w.phases
@@ -40,11 +39,11 @@ chosen_keeps : (w : World) (p : ℕ) (waiter : Option Waiter) (answer : ℕ → 
 chosen_keeps w p None answer = same w
 chosen_keeps w p (Some waiter) answer = record { processes = refl; arguments = refl; phases = length-set w.phases p _ }
 
-entered_keeps : (w : World) (who region : ℕ) (o : Option ℕ) → Keeps w (entered w who region o)
+pub entered_keeps : (w : World) (who region : ℕ) (o : Option ℕ) → Keeps w (entered w who region o)
 entered_keeps w who region None = record { processes = refl; arguments = refl; phases = refl }
 entered_keeps w who region (Some other) = same w
 
-left_keeps : (w : World) (who region : ℕ) (o : Option ℕ) → Keeps w (left w who region o)
+pub left_keeps : (w : World) (who region : ℕ) (o : Option ℕ) → Keeps w (left w who region o)
 left_keeps w who region None = same w
 left_keeps w who region (Some other) = elim (cases_Bool (other == who)) [
   | inl mine ↦ rw mine (record { processes = refl; arguments = refl; phases = refl })
@@ -64,24 +63,24 @@ refilled_keeps : (facts : Facts) (w : World) (refill : Option ℕ) → Keeps w (
 refilled_keeps facts w None = same w
 refilled_keeps facts w (Some sender) = refilled_by_keeps facts w sender (offer w sender)
 
-continue_keeps : (w : World) (who event : ℕ) (answer : Answer) → Keeps w (after_continue w who event answer)
+pub continue_keeps : (w : World) (who event : ℕ) (answer : Answer) → Keeps w (after_continue w who event answer)
 continue_keeps w who event (Chose (Some p)) = chosen_keeps w p (sleeper w event p) _
 continue_keeps w who event answer = same w
 
-send_keeps : (w : World) (who buffer : ℕ) (scalars : List ℤ) (priority : ℕ) (answer : Answer) → Keeps w (after_send_buffer w who buffer scalars priority answer)
+pub send_keeps : (w : World) (who buffer : ℕ) (scalars : List ℤ) (priority : ℕ) (answer : Answer) → Keeps w (after_send_buffer w who buffer scalars priority answer)
 send_keeps w who buffer scalars priority (Handed p) = let k = chosen_keeps (with_next_send w) p (buffer_receiver w buffer p) _ in record { processes = k.processes; arguments = k.arguments; phases = k.phases }
 send_keeps w who buffer scalars priority answer = record { processes = refl; arguments = refl; phases = refl }
 
-receive_keeps : (facts : Facts) (w : World) (answer : Answer) (refill : Option ℕ) → Keeps w (after_receive_buffer facts w answer refill)
+pub receive_keeps : (facts : Facts) (w : World) (answer : Answer) (refill : Option ℕ) → Keeps w (after_receive_buffer facts w answer refill)
 receive_keeps facts w (Got alternative send scalars by) refill = let k = refilled_keeps facts (record w { stored = map (values_but send) w.stored }) refill in record { processes = k.processes; arguments = k.arguments; phases = k.phases }
 receive_keeps facts w answer refill = same w
 
-signal_keeps : (facts : Facts) (w : World) (who signal : ℕ) (scalars : List ℤ) (to : Option ℕ) (priority : ℕ) (answer : Answer) → Keeps w (after_send_signal facts w who signal scalars to priority answer)
+pub signal_keeps : (facts : Facts) (w : World) (who signal : ℕ) (scalars : List ℤ) (to : Option ℕ) (priority : ℕ) (answer : Answer) → Keeps w (after_send_signal facts w who signal scalars to priority answer)
 signal_keeps facts w who signal scalars to priority (Handed p) = let k = chosen_keeps (with_next_send w) p (signal_receiver facts w signal to p) _ in record { processes = k.processes; arguments = k.arguments; phases = k.phases }
 signal_keeps facts w who signal scalars to priority Stored = record { processes = refl; arguments = refl; phases = refl }
 signal_keeps facts w who signal scalars to priority answer = same w
 
-hear_keeps : (w : World) (answer : Answer) → Keeps w (after_receive_signal w answer)
+pub hear_keeps : (w : World) (answer : Answer) → Keeps w (after_receive_signal w answer)
 hear_keeps w (Got alternative send scalars by) = record { processes = refl; arguments = refl; phases = refl }
 hear_keeps w answer = same w
 
@@ -130,11 +129,11 @@ freed_keeps w who None (Some send) phase = record { processes = refl; arguments 
 freed_keeps w who (Some region) None phase = record { processes = refl; arguments = refl; phases = length-set w.phases who phase }
 freed_keeps w who (Some region) (Some send) phase = record { processes = refl; arguments = refl; phases = length-set w.phases who phase }
 
-waits_keeps : (w : World) (who : ℕ) (request : Request) → Keeps w (after_waits w who request)
+pub waits_keeps : (w : World) (who : ℕ) (request : Request) → Keeps w (after_waits w who request)
 waits_keeps w who (Enter region) = record { processes = refl; arguments = refl; phases = length-set w.phases who _ }
 waits_keeps w who request = freed_keeps w who (last_of (held_by w who)) (drawn w request) _
 
-goes_keeps : (w : World) (who : ℕ) (back : Option ℕ) → Keeps w (with_phase (locked_back w who back) who Active)
+pub goes_keeps : (w : World) (who : ℕ) (back : Option ℕ) → Keeps w (with_phase (locked_back w who back) who Active)
 goes_keeps w who None = record { processes = refl; arguments = refl; phases = length-set w.phases who Active }
 goes_keeps w who (Some region) = record { processes = refl; arguments = refl; phases = length-set w.phases who Active }
 

@@ -1,15 +1,13 @@
 -- An instance whose line is reached follows the code, and where each does so the journal is a run of the code.
-use Rattle.std.proofs.Common.{◌≡◌, ◌⊎◌, ◌<◌, ◌≤◌, ℕ, zero, suc, sym, ap, ◌∙◌, subst, inl, inr, List, ℤ, length, Option, Some, None, slice_get, arith}
+use Rattle.std.proofs.Common.{◌≡◌, ◌<◌, ◌≤◌, ℕ, zero, suc, sym, ap, ◌∙◌, subst, inl, inr, List, length, Option, Some, None, slice_get, arith}
 use Rattle.std.proofs.lemmas.Bool.{cases_lt}
 use Rattle.std.proofs.lemmas.Option.{slice_get_past}
-use Rattle.kernel_base.specs.declared.facts.Facts.{Facts}
 use Rattle.kernel_base.specs.declared.event.Event.{Event}
 use Rattle.world_model.specs.declared.world.World.{World}
 use Rattle.world_model.specs.World.{world_of}
-use Rattle.world_model.specs.Allowed.{IsRun}
 use Rattle.code_types.specs.declared.code.Code.{Code}
 use Rattle.kernel_base.specs.declared.answer.Answer.{Answer}
-use Rattle.world_model.specs.Journal.{line_of, answers_of, Birth, born_of, started_as}
+use Rattle.world_model.specs.Journal.{line_of, answers_of, Birth, born_of}
 use Rattle.code_types.specs.Talk.{CodeTalk}
 use Rattle.code_types.specs.Runs.{FollowsCode, ticks_in}
 use Rattle.run_laws.specs.Laws.{birth_in, birth_at, Births, CodeRunLaw, FollowsLaw, HasReached, HasTalks}

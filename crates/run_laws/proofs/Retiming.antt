@@ -1,5 +1,5 @@
 -- A run with more answers behind, and with other ticks that suffice, comes to the same.
-use Rattle.std.proofs.Common.{◌≡◌, ◌⊎◌, refl, sym, ◌∙◌, ap, subst, ℕ, zero, suc, ◌+◌, ◌-◌, ◌<◌, ◌≤◌, inl, inr, Bool, true, false, List, [], ◌∷◌, ◌++◌, ℤ, Option, Some, None, append_assoc, append-nil, arith}
+use Rattle.std.proofs.Common.{◌≡◌, ◌⊎◌, refl, sym, ◌∙◌, ap, subst, ℕ, zero, suc, ◌+◌, ◌-◌, ◌<◌, ◌≤◌, inl, inr, Bool, true, false, List, [], ◌∷◌, ◌++◌, Option, Some, append_assoc, append-nil, arith}
 use Rattle.std.specs.Prelude.{if◌then◌else◌}
 use Rattle.std.proofs.lemmas.Bool.{cases_lt}
 use Rattle.kernel_base.specs.declared.request.Request.{Request}
@@ -10,9 +10,8 @@ use Rattle.code_types.specs.Answers.{answered, fits_request}
 use Rattle.code_types.specs.Runs.{Begins, ticks_in}
 use Rattle.code_types.specs.State.{Slot, State}
 use Rattle.code_types.specs.Steps.{Move, Goes, Makes, Asks, Awaits, Stays, move, Run, At, Over, run_behind, run_with, run_after, step, steps}
-use Rattle.code_types.specs.Talk.{CodeTalk, Reaches, TalkFrom, start_of}
+use Rattle.code_types.specs.Talk.{TalkFrom, start_of}
 use Rattle.code_types.proofs.ManySteps.{steps-over, steps-+}
-use Rattle.code_types.proofs.Shifts.{IsAt}
 use Rattle.run_laws.specs.Laws.{ReachedLaw}
 
 -- a session with more answers behind and so many ticks

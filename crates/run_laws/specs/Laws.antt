@@ -1,11 +1,12 @@
 -- The laws of the runs of a code.
-use Rattle.std.specs.Prelude.{◌≡◌, ℕ, ◌<◌, ◌≤◌, List, [], ◌++◌, ℤ, length, slice_get, Some, None}
+use Rattle.std.specs.Prelude.{◌≡◌, ℕ, ◌<◌, ◌≤◌, List, [], ◌++◌, ℤ, length, map, slice_get, Some, None}
 use Rattle.std.specs.declared.option.Option.{Option}
 use Rattle.kernel_base.specs.declared.facts.Facts.{Facts}
 use Rattle.kernel_base.specs.declared.answer.Answer.{Answer}
 use Rattle.kernel_base.specs.declared.event.Event.{Event}
 use Rattle.world_model.specs.declared.world.World.{World}
-use Rattle.world_model.specs.World.{world_of}
+use Rattle.world_model.specs.Waiting.{IsActive}
+use Rattle.world_model.specs.World.{world_of, held_by}
 use Rattle.world_model.specs.Allowed.{IsRun}
 use Rattle.world_model.specs.Session.{Item}
 use Rattle.world_model.specs.Journal.{line_of, answers_of, Birth, started_as, born_of}
@@ -80,3 +81,12 @@ CodeRunLaw = (code : Code) (facts : Facts) (events : List Event)
     → IsRun facts events
     → ((i : ℕ) → 1 ≤ i → i < length (world_of facts events).phases → HasReached code events i)
     → IsCodeRun code facts events
+
+-- In a journal that is allowed an active process holds exactly the regions that its state has open, in the order in which it
+-- entered them.
+abbrev pub HeldRegionsLaw : Type 0
+HeldRegionsLaw = (code : Code) (facts : Facts) (events : List Event) (instance : ℕ) (state : State)
+    → IsRun facts events
+    → StandsWhereLeft code events instance state
+    → IsActive (world_of facts events) instance
+    → held_by (world_of facts events) instance ≡ map (λ r. r.region) state.regions

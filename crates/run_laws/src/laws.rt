@@ -1,5 +1,5 @@
 // Laws of runs. Each is a fact about the definitions, which a caller learns by calling the function.
-ghost use Rattle.run_laws.specs.Laws.{BirthsLaw, CodeRunLaw, FollowsLaw, ReachedLaw};
+ghost use Rattle.run_laws.specs.Laws.{BirthsLaw, CodeRunLaw, FollowsLaw, HeldRegionsLaw, ReachedLaw};
 
 /// What a process reaches begins its talk, whatever is answered behind.
 pub fn reached_law()
@@ -19,4 +19,9 @@ pub fn births_law()
 /// A journal that is allowed is a run of the code, where each instance has reached what it did.
 pub fn code_run_law()
     ensures { CodeRunLaw }
+{}
+
+/// An active process holds exactly the regions that its state has open, in order.
+pub fn held_regions_law()
+    ensures { HeldRegionsLaw }
 {}

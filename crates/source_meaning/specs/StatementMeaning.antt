@@ -15,7 +15,7 @@ use Rattle.world_model.specs.Session.{Session, tick}
 use Rattle.scalar_operators.specs.Numbers.{is_between, is_int, where_true, decimal_text}
 use Rattle.scalar_operators.specs.Powersets.{first_of_list}
 use Rattle.scalar_operators.specs.Members.{offsets_of}
-use Rattle.code_types.specs.Numbers.{exception_of}
+use Rattle.code_types.specs.Exceptions.{exception_of}
 use Rattle.code_types.specs.Operands.{number_in as number_of_32, bytes_of}
 use Rattle.code_types.specs.Places.{names_exception}
 use Rattle.program_trees.specs.ExprTree.{ExprTree, ReceivedTree, LocationTree, location, location_count}

@@ -1,6 +1,6 @@
 // Arithmetic of the code: a result, or none where the operator raises its exception.
 ghost use Rattle.std.specs.Prelude.{◌≡◌, ◌+ℤ◌, ◌-ℤ◌, ◌*ℤ◌, neg_ℤ, pos, int_le, None, Some, if◌then◌else◌};
-ghost use Rattle.code_types.specs.Numbers.{int_result, is_between, is_scalar, magnitude, modulus, quotient, remainder, where_true};
+ghost use Rattle.scalar_operators.specs.Numbers.{int_result, is_between, is_scalar, magnitude, modulus, quotient, remainder, where_true};
 
 /// The number, where it is a value of INT.
 pub fn int_or_none(z: i64) -> Option<i64>

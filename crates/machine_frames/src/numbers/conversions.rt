@@ -1,6 +1,7 @@
 // Numbers as truth values, as offsets, as numbers of things and of exceptions.
 ghost use Rattle.std.specs.Prelude.{◌≡◌};
-ghost use Rattle.code_types.specs.Numbers.{exception_number, exception_of, truth_number, truth_of};
+ghost use Rattle.code_types.specs.Exceptions.{exception_number, exception_of};
+ghost use Rattle.scalar_operators.specs.Numbers.{truth_number, truth_of};
 ghost use Rattle.code_types.specs.Operands.{number_in, offset_of};
 
 use kernel_base::Exc;

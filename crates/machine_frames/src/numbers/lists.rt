@@ -1,6 +1,6 @@
 // Lists of numbers, compared number by number.
 ghost use Rattle.std.specs.Prelude.{◌≡◌, length};
-ghost use Rattle.code_types.specs.Numbers.{comes_before, same_numbers};
+ghost use Rattle.scalar_operators.specs.Numbers.{comes_before, same_numbers};
 
 /// Whether two lists of numbers are equal.
 pub fn are_same(lower: &[i64], upper: &[i64]) -> bool

@@ -1,7 +1,7 @@
 // Powersets of at most 32 members, as the low 32 bits of a number.
 ghost use Rattle.std.specs.Prelude.{◌≡◌, ◌<◌, ◌≤◌, length, pos};
 ghost use Rattle.std.specs.List.{filter, list_all};
-ghost use Rattle.code_types.specs.Powersets.{complement_in, difference, first_of_list, has_member, has_offset, intersection, is_included, last_of_list, low_word, members_of, numbers_up, span_of, symmetric_difference, union};
+ghost use Rattle.scalar_operators.specs.Powersets.{complement_in, difference, first_of_list, has_member, has_offset, intersection, is_included, last_of_list, low_word, members_of, numbers_up, span_of, symmetric_difference, union};
 ghost use Rattle.machine_frames.specs.Words.{HasBitsTo, HasFirstBits};
 
 /// The low 32 bits.

@@ -1,8 +1,8 @@
 use Rattle.std.proofs.Common.{◌≡◌, ℤ, pos, w64, length, Option, Some, None, refl, ap, sym, ◌∙◌, arith, rules}
 use mir.Val.{SFits}
 use Rattle.std.proofs.lemmas.Int.{ints, to_z-of_z}
-use Rattle.code_types.specs.Numbers.{truth_number}
-use Rattle.code_types.specs.Powersets.{members_of, is_included, span_of, first_of_list, last_of_list}
+use Rattle.scalar_operators.specs.Numbers.{truth_number}
+use Rattle.scalar_operators.specs.Powersets.{members_of, is_included, span_of, first_of_list, last_of_list}
 use Rattle.machine_frames.proofs.Pushed.{one_pushed, two_pushed, member_pushed, no_member}
 use Rattle.machine_frames.proofs.sets.span.Goals as goal
 

@@ -1,7 +1,7 @@
 use Rattle.std.proofs.Common.{◌≡◌, ◌≤◌, drop, take, length, map, vec_capacity}
 use Rattle.std.specs.Prelude.{nat_abs, pos}
 use Rattle.std.specs.List.{list_all}
-use Rattle.code_types.specs.Numbers.{is_between}
+use Rattle.scalar_operators.specs.Numbers.{is_between}
 use Rattle.machine_steps.proofs.operands.put_bytes.Given as goal
 
 abbrev pub invariant-loop-number : goal.invariant-loop-number

@@ -1,5 +1,5 @@
 use Rattle.std.proofs.Common.{◌≡◌, drop}
-use Rattle.code_types.specs.Numbers.{same_numbers}
+use Rattle.scalar_operators.specs.Numbers.{same_numbers}
 use Rattle.machine_frames.proofs.numbers.lists.are_same.Given as goal
 
 abbrev pub invariant-loop-i : goal.invariant-loop-i

@@ -1,5 +1,5 @@
 use Rattle.std.proofs.Common.{◌≡◌, drop}
-use Rattle.code_types.specs.Numbers.{comes_before}
+use Rattle.scalar_operators.specs.Numbers.{comes_before}
 use Rattle.machine_frames.proofs.numbers.lists.comes_first.Given as goal
 
 abbrev pub invariant-loop-i : goal.invariant-loop-i

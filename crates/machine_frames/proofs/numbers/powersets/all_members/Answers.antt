@@ -2,7 +2,7 @@ use Rattle.std.proofs.Common.{◌≡◌, ◌^◌, ◌<◌, ap, sym, ◌∙◌, a
 use Rattle.std.specs.Prelude.{bit_and, bit_or, bit_xor}
 use Rattle.std.proofs.lemmas.Nat.{or_lt}
 use Rattle.std.proofs.lemmas.Int.{ints, to_z-of_z}
-use Rattle.code_types.specs.Powersets.{low_word}
+use Rattle.scalar_operators.specs.Powersets.{low_word}
 use Rattle.machine_frames.proofs.PowersetWords.{union_word, low_word_few, as_signed}
 use Rattle.machine_frames.proofs.numbers.powersets.all_members.Goals as goal
 

@@ -1,6 +1,6 @@
 use Rattle.std.proofs.Common.{◌≡◌, ◌^◌, ◌<◌, length, ap, sym, pos, arith}
 use Rattle.std.proofs.lemmas.Int.{to_z-of_z}
-use Rattle.code_types.specs.Powersets.{members_of}
+use Rattle.scalar_operators.specs.Powersets.{members_of}
 use Rattle.machine_frames.proofs.PowersetWords.{as_signed}
 use Rattle.machine_frames.proofs.numbers.powersets.count_members.Goals as goal
 

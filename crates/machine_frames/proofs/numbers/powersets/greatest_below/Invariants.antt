@@ -1,6 +1,6 @@
 use Rattle.std.proofs.Common.{◌≡◌, ℕ, ◌+◌, ◌-◌, ◌≤◌, length}
 use Rattle.std.specs.List.{filter, list_all}
-use Rattle.code_types.specs.Powersets.{has_member, numbers_up, first_of_list, last_of_list}
+use Rattle.scalar_operators.specs.Powersets.{has_member, numbers_up, first_of_list, last_of_list}
 use Rattle.machine_frames.proofs.PowersetMembers.{last_behind}
 use Rattle.machine_frames.proofs.numbers.powersets.greatest_below.Given as goal
 

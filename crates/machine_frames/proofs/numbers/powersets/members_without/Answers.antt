@@ -3,7 +3,7 @@ use Rattle.std.specs.Prelude.{bit_and, bit_or, bit_xor}
 use Rattle.std.specs.Int.Bits.{and_lt}
 use Rattle.std.proofs.lemmas.Nat.{xor_lt}
 use Rattle.std.proofs.lemmas.Int.{ints, to_z-of_z}
-use Rattle.code_types.specs.Powersets.{low_word}
+use Rattle.scalar_operators.specs.Powersets.{low_word}
 use Rattle.machine_frames.specs.Words.{HasFirstBits}
 use Rattle.machine_frames.proofs.PowersetWords.{difference_word, minus_word, low_word_few, as_signed}
 use Rattle.machine_frames.proofs.numbers.powersets.members_without.Goals as goal
