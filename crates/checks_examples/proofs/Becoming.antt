@@ -35,10 +35,10 @@ abbrev shared : ℕ → made.LocationTree
 shared k = made.location (bases.Shared k) made.no_parts 1
 
 abbrev number : ℕ → made.ExprTree
-number k = made.expr 1 (made.constant (pos k ∷ []))
+number k = made.expr 1 (Some all_of_int) (made.constant (pos k ∷ []))
 
 abbrev contents : ℕ → made.ExprTree
-contents k = made.expr 1 (made.contents (shared k))
+contents k = made.expr 1 (Some all_of_int) (made.contents (shared k))
 
 abbrev plain : done.ActionTree → done.StatementTree
 plain a = done.statement false a done.no_handler
@@ -72,7 +72,7 @@ sum_elaborated = record {
   locations = record { definition = 1; name = codes "x"; mode = range int (pos 0) (pos 7); region = None } ∷ [];
   bodies = outermost (actions (done.module_at (actions (
       done.declare (bases.Shared 0 ∷ []) (made.received (number 3) (Some (bounds (pos 0) (pos 7))))
-      ∷ done.assign (shared 0) (made.received (made.expr 1 (made.binary binaries.Add (contents 0) (number 1))) (Some (bounds (pos 0) (pos 7))))
+      ∷ done.assign (shared 0) (made.received (made.expr 1 (Some all_of_int) (made.binary binaries.Add (contents 0) (number 1))) (Some (bounds (pos 0) (pos 7))))
       ∷ done.put_int (contents 0) ∷ [])) ∷ [])) ∷ [];
   regions = 0;
   events = [];
@@ -107,7 +107,7 @@ procedure_body = record {
   locals = record { name = codes "a"; mode = int; first = 0; count = 1 } ∷ [];
   statements = actions (
       done.assign (made.location (bases.Local 0) made.no_parts 1) (made.received (contents 0) (Some all_of_int))
-      ∷ done.return_with (Some (made.received (made.expr 1 (made.binary binaries.Equal (contents 0) (number 3))) (Some (bounds (pos 0) (pos 1))))) ∷ []);
+      ∷ done.return_with (Some (made.received (made.expr 1 (Some (bounds (pos 0) (pos 1))) (made.binary binaries.Equal (contents 0) (number 3))) (Some (bounds (pos 0) (pos 1))))) ∷ []);
   handler = done.no_handler;
 }
 
@@ -116,7 +116,7 @@ critical_elaborated = record {
   locations = record { definition = 1; name = codes "v"; mode = int; region = Some 0 } ∷ record { definition = 5; name = codes "k"; mode = int; region = None } ∷ [];
   bodies = outermost (actions (done.do_nothing ∷ done.module_at (actions (
       done.do_nothing
-      ∷ done.if_then (done.more_choices (made.expr 1 (made.call (made.called 1 (made.out_argument (shared 1) (Some all_of_int) made.no_arguments)))) (actions (done.cause 7 ∷ [])) done.no_choices) done.no_statements
+      ∷ done.if_then (done.more_choices (made.expr 1 (Some (bounds (pos 0) (pos 1))) (made.call (made.called 1 (made.out_argument (shared 1) (Some all_of_int) made.no_arguments)))) (actions (done.cause 7 ∷ [])) done.no_choices) done.no_statements
       ∷ [])) ∷ [])) ∷ procedure_body ∷ [];
   regions = 1;
   events = [];

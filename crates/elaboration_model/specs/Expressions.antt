@@ -114,13 +114,13 @@ routine_on _ c = None
 -- ---- expressions by their operations
 
 abbrev pub constant_expr : Option ClassTree → Option ValueTree → Option made.ExprTree
-constant_expr c v = made_of (λ c v. made.expr (count_in c) (made.constant (scalars_in v))) c v
+constant_expr c v = made_of (λ c v. made.expr (count_in c) (made.root_bounds c) (made.constant (scalars_in v))) c v
 
 -- an expression that goes to a place of a mode: one of constant form is a constant, and any other is found by its operation
 abbrev pub folded : Source → Option ModeTree → ExprTree → Option made.OperationTree → Option made.ExprTree
 folded s m e operation =
     if has_form s.known false e then constant_expr (class_as s.known m e) (constant_as s.known m e)
-    else made_of (λ c o. made.expr (count_in c) o) (class_as s.known m e) operation
+    else made_of (λ c o. made.expr (count_in c) (made.root_bounds c) o) (class_as s.known m e) operation
 
 -- a value that something of a mode takes: where the mode is discrete it is tested by its bounds
 abbrev pub received_as : Option ModeTree → Option made.ExprTree → Option made.ReceivedTree

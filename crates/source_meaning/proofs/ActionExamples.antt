@@ -19,7 +19,7 @@ abbrev y : ExprTree
 y = value_in (own 1)
 
 abbrev text : List ℤ → StatementTree
-text zs = plain (put_text (expr 1 (constant zs)))
+text zs = plain (put_text (expr 1 None (constant zs)))
 
 -- the actions of a choice or of an alternative
 abbrev choice : ExprTree → List StatementTree → ChoiceTree
@@ -92,14 +92,14 @@ counting_while_does = refl
 
 -- DCL y INT; DO FOR x := GET_INT() BY y TO GET_INT(); OD; the step is tested before the end is evaluated
 abbrev step_below_one : CheckedTree
-step_below_one = alone (ints 2) (plain (set_lowest (1 ∷ []) (pos 0 ∷ [])) ∷ do_for (for_steps 0 (expr 1 get_int) (Some y) (expr 1 get_int) false None) [] ∷ [])
+step_below_one = alone (ints 2) (plain (set_lowest (1 ∷ []) (pos 0 ∷ [])) ∷ do_for (for_steps 0 (expr 1 None get_int) (Some y) (expr 1 None get_int) false None) [] ∷ [])
 
 step_below_one_does : Does step_below_one (asks Get (Value (pos 5 ∷ [])) ∷ raises Rangefail)
 step_below_one_does = refl
 
 -- DO FOR x IN [1, 3] WHILE x < 4; PUT_INT(x); OD; members are counted from 1, so 1 and 3 are bits 0 and 2
 abbrev over_members : CheckedTree
-over_members = alone (ints 1) (do_for (for_members 0 (expr 1 (constant (pos 5 ∷ []))) (pos 1) (Some (op Less x (number (pos 4))))) (put x ∷ []) ∷ [])
+over_members = alone (ints 1) (do_for (for_members 0 (expr 1 None (constant (pos 5 ∷ []))) (pos 1) (Some (op Less x (number (pos 4))))) (put x ∷ []) ∷ [])
 
 over_members_does : Does over_members (says (pos 1) ∷ ticks ∷ says (pos 3) ∷ ticks ∷ ends)
 over_members_does = refl

@@ -45,7 +45,7 @@ with_bodies rows ss bodies = program (main rows ss ∷ bodies) []
 
 -- f: PROC (a INT) RETURNS (INT); PUT_INT(a); RETURN a + 1; PUT_INT(0); END f; DCL x INT := f(f(1)); PUT_INT(x); f(7);
 abbrev nested_calls : CheckedTree
-nested_calls = with_bodies (ints 1) (dcl 0 (expr 1 (call (call_of 1 (in_value (taken (expr 1 (call (call_of 1 (in_value (taken (number (pos 1))) ∷ []))))) ∷ [])))) ∷ put x ∷ plain (perform (call_of 1 (in_value (taken (number (pos 7))) ∷ []))) ∷ []) (procedure (passed_in ∷ []) (Some int) [] (ints 1) (put x ∷ plain (return_with (Some (taken (op Add x (number (pos 1)))))) ∷ put (number (pos 0)) ∷ []) ∷ [])
+nested_calls = with_bodies (ints 1) (dcl 0 (expr 1 None (call (call_of 1 (in_value (taken (expr 1 None (call (call_of 1 (in_value (taken (number (pos 1))) ∷ []))))) ∷ [])))) ∷ put x ∷ plain (perform (call_of 1 (in_value (taken (number (pos 7))) ∷ []))) ∷ []) (procedure (passed_in ∷ []) (Some int) [] (ints 1) (put x ∷ plain (return_with (Some (taken (op Add x (number (pos 1)))))) ∷ put (number (pos 0)) ∷ []) ∷ [])
 
 nested_calls_do : Does nested_calls (ticks ∷ says (pos 1) ∷ ticks ∷ says (pos 2) ∷ says (pos 3) ∷ ticks ∷ says (pos 7) ∷ ends)
 nested_calls_do = refl
@@ -69,7 +69,7 @@ copied_out_in_order_does = refl
 -- f: PROC () RETURNS (INT); RESULT 3; CAUSE busy; END ON ELSE PUT_INT(1); END f; g: PROC () RETURNS (INT); END g;
 -- PUT_INT(f()); PUT_INT(g());
 abbrev results : CheckedTree
-results = with_bodies [] (put (expr 1 (call (call_of 1 []))) ∷ put (expr 1 (call (call_of 2 []))) ∷ []) (with_handler (on_else (put (number (pos 1)) ∷ [])) (procedure [] (Some int) [] [] (plain (set_result (taken (number (pos 3)))) ∷ plain (cause 7) ∷ [])) ∷ procedure [] (Some int) [] [] [] ∷ [])
+results = with_bodies [] (put (expr 1 None (call (call_of 1 []))) ∷ put (expr 1 None (call (call_of 2 []))) ∷ []) (with_handler (on_else (put (number (pos 1)) ∷ [])) (procedure [] (Some int) [] [] (plain (set_result (taken (number (pos 3)))) ∷ plain (cause 7) ∷ [])) ∷ procedure [] (Some int) [] [] [] ∷ [])
 
 results_are : Does results (ticks ∷ says (pos 1) ∷ says (pos 3) ∷ ticks ∷ says (pos 0) ∷ ends)
 results_are = refl
@@ -77,14 +77,14 @@ results_are = refl
 -- f: PROC () RETURNS (INT); CAUSE busy; END ON ELSE RETURN 4; PUT_INT(0); END f; PUT_INT(f()); RETURN in the procedure's own
 -- handler ends the call with that result
 abbrev return_in_a_handler : CheckedTree
-return_in_a_handler = with_bodies [] (put (expr 1 (call (call_of 1 []))) ∷ []) (with_handler (on_else (plain (return_with (Some (taken (number (pos 4))))) ∷ put (number (pos 0)) ∷ [])) (procedure [] (Some int) [] [] (plain (cause 7) ∷ [])) ∷ [])
+return_in_a_handler = with_bodies [] (put (expr 1 None (call (call_of 1 []))) ∷ []) (with_handler (on_else (plain (return_with (Some (taken (number (pos 4))))) ∷ put (number (pos 0)) ∷ [])) (procedure [] (Some int) [] [] (plain (cause 7) ∷ [])) ∷ [])
 
 return_in_a_handler_does : Does return_in_a_handler (ticks ∷ says (pos 4) ∷ ends)
 return_in_a_handler_does = refl
 
 -- f: PROC () RETURNS (INT (0:5)); RETURN 9; END ON (RANGEFAIL): RESULT 3; END f; PUT_INT(f()); a result is tested where it is set
 abbrev result_outside_its_mode : CheckedTree
-result_outside_its_mode = with_bodies [] (put (expr 1 (call (call_of 1 []))) ∷ []) (with_handler (on 1 (plain (set_result (within (pos 0) (pos 5) (number (pos 3)))) ∷ [])) (procedure [] (Some (range int (pos 0) (pos 5))) [] [] (plain (return_with (Some (within (pos 0) (pos 5) (number (pos 9))))) ∷ [])) ∷ [])
+result_outside_its_mode = with_bodies [] (put (expr 1 None (call (call_of 1 []))) ∷ []) (with_handler (on 1 (plain (set_result (within (pos 0) (pos 5) (number (pos 3)))) ∷ [])) (procedure [] (Some (range int (pos 0) (pos 5))) [] [] (plain (return_with (Some (within (pos 0) (pos 5) (number (pos 9))))) ∷ [])) ∷ [])
 
 result_outside_its_mode_does : Does result_outside_its_mode (ticks ∷ says (pos 3) ∷ ends)
 result_outside_its_mode_does = refl
@@ -143,7 +143,7 @@ shared_locations_do = refl
 
 -- a(GET_INT()) := GET_INT(); twice; an index outside its bounds is told before the value is evaluated
 abbrev order_of_an_assignment : CheckedTree
-order_of_an_assignment = program (main [] (plain (set (element_of 0 (expr 1 get_int)) (expr 1 get_int)) ∷ plain (set (element_of 0 (expr 1 get_int)) (expr 1 get_int)) ∷ []) ∷ []) (location_row three None ∷ [])
+order_of_an_assignment = program (main [] (plain (set (element_of 0 (expr 1 None get_int)) (expr 1 None get_int)) ∷ plain (set (element_of 0 (expr 1 None get_int)) (expr 1 None get_int)) ∷ []) ∷ []) (location_row three None ∷ [])
 
 order_of_an_assignment_is : Does order_of_an_assignment (asks Get (Value (pos 2 ∷ [])) ∷ asks Get (Value (pos 8 ∷ [])) ∷ asks (AsksWrite (place 0 1 1) (pos 8 ∷ [])) Done ∷ asks Get (Value (pos 4 ∷ [])) ∷ raises Rangefail)
 order_of_an_assignment_is = refl
@@ -193,7 +193,7 @@ open_in_order = refl
 
 -- R: REGION DCL n INT (0:5) := GET_INT(); END ON (EMPTY): n := 2; END R; and the end of the input, and then a value outside
 abbrev initialised_region : CheckedTree
-initialised_region = program (body Outermost [] None [] [] (statement false (region_at 0 (statement_nodes (plain (declare (Shared 0 ∷ []) (within (pos 0) (pos 5) (expr 1 get_int))) ∷ []))) (on 2 (plain (assign (shared 0) (within (pos 0) (pos 5) (number (pos 2)))) ∷ [])) ∷ []) ∷ []) (location_row (range int (pos 0) (pos 5)) (Some 0) ∷ [])
+initialised_region = program (body Outermost [] None [] [] (statement false (region_at 0 (statement_nodes (plain (declare (Shared 0 ∷ []) (within (pos 0) (pos 5) (expr 1 None get_int))) ∷ []))) (on 2 (plain (assign (shared 0) (within (pos 0) (pos 5) (number (pos 2)))) ∷ [])) ∷ []) ∷ []) (location_row (range int (pos 0) (pos 5)) (Some 0) ∷ [])
 
 initialised_region_at_the_end : Does initialised_region (asks (Enter 0) Done ∷ asks Get (Fail Empty) ∷ asks (AsksWrite (place 0 0 1) (pos 2 ∷ [])) Done ∷ asks (Leave 0) Done ∷ ends)
 initialised_region_at_the_end = refl

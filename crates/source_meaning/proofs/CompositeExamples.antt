@@ -30,23 +30,23 @@ abbrev x : ExprTree
 x = value_in (own 2)
 
 abbrev bounds_of_tuple : List ExprTree → ExprTree
-bounds_of_tuple [] = expr 1 (powerset (record { low = (pos 1); high = (pos 8) }) (range_nodes []))
-bounds_of_tuple (e ∷ []) = expr 1 (powerset (record { low = (pos 1); high = (pos 8) }) (range_nodes (one_value e ∷ [])))
-bounds_of_tuple (e ∷ f ∷ []) = expr 1 (powerset (record { low = (pos 1); high = (pos 8) }) (range_nodes (between e f ∷ [])))
-bounds_of_tuple (e ∷ f ∷ g ∷ gs) = expr 1 (powerset (record { low = (pos 1); high = (pos 8) }) (range_nodes (one_value e ∷ between f g ∷ [])))
+bounds_of_tuple [] = expr 1 None (powerset (record { low = (pos 1); high = (pos 8) }) (range_nodes []))
+bounds_of_tuple (e ∷ []) = expr 1 None (powerset (record { low = (pos 1); high = (pos 8) }) (range_nodes (one_value e ∷ [])))
+bounds_of_tuple (e ∷ f ∷ []) = expr 1 None (powerset (record { low = (pos 1); high = (pos 8) }) (range_nodes (between e f ∷ [])))
+bounds_of_tuple (e ∷ f ∷ g ∷ gs) = expr 1 None (powerset (record { low = (pos 1); high = (pos 8) }) (range_nodes (one_value e ∷ between f g ∷ [])))
 
 -- Bit k tells the member 1 + k: [1, 3 : 5] is 1 + 4 + 8 + 16 = 29, and [5, 8] is 16 + 128 = 144.
 -- DCL p POWERSET INT (1:8) := [1, 3 : 5], q .. := [5, 8], x INT; PUT_INT(CARD(p OR q)); and so for AND, XOR, -, NOT p;
 -- PUT_INT(MIN(p)); PUT_INT(MAX(q));
 abbrev operators_on_powersets : CheckedTree
-operators_on_powersets = alone sets (dcl_any 0 (bounds_of_tuple (number (pos 1) ∷ number (pos 3) ∷ number (pos 5) ∷ [])) ∷ dcl_any 1 (expr 1 (constant (pos 144 ∷ []))) ∷ put (of Cardinality (op Union p q)) ∷ put (of Cardinality (op Intersection p q)) ∷ put (of Cardinality (op SymmetricDifference p q)) ∷ put (of Cardinality (op Difference p q)) ∷ put (of Cardinality (expr 1 (prefixed (Complement 8) p))) ∷ put (of (Least (pos 1)) p) ∷ put (of (Greatest (pos 1)) q) ∷ [])
+operators_on_powersets = alone sets (dcl_any 0 (bounds_of_tuple (number (pos 1) ∷ number (pos 3) ∷ number (pos 5) ∷ [])) ∷ dcl_any 1 (expr 1 None (constant (pos 144 ∷ []))) ∷ put (of Cardinality (op Union p q)) ∷ put (of Cardinality (op Intersection p q)) ∷ put (of Cardinality (op SymmetricDifference p q)) ∷ put (of Cardinality (op Difference p q)) ∷ put (of Cardinality (expr 1 None (prefixed (Complement 8) p))) ∷ put (of (Least (pos 1)) p) ∷ put (of (Greatest (pos 1)) q) ∷ [])
 
 operators_on_powersets_do : Does operators_on_powersets (says (pos 5) ∷ says (pos 1) ∷ says (pos 4) ∷ says (pos 3) ∷ says (pos 4) ∷ says (pos 1) ∷ says (pos 8) ∷ ends)
 operators_on_powersets_do = refl
 
 -- DCL p .. := [1, 3], q .. := [1, 3, 4]; PUT_INT(NUM(p <= q)); and so for p < q, p >= q, q > p, p < p, 3 IN p, 2 IN p, 9 IN p
 abbrev inclusion : CheckedTree
-inclusion = alone sets (dcl_any 0 (expr 1 (constant (pos 5 ∷ []))) ∷ dcl_any 1 (expr 1 (constant (pos 13 ∷ []))) ∷ put (of Number (op Included p q)) ∷ put (of Number (op ProperlyIncluded p q)) ∷ put (of Number (op Includes p q)) ∷ put (of Number (op ProperlyIncludes q p)) ∷ put (of Number (op ProperlyIncluded p p)) ∷ put (of Number (op (Member (record { low = (pos 1); high = (pos 8) })) (number (pos 3)) p)) ∷ put (of Number (op (Member (record { low = (pos 1); high = (pos 8) })) (number (pos 2)) p)) ∷ put (of Number (op (Member (record { low = (pos 1); high = (pos 8) })) (number (pos 9)) p)) ∷ [])
+inclusion = alone sets (dcl_any 0 (expr 1 None (constant (pos 5 ∷ []))) ∷ dcl_any 1 (expr 1 None (constant (pos 13 ∷ []))) ∷ put (of Number (op Included p q)) ∷ put (of Number (op ProperlyIncluded p q)) ∷ put (of Number (op Includes p q)) ∷ put (of Number (op ProperlyIncludes q p)) ∷ put (of Number (op ProperlyIncluded p p)) ∷ put (of Number (op (Member (record { low = (pos 1); high = (pos 8) })) (number (pos 3)) p)) ∷ put (of Number (op (Member (record { low = (pos 1); high = (pos 8) })) (number (pos 2)) p)) ∷ put (of Number (op (Member (record { low = (pos 1); high = (pos 8) })) (number (pos 9)) p)) ∷ [])
 
 inclusion_does : Does inclusion (says (pos 1) ∷ says (pos 1) ∷ says (pos 0) ∷ says (pos 1) ∷ says (pos 0) ∷ says (pos 1) ∷ says (pos 0) ∷ says (pos 0) ∷ ends)
 inclusion_does = refl
@@ -85,7 +85,7 @@ a_of_s = location (Local 0) (part_nodes (one_field 0 1 ∷ [])) 1
 -- DCL s STRUCT (a INT, b ARRAY (1:3) INT) := [1, [i, 3, 4]], with DCL i INT := 2 before it;
 -- s.b(i) := 9; s.a +:= s.b(i + 1); PUT_INT(s.a); PUT_INT(s.b(1)); PUT_INT(s.b(2)); PUT_INT(s.b(i + 2));
 abbrev parts_of_locations : CheckedTree
-parts_of_locations = alone rows (dcl 1 (number (pos 2)) ∷ dcl_any 0 (expr 4 (parts (received_nodes (taken (number (pos 1)) ∷ received (expr 3 (parts (received_nodes (taken i ∷ taken (number (pos 3)) ∷ taken (number (pos 4)) ∷ [])))) None ∷ [])))) ∷ plain (set (b_of i) (number (pos 9))) ∷ plain (update a_of_s Add (value_in (b_of (op Add i (number (pos 1))))) (Some int_bounds)) ∷ put (value_in a_of_s) ∷ put (value_in (b_of (number (pos 1)))) ∷ put (value_in (b_of (number (pos 2)))) ∷ put (value_in (b_of (op Add i (number (pos 2))))) ∷ [])
+parts_of_locations = alone rows (dcl 1 (number (pos 2)) ∷ dcl_any 0 (expr 4 None (parts (received_nodes (taken (number (pos 1)) ∷ received (expr 3 None (parts (received_nodes (taken i ∷ taken (number (pos 3)) ∷ taken (number (pos 4)) ∷ [])))) None ∷ [])))) ∷ plain (set (b_of i) (number (pos 9))) ∷ plain (update a_of_s Add (value_in (b_of (op Add i (number (pos 1))))) (Some int_bounds)) ∷ put (value_in a_of_s) ∷ put (value_in (b_of (number (pos 1)))) ∷ put (value_in (b_of (number (pos 2)))) ∷ put (value_in (b_of (op Add i (number (pos 2))))) ∷ [])
 
 parts_of_locations_do : Does parts_of_locations (says (pos 5) ∷ says (pos 2) ∷ says (pos 9) ∷ raises Rangefail)
 parts_of_locations_do = refl
@@ -102,7 +102,7 @@ abbrev w : LocationTree
 w = location (Local 1) no_parts 3
 
 abbrev uniform_tuples : CheckedTree
-uniform_tuples = alone (local_row three 0 3 ∷ local_row three 3 3 ∷ []) (dcl_any 0 (expr 3 (uniform 3 (taken (expr 1 get_int)))) ∷ dcl_any 1 (expr 3 (contents v)) ∷ put (expr 1 (contents (location (Local 0) (part_nodes (one_element (number (pos 3)) (record { low = (pos 1); high = (pos 3) }) 1 ∷ [])) 1))) ∷ put (of Number (op Equal (expr 3 (contents v)) (expr 3 (contents w)))) ∷ put (expr 1 (part_of (expr 3 (constant (pos 8 ∷ pos 5 ∷ pos 6 ∷ []))) (part_nodes (one_element (number (pos 2)) (record { low = (pos 1); high = (pos 3) }) 1 ∷ [])))) ∷ [])
+uniform_tuples = alone (local_row three 0 3 ∷ local_row three 3 3 ∷ []) (dcl_any 0 (expr 3 None (uniform 3 (taken (expr 1 None get_int)))) ∷ dcl_any 1 (expr 3 None (contents v)) ∷ put (expr 1 None (contents (location (Local 0) (part_nodes (one_element (number (pos 3)) (record { low = (pos 1); high = (pos 3) }) 1 ∷ [])) 1))) ∷ put (of Number (op Equal (expr 3 None (contents v)) (expr 3 None (contents w)))) ∷ put (expr 1 None (part_of (expr 3 None (constant (pos 8 ∷ pos 5 ∷ pos 6 ∷ []))) (part_nodes (one_element (number (pos 2)) (record { low = (pos 1); high = (pos 3) }) 1 ∷ [])))) ∷ [])
 
 uniform_tuples_do : Does uniform_tuples (asks Get (Value (pos 7 ∷ [])) ∷ says (pos 7) ∷ says (pos 1) ∷ says (pos 5) ∷ ends)
 uniform_tuples_do = refl

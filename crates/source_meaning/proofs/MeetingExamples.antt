@@ -56,14 +56,14 @@ abbrev of_crowd : ExprTree → LocationTree
 of_crowd e = location (Local 1) (part_nodes (one_element e (record { low = (pos 1); high = (pos 3) }) 1 ∷ [])) 1
 
 abbrev delay_cases : CheckedTree
-delay_cases = alone (local_row int 0 1 ∷ local_row crowd 1 3 ∷ []) (plain (delay_case (Some (of_crowd (expr 1 get_int))) 2 (delay_nodes (woken_by (0 ∷ 1 ∷ []) (put (number (pos 1)) ∷ []) ∷ woken_by (2 ∷ []) (put (number (pos 2)) ∷ []) ∷ []))) ∷ put (of Number (op Equal (value_in (of_crowd (number (pos 2)))) (number (pos 0)))) ∷ [])
+delay_cases = alone (local_row int 0 1 ∷ local_row crowd 1 3 ∷ []) (plain (delay_case (Some (of_crowd (expr 1 None get_int))) 2 (delay_nodes (woken_by (0 ∷ 1 ∷ []) (put (number (pos 1)) ∷ []) ∷ woken_by (2 ∷ []) (put (number (pos 2)) ∷ []) ∷ []))) ∷ put (of Number (op Equal (value_in (of_crowd (number (pos 2)))) (number (pos 0)))) ∷ [])
 
 delay_cases_do : Does delay_cases (asks Get (Value (pos 2 ∷ [])) ∷ asks (Delay (listed 0 0 ∷ listed 1 0 ∷ listed 2 1 ∷ []) 2) (Woken 1 7) ∷ says (pos 2) ∷ says (pos 0) ∷ ends)
 delay_cases_do = refl
 
 -- SEND b (GET_INT()) PRIORITY 5; SEND b (300); where b is buffer 1 of INT (0:255)
 abbrev buffer_sends : CheckedTree
-buffer_sends = alone [] (plain (send (to_buffer 1 (within (pos 0) (pos 255) (expr 1 get_int))) 5) ∷ plain (send (to_buffer 1 (within (pos 0) (pos 255) (number (pos 300)))) 0) ∷ [])
+buffer_sends = alone [] (plain (send (to_buffer 1 (within (pos 0) (pos 255) (expr 1 None get_int))) 5) ∷ plain (send (to_buffer 1 (within (pos 0) (pos 255) (number (pos 300)))) 0) ∷ [])
 
 buffer_sends_do : Does buffer_sends (asks Get (Value (pos 30 ∷ [])) ∷ asks (SendBuffer 1 (pos 30 ∷ []) 5) Stored ∷ raises Rangefail)
 buffer_sends_do = refl
@@ -71,14 +71,14 @@ buffer_sends_do = refl
 -- SEND s (1, 2) TO i; SEND s (1, 2); SEND t TO NULL ON (EMPTY): PUT_INT(1); END; SEND t TO THIS ON (EXTINCT): PUT_INT(2); END;
 -- where i is local 0, an instance that was started
 abbrev signal_sends : CheckedTree
-signal_sends = alone (local_row instance 0 1 ∷ []) (dcl_any 0 (expr 1 (start (started 1 (received_nodes (taken (number (pos 7)) ∷ []))))) ∷ plain (send (signal 0 (received_nodes (taken (number (pos 1)) ∷ taken (number (pos 2)) ∷ [])) (Some x)) 0) ∷ plain (send (signal 0 (received_nodes (taken (number (pos 1)) ∷ taken (number (pos 2)) ∷ [])) None) 3) ∷ statement false (send (signal 1 (received_nodes []) (Some (number (pos 0)))) 0) (on 2 (put (number (pos 1)) ∷ [])) ∷ statement false (send (signal 1 (received_nodes []) (Some (expr 1 own_instance))) 0) (on 6 (put (number (pos 2)) ∷ [])) ∷ [])
+signal_sends = alone (local_row instance 0 1 ∷ []) (dcl_any 0 (expr 1 None (start (started 1 (received_nodes (taken (number (pos 7)) ∷ []))))) ∷ plain (send (signal 0 (received_nodes (taken (number (pos 1)) ∷ taken (number (pos 2)) ∷ [])) (Some x)) 0) ∷ plain (send (signal 0 (received_nodes (taken (number (pos 1)) ∷ taken (number (pos 2)) ∷ [])) None) 3) ∷ statement false (send (signal 1 (received_nodes []) (Some (number (pos 0)))) 0) (on 2 (put (number (pos 1)) ∷ [])) ∷ statement false (send (signal 1 (received_nodes []) (Some (expr 1 None own_instance))) 0) (on 6 (put (number (pos 2)) ∷ [])) ∷ [])
 
 signal_sends_do : Does signal_sends (asks (Start 1 (pos 7 ∷ [])) (Instance 4) ∷ asks (SendSignal 0 (pos 1 ∷ pos 2 ∷ []) (Some 4) 0) (Handed 4) ∷ asks (SendSignal 0 (pos 1 ∷ pos 2 ∷ []) None 3) Stored ∷ asks (SendSignal 1 [] (Some 0) 0) (Fail Empty) ∷ says (pos 1) ∷ asks (SendSignal 1 [] (Some 1) 0) (Fail Extinct) ∷ says (pos 2) ∷ ends)
 signal_sends_do = refl
 
 -- PUT_INT(RECEIVE b); where b is buffer 0 of INT
 abbrev receive_as_a_value : CheckedTree
-receive_as_a_value = alone [] (put (expr 1 (receive 0)) ∷ [])
+receive_as_a_value = alone [] (put (expr 1 None (receive 0)) ∷ [])
 
 receive_as_a_value_does : Does receive_as_a_value (asks (ReceiveBuffer (first_of 0 ∷ []) false) (Got 0 1 (pos 20 ∷ []) 3) ∷ says (pos 20) ∷ ends)
 receive_as_a_value_does = refl
@@ -101,7 +101,7 @@ set_of_a_shared_location_does = refl
 
 -- RECEIVE CASE (s IN v, w): PUT_TEXT(v); PUT_INT(w); (t): ESAC; twice; where s has the parts CHARS (2) and INT, and t none
 abbrev receive_signal_cases : CheckedTree
-receive_signal_cases = alone (local_row instance 0 1 ∷ local_row (chars 2) 1 2 ∷ local_row int 3 1 ∷ []) (twice (plain (receive_signals None (receive_nodes (got_from 3 (1 ∷ 2 ∷ []) (plain (put_text (expr 2 (contents (location (Local 1) no_parts 2)))) ∷ put (value_in (own 2)) ∷ []) ∷ got_from 4 [] [] ∷ [])) no_otherwise)))
+receive_signal_cases = alone (local_row instance 0 1 ∷ local_row (chars 2) 1 2 ∷ local_row int 3 1 ∷ []) (twice (plain (receive_signals None (receive_nodes (got_from 3 (1 ∷ 2 ∷ []) (plain (put_text (expr 2 None (contents (location (Local 1) no_parts 2)))) ∷ put (value_in (own 2)) ∷ []) ∷ got_from 4 [] [] ∷ [])) no_otherwise)))
 
 receive_signal_cases_do : Does receive_signal_cases (asks (ReceiveSignal (listed 3 0 ∷ listed 4 1 ∷ []) false) (Got 0 1 (pos 97 ∷ pos 98 ∷ pos 5 ∷ []) 2) ∷ puts (97 ∷ 98 ∷ []) ∷ says (pos 5) ∷ asks (ReceiveSignal (listed 3 0 ∷ listed 4 1 ∷ []) false) (Got 1 2 [] 2) ∷ ends)
 receive_signal_cases_do = refl
@@ -115,7 +115,7 @@ starts_do = refl
 
 -- p: PROCESS (a INT, b INT); PUT_INT(a - b); CAUSE busy; END ON (busy): PUT_INT(NUM(THIS = NULL)); END p; started with 9 and 2
 abbrev process_with_arguments : CheckedTree
-process_with_arguments = program (main [] [] ∷ with_handler (on 7 (put (of Number (op Equal (expr 1 own_instance) (number (pos 0)))) ∷ [])) (body Process (record { passing = In } ∷ record { passing = In } ∷ []) None [] (ints 2) (put (op Subtract x y) ∷ plain (cause 7) ∷ [])) ∷ []) []
+process_with_arguments = program (main [] [] ∷ with_handler (on 7 (put (of Number (op Equal (expr 1 None own_instance) (number (pos 0)))) ∷ [])) (body Process (record { passing = In } ∷ record { passing = In } ∷ []) None [] (ints 2) (put (op Subtract x y) ∷ plain (cause 7) ∷ [])) ∷ []) []
 
 process_with_arguments_does : (talk process_with_arguments 5 1 (pos 9 ∷ pos 2 ∷ []) (Done ∷ Done ∷ Done ∷ []) 1).trace ≡ trace_of (says (pos 7) ∷ says (pos 0) ∷ ends)
 process_with_arguments_does = refl

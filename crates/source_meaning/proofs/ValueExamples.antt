@@ -1,5 +1,5 @@
 -- Numbers, truth values, texts and comparisons. Each program stands above its tree, without the module around it; local 0 is
-use Rattle.std.specs.Prelude.{◌≡◌, refl, [], ◌∷◌, pos, negsuc, false}
+use Rattle.std.specs.Prelude.{◌≡◌, refl, [], ◌∷◌, pos, negsuc, false, None}
 use Rattle.kernel_base.specs.declared.ends.Exc.TheVariants.{Overflow, Rangefail, Empty}
 use Rattle.kernel_base.specs.declared.request.Request.TheVariants.{Get}
 use Rattle.kernel_base.specs.declared.answer.Answer.TheVariants.{Value, Fail}
@@ -29,14 +29,14 @@ sums_do = refl
 
 -- DCL x INT := -7, y INT := 2; PUT_INT(x / y); PUT_INT(x REM y); PUT_INT(x MOD y); PUT_INT(-x); PUT_INT(ABS(x));
 abbrev quotients : CheckedTree
-quotients = alone (ints 2) (dcl 0 (number (negsuc 6)) ∷ dcl 1 (number (pos 2)) ∷ put (op Divide x y) ∷ put (op Remainder x y) ∷ put (op Modulo x y) ∷ put (expr 1 (prefixed Minus x)) ∷ put (of Absolute x) ∷ [])
+quotients = alone (ints 2) (dcl 0 (number (negsuc 6)) ∷ dcl 1 (number (pos 2)) ∷ put (op Divide x y) ∷ put (op Remainder x y) ∷ put (op Modulo x y) ∷ put (expr 1 None (prefixed Minus x)) ∷ put (of Absolute x) ∷ [])
 
 quotients_do : Does quotients (says (negsuc 2) ∷ says (negsuc 0) ∷ says (pos 1) ∷ says (pos 7) ∷ says (pos 7) ∷ ends)
 quotients_do = refl
 
 -- DCL x INT := 2147483647; x := x + 1 ON (OVERFLOW): PUT_TEXT("high"); END; PUT_INT(1);
 abbrev overflow : CheckedTree
-overflow = alone (ints 1) (dcl 0 (number (pos 2147483647)) ∷ statement false (set (own 0) (op Add x (number (pos 1)))) (on 0 (plain (put_text (expr 4 (constant (pos 104 ∷ pos 105 ∷ pos 103 ∷ pos 104 ∷ [])))) ∷ [])) ∷ put (number (pos 1)) ∷ [])
+overflow = alone (ints 1) (dcl 0 (number (pos 2147483647)) ∷ statement false (set (own 0) (op Add x (number (pos 1)))) (on 0 (plain (put_text (expr 4 None (constant (pos 104 ∷ pos 105 ∷ pos 103 ∷ pos 104 ∷ [])))) ∷ [])) ∷ put (number (pos 1)) ∷ [])
 
 overflow_does : Does overflow (puts (104 ∷ 105 ∷ 103 ∷ 104 ∷ []) ∷ says (pos 1) ∷ ends)
 overflow_does = refl
@@ -57,7 +57,7 @@ modulus_of_a_negative_does = refl
 
 -- DCL x BOOL := TRUE, y BOOL := FALSE; PUT_INT(NUM(x AND y)); and so for OR, XOR, NOT x, x = y, x /= y
 abbrev truths : CheckedTree
-truths = alone (local_row boolean 0 1 ∷ local_row boolean 1 1 ∷ []) (dcl_in (pos 0) (pos 1) 0 (number (pos 1)) ∷ dcl_in (pos 0) (pos 1) 1 (number (pos 0)) ∷ put (of Number (op And x y)) ∷ put (of Number (op Or x y)) ∷ put (of Number (op Xor x y)) ∷ put (of Number (expr 1 (prefixed Not x))) ∷ put (of Number (op Equal x y)) ∷ put (of Number (op NotEqual x y)) ∷ [])
+truths = alone (local_row boolean 0 1 ∷ local_row boolean 1 1 ∷ []) (dcl_in (pos 0) (pos 1) 0 (number (pos 1)) ∷ dcl_in (pos 0) (pos 1) 1 (number (pos 0)) ∷ put (of Number (op And x y)) ∷ put (of Number (op Or x y)) ∷ put (of Number (op Xor x y)) ∷ put (of Number (expr 1 None (prefixed Not x))) ∷ put (of Number (op Equal x y)) ∷ put (of Number (op NotEqual x y)) ∷ [])
 
 truths_do : Does truths (says (pos 0) ∷ says (pos 1) ∷ says (pos 1) ∷ says (pos 0) ∷ says (pos 0) ∷ says (pos 1) ∷ ends)
 truths_do = refl
@@ -77,11 +77,11 @@ comparisons_do : Does comparisons (says (pos 1) ∷ says (pos 1) ∷ says (pos 0
 comparisons_do = refl
 
 abbrev s : ExprTree
-s = expr 2 (contents (location (Local 0) no_parts 2))
+s = expr 2 None (contents (location (Local 0) no_parts 2))
 
 -- DCL s CHARS (2) := "ab", y INT := 1; PUT_INT(NUM(s < "ac")); PUT_INT(NUM(s = "ac")); PUT_INT(NUM(s(y))); PUT_TEXT(s);
 abbrev texts : CheckedTree
-texts = alone (local_row (chars 2) 0 2 ∷ local_row int 2 1 ∷ []) (dcl_any 0 (expr 2 (constant (pos 97 ∷ pos 98 ∷ []))) ∷ dcl 1 (number (pos 1)) ∷ put (of Number (op Less s (expr 2 (constant (pos 97 ∷ pos 99 ∷ []))))) ∷ put (of Number (op Equal s (expr 2 (constant (pos 97 ∷ pos 99 ∷ []))))) ∷ put (of Number (expr 1 (contents (location (Local 0) (part_nodes (one_element y (record { low = (pos 0); high = (pos 1) }) 1 ∷ [])) 1)))) ∷ plain (put_text s) ∷ [])
+texts = alone (local_row (chars 2) 0 2 ∷ local_row int 2 1 ∷ []) (dcl_any 0 (expr 2 None (constant (pos 97 ∷ pos 98 ∷ []))) ∷ dcl 1 (number (pos 1)) ∷ put (of Number (op Less s (expr 2 None (constant (pos 97 ∷ pos 99 ∷ []))))) ∷ put (of Number (op Equal s (expr 2 None (constant (pos 97 ∷ pos 99 ∷ []))))) ∷ put (of Number (expr 1 None (contents (location (Local 0) (part_nodes (one_element y (record { low = (pos 0); high = (pos 1) }) 1 ∷ [])) 1)))) ∷ plain (put_text s) ∷ [])
 
 texts_do : Does texts (says (pos 1) ∷ says (pos 0) ∷ says (pos 98) ∷ puts (97 ∷ 98 ∷ []) ∷ ends)
 texts_do = refl
@@ -102,14 +102,14 @@ value_outside_its_location_does = refl
 
 -- DCL x INSTANCE := THIS; PUT_INT(NUM(x = THIS)); PUT_INT(NUM(x = NULL));
 abbrev own_instances : CheckedTree
-own_instances = alone (local_row instance 0 1 ∷ []) (dcl_any 0 (expr 1 own_instance) ∷ put (of Number (op Equal x (expr 1 own_instance))) ∷ put (of Number (op Equal x (number (pos 0)))) ∷ [])
+own_instances = alone (local_row instance 0 1 ∷ []) (dcl_any 0 (expr 1 None own_instance) ∷ put (of Number (op Equal x (expr 1 None own_instance))) ∷ put (of Number (op Equal x (number (pos 0)))) ∷ [])
 
 own_instances_do : Does own_instances (says (pos 1) ∷ says (pos 0) ∷ ends)
 own_instances_do = refl
 
 -- DCL x INT; x := GET_INT(); PUT_INT(x); GET_INT(); x := GET_INT() ON (EMPTY): PUT_NL(); END;
 abbrev inputs : CheckedTree
-inputs = alone (ints 1) (plain (set_lowest (0 ∷ []) (pos 0 ∷ [])) ∷ plain (set (own 0) (expr 1 get_int)) ∷ put x ∷ plain (evaluate (expr 1 get_int)) ∷ statement false (set (own 0) (expr 1 get_int)) (on 2 (plain put_line ∷ [])) ∷ [])
+inputs = alone (ints 1) (plain (set_lowest (0 ∷ []) (pos 0 ∷ [])) ∷ plain (set (own 0) (expr 1 None get_int)) ∷ put x ∷ plain (evaluate (expr 1 None get_int)) ∷ statement false (set (own 0) (expr 1 None get_int)) (on 2 (plain put_line ∷ [])) ∷ [])
 
 inputs_do : Does inputs (asks Get (Value (pos 12 ∷ [])) ∷ says (pos 12) ∷ asks Get (Value (negsuc 0 ∷ [])) ∷ asks Get (Fail Empty) ∷ puts (10 ∷ []) ∷ ends)
 inputs_do = refl

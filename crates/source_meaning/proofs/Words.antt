@@ -24,7 +24,7 @@ use Rattle.source_meaning.specs.Talk.{talk}
 -- ---- expressions and statements of INT
 
 abbrev pub number : ℤ → ExprTree
-number z = expr 1 (constant (z ∷ []))
+number z = expr 1 None (constant (z ∷ []))
 
 abbrev pub own : ℕ → LocationTree
 own i = location (Local i) no_parts 1
@@ -33,13 +33,13 @@ abbrev pub shared : ℕ → LocationTree
 shared l = location (Shared l) no_parts 1
 
 abbrev pub value_in : LocationTree → ExprTree
-value_in l = expr 1 (contents l)
+value_in l = expr 1 None (contents l)
 
 abbrev pub op : Binary → ExprTree → ExprTree → ExprTree
-op o a b = expr 1 (binary o a b)
+op o a b = expr 1 None (binary o a b)
 
 abbrev pub of : Routine → ExprTree → ExprTree
-of r e = expr 1 (routine r e)
+of r e = expr 1 None (routine r e)
 
 abbrev pub int_bounds : Bounds
 int_bounds = record { low = negsuc 2147483647; high = pos 2147483647 }

@@ -106,7 +106,7 @@ binary_with o xs second store s =
 abbrev mutual
   -- the value of an expression
   pub expr_mean : Setting → ExprTree → Meaning (List ℤ)
-  expr_mean w (expr n o) store s = operation_mean w n o store s
+  expr_mean w (expr n own o) store s = operation_mean w n o store s
 
   pub operation_mean : Setting → ℕ → OperationTree → Meaning (List ℤ)
   operation_mean w n (constant xs) store s = Goes xs store s

@@ -154,9 +154,9 @@ abbrev pub IsCalledFrom : BodyRowTree → Option ℕ → Type 0
 IsCalledFrom b around = IsReachedFrom b.critical b.region around
 
 abbrev mutual
-  -- a text can give the mode, the expression has so many scalars as a value of it, and its value is one
+  -- a text can give the mode, the expression has so many scalars as a value of it and the bounds of its root, and its value is one
   pub HasMode : Context → ExprTree → ModeTree → Type 0
-  HasMode c (expr n o) m = IsOfLanguage m × (n ≡ scalars_of m) × OperationHas c o m
+  HasMode c (expr n own o) m = IsOfLanguage m × (n ≡ scalars_of m) × (own ≡ bounds_of (root_of m)) × OperationHas c o m
 
   pub OperationHas : Context → OperationTree → ModeTree → Type 0
   OperationHas c (constant xs) m = IsValueOf m xs
