@@ -1,0 +1,5 @@
+pub mod Traces
+pub mod Expressions
+pub mod Outcomes
+pub mod Statements
+pub mod Bodies
