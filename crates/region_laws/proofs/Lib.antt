@@ -3,3 +3,5 @@ pub mod Expressions
 pub mod Outcomes
 pub mod Statements
 pub mod Bodies
+pub mod Following
+pub mod RegionLocations
