@@ -145,7 +145,7 @@ binary_suits p now o xs second is store s stands =
 
 mutual
   pub expr_suits : (c : Context) (w : Setting) (e : ExprTree) (m : ModeTree) → StandsAs c w → HasMode c e m → Suits c.program w.open_now (expr_mean w e)
-  expr_suits c w (expr n o) m there has store s stands = operation_suits c w n o m there has.2 store s stands
+  expr_suits c w (expr n own o) m there has store s stands = operation_suits c w n o m there has.3 store s stands
 
   operation_suits : (c : Context) (w : Setting) (n : ℕ) (o : OperationTree) (m : ModeTree) → StandsAs c w → OperationHas c o m → Suits c.program w.open_now (operation_mean w n o)
   operation_suits c w n (constant xs) m there has store s stands = (tt, stands)

@@ -60,7 +60,7 @@ binary_keeps m o xs second is store s low =
 
 mutual
   pub expr_keeps : (m : ℕ) (w : Setting) (e : ExprTree) → CallsKeep m w.calls → Keeps m (expr_mean w e)
-  expr_keeps m w (expr n o) all store s low = operation_keeps m w n o all store s low
+  expr_keeps m w (expr n own o) all store s low = operation_keeps m w n o all store s low
 
   operation_keeps : (m : ℕ) (w : Setting) (n : ℕ) (o : OperationTree) → CallsKeep m w.calls → Keeps m (operation_mean w n o)
   operation_keeps m w n (constant xs) all store s low = low
