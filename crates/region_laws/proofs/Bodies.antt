@@ -1,19 +1,18 @@
 -- What bodies and calls ask suits the regions that are open, and what a process asks.
-use Rattle.std.proofs.Common.{◌≡◌, ◌+◌, ℕ, zero, suc, Bool, true, false, List, [], ◌∷◌, ◌++◌, ℤ, refl, sym, ap, ◌∙◌, subst, length, Option, Some, None, slice_get}
+use Rattle.std.proofs.Common.{◌≡◌, ◌+◌, ℕ, zero, suc, Bool, true, false, List, [], ◌∷◌, ◌++◌, ℤ, refl, sym, ◌∙◌, subst, length, Option, Some, None, slice_get}
 use Rattle.std.specs.Prelude.{◌==◌, nat_lt, if◌then◌else◌}
 use Rattle.kernel_base.specs.declared.ends.Exc.{Exc}
-use Rattle.kernel_base.specs.declared.ends.Exc.TheVariants.{Spacefail}
 use Rattle.kernel_base.specs.declared.ends.How.TheVariants.{Normal, Raised as RaisedHow}
 use Rattle.kernel_base.specs.declared.request.Request.TheVariants.{Enter, Leave}
 use Rattle.kernel_base.specs.declared.answer.Answer.{Answer}
 use Rattle.checked_program.specs.declared.program.Sort.{Sort}
 use Rattle.checked_program.specs.declared.program.Sort.TheVariants.{Outermost, Process, Procedure}
-use Rattle.world_model.specs.Session.{Item, Session, session_of}
+use Rattle.world_model.specs.Session.{Session, session_of}
 use Rattle.code_types.specs.Places.{names_exception}
 use Rattle.code_types.specs.Actions.{most_frames}
 use Rattle.program_trees.specs.ProgramTree.{BodyRowTree, CheckedTree}
-use Rattle.source_meaning.specs.Store.{Store, OpenCall, Taken, first_store}
-use Rattle.source_meaning.specs.Flow.{Flow, Goes, Raised, Exits, Returned, Stops, Gone, Bound, Meaning, then_do, done, finish, after_tick}
+use Rattle.source_meaning.specs.Store.{Store, Taken, first_store}
+use Rattle.source_meaning.specs.Flow.{Flow, Goes, Raised, Exits, Returned, Stops, Gone, Bound, then_do, done}
 use Rattle.source_meaning.specs.ExprMeaning.{Calls, Setting}
 use Rattle.source_meaning.specs.StatementMeaning.{is_open, statements_mean, handler_mean}
 use Rattle.source_meaning.specs.BodyMeaning.{Ending, Through, Out, Halted, Ended, Unknown, close, Bodies, at_call, calls_in, leaving, behind_enter, in_region, region_if, setting_of, inside_of, body_of, body_mean}

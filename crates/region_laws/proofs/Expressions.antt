@@ -1,5 +1,5 @@
 -- What expressions and locations ask suits the regions that are open.
-use Rattle.std.proofs.Common.{◌≡◌, ℕ, zero, suc, ◌+◌, Bool, true, false, List, [], ◌∷◌, ◌++◌, ℤ, refl, sym, ap, ◌∙◌, subst, inl, inr, Option, Some, None, slice_get}
+use Rattle.std.proofs.Common.{◌≡◌, ℕ, suc, ◌+◌, Bool, true, false, List, [], ◌∷◌, ℤ, refl, sym, subst, inl, inr, Option, Some, None, slice_get}
 use Rattle.std.specs.Prelude.{nat_abs, if◌then◌else◌}
 use Rattle.kernel_base.specs.declared.request.Request.{Request}
 use Rattle.kernel_base.specs.declared.request.Request.TheVariants.{Read, Write, ReceiveBuffer, Start, Get}
@@ -8,17 +8,16 @@ use Rattle.modes.specs.ModeTree.{ModeTree, FieldNodes}
 use Rattle.checked_program.specs.declared.expr.Base.{Base}
 use Rattle.checked_program.specs.declared.expr.Base.TheVariants.{Shared, Local}
 use Rattle.checked_program.specs.declared.expr.Binary.{Binary}
-use Rattle.world_model.specs.Session.{Session}
 use Rattle.scalar_operators.specs.Numbers.{is_between}
 use Rattle.program_trees.specs.ExprTree.{ExprTree, expr, OperationTree, constant, own_instance, contents, part_of, receive, start, call, powerset, parts, uniform, routine, get_int, prefixed, binary, ReceivedTree, received, ReceivedNodes, no_received, more_received, PartNodes, no_parts, field, element, RangeNodes, no_ranges, one_member, members, LocationTree, location, StartTree, started, CallTree, called, ArgumentNodes, no_arguments, in_argument, out_argument, inout_argument}
 use Rattle.program_trees.specs.ProgramTree.{LocationRowTree, BodyRowTree, CheckedTree}
-use Rattle.source_meaning.specs.Store.{Store, Address, in_local, in_shared, address_of, Taken}
-use Rattle.source_meaning.specs.Flow.{Flow, Goes, Raised, Meaning, then_do, asked, done}
+use Rattle.source_meaning.specs.Store.{Address, in_local, in_shared, address_of, Taken}
+use Rattle.source_meaning.specs.Flow.{Flow, Goes, Meaning, asked, done}
 use Rattle.source_meaning.specs.Operators.{sole_number, Computed, Yields, Throws, offset_within, binary_value, takes_second, prefix_value, routine_value, with_span, empty_within}
 use Rattle.source_meaning.specs.ExprMeaning.{Calls, Setting, as_computed, or_rangefail, tested, asked_value, read_at, assign_at, CopyOut, Passed, takens, copied_out, all_copied_out, call_with, binary_with, expr_mean, operation_mean, received_mean, all_received_mean, offset_mean, location_mean, members_mean, start_mean, call_mean, arguments_mean, place_mean}
 use Rattle.source_meaning.specs.OpenRegions.{open_by, region_of_row, region_asked, IsOpenThere}
 use Rattle.source_meaning.specs.TypedValues.{Context, IsReached, BaseHas, IsCalledFrom, IsReachedFrom, HasMode, OperationHas, IsTakenBy, ElementsHave, FieldsHave, AllHave, PartsLead, RangesHave, LocationHas, IsTypedStart, AllTaken, IsTypedCall, ArgumentsFit}
-use Rattle.region_laws.proofs.Traces.{EntersShut, StartsProcess, IsAskedWell, Stands, FlowIn, Keeps, Any, then_keeps, asked_keeps}
+use Rattle.region_laws.proofs.Traces.{EntersShut, StartsProcess, IsAskedWell, FlowIn, Keeps, Any, then_keeps, asked_keeps}
 
 -- a request that neither enters nor leaves, nor reads or writes, nor starts
 abbrev pub IsPlain : CheckedTree → Request → Type 0
@@ -146,7 +145,7 @@ binary_suits p now o xs second is store s stands =
 
 mutual
   pub expr_suits : (c : Context) (w : Setting) (e : ExprTree) (m : ModeTree) → StandsAs c w → HasMode c e m → Suits c.program w.open_now (expr_mean w e)
-  expr_suits c w (expr n o) m there has store s stands = operation_suits c w n o m there has.2 store s stands
+  expr_suits c w (expr n own o) m there has store s stands = operation_suits c w n o m there has.3 store s stands
 
   operation_suits : (c : Context) (w : Setting) (n : ℕ) (o : OperationTree) (m : ModeTree) → StandsAs c w → OperationHas c o m → Suits c.program w.open_now (operation_mean w n o)
   operation_suits c w n (constant xs) m there has store s stands = (tt, stands)

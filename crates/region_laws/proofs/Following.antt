@@ -1,35 +1,32 @@
 -- What the instances of a run ask suits the regions that they have open.
-use Rattle.std.proofs.Common.{◌≡◌, ◌⊎◌, ◌<◌, ◌≤◌, ℕ, zero, suc, Bool, true, false, List, [], ◌∷◌, ◌++◌, length, refl, sym, ap, ◌∙◌, subst, arith, append_assoc, append-nil, inl, inr, eq-eqb, Option, Some, None, slice_get}
+use Rattle.std.proofs.Common.{◌≡◌, ◌⊎◌, ◌<◌, ℕ, zero, suc, Bool, true, false, List, [], ◌∷◌, ◌++◌, length, refl, sym, ap, ◌∙◌, subst, arith, append_assoc, append-nil, inl, inr, eq-eqb, Option, Some, slice_get}
 use Rattle.std.specs.Prelude.{◌==◌, if◌then◌else◌, get_or}
 use Rattle.std.specs.List.{flat_map}
-use Rattle.std.proofs.lemmas.Bool.{cases_Bool}
 use Rattle.std.proofs.lemmas.List.Concat.{flat_map-append}
 use Rattle.std.proofs.lemmas.Option.{slice_get_within, slice_get-get_or}
 use Rattle.kernel_base.specs.declared.facts.Facts.{Facts}
 use Rattle.kernel_base.specs.declared.ends.How.TheVariants.{Normal}
 use Rattle.kernel_base.specs.declared.request.Request.{Request}
-use Rattle.kernel_base.specs.declared.request.Request.TheVariants.{Start, Enter, Leave, End}
+use Rattle.kernel_base.specs.declared.request.Request.TheVariants.{Start}
 use Rattle.kernel_base.specs.declared.answer.Answer.{Answer}
 use Rattle.kernel_base.specs.declared.answer.Answer.TheVariants.{Instance}
 use Rattle.kernel_base.specs.declared.event.Event.{Event}
-use Rattle.kernel_base.specs.declared.event.Event.TheVariants.{Did, Waits, Goes, Runs}
+use Rattle.kernel_base.specs.declared.event.Event.TheVariants.{Did}
 use Rattle.world_model.specs.declared.world.Phase.TheVariants.{Active, Ended}
 use Rattle.world_model.specs.declared.world.World.{World}
-use Rattle.world_model.specs.Waiting.{phase_of, IsActive}
+use Rattle.world_model.specs.Waiting.{IsActive}
 use Rattle.world_model.specs.World.{opening, world_of, after, after_all}
 use Rattle.world_model.specs.Allowed.{IsRunFrom, IsRun}
-use Rattle.world_model.specs.Session.{Item, Tick, Ask}
+use Rattle.world_model.specs.Session.{Item, Ask}
 use Rattle.world_model.specs.Journal.{ticks_of, items_by, line_of, answers_of, Birth, births_by, first_birth, started_as, born_of}
 use Rattle.world_model.proofs.RunParts.{front_runs, next_allowed}
 use Rattle.code_types.specs.Runs.{ticks_in}
-use Rattle.checked_program.specs.declared.program.Sort.{Sort}
-use Rattle.checked_program.specs.declared.program.Sort.TheVariants.{Outermost, Process}
 use Rattle.program_trees.specs.ProgramTree.{BodyRowTree, CheckedTree}
 use Rattle.source_meaning.specs.Fitting.{has_instances}
 use Rattle.source_meaning.specs.Typed.{IsForProcess, IsTyped}
-use Rattle.source_meaning.specs.Runs.{talk_in_journal, IsSourceRun}
+use Rattle.source_meaning.specs.Runs.{IsSourceRun}
 use Rattle.source_meaning.specs.OpenRegions.{open_behind}
-use Rattle.run_laws.specs.Laws.{birth_in, birth_at}
+use Rattle.run_laws.specs.Laws.{birth_at}
 use Rattle.run_laws.proofs.Births.{births_law}
 use Rattle.run_laws.proofs.Holding.{HoldsWell, step_well, opening_well}
 use Rattle.region_laws.proofs.Traces.{IsAskedWell, AsksWell, asks_at}

@@ -1,20 +1,17 @@
 -- Outcomes of statements: where control goes on, or out of them, the same regions are open.
-use Rattle.std.proofs.Common.{◌≡◌, ◌<◌, ℕ, zero, suc, Bool, true, false, List, [], ◌∷◌, ◌++◌, ℤ, refl, sym, ap, ◌∙◌, subst, inl, inr, arith, Option, Some, None}
+use Rattle.std.proofs.Common.{◌≡◌, ◌<◌, ℕ, zero, suc, Bool, true, false, List, [], ◌∷◌, ◌++◌, refl, sym, ◌∙◌, arith, Option, Some, None}
 use Rattle.std.specs.Prelude.{if◌then◌else◌}
-use Rattle.std.proofs.lemmas.Bool.{cases_Bool}
 use Rattle.kernel_base.specs.declared.ends.Exc.{Exc}
 use Rattle.kernel_base.specs.declared.request.Request.TheVariants.{Enter, Leave}
-use Rattle.world_model.specs.Session.{Item, Session, tick}
-use Rattle.checked_program.specs.declared.program.Sort.{Sort}
+use Rattle.world_model.specs.Session.{Session}
 use Rattle.checked_program.specs.declared.program.Sort.TheVariants.{Outermost, Procedure}
 use Rattle.program_trees.specs.ProgramTree.{CheckedTree}
-use Rattle.program_trees.specs.StatementTree.{ActionTree}
 use Rattle.source_meaning.specs.Store.{Store}
-use Rattle.source_meaning.specs.Flow.{Flow, Goes, Raised, Exits, Returned, Stops, Gone, Bound, Meaning, then_do, done, after_tick}
+use Rattle.source_meaning.specs.Flow.{Flow, Goes, Raised, Exits, Returned, Stops, Gone, Bound, Meaning, then_do, done}
 use Rattle.source_meaning.specs.ExprMeaning.{Setting}
 use Rattle.source_meaning.specs.StatementMeaning.{is_open, opened, at_region, then_leave, ends_exit, labelled_as, caught, turns, turn_or_end}
 use Rattle.source_meaning.specs.TypedStatements.{Around, StandsAtTop, labelled_around}
-use Rattle.region_laws.proofs.Traces.{AsksWell, Stands, FlowIn, Keeps, Any, then_keeps, entered_comes, left_keeps, tick_comes}
+use Rattle.region_laws.proofs.Traces.{AsksWell, Stands, FlowIn, Keeps, Any, entered_comes, left_keeps, tick_comes}
 
 -- As of other parts; besides, an EXIT leads to a statement around, and a RETURN out of a procedure.
 abbrev pub FlowOut : {A : Type 0} → CheckedTree → List ℕ → Around → Flow A → Type 0

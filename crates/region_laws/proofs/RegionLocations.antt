@@ -1,5 +1,5 @@
 -- A region's locations are read and written by its occupant alone.
-use Rattle.std.proofs.Common.{◌≡◌, ℕ, zero, suc, Bool, true, false, List, [], ◌∷◌, ◌++◌, length, refl, sym, ap, ◌∙◌, subst, append-nil, Option, Some, None}
+use Rattle.std.proofs.Common.{◌≡◌, ℕ, List, [], ◌∷◌, refl, sym, ap, ◌∙◌, subst, append-nil, Option, Some, None}
 use Rattle.kernel_base.specs.declared.facts.Facts.{Facts}
 use Rattle.kernel_base.specs.declared.request.Request.{Request}
 use Rattle.kernel_base.specs.declared.request.Request.TheVariants.{Enter, Leave, End}
@@ -9,22 +9,20 @@ use Rattle.world_model.specs.Waiting.{IsActive}
 use Rattle.world_model.specs.World.{world_of, opening, held_by}
 use Rattle.world_model.specs.Allowed.{IsRun}
 use Rattle.world_model.specs.Session.{Item, Tick, Ask}
-use Rattle.world_model.specs.Journal.{line_of, requests_of}
+use Rattle.world_model.specs.Journal.{line_of}
 use Rattle.world_model.proofs.RunParts.{front_runs, next_allowed}
 use Rattle.world_model.proofs.HeldIsOccupied.{journal_holds}
 use Rattle.program_trees.specs.ProgramTree.{CheckedTree}
 use Rattle.source_meaning.specs.OpenRegions.{open_by, open_behind, region_asked, IsOpenThere, AsksInside}
 use Rattle.source_meaning.specs.Talk.{talk}
-use Rattle.source_meaning.specs.Runs.{IsSourceRun}
-use Rattle.source_meaning.specs.Typed.{IsTyped}
 use Rattle.run_laws.proofs.Regions.{stands_at, asked, regions_on}
 use Rattle.run_laws.proofs.Holding.{active_held, journal_stands}
 use Rattle.run_laws.proofs.OpenRegions.{asks_in}
 use Rattle.run_laws.proofs.HeldRegions.{line_asks}
 use Rattle.region_laws.specs.Laws.{AsksInsideLaw, TextRegionsLaw, IsOccupiedBy, RegionLocationsLaw}
-use Rattle.region_laws.proofs.Traces.{EntersShut, IsAskedWell, AsksWell}
+use Rattle.region_laws.proofs.Traces.{EntersShut, AsksWell}
 use Rattle.region_laws.proofs.Bodies.{asks_well}
-use Rattle.region_laws.proofs.Following.{IsBorn, active_born, line_suits, AskedInRun, event_suits, all_born, front_born}
+use Rattle.region_laws.proofs.Following.{IsBorn, active_born, line_suits, event_suits, all_born, front_born}
 
 asks_inside : (p : CheckedTree) (now : List ℕ) (items : List Item) → AsksWell p now items → AsksInside p now items
 asks_inside p now [] well = tt

@@ -1,6 +1,6 @@
 -- What statements ask suits the regions that are open.
-use Rattle.std.proofs.Common.{◌≡◌, ◌<◌, ℕ, zero, suc, Bool, true, false, List, [], ◌∷◌, ◌++◌, ℤ, pos, refl, sym, ap, ◌∙◌, subst, arith, length, Option, Some, None, slice_get}
-use Rattle.std.specs.Prelude.{All, int_le, if◌then◌else◌}
+use Rattle.std.proofs.Common.{◌≡◌, ℕ, zero, suc, Bool, true, false, List, [], ◌∷◌, ◌++◌, ℤ, pos, refl, arith, length, Option, Some, None}
+use Rattle.std.specs.Prelude.{int_le, if◌then◌else◌}
 use Rattle.kernel_base.specs.declared.ends.Exc.{Exc}
 use Rattle.kernel_base.specs.declared.ends.How.TheVariants.{Stopped}
 use Rattle.kernel_base.specs.declared.ends.Exc.TheVariants.{Rangefail}
@@ -8,29 +8,27 @@ use Rattle.kernel_base.specs.declared.request.Request.{Request}
 use Rattle.kernel_base.specs.declared.request.Request.TheVariants.{Delay, Continue, SendBuffer, ReceiveBuffer, SendSignal, ReceiveSignal, Put}
 use Rattle.kernel_base.specs.declared.answer.Answer.{Answer}
 use Rattle.kernel_base.specs.declared.answer.Answer.TheVariants.{Got}
-use Rattle.modes.specs.declared.mode.Bounds.{Bounds}
 use Rattle.modes.specs.ModeTree.{ModeTree}
 use Rattle.modes.specs.Form.{FormTree}
 use Rattle.checked_program.specs.declared.expr.Base.{Base}
-use Rattle.world_model.specs.Session.{Session}
 use Rattle.scalar_operators.specs.Numbers.{is_int, where_true, decimal_text}
 use Rattle.scalar_operators.specs.Powersets.{first_of_list}
 use Rattle.scalar_operators.specs.Members.{offsets_of}
 use Rattle.code_types.specs.Operands.{number_in as number_of_32, bytes_of}
 use Rattle.code_types.specs.Places.{names_exception}
 use Rattle.program_trees.specs.ExprTree.{ExprTree, ReceivedTree, LocationTree, location_count}
-use Rattle.program_trees.specs.ProgramTree.{LocalRowTree, CheckedTree}
+use Rattle.program_trees.specs.ProgramTree.{LocalRowTree}
 use Rattle.program_trees.specs.StatementTree.{SentTree, to_buffer, signal, ControlTree, while_true, for_ever, for_members, for_steps, StatementTree, statement, ActionTree, do_nothing, declare, set_lowest, module_at, region_at, assign, update, perform, drop_routine, evaluate, put_int, put_text, put_line, exit_from, return_with, set_result, assert_that, cause, stop, start_of, delay, continue_at, send, if_then, case_of, do_loop, begin_end, delay_case, receive_buffers, receive_signals, StatementNodes, no_statements, more_statements, ChoiceNodes, no_choices, more_choices, CaseNodes, no_cases, more_cases, DelayNodes, no_delays, more_delays, ReceiveNodes, no_receives, more_receives, OtherwiseNode, no_otherwise, otherwise, HandledNodes, no_handled, more_handled, HandlerNode, no_handler, handler}
-use Rattle.source_meaning.specs.Store.{Store, Address, address_of, with_local, with_result}
-use Rattle.source_meaning.specs.Flow.{Flow, Goes, Raised, Exits, Returned, Meaning, then_do, asked, done, finish}
+use Rattle.source_meaning.specs.Store.{Address, address_of, with_local}
+use Rattle.source_meaning.specs.Flow.{Flow, Raised, Meaning, then_do, asked, done, finish}
 use Rattle.source_meaning.specs.Operators.{sole_number, one, is_true, member_at, routine_value, without_offset}
-use Rattle.source_meaning.specs.ExprMeaning.{Setting, as_computed, or_rangefail, tested, read_at, assign_at, expr_mean, binary_with, received_mean, all_received_mean, location_mean, start_mean, call_mean}
-use Rattle.source_meaning.specs.StatementMeaning.{nothing, skip, no_state, set_names, set_to, set_address, put_bytes, send_to, sent_signal, sent_mean, result_mean, return_mean, holds_one, delay_pairs, receive_list, receive_counts, is_written, Come, comes_to, nothing_came, take_in, woken_as, where_holds, next_member, passes_end, next_value, next_step, bound_mean, step_mean, loop_mean, is_label, is_open, opened, region_in, at_region, caught, behind_wait, delay_with, receive_with, statement_mean, handler_mean, alternatives_mean, otherwise_mean, statements_mean, action_mean, choices_mean, cases_mean, delay_mean, receive_mean}
+use Rattle.source_meaning.specs.ExprMeaning.{Setting, as_computed, tested, read_at, assign_at, expr_mean, binary_with, received_mean, all_received_mean, location_mean, start_mean, call_mean}
+use Rattle.source_meaning.specs.StatementMeaning.{nothing, skip, no_state, set_names, set_to, set_address, put_bytes, send_to, sent_signal, sent_mean, result_mean, return_mean, holds_one, delay_pairs, receive_list, receive_counts, is_written, Come, comes_to, nothing_came, take_in, woken_as, where_holds, next_member, passes_end, next_value, next_step, bound_mean, step_mean, loop_mean, is_open, opened, caught, behind_wait, delay_with, receive_with, statement_mean, handler_mean, alternatives_mean, otherwise_mean, statements_mean, action_mean, choices_mean, cases_mean, delay_mean, receive_mean}
 use Rattle.source_meaning.specs.OpenRegions.{open_by}
-use Rattle.source_meaning.specs.TypedValues.{Context, BaseHas, HasMode, IsTakenBy}
-use Rattle.source_meaning.specs.TypedStatements.{Around, IsCondition, IsSomeCondition, IsOfInt, IsReceiver, TakesInstance, AllBasesHave, IsTypedSend, IsStepped, IsTypedControl, IsTypedReturn, Brings, labelled_around, in_region_around, StandsAtTop, IsTypedStatement, AreTyped, IsTypedHandler, AreTypedAlternatives, IsTypedOtherwise, IsTypedAction, AreTypedChoices, AreTypedCases, AreTypedDelays, AreTypedReceives}
+use Rattle.source_meaning.specs.TypedValues.{Context, HasMode, IsTakenBy}
+use Rattle.source_meaning.specs.TypedStatements.{Around, IsSomeCondition, IsReceiver, TakesInstance, AllBasesHave, IsTypedSend, IsStepped, IsTypedControl, IsTypedReturn, Brings, labelled_around, in_region_around, IsTypedStatement, AreTyped, IsTypedHandler, AreTypedAlternatives, IsTypedOtherwise, IsTypedAction, AreTypedChoices, AreTypedCases, AreTypedDelays, AreTypedReceives}
 use Rattle.run_laws.proofs.Regions.{has_last}
-use Rattle.region_laws.proofs.Traces.{IsAskedWell, Stands, FlowIn, Keeps, Any, then_keeps, asked_keeps, finish_keeps}
+use Rattle.region_laws.proofs.Traces.{IsAskedWell, FlowIn, Keeps, Any, then_keeps, finish_keeps}
 use Rattle.region_laws.proofs.Expressions.{Suits, StandsAs, LiesInside, base_inside, computed_suits, rangefail_suits, tested_suits, done_suits, asks_suit, read_suits, assign_suits, binary_suits, expr_suits, received_suits, all_suit, location_lies, start_suits, call_tree_suits}
 use Rattle.region_laws.proofs.Outcomes.{FlowOut, Leads, out, value_leads, then_leads, if_leads, caught_leads, labelled_leads, region_leads, turns_lead}
 

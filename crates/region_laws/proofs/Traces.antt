@@ -1,8 +1,7 @@
 -- Traces whose requests suit the regions that are open, and parts that make such ones.
-use Rattle.std.proofs.Common.{◌≡◌, ◌⊎◌, ℕ, zero, suc, Bool, true, false, List, [], ◌∷◌, ◌++◌, ℤ, refl, sym, ap, ◌∙◌, subst, inl, inr, Option, Some, None, slice_get, eq-eqb}
-use Rattle.std.specs.Prelude.{if◌then◌else◌, ◌==◌, ◌||◌, ◌&&◌}
+use Rattle.std.proofs.Common.{◌≡◌, ℕ, zero, suc, Bool, true, false, List, [], ◌∷◌, ◌++◌, refl, sym, ap, ◌∙◌, subst, inl, inr, eq-eqb}
+use Rattle.std.specs.Prelude.{if◌then◌else◌, ◌==◌}
 use Rattle.std.proofs.lemmas.Bool.{cases_Bool}
-use Rattle.kernel_base.specs.declared.ends.Exc.{Exc}
 use Rattle.kernel_base.specs.declared.ends.How.{How}
 use Rattle.kernel_base.specs.declared.request.Request.{Request}
 use Rattle.kernel_base.specs.declared.request.Request.TheVariants.{Enter, Leave, Start, End}
@@ -12,7 +11,7 @@ use Rattle.world_model.specs.Session.{Item, Tick, Ask, Session, tick_of, tick}
 use Rattle.world_model.specs.Lists.{without}
 use Rattle.program_trees.specs.ProgramTree.{CheckedTree}
 use Rattle.source_meaning.specs.Store.{Store, OpenCall}
-use Rattle.source_meaning.specs.Flow.{Flow, Goes, Raised, Exits, Returned, Stops, Gone, Bound, Meaning, then_do, takes_answer, Reply, Given, Halts, asked_in, asked, done, finish, finished, after_tick}
+use Rattle.source_meaning.specs.Flow.{Flow, Goes, Raised, Exits, Returned, Stops, Gone, Bound, Meaning, then_do, takes_answer, Given, Halts, asked_in, asked, done, finish, finished, after_tick}
 use Rattle.source_meaning.specs.StatementMeaning.{is_open}
 use Rattle.source_meaning.specs.OpenRegions.{open_by, open_behind, region_asked, IsOpenThere}
 use Rattle.source_meaning.specs.Typed.{IsForProcess}

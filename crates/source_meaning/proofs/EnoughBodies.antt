@@ -1,7 +1,6 @@
 -- Bodies and calls come to an outcome where they nest as deep as there are ticks, and so does each talk.
 use Rattle.std.proofs.Common.{◌≡◌, ◌≤◌, ◌+◌, ℕ, zero, suc, Bool, true, false, List, [], ◌∷◌, ◌++◌, arith, Option, Some, None, slice_get}
 use Rattle.std.specs.Prelude.{nat_lt, if◌then◌else◌}
-use Rattle.kernel_base.specs.declared.ends.Exc.{Exc}
 use Rattle.kernel_base.specs.declared.ends.How.TheVariants.{Normal, Raised as RaisedHow}
 use Rattle.kernel_base.specs.declared.request.Request.TheVariants.{Enter, Leave}
 use Rattle.world_model.specs.Session.{Session, session_of}
@@ -9,13 +8,13 @@ use Rattle.code_types.specs.Places.{names_exception}
 use Rattle.code_types.specs.Actions.{most_frames}
 use Rattle.program_trees.specs.ProgramTree.{BodyRowTree, CheckedTree}
 use Rattle.source_meaning.specs.Store.{Store, Taken, first_store}
-use Rattle.source_meaning.specs.Flow.{Flow, Goes, Raised, Exits, Returned, Stops, Gone, Bound, then_do, done, finish}
+use Rattle.source_meaning.specs.Flow.{Flow, Goes, Raised, Exits, Returned, Stops, Gone, Bound, then_do, done}
 use Rattle.source_meaning.specs.ExprMeaning.{Calls, Setting}
 use Rattle.source_meaning.specs.StatementMeaning.{is_open, statements_mean, handler_mean}
 use Rattle.source_meaning.specs.BodyMeaning.{Ending, Through, Out, Halted, Ended, Unknown, close, Bodies, listed_by, at_call, calls_in, leaving, behind_enter, in_region, critical_region, setting_of, inside_of, body_of, body_mean}
 use Rattle.source_meaning.specs.Talk.{process_end}
 use Rattle.source_meaning.specs.Laws.{EnoughLaw}
-use Rattle.source_meaning.proofs.EnoughFlows.{Within, Keeps, then_keeps, if_within, more_within, done_keeps, finish_keeps, tick_keeps, caught_keeps}
+use Rattle.source_meaning.proofs.EnoughFlows.{Within, then_keeps, if_within, done_keeps, finish_keeps, tick_keeps, caught_keeps}
 use Rattle.source_meaning.proofs.EnoughExpressions.{CallsKeep}
 use Rattle.source_meaning.proofs.EnoughStatements.{AreFueled, statements_keep, handler_keeps}
 

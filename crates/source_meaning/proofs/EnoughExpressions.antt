@@ -1,18 +1,17 @@
 -- Expressions and locations come to an outcome, where calls do.
-use Rattle.std.proofs.Common.{◌≡◌, ◌≤◌, ℕ, zero, suc, ◌+◌, Bool, true, false, List, [], ◌∷◌, ◌++◌, ℤ, Option, Some, None}
-use Rattle.std.specs.Prelude.{nat_abs, if◌then◌else◌}
+use Rattle.std.proofs.Common.{ℕ, ◌+◌, false, List, [], ◌∷◌, ℤ, Option, Some, None}
+use Rattle.std.specs.Prelude.{nat_abs}
 use Rattle.kernel_base.specs.declared.request.Request.{Request}
 use Rattle.kernel_base.specs.declared.request.Request.TheVariants.{Read, Write, ReceiveBuffer, Start, Get}
 use Rattle.modes.specs.declared.mode.Bounds.{Bounds}
 use Rattle.checked_program.specs.declared.expr.Binary.{Binary}
-use Rattle.world_model.specs.Session.{Session}
 use Rattle.scalar_operators.specs.Numbers.{is_between}
 use Rattle.program_trees.specs.ExprTree.{ExprTree, expr, OperationTree, constant, own_instance, contents, part_of, receive, start, call, powerset, parts, uniform, routine, get_int, prefixed, binary, ReceivedTree, received, ReceivedNodes, no_received, more_received, PartNodes, no_parts, field, element, RangeNodes, no_ranges, one_member, members, LocationTree, location, StartTree, started, CallTree, called, ArgumentNodes, no_arguments, in_argument, out_argument, inout_argument}
-use Rattle.source_meaning.specs.Store.{Store, Address, in_local, in_shared, Taken}
-use Rattle.source_meaning.specs.Flow.{Flow, Goes, Meaning, then_do, asked}
+use Rattle.source_meaning.specs.Store.{Address, in_local, in_shared, Taken}
+use Rattle.source_meaning.specs.Flow.{Meaning, asked}
 use Rattle.source_meaning.specs.Operators.{sole_number, Computed, Yields, Throws, offset_within, binary_value, takes_second, prefix_value, routine_value, with_span, empty_within}
 use Rattle.source_meaning.specs.ExprMeaning.{Calls, Setting, as_computed, or_rangefail, tested, asked_value, read_at, assign_at, CopyOut, Passed, takens, copied_out, all_copied_out, call_with, binary_with, expr_mean, operation_mean, received_mean, all_received_mean, offset_mean, location_mean, members_mean, start_mean, call_mean, arguments_mean, place_mean}
-use Rattle.source_meaning.proofs.EnoughFlows.{Within, Keeps, then_keeps, if_within, asked_keeps, done_keeps}
+use Rattle.source_meaning.proofs.EnoughFlows.{Keeps, then_keeps, if_within, asked_keeps, done_keeps}
 
 -- calls come to an outcome
 abbrev pub CallsKeep : ℕ → (List ℕ → Calls) → Type 0
@@ -61,7 +60,7 @@ binary_keeps m o xs second is store s low =
 
 mutual
   pub expr_keeps : (m : ℕ) (w : Setting) (e : ExprTree) → CallsKeep m w.calls → Keeps m (expr_mean w e)
-  expr_keeps m w (expr n o) all store s low = operation_keeps m w n o all store s low
+  expr_keeps m w (expr n own o) all store s low = operation_keeps m w n o all store s low
 
   operation_keeps : (m : ℕ) (w : Setting) (n : ℕ) (o : OperationTree) → CallsKeep m w.calls → Keeps m (operation_mean w n o)
   operation_keeps m w n (constant xs) all store s low = low

@@ -1,5 +1,5 @@
 -- Parts that come to an outcome, and never make more ticks than there are.
-use Rattle.std.proofs.Common.{◌≡◌, ◌≤◌, ℕ, zero, suc, Bool, true, false, List, [], ◌∷◌, ◌++◌, arith, Option, Some, None}
+use Rattle.std.proofs.Common.{◌≤◌, ℕ, zero, suc, Bool, true, false, List, [], ◌∷◌, ◌++◌, arith, Option, Some, None}
 use Rattle.std.specs.Prelude.{if◌then◌else◌}
 use Rattle.kernel_base.specs.declared.ends.Exc.{Exc}
 use Rattle.kernel_base.specs.declared.ends.How.{How}

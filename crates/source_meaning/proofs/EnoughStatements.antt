@@ -1,6 +1,6 @@
 -- Statements come to an outcome, where turns and calls do.
-use Rattle.std.proofs.Common.{◌≡◌, ◌≤◌, ℕ, zero, suc, Bool, true, false, List, [], ◌∷◌, ◌++◌, ℤ, pos, length, arith, Option, Some, None, slice_get}
-use Rattle.std.specs.Prelude.{int_le, if◌then◌else◌}
+use Rattle.std.proofs.Common.{◌≤◌, ℕ, zero, suc, Bool, List, [], ◌∷◌, ℤ, pos, length, arith, Option, Some, None}
+use Rattle.std.specs.Prelude.{int_le}
 use Rattle.kernel_base.specs.declared.ends.Exc.{Exc}
 use Rattle.kernel_base.specs.declared.ends.Exc.TheVariants.{Rangefail}
 use Rattle.kernel_base.specs.declared.ends.How.TheVariants.{Stopped}
@@ -9,7 +9,6 @@ use Rattle.kernel_base.specs.declared.request.Request.TheVariants.{Delay, Contin
 use Rattle.kernel_base.specs.declared.answer.Answer.{Answer}
 use Rattle.kernel_base.specs.declared.answer.Answer.TheVariants.{Got}
 use Rattle.checked_program.specs.declared.expr.Base.{Base}
-use Rattle.world_model.specs.Session.{Session}
 use Rattle.scalar_operators.specs.Numbers.{is_int, where_true, decimal_text}
 use Rattle.scalar_operators.specs.Powersets.{first_of_list}
 use Rattle.scalar_operators.specs.Members.{offsets_of}
@@ -18,12 +17,12 @@ use Rattle.code_types.specs.Places.{names_exception}
 use Rattle.program_trees.specs.ExprTree.{ExprTree, ReceivedTree, LocationTree, location_count}
 use Rattle.program_trees.specs.ProgramTree.{LocalRowTree}
 use Rattle.program_trees.specs.StatementTree.{SentTree, to_buffer, signal, ControlTree, while_true, for_ever, for_members, for_steps, StatementTree, statement, ActionTree, do_nothing, declare, set_lowest, module_at, region_at, assign, update, perform, drop_routine, evaluate, put_int, put_text, put_line, exit_from, return_with, set_result, assert_that, cause, stop, start_of, delay, continue_at, send, if_then, case_of, do_loop, begin_end, delay_case, receive_buffers, receive_signals, StatementNodes, no_statements, more_statements, ChoiceNodes, no_choices, more_choices, CaseNodes, no_cases, more_cases, DelayNodes, no_delays, more_delays, ReceiveNodes, no_receives, more_receives, OtherwiseNode, no_otherwise, otherwise, HandledNodes, no_handled, more_handled, HandlerNode, no_handler, handler}
-use Rattle.source_meaning.specs.Store.{Store, Address, address_of, with_local}
-use Rattle.source_meaning.specs.Flow.{Flow, Goes, Raised, Meaning, then_do, asked, done, finish}
+use Rattle.source_meaning.specs.Store.{Address, address_of, with_local}
+use Rattle.source_meaning.specs.Flow.{Raised, Meaning, asked}
 use Rattle.source_meaning.specs.Operators.{sole_number, one, is_true, member_at, routine_value, without_offset}
-use Rattle.source_meaning.specs.ExprMeaning.{Setting, as_computed, or_rangefail, tested, read_at, assign_at, expr_mean, binary_with, received_mean, all_received_mean, location_mean, start_mean, call_mean}
+use Rattle.source_meaning.specs.ExprMeaning.{Setting, as_computed, tested, read_at, assign_at, expr_mean, binary_with, received_mean, all_received_mean, location_mean, start_mean, call_mean}
 use Rattle.source_meaning.specs.StatementMeaning.{skip, no_state, set_names, set_to, set_address, put_bytes, send_to, sent_signal, sent_mean, result_mean, return_mean, holds_one, delay_pairs, receive_list, receive_counts, is_written, Come, comes_to, nothing_came, take_in, woken_as, turns, where_holds, next_member, passes_end, next_value, next_step, bound_mean, step_mean, loop_mean, is_label, opened, region_in, at_region, caught, behind_wait, delay_with, receive_with, statement_mean, handler_mean, alternatives_mean, otherwise_mean, statements_mean, action_mean, choices_mean, cases_mean, delay_mean, receive_mean}
-use Rattle.source_meaning.proofs.EnoughFlows.{Within, Keeps, then_keeps, if_within, asked_keeps, done_keeps, finish_keeps, turns_keep, region_keeps, caught_keeps, labelled_keeps}
+use Rattle.source_meaning.proofs.EnoughFlows.{Keeps, then_keeps, if_within, asked_keeps, done_keeps, finish_keeps, turns_keep, region_keeps, caught_keeps, labelled_keeps}
 use Rattle.source_meaning.proofs.EnoughExpressions.{CallsKeep, computed_keeps, rangefail_keeps, tested_keeps, read_keeps, assign_keeps, binary_keeps, expr_keeps, received_keeps, all_received_keep, location_keeps, start_keeps, call_tree_keeps}
 
 -- calls come to an outcome with as many ticks as turns are looked at, or fewer
