@@ -13,7 +13,7 @@ use Rattle.checked_program.specs.declared.program.Sort.TheVariants.{Outermost, P
 use Rattle.program_trees.specs.ExprTree.{ExprTree, ReceivedTree, LocationTree, StartTree, CallTree, called, received_count, location_count}
 use Rattle.program_trees.specs.StatementTree.{SentTree, to_buffer, signal}
 use Rattle.program_trees.specs.ProgramTree.{BodyRowTree, LocalRowTree}
-use Rattle.code_scheme.specs.Pieces.{Layout, capped, first_in, contents_code, store_code, again_code, offsets_kept, check_code, between_code, between_size, behind_code, behind_size, routine_code, scalars_code, bounds_to_test, bounds_of_operator}
+use Rattle.code_scheme.specs.Pieces.{Layout, first_in, contents_code, store_code, again_code, offsets_kept, check_code, between_code, between_size, behind_code, behind_size, routine_code, scalars_code, bounds_to_test, bounds_of_operator}
 use Rattle.code_scheme.specs.ExprSizes.{expr_size, received_size, received_sizes, place_size, call_size, condition_size}
 use Rattle.code_scheme.specs.ExprCode.{expr_code, received_code, received_codes, counts_of, place_code, start_code, call_code, condition_code}
 use Rattle.code_scheme.specs.StatementSite.{Site, layout, Standing, declared_scalars, result_scalars, is_given_back}
@@ -35,11 +35,17 @@ abbrev pub names_code : Layout → ℕ → ℕ → List Base → List Instr
 names_code lay free n [] = []
 names_code lay free n (b ∷ bs) = offset_of_name b ++ (i.Local free n ∷ (name_code lay b n ++ names_code lay free n bs))
 
+-- the value is kept, and assigned to each name
+abbrev pub keeping_code : Standing → List Base → ReceivedTree → ℕ → List Instr
+keeping_code w bs r at =
+    received_code (layout w.site) w.free r at ++ (i.SetLocal w.free (received_count r) ∷ names_code (layout w.site) w.free (received_count r) bs)
+
+-- one name is assigned the value like a target
 abbrev pub declare_code : Standing → List Base → ReceivedTree → ℕ → List Instr
+declare_code w [] r at = keeping_code w [] r at
 declare_code w (b ∷ []) r at =
     offset_of_name b ++ (received_code (layout w.site) w.free r (at + length (offset_of_name b)) ++ name_code (layout w.site) b (received_count r))
-declare_code w bs r at =
-    received_code (layout w.site) w.free r at ++ (i.SetLocal w.free (received_count r) ∷ names_code (layout w.site) w.free (received_count r) bs)
+declare_code w (b ∷ c ∷ bs) r at = keeping_code w (b ∷ c ∷ bs) r at
 
 abbrev pub name_size : Base → ℕ
 name_size (Shared l) = 2
@@ -49,9 +55,13 @@ abbrev pub names_size : List Base → ℕ
 names_size [] = 0
 names_size (b ∷ bs) = suc (name_size b) + names_size bs
 
+abbrev pub keeping_size : List Base → ReceivedTree → ℕ
+keeping_size bs r = received_size r + suc (names_size bs)
+
 abbrev pub declare_size : List Base → ReceivedTree → ℕ
+declare_size [] r = keeping_size [] r
 declare_size (b ∷ []) r = received_size r + name_size b
-declare_size bs r = received_size r + suc (names_size bs)
+declare_size (b ∷ c ∷ bs) r = keeping_size (b ∷ c ∷ bs) r
 
 -- locals that get the lowest value of their mode
 abbrev pub set_lowest_code : Layout → List ℕ → List ℤ → List Instr
@@ -213,7 +223,7 @@ abbrev pub send_code : Standing → SentTree → ℕ → ℕ → List Instr
 send_code w (to_buffer b r) priority at = received_code (layout w.site) w.free r at ++ i.Send b (received_count r) priority ∷ []
 send_code w (signal n rs to) priority at =
     received_codes (layout w.site) w.free rs at ++
-    (receiver_code w to (at + received_sizes rs) ++ i.Signal n (capped (counts_of rs)) (has_receiver to) priority ∷ [])
+    (receiver_code w to (at + received_sizes rs) ++ i.Signal n (counts_of rs) (has_receiver to) priority ∷ [])
 
 abbrev pub send_size : SentTree → ℕ
 send_size (to_buffer b r) = received_size r + 1

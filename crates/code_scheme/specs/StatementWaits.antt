@@ -5,7 +5,7 @@ use Rattle.code_types.specs.declared.instr.Instr.TheVariants as i
 use Rattle.program_trees.specs.ExprTree.{LocationTree}
 use Rattle.program_trees.specs.ProgramTree.{LocalRowTree}
 use Rattle.program_trees.specs.StatementTree.{DelayNodes, no_delays, more_delays, ReceiveNodes, no_receives, more_receives, OtherwiseNode, no_otherwise, otherwise}
-use Rattle.code_scheme.specs.Pieces.{capped, first_in, store_code, keep_code, kept_code, offsets_kept}
+use Rattle.code_scheme.specs.Pieces.{first_in, store_code, keep_code, kept_code, offsets_kept}
 use Rattle.code_scheme.specs.ExprSizes.{place_size}
 use Rattle.code_scheme.specs.ExprCode.{place_code}
 use Rattle.code_scheme.specs.StatementSite.{layout, Standing}
@@ -81,7 +81,7 @@ scalars_received rows (k ∷ ks) = scalars_of_row (slice_get rows k) + scalars_r
 abbrev pub sources_code : List LocalRowTree → ReceiveNodes → List Instr
 sources_code rows no_receives = []
 sources_code rows (more_receives source ks ss rs) =
-    i.Thing source ∷ i.Push (pos (first_received rows ks)) ∷ i.Push (pos (capped (scalars_received rows ks))) ∷ sources_code rows rs
+    i.Thing source ∷ i.Push (pos (first_received rows ks)) ∷ i.Push (pos (scalars_received rows ks)) ∷ sources_code rows rs
 
 abbrev pub count_of_sources : ReceiveNodes → ℕ
 count_of_sources no_receives = 0
