@@ -1,1 +1,2 @@
 pub mod ExprExamples
+pub mod Lemmas
