@@ -1,3 +1,5 @@
 mod Running
 mod Stores
 mod Holding
+mod Requesting
+mod Instructions

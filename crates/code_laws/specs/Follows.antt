@@ -156,7 +156,7 @@ pub record Follows {A : Type 0} (w : Around) (m : Run) (lo hi : ℕ) (rows : Lis
 abbrev pub HoldsWith : {A : Type 0} → Around → (A → Type 0) → A → Store → List ℤ → Type 0
 HoldsWith w P v store locals = P v × Holds w store locals
 
-abbrev pub always : {A : Type 0} → ℕ → A → ℕ
+abbrev pub always : {A B : Type 0} → B → A → B
 always to v = to
 
 abbrev pub Gives : {A : Type 0} → Around → Run → ℕ → ℕ → ℕ → (A → List ℤ) → (A → Type 0) → Flow A → Type 0
