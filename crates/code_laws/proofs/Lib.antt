@@ -3,3 +3,5 @@ mod Stores
 mod Holding
 mod Requesting
 mod Instructions
+mod LoopRuns
+mod HandledRuns

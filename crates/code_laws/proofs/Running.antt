@@ -68,9 +68,9 @@ after {A} {w} {m} {n} {lo} {hi} {rows} {to} {stack} {Q} {o} r f = record { by = 
 
 comes_then : {A B : Type 0} (w : Around) (m : Run) (lo hi : ℕ) (rows : List Handler) (to : A → ℕ) (to' : B → ℕ) (stack : A → List ℤ) (stack' : B → List ℤ) (Q : A → Store → List ℤ → Type 0) (Q' : B → Store → List ℤ → Type 0) (o : Flow A) (next : A → Meaning B)
     → ComesBy w m lo hi rows to stack Q o
-    → ((v : A) (store : Store) (s : Session) (locals : List ℤ) → Q v store locals → Follows w (here w (to v) (stack v) locals s) lo hi rows to' stack' Q' (next v store s))
+    → ((v : A) (store : Store) (s : Session) (locals : List ℤ) → Q v store locals → o ≡ Goes v store s → Follows w (here w (to v) (stack v) locals s) lo hi rows to' stack' Q' (next v store s))
     → ComesBy w m lo hi rows to' stack' Q' (then_do o next)
-comes_then w m lo hi rows to to' stack stack' Q Q' (Goes v store s) next f g = comes_after w m (here w (to v) (stack v) f.locals s) lo hi rows to' stack' Q' (next v store s) f.by (g v store s f.locals f.holds).by
+comes_then w m lo hi rows to to' stack stack' Q Q' (Goes v store s) next f g = comes_after w m (here w (to v) (stack v) f.locals s) lo hi rows to' stack' Q' (next v store s) f.by (g v store s f.locals f.holds refl).by
 comes_then w m lo hi rows to to' stack stack' Q Q' (Raised x store s) next f g = f
 comes_then w m lo hi rows to to' stack stack' Q Q' (Exits k store s) next f g = f
 comes_then w m lo hi rows to to' stack stack' Q Q' (Returned store s) next f g = f
@@ -78,11 +78,18 @@ comes_then w m lo hi rows to to' stack stack' Q Q' (Stops t inner store) next f 
 comes_then w m lo hi rows to to' stack stack' Q Q' (Gone t) next f g = f
 comes_then w m lo hi rows to to' stack stack' Q Q' Bound next f g = tt
 
+-- the part behind knows what the first one gave
+pub follows_then_is : {A B : Type 0} {w : Around} {m : Run} {lo hi : ℕ} {rows : List Handler} {to : A → ℕ} {to' : B → ℕ} {stack : A → List ℤ} {stack' : B → List ℤ} {Q : A → Store → List ℤ → Type 0} {Q' : B → Store → List ℤ → Type 0} {o : Flow A} {next : A → Meaning B}
+    → Follows w m lo hi rows to stack Q o
+    → ((v : A) (store : Store) (s : Session) (locals : List ℤ) → Q v store locals → o ≡ Goes v store s → Follows w (here w (to v) (stack v) locals s) lo hi rows to' stack' Q' (next v store s))
+    → Follows w m lo hi rows to' stack' Q' (then_do o next)
+follows_then_is {A} {B} {w} {m} {lo} {hi} {rows} {to} {to'} {stack} {stack'} {Q} {Q'} {o} {next} f g = record { by = comes_then w m lo hi rows to to' stack stack' Q Q' o next f.by g }
+
 pub follows_then : {A B : Type 0} {w : Around} {m : Run} {lo hi : ℕ} {rows : List Handler} {to : A → ℕ} {to' : B → ℕ} {stack : A → List ℤ} {stack' : B → List ℤ} {Q : A → Store → List ℤ → Type 0} {Q' : B → Store → List ℤ → Type 0} {o : Flow A} {next : A → Meaning B}
     → Follows w m lo hi rows to stack Q o
     → ((v : A) (store : Store) (s : Session) (locals : List ℤ) → Q v store locals → Follows w (here w (to v) (stack v) locals s) lo hi rows to' stack' Q' (next v store s))
     → Follows w m lo hi rows to' stack' Q' (then_do o next)
-follows_then {A} {B} {w} {m} {lo} {hi} {rows} {to} {to'} {stack} {stack'} {Q} {Q'} {o} {next} f g = record { by = comes_then w m lo hi rows to to' stack stack' Q Q' o next f.by g }
+follows_then f g = follows_then_is f (λ v store s locals q is. g v store s locals q)
 
 -- ---- what is weaker
 
