@@ -27,7 +27,7 @@ use Rattle.source_meaning.specs.Talk.{parameter_scalars}
 use Rattle.source_meaning.specs.Fitting.{has_instances}
 use Rattle.code_laws.specs.Follows.{Around, frame_at, state_at, here, Holds, GetsTo, IsFrameOf, AreFramesOf, own_call, StopsOpen, HasGone, always, HoldsWith, Follows}
 use Rattle.code_laws.specs.Calls.{taken_scalars, results_back, in_frame_of, back_in, GoesOut, EndsFitting, Returns, EnteredBelow, open_in, BodiesWithin, IsRowOf, BodiesFollow, within_behind, call_within, CallLaw}
-use Rattle.code_laws.proofs.Running.{stays, is_there, one_more, gets_then, after, makes, comes, raises, stops, own_frame, on_top_of, below_of}
+use Rattle.code_laws.proofs.Running.{stays, is_there, one_more, gets_then, after, run_by, makes, comes, raises, stops, own_frame, on_top_of, below_of}
 use Rattle.code_laws.proofs.Requesting.{Untaken, fits_alike}
 use Rattle.code_laws.proofs.LoopRuns.{tick_follows}
 
@@ -129,14 +129,31 @@ ticked : {A : Type 0} (w : Around) (t : Ticked) (lo hi : ℕ) (rows : List Handl
     → Holds w store locals → within_behind t within ≡ true
     → ((s : Session) → within s ≡ true → Follows w (At (state_at w Called at stack locals) s) lo hi rows to give Q (next s))
     → Follows w (run_behind (state_at w Called at stack locals) t) lo hi rows to give Q (after_tick t store next)
-ticked w (GoesOn s) lo hi rows to give Q at stack locals store within next h yes f = f s yes
-ticked w (Last t) lo hi rows to give Q at stack locals store within next h yes f = stops Called t h
+ticked w (GoesOn s) lo hi rows to give Q at stack locals store within next h keeps f = f s keeps
+ticked w (Last t) lo hi rows to give Q at stack locals store within next h keeps f = stops Called t h
 
 -- there is room for a frame, or SPACEFAIL
 by_room : {A : Type 0} (w : Around) (room : Bool) (lo hi : ℕ) (rows : List Handler) (to : A → ℕ) (give : A → List ℤ) (Q : A → Store → List ℤ → Type 0) (at : ℕ) (base xs locals : List ℤ) (store : Store) (s : Session) (within : Session → Bool) (next : Session → Flow A)
-    → slice_get w.code.instrs at ≡ slice_get w.code.instrs at
     → lo ≤ at → at < hi → Untaken rows at → Holds w store locals → within_behind (tick s) within ≡ true
     → ((s1 : Session) → within s1 ≡ true → Follows w (At (state_at w Called at (base ++ xs) locals) s1) lo hi rows to give Q (next s1))
-    → Follows w (run_after (state_at w Running at (base ++ xs) locals) s (made_by_call room (state_at w Running at (base ++ xs) locals))) lo hi rows to give Q (if room then after_tick (tick s) store next else Raised Spacefail store s)
-by_room w true lo hi rows to give Q at base xs locals store s within next e l u none h yes f = ticked w (tick s) lo hi rows to give Q at (base ++ xs) locals store within next h yes f
-by_room w false lo hi rows to give Q at base xs locals store s within next e l u none h yes f = raises l u (none Spacefail) h
+    → Follows w (run_by w at (base ++ xs) base locals s (if room then Calls else Throws Spacefail)) lo hi rows to give Q (if room then after_tick (tick s) store next else Raised Spacefail store s)
+by_room w true lo hi rows to give Q at base xs locals store s within next l u none h keeps f = ticked w (tick s) lo hi rows to give Q at (base ++ xs) locals store within next h keeps f
+by_room w false lo hi rows to give Q at base xs locals store s within next l u none h keeps f = raises l u (none Spacefail) h
+
+pub call_runs : CallLaw
+call_runs w p bodies within b body ts at lo hi rows base locals store s follow is_body procedure below long is l u none h keeps =
+    let xs : List ℤ = taken_scalars body.locals ts in
+    let give : Store → List ℤ = λ final. base ++ results_back body final in
+    let mine = follow.row b body is_body in
+    let row : BodyRow = mine.0 in
+    let params : length xs ≡ row.params = long ∙ sym mine.2.params in
+    let frames : suc (length w.below) + 1 ≡ suc (length (frame_at w at base locals ∷ w.below)) = omega arith in
+    makes (i.Call b) at base xs locals s (if nat_lt (suc (length w.below)) most_frames then Calls else Throws Spacefail) is (ap params_of mine.1 ∙ sym params) refl
+    (by_room w (nat_lt (suc (length w.below)) most_frames) lo hi rows (always (at + 1)) give (HoldsWith w (EndsFitting body)) at base xs locals store s (λ s1. within b (suc (length w.below) + 1) (open_in w.regions) ts s1) (λ s1. at_call b (slice_get p.bodies b) store (bodies b (suc (length w.below) + 1) (open_in w.regions) ts s1)) l u none h keeps
+    (λ s1 keeps1.
+    subst (λ o. Follows w (At (state_at w Called at (base ++ xs) locals) s1) lo hi rows (always (at + 1)) give (HoldsWith w (EndsFitting body)) (at_call b o store (bodies b (suc (length w.below) + 1) (open_in w.regions) ts s1))) (sym is_body)
+    (after (enters w b row at base xs locals s1 is mine.1 params)
+    (back_follow w b body row at lo hi rows base locals store (in_frame_of w.instance b row xs (frame_at w at base locals ∷ w.below) w.regions s1) (bodies b (suc (length w.below) + 1) (open_in w.regions) ts s1) mine.1 mine.2.listed l u none h
+    (subst (λ (n : ℕ). Returns w.code w.instance b body (frame_at w at base locals) w.below w.regions (in_frame_of w.instance b row xs (frame_at w at base locals ∷ w.below) w.regions s1) (bodies b n (open_in w.regions) ts s1)) (sym frames)
+    (follow.at b body row (frame_at w at base locals) w.below w.regions ts s1 is_body mine.1 procedure below params
+    (subst (λ (n : ℕ). within b n (open_in w.regions) ts s1 ≡ true) frames keeps1)))))))

@@ -5,3 +5,6 @@ mod Requesting
 mod Instructions
 mod LoopRuns
 mod HandledRuns
+mod CallRuns
+mod Assembling
+mod SameRuns
