@@ -8,3 +8,5 @@ mod HandledRuns
 mod CallRuns
 mod Assembling
 mod SameRuns
+mod Sizes
+mod Values

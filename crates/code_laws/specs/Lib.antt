@@ -1,3 +1,5 @@
 pub mod Follows
 pub mod Statements
 pub mod Calls
+pub mod InRange
+pub mod OwnBounds
