@@ -12,7 +12,7 @@ use Rattle.code_laws.proofs.Stores.{IsPart, part_flat, part_is, set_flat, set_ri
 -- ---- parts of lists
 
 -- the middle one of three lists is a part
-middle : (xs ys zs : List ℤ) (f n : ℕ) → f ≡ length xs → n ≡ length ys → part_of (xs ++ (ys ++ zs)) f n ≡ Some ys
+pub middle : (xs ys zs : List ℤ) (f n : ℕ) → f ≡ length xs → n ≡ length ys → part_of (xs ++ (ys ++ zs)) f n ≡ Some ys
 middle xs ys zs f n e d =
     let inside : f + n ≤ length (xs ++ (ys ++ zs)) = omega (arith, length-append xs (ys ++ zs), length-append ys zs) in
     let yes : nat_le (f + n) (length (xs ++ (ys ++ zs))) ≡ true = le-leb (f + n) (length (xs ++ (ys ++ zs))) inside in

@@ -10,3 +10,4 @@ mod Assembling
 mod SameRuns
 mod Sizes
 mod Values
+mod OperatorRuns
