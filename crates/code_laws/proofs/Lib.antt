@@ -11,3 +11,4 @@ mod SameRuns
 mod Sizes
 mod Values
 mod OperatorRuns
+mod BetweenRuns

@@ -40,15 +40,15 @@ use Rattle.code_laws.proofs.Values.{both_true, same_int}
 
 -- ---- results
 
-result_action : (x : Exc) (o : Option ℤ) → result_or x o ≡ as_action (yields_or x o)
+pub result_action : (x : Exc) (o : Option ℤ) → result_or x o ≡ as_action (yields_or x o)
 result_action x None = refl
 result_action x (Some z) = refl
 
-result_yields : (x : Exc) (o : Option ℤ) → YieldsSuch (IsLong 1) (yields_or x o)
+pub result_yields : (x : Exc) (o : Option ℤ) → YieldsSuch (IsLong 1) (yields_or x o)
 result_yields x None = tt
 result_yields x (Some z) = refl
 
-truth_back : (b : Bool) → truth_of (truth_number b) ≡ b
+pub truth_back : (b : Bool) → truth_of (truth_number b) ≡ b
 truth_back true = refl
 truth_back false = refl
 
