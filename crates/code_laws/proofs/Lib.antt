@@ -12,3 +12,5 @@ mod Sizes
 mod Values
 mod OperatorRuns
 mod BetweenRuns
+mod PlaceRuns
+mod ExprPieces

@@ -3,3 +3,4 @@ pub mod Statements
 pub mod Calls
 pub mod InRange
 pub mod OwnBounds
+pub mod Expressions
