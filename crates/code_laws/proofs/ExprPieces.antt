@@ -35,10 +35,10 @@ use Rattle.source_meaning.specs.ExprMeaning.{Setting, or_rangefail, tested, aske
 use Rattle.code_scheme.specs.Pieces.{Layout, bounds_to_test, bounds_of_value, check_code, member_code, has_index, first_of_parts, needs_offset}
 use Rattle.code_scheme.specs.ExprSizes.{indices_size, place_size}
 use Rattle.code_scheme.specs.ExprCode.{cut_code, receive_code, place_code, indices_code}
-use Rattle.code_laws.specs.Follows.{HasAt, Around, free_in, keeping, here, Holds, GetsTo, ComesBy, Follows, always, HoldsWith, Nothing, on_top, IsLong}
+use Rattle.code_laws.specs.Follows.{HasAt, Around, free_in, keeping, here, Holds, GetsTo, ComesBy, Follows, always, HoldsWith, Nothing, on_top, IsLong, action_in}
 use Rattle.code_laws.specs.InRange.{AreInts, AreMembers, OperandsFit, BoundsFit, IsOffset, IsNumber32}
 use Rattle.code_laws.specs.OwnBounds.{where_goes, lies_in, CallsWithin, expr_within}
-use Rattle.code_laws.proofs.Running.{has_front, has_back, gets_then, after, action_in, follows_then, comes, makes, forgotten}
+use Rattle.code_laws.proofs.Running.{has_front, has_back, gets_then, after, follows_then, comes, makes, forgotten}
 use Rattle.code_laws.proofs.Requesting.{asks_by, none_takes}
 use Rattle.code_laws.proofs.Holding.{HasPart, IsSet, scratch_set, scratch_read}
 use Rattle.code_laws.proofs.Instructions.{pushes_by, puts_on, renamed, check_by, offset_is, number_is, sole}
@@ -216,8 +216,8 @@ place_runs w v lay free b ps of n at to lo hi stack locals store s room indices 
         subst (λ (p : ℕ). Follows w (here w at stack locals s) lo hi [] (always p) (place_stack b ps stack) (HoldsWith w (IsPlace ps of n)) (offset_mean v ps 0 store s)) e2
         (reshaped (λ k store2 locals2 q. (
           ap (λ (t : Bool). offset_stack t stack (0 + (k - (0 + f)))) (index_first ps is)
-          ∙ (ap (λ (j : ℕ). stack ++ one (pos j)) (let z : 0 + (k - (0 + f)) ≡ k - f = omega arith in z)
-          ∙ sym (ap (λ (t : Bool). if t then stack ++ one (pos (k - f)) else stack) (needs_when b ps is))),
+              ∙ (ap (λ (j : ℕ). stack ++ one (pos j)) (let z : 0 + (k - (0 + f)) ≡ k - f = omega arith in z)
+              ∙ sym (ap (λ (t : Bool). if t then stack ++ one (pos (k - f)) else stack) (needs_when b ps is))),
           (as_place ps of n k q.0, q.1),
         )) (indices is h2))
     by_index false is h2 e2 =

@@ -22,8 +22,8 @@ use Rattle.source_meaning.specs.Store.{Store, local_value, with_part, in_local, 
 use Rattle.source_meaning.specs.Flow.{Flow, Goes, Raised, Meaning, then_do}
 use Rattle.source_meaning.specs.Operators.{sole_number, one, Computed, Yields, Throws as ThrowsIt, offset_within}
 use Rattle.source_meaning.specs.ExprMeaning.{as_computed, or_rangefail, tested, read_at, assign_at}
-use Rattle.code_laws.specs.Follows.{HasAt, Around, frame_at, state_at, here, Holds, GetsTo, Follows, always, HoldsWith, Nothing, on_top, IsLong}
-use Rattle.code_laws.proofs.Running.{stays, is_there, gets_then, after, run_by, action_in, acts, makes, nullary, comes, raises}
+use Rattle.code_laws.specs.Follows.{HasAt, Around, frame_at, state_at, here, Holds, GetsTo, Follows, always, HoldsWith, Nothing, on_top, IsLong, run_by, action_in}
+use Rattle.code_laws.proofs.Running.{stays, is_there, gets_then, after, acts, makes, nullary, comes, raises}
 use Rattle.code_laws.proofs.Holding.{HasPart, local_read, IsSet, local_set}
 use Rattle.code_laws.proofs.Requesting.{Untaken, done_by, value_by}
 

@@ -1,16 +1,19 @@
-mod Running
-mod Stores
-mod Holding
-mod Requesting
-mod Instructions
-mod LoopRuns
-mod HandledRuns
-mod CallRuns
-mod Assembling
-mod SameRuns
-mod Sizes
-mod Values
-mod OperatorRuns
-mod BetweenRuns
-mod PlaceRuns
-mod ExprPieces
+pub mod Running
+pub mod Stores
+pub mod Holding
+pub mod Requesting
+pub mod Instructions
+pub mod LoopRuns
+pub mod HandledRuns
+pub mod CallRuns
+pub mod Assembling
+pub mod SameRuns
+pub mod Sizes
+pub mod Values
+pub mod OperatorRuns
+pub mod BetweenRuns
+pub mod PlaceRuns
+pub mod ExprPieces
+pub mod ReceiveRuns
+pub mod ExprRuns
+pub mod Gathered

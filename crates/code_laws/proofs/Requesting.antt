@@ -18,18 +18,9 @@ use Rattle.code_types.specs.Steps.{Run, At, Over, run_with}
 use Rattle.source_meaning.specs.Store.{Store}
 use Rattle.source_meaning.specs.Flow.{Flow, Goes, Meaning, then_do, fills, takes_answer, Reply, Given, Halts, reply_in, asked_in, asked, done}
 use Rattle.source_meaning.specs.ExprMeaning.{brought_by, asked_value}
-use Rattle.code_laws.specs.Follows.{Around, frame_at, state_at, here, Holds, GetsTo, Follows, always, HoldsWith, Nothing, on_top, IsLong}
-use Rattle.code_laws.proofs.Running.{is_there, one_more, after, action_in, makes, comes, raises, stops}
-
--- the state behind an answer to a request that isn't End
-abbrev pub behind_answer : State → Request → List Slot → Answer → State
-behind_answer q request slots (Fail x) = raised q x
-behind_answer q request slots answer = goes_on q request slots answer q.frames
-
--- the process goes on behind the request's answer
-abbrev pub GoesOnBehind : Request → Type 0
-GoesOnBehind (End how) = ⊥
-GoesOnBehind request = Unit {0}
+use Rattle.code_laws.specs.Follows.{Around, frame_at, state_at, here, Holds, GetsTo, Follows, always, HoldsWith, Nothing, on_top, IsLong, action_in}
+use Rattle.code_laws.specs.Laws.{behind_answer, GoesOnBehind, counts_in}
+use Rattle.code_laws.proofs.Running.{is_there, one_more, after, makes, comes, raises, stops}
 
 pub answered_is : (q : State) (r : Request) (slots : List Slot) (a : Answer) → GoesOnBehind r → answered q r slots a ≡ behind_answer q r slots a
 answered_is q (End how) slots a on = absurd on
@@ -43,10 +34,6 @@ answered_is q r slots (Instance i) on = refl
 answered_is q r slots (Chose c) on = refl
 answered_is q r slots (Handed i) on = refl
 answered_is q r slots Stored on = refl
-
--- how many scalars each slot takes
-abbrev pub counts_in : List Slot → List ℕ
-counts_in slots = map (λ q. q.count) slots
 
 count_at : (slots : List Slot) (k : ℕ) → slice_index_or (counts_in slots) k 0 ≡ (slice_index_or slots k no_slot).count
 count_at [] k = refl

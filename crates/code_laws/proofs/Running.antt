@@ -13,7 +13,7 @@ use Rattle.code_types.specs.State.{Frame, State, Mode, Running, Raising}
 use Rattle.code_types.specs.Steps.{Move, Stays, Run, At, Over, made, executed, run_after, step, steps}
 use Rattle.source_meaning.specs.Store.{Store}
 use Rattle.source_meaning.specs.Flow.{Flow, Goes, Raised, Exits, Returned, Stops, Gone, Bound, Meaning, then_do}
-use Rattle.code_laws.specs.Follows.{HasAt, flat, Around, keeping, frame_at, state_at, here, Holds, GetsTo, Arrives, RaisesIn, IsFrameOf, AreFramesOf, own_call, StopsOpen, HasGone, TakesWayOut, ComesBy, Follows}
+use Rattle.code_laws.specs.Follows.{HasAt, flat, Around, keeping, frame_at, state_at, here, Holds, GetsTo, run_by, action_in, Arrives, RaisesIn, IsFrameOf, AreFramesOf, own_call, StopsOpen, HasGone, TakesWayOut, ComesBy, Follows}
 
 pub has_front : (all : List Instr) (at : ℕ) (a b : List Instr) → HasAt all at (a ++ b) → HasAt all at a
 has_front all at [] b h = tt
@@ -174,14 +174,6 @@ executed_is code s f below i base xs found is =
     chosen (nat_le (finds code f.body i) (length f.stack)) (made s f below (below_topmost (finds code f.body i) f.stack) (action_of s f i (topmost (finds code f.body i) f.stack))) Stays yes
     ∙ (ap (λ (l : List ℤ). made s f below l (action_of s f i (topmost (finds code f.body i) f.stack))) low
     ∙ ap (λ (l : List ℤ). made s f below base (action_of s f i l)) high)
-
--- what the machine comes to by an action, where these numbers lie below the operands
-abbrev pub run_by : Around → ℕ → List ℤ → List ℤ → List ℤ → Session → Action → Run
-run_by w at stack base locals s a = run_after (state_at w Running at stack locals) s (made (state_at w Running at stack locals) (frame_at w at stack locals) w.below base a)
-
--- what an instruction does with operands
-abbrev pub action_in : Around → Instr → ℕ → List ℤ → List ℤ → List ℤ → Action
-action_in w i at stack locals xs = action_of (state_at w Running at stack locals) (frame_at w at stack locals) i xs
 
 -- An instruction acts on the operands on top.
 pub acts : (w : Around) (i : Instr) (at : ℕ) (base xs locals : List ℤ) (s : Session) (a : Action)

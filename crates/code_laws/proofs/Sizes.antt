@@ -32,7 +32,7 @@ same_by_test : (b : Bool) (xs ys : List Instr) → length xs ≡ length ys → l
 same_by_test true xs ys e = e
 same_by_test false xs ys e = refl
 
-copies_from_length : (k there elements m n : ℕ) → length (copies_from k there elements m) ≡ length (copies_from k there elements n)
+pub copies_from_length : (k there elements m n : ℕ) → length (copies_from k there elements m) ≡ length (copies_from k there elements n)
 copies_from_length zero there elements m n = refl
 copies_from_length (suc k) there elements m n =
     same_by_test (nat_lt there elements) (i.Copy (min there (elements - there) * m) ∷ copies_from k (there + min there (elements - there)) elements m) (i.Copy (min there (elements - there) * n) ∷ copies_from k (there + min there (elements - there)) elements n)
@@ -148,7 +148,7 @@ mutual
       omega (arith, length-append (expr_code lay free e at) (is ++ cut_code ps n (count_of e)), expr_length lay free e at fits.0, cut_length ps n (count_of e) is (indices_size true ps) (λ e2. no_indices lay free true ps (at + expr_size e) e2) (indices_length lay free true ps (count_of e) n (at + expr_size e) fits.1))
   operation_length lay free n (receive b) at fits = refl
   operation_length lay free n (start t) at fits = start_length lay free t at fits.0
-  operation_length lay free n (call c) at fits = call_length lay free c n at fits
+  operation_length lay free n (call c) at fits = absurd fits
   operation_length lay free n (powerset b rs) at fits = let rest = members_length lay free b rs (at + 1) fits.0 in omega arith
   operation_length lay free n (parts rs) at fits = all_length lay free rs at fits.0
   operation_length lay free n (uniform m r) at fits = omega (arith, length-append (received_code lay free r at) (copies_code m (received_count r)), received_length lay free r at fits.0, copies_from_length 32 1 m (received_count r) 0)

@@ -9,7 +9,8 @@ use Rattle.code_types.specs.declared.code.BodyRow.{BodyRow}
 use Rattle.code_types.specs.declared.code.Code.{Code}
 use Rattle.code_types.specs.Places.{taker}
 use Rattle.code_types.specs.State.{Frame, OpenRegion, State, Mode, Running, Raising}
-use Rattle.code_types.specs.Steps.{Run, At, Over, steps}
+use Rattle.code_types.specs.Actions.{Action, action_of}
+use Rattle.code_types.specs.Steps.{Run, At, Over, made, run_after, steps}
 use Rattle.source_meaning.specs.Store.{Store, OpenCall}
 use Rattle.source_meaning.specs.Flow.{Flow, Goes, Raised, Exits, Returned, Stops, Gone, Bound}
 
@@ -149,6 +150,16 @@ ComesBy w m lo hi rows to stack Q Bound = Unit {0}
 -- The machine follows an outcome.
 pub record Follows {A : Type 0} (w : Around) (m : Run) (lo hi : ℕ) (rows : List Handler) (to : A → ℕ) (stack : A → List ℤ) (Q : A → Store → List ℤ → Type 0) (o : Flow A) : Type 0 where
   pub by : ComesBy w m lo hi rows to stack Q o
+
+-- ---- single instructions
+
+-- what the machine comes to by an action, where these numbers lie below the operands
+abbrev pub run_by : Around → ℕ → List ℤ → List ℤ → List ℤ → Session → Action → Run
+run_by w at stack base locals s a = run_after (state_at w Running at stack locals) s (made (state_at w Running at stack locals) (frame_at w at stack locals) w.below base a)
+
+-- what an instruction does with operands
+abbrev pub action_in : Around → Instr → ℕ → List ℤ → List ℤ → List ℤ → Action
+action_in w i at stack locals xs = action_of (state_at w Running at stack locals) (frame_at w at stack locals) i xs
 
 -- ---- expressions: they lie at one place, and have no rows
 

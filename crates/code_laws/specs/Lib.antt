@@ -4,3 +4,4 @@ pub mod Calls
 pub mod InRange
 pub mod OwnBounds
 pub mod Expressions
+pub mod Laws
