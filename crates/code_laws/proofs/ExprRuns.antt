@@ -1,0 +1,387 @@
+-- The instructions of each expression follow its meaning.
+use Rattle.std.proofs.Common.{◌≡◌, ℕ, zero, suc, ◌+◌, ◌-◌, ◌*◌, ◌<◌, ◌≤◌, if◌then◌else◌, Bool, true, false, ◌&&◌, List, [], ◌∷◌, ◌++◌, ℤ, pos, ◌+ℤ◌, nat_abs, replicate, length, Option, Some, None, slice_get, refl, sym, ap, ◌∙◌, subst, arith, append_assoc, append-nil, length-append, ◌⊎◌, inl, inr}
+use Rattle.kernel_base.specs.declared.ends.Exc.TheVariants.{Overflow}
+use Rattle.kernel_base.specs.declared.request.Request.TheVariants.{Start, Get}
+use Rattle.world_model.specs.Session.{Session}
+use Rattle.world_model.specs.Lists.{scalars_at}
+use Rattle.modes.specs.declared.mode.Bounds.{Bounds}
+use Rattle.modes.specs.Bounds.{count_between}
+use Rattle.modes.specs.Scalars.{repeated}
+use Rattle.checked_program.specs.declared.expr.Base.{Base}
+use Rattle.checked_program.specs.declared.expr.Binary.{Binary}
+use Rattle.checked_program.specs.declared.expr.Binary.TheVariants.{AndIf, OrIf}
+use Rattle.program_trees.specs.ExprTree.{ExprTree, expr, OperationTree, constant, own_instance, contents, part_of, receive, start, call, powerset, parts, uniform, routine, get_int, prefixed, binary, ReceivedTree, received, ReceivedNodes, no_received, more_received, PartNodes, no_parts, field, element, RangeNodes, no_ranges, one_member, members, LocationTree, location, StartTree, started, CallTree, called, count_of, received_count}
+use Rattle.scalar_operators.specs.Numbers.{int_result}
+use Rattle.scalar_operators.specs.Powersets.{union, span_of}
+use Rattle.scalar_operators.specs.Members.{no_members}
+use Rattle.code_types.specs.declared.instr.Instr.{Instr}
+use Rattle.code_types.specs.declared.instr.Instr.TheVariants as i
+use Rattle.code_types.specs.Actions.{result_or}
+use Rattle.source_meaning.specs.Store.{Store, address_of}
+use Rattle.source_meaning.specs.Flow.{Flow, Goes, Meaning, then_do}
+use Rattle.source_meaning.specs.Operators.{sole_number, one, offset_within, with_span, empty_within, binary_value, takes_second}
+use Rattle.source_meaning.specs.ExprMeaning.{Setting, or_rangefail, read_at, as_computed, asked_value, tested, expr_mean, operation_mean, received_mean, all_received_mean, offset_mean, members_mean, start_mean}
+use Rattle.source_meaning.specs.BodyMeaning.{Bodies}
+use Rattle.code_scheme.specs.Pieces.{Layout, scalars_code, copies_code, check_code, bounds_to_test, bounds_of_value, between_code, between_size, behind_code, behind_size, prefix_code, routine_code, member_code, has_index, first_of_parts, needs_offset, contents_code, contents_at}
+use Rattle.code_scheme.specs.ExprSizes.{sum_size, expr_size, operation_size, place_size, indices_size, received_size, received_sizes, members_size, start_size}
+use Rattle.code_scheme.specs.ExprCode.{counts_of, sum_code, cut_code, member_offset, expr_code, operation_code, place_code, indices_code, received_code, received_codes, members_code, start_code}
+use Rattle.code_laws.specs.Follows.{HasAt, Around, free_in, here, Holds, GetsTo, Follows, always, HoldsWith, on_top, IsLong, Gives}
+use Rattle.code_laws.specs.Calls.{BodiesWithin}
+use Rattle.code_laws.specs.InRange.{IsOffset, AreMembers, OperandsFit, FitsExpr, FitsOperation, FitsReceived, FitsAll, FitsParts, FitsRanges, FitsLocation, FitsStart}
+use Rattle.code_laws.specs.OwnBounds.{CallsWithin, expr_within, operation_within, received_within, all_within, parts_within, members_within, start_within}
+use Rattle.code_laws.specs.Expressions.{Suited, NamesIn, calls_at, ExprLaw}
+use Rattle.code_laws.proofs.Running.{has_front, has_back, gets_then, after, follows_then, follows_then_is, comes}
+use Rattle.code_laws.proofs.Requesting.{none_takes, value_by}
+use Rattle.code_laws.proofs.Instructions.{pushes_by, puts_on, renamed, offset_on, index_by, sole}
+use Rattle.code_laws.proofs.Sizes.{copies_from_length, between_length, expr_length, received_length, all_length, place_length, indices_length}
+use Rattle.code_laws.proofs.Values.{both_true, IsWithin, offset_found, repeated_length, copies_of, scalars_run}
+use Rattle.code_laws.proofs.OperatorRuns.{held, behind_runs}
+use Rattle.code_laws.proofs.BetweenRuns.{result_int, between_runs, over_runs, prefix_runs, routine_runs}
+use Rattle.code_laws.proofs.PlaceRuns.{IsPlace, place_stack, contents_runs, offset_stack, stays_first, stays_later, LeadsTo, as_place}
+use Rattle.code_laws.proofs.ExprPieces.{reshaped, assoc, there, value_lies, tested_runs, cut_runs, small_int, IndicesFollow, place_runs, width_one, span_one, over_one}
+use Rattle.code_laws.proofs.ReceiveRuns.{receive_runs}
+
+-- fields alone lead inside
+fields_fit : (lay : Layout) (ps : PartNodes) (of n : ℕ) → FitsParts lay of ps n → first_of_parts ps + n ≤ of ⊎ (has_index ps ≡ true)
+fields_fit lay no_parts of n fits = inl (omega (arith, fits))
+fields_fit lay (field first count ps) of n fits = more (fields_fit lay ps count n fits.1)
+  where
+    more : first_of_parts ps + n ≤ count ⊎ (has_index ps ≡ true) → first + first_of_parts ps + n ≤ of ⊎ (has_index ps ≡ true)
+    more (inl e) = inl (omega (arith, fits.0))
+    more (inr e) = inr e
+fields_fit lay (element e b count ps) of n fits = inr refl
+
+-- a binary operation whose first operand has its value
+takes_by : (w : Around) (o : Binary) (xs : List ℤ) (m : ℕ) (t : Bool) (at to lo hi : ℕ) (stack locals : List ℤ) (store : Store) (s : Session) (second : Meaning (List ℤ))
+    → takes_second o xs ≡ t
+    → (takes_second o xs ≡ true → Follows w (here w at (stack ++ xs) locals s) lo hi [] (always to) (on_top stack) (HoldsWith w (IsLong 1)) (then_do (second store s) (λ ys. as_computed (binary_value o xs ys))))
+    → (takes_second o xs ≡ false → Follows w (here w at (stack ++ xs) locals s) lo hi [] (always to) (on_top stack) (HoldsWith w (IsLong 1)) (Goes xs store s))
+    → Follows w (here w at (stack ++ xs) locals s) lo hi [] (always to) (on_top stack) (HoldsWith w (IsLong 1)) (if t then then_do (second store s) (λ ys. as_computed (binary_value o xs ys)) else Goes xs store s)
+takes_by w o xs m true at to lo hi stack locals store s second is yes_case no_case = yes_case is
+takes_by w o xs m false at to lo hi stack locals store s second is yes_case no_case = no_case is
+
+-- an offset behind an index: the sum with the one below, where there is one
+sum_run : (w : Around) (is_first : Bool) (j of : ℕ) (z : ℤ) (at : ℕ) (base locals : List ℤ) (s : Session)
+    → (is_first ≡ true → j ≡ 0) → pos (nat_abs z) ≡ z → j + nat_abs z ≤ of → IsOffset of
+    → HasAt w.code.instrs at (sum_code is_first)
+    → GetsTo w.code (here w at (offset_on (offset_stack is_first base j) z) locals s) (here w (at + sum_size is_first) (base ++ one (pos (j + nat_abs z))) locals s)
+sum_run w true j of z at base locals s none natural inside small has =
+    renamed w at (at + 0) (base ++ one z) (base ++ one (pos (j + nat_abs z))) locals s (let e : at ≡ at + 0 = omega arith in e)
+    (ap (λ (k : ℤ). base ++ one k) (sym natural ∙ ap (λ (k : ℕ). pos k) (let first : j ≡ 0 = none refl in let e : nat_abs z ≡ j + nat_abs z = omega arith in e)))
+sum_run w false j of z at base locals s none natural inside small has =
+    let m : ℕ = nat_abs z in
+    gets_then (renamed w at at ((base ++ one (pos j)) ++ one z) (base ++ (pos j ∷ pos m ∷ [])) locals s refl (append_assoc base (one (pos j)) (one z) ∙ ap (λ (k : ℤ). base ++ (pos j ∷ k ∷ [])) (sym natural)))
+    (pushes_by w i.Add at base (pos j ∷ pos m ∷ []) locals s (one (pos (j + m))) has.0 refl (ap (result_or Overflow) (result_int (pos (j + m)) (small_int (j + m) (omega arith)))))
+
+no_indices_size : (is_first : Bool) (ps : PartNodes) → has_index ps ≡ false → indices_size is_first ps ≡ 0
+no_indices_size is_first no_parts e = refl
+no_indices_size is_first (field first count ps) e = no_indices_size is_first ps e
+no_indices_size is_first (element x b count ps) e = absurd (let no : ⊥ = cc in no)
+
+-- where the part behind indices ends
+cut_end : (ps : PartNodes) (n of at1 to : ℕ) (t : Bool) → has_index ps ≡ t
+    → at1 + ((if t then indices_size true ps + length (member_code (pos (first_of_parts ps))) else 0) + 1) ≡ to
+    → at1 + indices_size true ps + length (if t then member_code (pos (first_of_parts ps)) ++ i.PartAt n of ∷ [] else i.Part (first_of_parts ps) n of ∷ []) ≡ to
+cut_end ps n of at1 to true is e = omega (arith, length-append (member_code (pos (first_of_parts ps))) (i.PartAt n of ∷ []))
+cut_end ps n of at1 to false is e = omega (arith, no_indices_size true ps is)
+
+sum_end : (is_first : Bool) (at p : ℕ) → at + sum_size is_first ≡ p → at + length (sum_code is_first) ≡ p
+sum_end true at p e = e
+sum_end false at p e = e
+
+-- ANDIF and ORIF have nothing behind their second operand
+over_end : (o : Binary) (own : Option Bounds) (xs : List ℤ) (second at to : ℕ) → takes_second o xs ≡ false → at + (between_size o own + (second + behind_size o)) ≡ to → at + (between_size o own + second) ≡ to
+over_end AndIf own xs second at to takes e = omega arith
+over_end OrIf own xs second at to takes e = omega arith
+over_end o own xs second at to takes e = absurd (let no : ⊥ = cc in no)
+
+mutual
+  pub expr_runs : ExprLaw
+  expr_runs w v lay bodies inside lo hi free (expr n own o) at to stack locals store s suited names free_is fits e low high has within h =
+      operation_runs w v lay bodies inside lo hi free n o at to stack locals store s suited names free_is fits e low high has (both_true _ _ within).0 h
+
+  operation_runs : (w : Around) (v : Setting) (lay : Layout) (bodies : Bodies) (inside : BodiesWithin) (lo hi free n : ℕ) (o : OperationTree) (at to : ℕ) (stack locals : List ℤ) (store : Store) (s : Session)
+      → Suited w v lay bodies inside → NamesIn w lo hi → free ≡ free_in w → FitsOperation lay n o
+      → at + operation_size o ≡ to → lo ≤ at → to ≤ hi
+      → HasAt w.code.instrs at (operation_code lay free n o at)
+      → operation_within v (calls_at inside w) n o store s ≡ true
+      → Holds w store locals
+      → Gives w (here w at stack locals s) lo hi to (on_top stack) (IsLong n) (operation_mean v n o store s)
+  operation_runs w v lay bodies inside lo hi free n (constant xs) at to stack locals store s suited names free_is fits e low high has within h =
+      after (scalars_run w xs at stack locals s (omega (arith, fits.0, fits.1)) has) (comes {v = xs} e refl (fits.0, h))
+  operation_runs w v lay bodies inside lo hi free n own_instance at to stack locals store s suited names free_is fits e low high has within h =
+      after (puts_on w i.This at stack locals s (one (pos w.instance)) has.0 refl refl)
+      (comes {v = one (pos v.instance)} e (ap (λ (j : ℕ). stack ++ one (pos j)) (sym suited.instance)) (sym fits, h))
+  operation_runs w v lay bodies inside lo hi free n (contents (location b ps m)) at to stack locals store s suited names free_is fits e low high has within h =
+      let l : LocationTree = location b ps m in
+      let of : ℕ = fits.0.0 in
+      let at1 : ℕ = at + place_size l in
+      let code : List Instr = place_code lay free l at in
+      let has1 : HasAt w.code.instrs at1 (contents_at lay b ps m) = has_back w.code.instrs at at1 code (contents_code lay l) (ap (λ (j : ℕ). at + j) (place_length lay free l at fits.0)) has in
+      subst (λ (o : Flow (List ℤ)). Gives w (here w at stack locals s) lo hi to (on_top stack) (IsLong n) o) (sym (assoc (offset_mean v ps 0 store s) (λ k. address_of b k) (read_at n)))
+      (subst (λ (j : ℕ). Gives w (here w at stack locals s) lo hi to (on_top stack) (IsLong j) (then_do (offset_mean v ps 0 store s) (λ k. read_at j (address_of b k)))) fits.1
+      (follows_then
+      (place_runs w v lay free b ps of m at at1 lo hi stack locals store s (fields_fit lay ps of m fits.0.3)
+      (λ t_is h2. indices_runs w v lay bodies inside lo hi free true ps of m 0 0 at stack locals store s suited names free_is fits.0.3 (λ z. refl) (let small : 0 + of < 2147483648 = omega (arith, fits.0.2) in small) low (let room : at + indices_size true ps ≤ hi = omega (arith, e, high, ap (λ (t : Bool). if t then indices_size true ps else if needs_offset b ps then 1 else 0) t_is) in room) h2 within h)
+      (has_front w.code.instrs at code (contents_code lay l) has) refl h)
+      (λ k store1 s1 locals1 q. contents_runs w lay b ps of m k at1 to lo hi stack locals1 store1 s1 suited.rows fits.0.1 fits.0.2 q.0 has1 (omega arith) (omega arith) (omega arith) q.1)))
+  operation_runs w v lay bodies inside lo hi free n (part_of e ps) at to stack locals store s suited names free_is fits len low high has within h =
+      let of : ℕ = count_of e in
+      let at1 : ℕ = at + expr_size e in
+      let at2 : ℕ = at1 + indices_size true ps in
+      let first : List Instr = expr_code lay free e at in
+      let second : List Instr = indices_code lay free true ps at1 in
+      let cut : List Instr = cut_code ps n of in
+      let has1 = has_back w.code.instrs at at1 first (second ++ cut) (ap (λ (j : ℕ). at + j) (expr_length lay free e at fits.0)) has in
+      let has2 = has_back w.code.instrs at1 at2 second cut (ap (λ (j : ℕ). at1 + j) (indices_length lay free true ps of n at1 fits.1)) has1 in
+      let cut_is : at2 + length cut ≡ to = cut_end ps n of at1 to (has_index ps) refl (omega (arith, len)) in
+      follows_then_is
+      (expr_runs w v lay bodies inside lo hi free e at at1 stack locals store s suited names free_is fits.0 refl low (omega arith) (has_front w.code.instrs at first (second ++ cut) has) (both_true _ _ within).0 h)
+      (λ xs store1 s1 locals1 q is.
+      follows_then
+      (indices_runs w v lay bodies inside lo hi free true ps of n 0 0 at1 (stack ++ xs) locals1 store1 s1 suited names free_is fits.1 (λ z. refl) (let small : 0 + of < 2147483648 = omega (arith, fits.2) in small) (omega arith) (omega arith) (has_front w.code.instrs at1 second cut has1) (there (expr_mean v e store s) _ xs store1 s1 (both_true _ _ within).1 is) q.1)
+      (λ k store2 s2 locals2 q2.
+      after (renamed w at2 at2 (offset_stack (stays_first true ps) (stack ++ xs) (0 + (k - (0 + first_of_parts ps)))) (offset_stack (stays_first true ps) (stack ++ xs) (k - first_of_parts ps)) locals2 s2 refl (ap (λ (j : ℕ). offset_stack (stays_first true ps) (stack ++ xs) j) (let z : 0 + (k - (0 + first_of_parts ps)) ≡ k - first_of_parts ps = omega arith in z)))
+      (cut_runs w ps n of k at2 to lo hi stack xs locals2 store2 s2 q.0 fits.2 (as_place ps of n k q2.0) has2 cut_is q2.1)))
+  operation_runs w v lay bodies inside lo hi free n (receive b) at to stack locals store s suited names free_is fits e low high has within h =
+      let room : free + n ≤ w.row.locals = names (at + 1 + 1 + 1 + 1 + 1) (i.Local free n) (omega arith) (omega arith) has.1.1.1.1.1.0 in
+      receive_runs w b n free at to lo hi stack locals store s free_is fits room has e low high h
+  operation_runs w v lay bodies inside lo hi free n (start (started p rs)) at to stack locals store s suited names free_is fits e low high has within h =
+      let at1 : ℕ = at + received_sizes rs in
+      let first : List Instr = received_codes lay free rs at in
+      let has1 = has_back w.code.instrs at at1 first (i.Start p (counts_of rs) ∷ []) (ap (λ (j : ℕ). at + j) (all_length lay free rs at fits.0)) has in
+      follows_then
+      (all_runs w v lay bodies inside lo hi free rs at at1 stack locals store s suited names free_is fits.0 refl low (omega arith) (has_front w.code.instrs at first (i.Start p (counts_of rs) ∷ []) has) within h)
+      (λ xs store1 s1 locals1 q.
+      value_by w (i.Start p (counts_of rs)) lo hi to n [] at1 (Start p xs) stack xs locals1 store1 s1 has1.0 (sym q.0) refl (sym fits.1) (omega arith) (omega arith) (omega arith) (none_takes at1) q.1)
+  operation_runs w v lay bodies inside lo hi free n (call (called b as')) at to stack locals store s suited names free_is fits e low high has within h = absurd fits
+  operation_runs w v lay bodies inside lo hi free n (powerset b rs) at to stack locals store s suited names free_is fits e low high has within h =
+      let none : empty_within b ≡ one (pos 0) = ap (λ (k : ℕ). no_members k) (width_one b fits.1) in
+      subst (λ (j : ℕ). Gives w (here w at stack locals s) lo hi to (on_top stack) (IsLong j) (members_mean v b rs (empty_within b) store s)) (sym fits.2)
+      (subst (λ (l : List ℤ). Gives w (here w at stack locals s) lo hi to (on_top stack) (IsLong 1) (members_mean v b rs l store s)) (sym none)
+      (after (puts_on w (i.Push (pos 0)) at stack locals s (one (pos 0)) has.0 refl refl)
+      (members_runs w v lay bodies inside lo hi free b rs (pos 0) (at + 1) to stack locals store s suited names free_is fits.0 fits.1 (omega arith) (omega arith) high has.1 within h)))
+  operation_runs w v lay bodies inside lo hi free n (parts rs) at to stack locals store s suited names free_is fits e low high has within h =
+      subst (λ (j : ℕ). Gives w (here w at stack locals s) lo hi to (on_top stack) (IsLong j) (all_received_mean v rs store s)) fits.1
+      (all_runs w v lay bodies inside lo hi free rs at to stack locals store s suited names free_is fits.0 e low high has within h)
+  operation_runs w v lay bodies inside lo hi free n (uniform m r) at to stack locals store s suited names free_is fits e low high has within h =
+      let at1 : ℕ = at + received_size r in
+      let first : List Instr = received_code lay free r at in
+      let rest : List Instr = copies_code m (received_count r) in
+      let has1 = has_back w.code.instrs at at1 first rest (ap (λ (j : ℕ). at + j) (received_length lay free r at fits.0)) has in
+      let end : at1 + length rest ≡ to = omega (arith, copies_from_length 32 1 m (received_count r) 0) in
+      follows_then
+      (received_runs w v lay bodies inside lo hi free r at at1 stack locals store s suited names free_is fits.0 refl low (omega arith) (has_front w.code.instrs at first rest has) within h)
+      (λ xs store1 s1 locals1 q.
+      after (copies_of w m (received_count r) at1 stack xs locals1 s1 q.0 fits.1 fits.2 has1)
+      (comes {v = repeated m xs} end refl (repeated_length m (received_count r) xs q.0 ∙ fits.3, q.1)))
+  operation_runs w v lay bodies inside lo hi free n (routine r e) at to stack locals store s suited names free_is fits len low high has within h =
+      let at1 : ℕ = at + expr_size e in
+      let first : List Instr = expr_code lay free e at in
+      let has1 = has_back w.code.instrs at at1 first (routine_code r) (ap (λ (j : ℕ). at + j) (expr_length lay free e at fits.0)) has in
+      subst (λ (j : ℕ). Gives w (here w at stack locals s) lo hi to (on_top stack) (IsLong j) (operation_mean v n (routine r e) store s)) (sym fits.2)
+      (follows_then
+      (expr_runs w v lay bodies inside lo hi free e at at1 stack locals store s suited names free_is fits.0 refl low (omega arith) (has_front w.code.instrs at first (routine_code r) has) within h)
+      (λ xs store1 s1 locals1 q. routine_runs w r xs at1 to lo hi stack locals1 store1 s1 (q.0 ∙ fits.1) has1 (omega arith) (omega arith) high q.1))
+  operation_runs w v lay bodies inside lo hi free n get_int at to stack locals store s suited names free_is fits e low high has within h =
+      after (renamed w at at stack (stack ++ []) locals s refl (sym (append-nil stack)))
+      (value_by w i.GetInt lo hi to n [] at Get stack [] locals store s has.0 refl refl (sym fits) e low (omega arith) (none_takes at) h)
+  operation_runs w v lay bodies inside lo hi free n (prefixed o e) at to stack locals store s suited names free_is fits len low high has within h =
+      let at1 : ℕ = at + expr_size e in
+      let first : List Instr = expr_code lay free e at in
+      let has1 = has_back w.code.instrs at at1 first (prefix_code o) (ap (λ (j : ℕ). at + j) (expr_length lay free e at fits.0)) has in
+      subst (λ (j : ℕ). Gives w (here w at stack locals s) lo hi to (on_top stack) (IsLong j) (operation_mean v n (prefixed o e) store s)) (sym fits.2)
+      (follows_then
+      (expr_runs w v lay bodies inside lo hi free e at at1 stack locals store s suited names free_is fits.0 refl low (omega arith) (has_front w.code.instrs at first (prefix_code o) has) within h)
+      (λ xs store1 s1 locals1 q. prefix_runs w o xs at1 to lo hi stack locals1 store1 s1 (q.0 ∙ fits.1) has1 (omega arith) (omega arith) (omega arith) q.1))
+  operation_runs w v lay bodies inside lo hi free n (binary o a b) at to stack locals store s suited names free_is fits len low high has within h =
+      let all : List Instr = w.code.instrs in
+      let own : Option Bounds = bounds_of_value a in
+      let m : ℕ = count_of a in
+      let at1 : ℕ = at + expr_size a in
+      let at2 : ℕ = at1 + between_size o own in
+      let at3 : ℕ = at2 + expr_size b in
+      let first : List Instr = expr_code lay free a at in
+      let between : List Instr = between_code o own at1 (expr_size b) in
+      let second : List Instr = expr_code lay free b at2 in
+      let behind : List Instr = behind_code o m in
+      let has1 = has_back all at at1 first (between ++ (second ++ behind)) (ap (λ (j : ℕ). at + j) (expr_length lay free a at fits.0)) has in
+      let has2 = has_back all at1 at2 between (second ++ behind) (ap (λ (j : ℕ). at1 + j) (between_length o own at1 (expr_size b))) has1 in
+      let has3 = has_back all at2 at3 second behind (ap (λ (j : ℕ). at2 + j) (expr_length lay free b at2 fits.1)) has2 in
+      let within_a = (both_true _ _ within).0 in
+      subst (λ (j : ℕ). Gives w (here w at stack locals s) lo hi to (on_top stack) (IsLong j) (operation_mean v n (binary o a b) store s)) (sym fits.3)
+      (follows_then_is
+      (expr_runs w v lay bodies inside lo hi free a at at1 stack locals store s suited names free_is fits.0 refl low (omega arith) (has_front all at first (between ++ (second ++ behind)) has) within_a h)
+      (λ xs store1 s1 locals1 q is.
+      let operands = subst (λ (j : ℕ). OperandsFit o j (count_of b)) (sym q.0) fits.2 in
+      let lies = value_lies v (calls_at inside w) a store store1 s s1 xs within_a is in
+      let within_b = there (expr_mean v a store s) _ xs store1 s1 (both_true _ _ within).1 is in
+      takes_by w o xs m (takes_second o xs) at1 to lo hi stack locals1 store1 s1 (expr_mean v b) refl
+      (λ takes.
+      after (between_runs w o own (count_of b) xs (expr_size b) at1 stack locals1 s1 operands takes lies (has_front all at1 between (second ++ behind) has1))
+      (follows_then
+      (expr_runs w v lay bodies inside lo hi free b at2 at3 (stack ++ held o xs) locals1 store1 s1 suited names free_is fits.1 refl (omega arith) (omega arith) (has_front all at2 second behind has2)
+      (subst (λ (t : Bool). (if t then expr_within v (calls_at inside w) b store1 s1 else true) ≡ true) takes within_b) q.1)
+      (λ ys store2 s2 locals2 q2.
+      behind_runs w o m xs ys at3 to lo hi stack locals2 store2 s2 q.0 (subst (λ (j : ℕ). OperandsFit o m j) (sym q2.0) fits.2) has3 (omega arith) (omega arith) high q2.1)))
+      (λ takes.
+      after (over_runs w o own (count_of b) xs (expr_size b) at1 to stack locals1 s1 operands takes (over_end o own xs (expr_size b) at1 to takes (omega arith)) (has_front all at1 between (second ++ behind) has1))
+      (comes {v = xs} refl refl (over_one o xs (count_of b) operands takes, q.1)))))
+
+  pub received_runs : (w : Around) (v : Setting) (lay : Layout) (bodies : Bodies) (inside : BodiesWithin) (lo hi free : ℕ) (r : ReceivedTree) (at to : ℕ) (stack locals : List ℤ) (store : Store) (s : Session)
+      → Suited w v lay bodies inside → NamesIn w lo hi → free ≡ free_in w → FitsReceived lay r
+      → at + received_size r ≡ to → lo ≤ at → to ≤ hi
+      → HasAt w.code.instrs at (received_code lay free r at)
+      → received_within v (calls_at inside w) r store s ≡ true
+      → Holds w store locals
+      → Gives w (here w at stack locals s) lo hi to (on_top stack) (IsLong (received_count r)) (received_mean v r store s)
+  received_runs w v lay bodies inside lo hi free (received e b) at to stack locals store s suited names free_is fits len low high has within h =
+      let at1 : ℕ = at + expr_size e in
+      let first : List Instr = expr_code lay free e at in
+      let check : List Instr = check_code (bounds_to_test b (bounds_of_value e)) in
+      let has1 = has_back w.code.instrs at at1 first check (ap (λ (j : ℕ). at + j) (expr_length lay free e at fits.0)) has in
+      follows_then_is
+      (expr_runs w v lay bodies inside lo hi free e at at1 stack locals store s suited names free_is fits.0 refl low (omega arith) (has_front w.code.instrs at first check has) within h)
+      (λ xs store1 s1 locals1 q is.
+      tested_runs w b (bounds_of_value e) xs (count_of e) at1 to lo hi stack locals1 store1 s1 fits.1 q.0 (inl (value_lies v (calls_at inside w) e store store1 s s1 xs within is)) has1 (omega arith) (omega arith) high q.1)
+
+  pub all_runs : (w : Around) (v : Setting) (lay : Layout) (bodies : Bodies) (inside : BodiesWithin) (lo hi free : ℕ) (rs : ReceivedNodes) (at to : ℕ) (stack locals : List ℤ) (store : Store) (s : Session)
+      → Suited w v lay bodies inside → NamesIn w lo hi → free ≡ free_in w → FitsAll lay rs
+      → at + received_sizes rs ≡ to → lo ≤ at → to ≤ hi
+      → HasAt w.code.instrs at (received_codes lay free rs at)
+      → all_within v (calls_at inside w) rs store s ≡ true
+      → Holds w store locals
+      → Gives w (here w at stack locals s) lo hi to (on_top stack) (IsLong (counts_of rs)) (all_received_mean v rs store s)
+  all_runs w v lay bodies inside lo hi free no_received at to stack locals store s suited names free_is fits len low high has within h =
+      comes {v = []} (let e : at ≡ to = omega arith in e) (sym (append-nil stack)) (refl, h)
+  all_runs w v lay bodies inside lo hi free (more_received r rs) at to stack locals store s suited names free_is fits len low high has within h =
+      let at1 : ℕ = at + received_size r in
+      let first : List Instr = received_code lay free r at in
+      let rest : List Instr = received_codes lay free rs at1 in
+      let has1 = has_back w.code.instrs at at1 first rest (ap (λ (j : ℕ). at + j) (received_length lay free r at fits.0)) has in
+      follows_then_is
+      (received_runs w v lay bodies inside lo hi free r at at1 stack locals store s suited names free_is fits.0 refl low (omega arith) (has_front w.code.instrs at first rest has) (both_true _ _ within).0 h)
+      (λ xs store1 s1 locals1 q is.
+      follows_then
+      (all_runs w v lay bodies inside lo hi free rs at1 to (stack ++ xs) locals1 store1 s1 suited names free_is fits.1 (omega arith) (omega arith) high has1 (there (received_mean v r store s) _ xs store1 s1 (both_true _ _ within).1 is) q.1)
+      (λ ys store2 s2 locals2 q2.
+      comes {v = xs ++ ys} refl (append_assoc stack xs ys) (length-append xs ys ∙ (ap (λ (j : ℕ). j + length ys) q.0 ∙ ap (λ (j : ℕ). received_count r + j) q2.0), q2.1)))
+
+  pub indices_runs : (w : Around) (v : Setting) (lay : Layout) (bodies : Bodies) (inside : BodiesWithin) (lo hi free : ℕ) (is_first : Bool) (ps : PartNodes) (of n j k at : ℕ) (base locals : List ℤ) (store : Store) (s : Session)
+      → Suited w v lay bodies inside → NamesIn w lo hi → free ≡ free_in w → FitsParts lay of ps n
+      → (is_first ≡ true → j ≡ 0) → IsOffset (j + of)
+      → lo ≤ at → at + indices_size is_first ps ≤ hi
+      → HasAt w.code.instrs at (indices_code lay free is_first ps at)
+      → parts_within v (calls_at inside w) ps store s ≡ true
+      → Holds w store locals
+      → IndicesFollow w v lay lo hi free is_first ps of n j k at base locals store s
+  indices_runs w v lay bodies inside lo hi free is_first no_parts of n j k at base locals store s suited names free_is fits none small low high has within h =
+      comes {v = k} (let e : at ≡ at + 0 = omega arith in e) (ap (λ (i : ℕ). offset_stack is_first base i) (let e : j ≡ j + (k - (k + 0)) = omega arith in e))
+      (record { from = omega arith; room = omega (arith, fits); plain = λ z. (let e : k ≡ k + 0 = omega arith in e) }, h)
+  indices_runs w v lay bodies inside lo hi free is_first (field first count ps) of n j k at base locals store s suited names free_is fits none small low high has within h =
+      reshaped
+      (λ to store2 locals2 q. (
+        ap (λ (i : ℕ). offset_stack (stays_first is_first ps) base i) (let e : j + (to - (k + first + first_of_parts ps)) ≡ j + (to - (k + (first + first_of_parts ps))) = omega arith in e),
+        (record { from = omega (arith, q.0.from); room = omega (arith, q.0.room, fits.0); plain = λ z. q.0.plain z ∙ (let e : k + first + first_of_parts ps ≡ k + (first + first_of_parts ps) = omega arith in e) }, q.1),
+      ))
+      (indices_runs w v lay bodies inside lo hi free is_first ps count n j (k + first) at base locals store s suited names free_is fits.1 none (omega (arith, fits.0)) low high has within h)
+  indices_runs w v lay bodies inside lo hi free is_first (element e b count ps) of n j k at base locals store s suited names free_is fits none small low high has within h =
+      let all : List Instr = w.code.instrs in
+      let at1 : ℕ = at + expr_size e in
+      let at2 : ℕ = at1 + 1 in
+      let at3 : ℕ = at2 + sum_size is_first in
+      let p : ℕ = at + expr_size e + (1 + sum_size is_first) in
+      let same : p ≡ at3 = omega arith in
+      let first : List Instr = expr_code lay free e at in
+      let sum : List Instr = sum_code is_first in
+      let rest : List Instr = indices_code lay free false ps p in
+      let has1 = has_back all at at1 first (i.Index b.low b.high count ∷ (sum ++ rest)) (ap (λ (i : ℕ). at + i) (expr_length lay free e at fits.0)) has in
+      let has2 : HasAt all at2 (sum ++ rest) = has1.1 in
+      let has3 : HasAt all p rest = has_back all at2 p sum rest (sum_end is_first at2 p (omega arith)) has2 in
+      let f : ℕ = first_of_parts ps in
+      let room : count_between b.low b.high * count ≤ of = fits.2.1 in
+      follows_then_is
+      (expr_runs w v lay bodies inside lo hi free e at at1 (offset_stack is_first base j) locals store s suited names free_is fits.0 refl low (omega arith) (has_front all at first (i.Index b.low b.high count ∷ (sum ++ rest)) has) (both_true _ _ within).0 h)
+      (λ xs store1 s1 locals1 q is.
+      follows_then_is
+      (index_by w b count (λ z. IsWithin z (count_between b.low b.high) count) xs at1 at2 lo hi [] (offset_stack is_first base j) locals1 store1 s1 (q.0 ∙ fits.1) refl (omega arith) (omega arith) (none_takes at1) (λ z found. offset_found b count (sole_number xs) z fits.2.0 found) has1.0 q.1)
+      (λ z store2 s2 locals2 q2 is2.
+      let m : ℕ = nat_abs z in
+      let fit : m + count ≤ of = omega (arith, q2.0.fits, room) in
+      after (sum_run w is_first j (j + of) z at2 base locals2 s2 none q2.0.natural (omega (arith, fit)) small (has_front all at2 sum rest has2))
+      (after (renamed w at3 p (base ++ one (pos (j + m))) (base ++ one (pos (j + m))) locals2 s2 (sym same) refl)
+      (subst (λ (end : ℕ). Follows w (here w p (base ++ one (pos (j + m))) locals2 s2) lo hi [] (always end) (λ to. offset_stack (stays_first false ps) base (j + (to - (k + f)))) (HoldsWith w (LeadsTo (element e b count ps) of n k)) (offset_mean v ps (k + m) store2 s2)) (let end : p + indices_size false ps ≡ at + indices_size is_first (element e b count ps) = omega arith in end)
+      (reshaped
+      (λ to store3 locals3 q3. (
+        ap (λ (i : ℕ). offset_stack (stays_first false ps) base i) (let e3 : j + m + (to - (k + m + f)) ≡ j + (to - (k + f)) = omega (arith, q3.0.from) in e3),
+        (record { from = omega (arith, q3.0.from); room = omega (arith, q3.0.room, fit); plain = λ no_index. absurd (let no : ⊥ = cc in no) }, q3.1),
+      ))
+      (indices_runs w v lay bodies inside lo hi free false ps count n (j + m) (k + m) p base locals2 store2 s2 suited names free_is fits.3 (λ no_first. absurd (let no : ⊥ = cc in no)) (omega (arith, fit)) (omega arith) (omega arith) has3
+      (there (or_rangefail (offset_within b count (sole_number xs)) store1 s1) _ z store2 s2 (there (expr_mean v e store s) _ xs store1 s1 (both_true _ _ within).1 is) is2) q2.1))))))
+
+  pub members_runs : (w : Around) (v : Setting) (lay : Layout) (bodies : Bodies) (inside : BodiesWithin) (lo hi free : ℕ) (b : Bounds) (rs : RangeNodes) (y : ℤ) (at to : ℕ) (stack locals : List ℤ) (store : Store) (s : Session)
+      → Suited w v lay bodies inside → NamesIn w lo hi → free ≡ free_in w → FitsRanges lay b rs → AreMembers b
+      → at + members_size rs ≡ to → lo ≤ at → to ≤ hi
+      → HasAt w.code.instrs at (members_code lay free b rs at)
+      → members_within v (calls_at inside w) b rs store s ≡ true
+      → Holds w store locals
+      → Gives w (here w at (stack ++ one y) locals s) lo hi to (on_top stack) (IsLong 1) (members_mean v b rs (one y) store s)
+  members_runs w v lay bodies inside lo hi free b no_ranges y at to stack locals store s suited names free_is fits are len low high has within h =
+      comes {v = one y} (let e : at ≡ to = omega arith in e) refl (refl, h)
+  members_runs w v lay bodies inside lo hi free b (one_member e rs) y at to stack locals store s suited names free_is fits are len low high has within h =
+      let all : List Instr = w.code.instrs in
+      let at1 : ℕ = at + expr_size e in
+      let p : ℕ = at + expr_size e + 4 in
+      let first : List Instr = expr_code lay free e at in
+      let rest : List Instr = members_code lay free b rs p in
+      let has1 = has_back all at at1 first (member_offset b ∷ i.Copy 1 ∷ i.Span ∷ i.BitOr ∷ rest) (ap (λ (j : ℕ). at + j) (expr_length lay free e at fits.0)) has in
+      let there4 : at1 + 1 + 1 + 1 + 1 ≡ p = omega arith in
+      let has2 : HasAt all p rest = subst (λ (j : ℕ). HasAt all j rest) there4 has1.1.1.1.1 in
+      follows_then_is
+      (expr_runs w v lay bodies inside lo hi free e at at1 (stack ++ one y) locals store s suited names free_is fits.0 refl low (omega arith) (has_front all at first (member_offset b ∷ i.Copy 1 ∷ i.Span ∷ i.BitOr ∷ rest) has) (both_true _ _ within).0 h)
+      (λ xs store1 s1 locals1 q is.
+      follows_then_is
+      (index_by w b 1 (λ z. Unit {0}) xs at1 (at1 + 1) lo hi [] (stack ++ one y) locals1 store1 s1 (q.0 ∙ fits.1) refl (omega arith) (omega arith) (none_takes at1) (λ z found. tt) has1.0 q.1)
+      (λ z store2 s2 locals2 q2 is2.
+      subst (λ (l : List ℤ). Gives w (here w (at1 + 1) ((stack ++ one y) ++ one z) locals2 s2) lo hi to (on_top stack) (IsLong 1) (members_mean v b rs l store2 s2)) (sym (span_one b z z y are))
+      (after (pushes_by w (i.Copy 1) (at1 + 1) (stack ++ one y) (one z) locals2 s2 (z ∷ z ∷ []) has1.1.0 refl refl)
+      (after (pushes_by w i.Span (at1 + 1 + 1) (stack ++ one y) (z ∷ z ∷ []) locals2 s2 (one (span_of z z)) has1.1.1.0 refl refl)
+      (after (renamed w (at1 + 1 + 1 + 1) (at1 + 1 + 1 + 1) ((stack ++ one y) ++ one (span_of z z)) (stack ++ (y ∷ span_of z z ∷ [])) locals2 s2 refl (append_assoc stack (one y) (one (span_of z z))))
+      (after (pushes_by w i.BitOr (at1 + 1 + 1 + 1) stack (y ∷ span_of z z ∷ []) locals2 s2 (one (union y (span_of z z))) has1.1.1.1.0 refl refl)
+      (after (renamed w (at1 + 1 + 1 + 1 + 1) p (stack ++ one (union y (span_of z z))) (stack ++ one (union y (span_of z z))) locals2 s2 there4 refl)
+      (members_runs w v lay bodies inside lo hi free b rs (union y (span_of z z)) p to stack locals2 store2 s2 suited names free_is fits.2 are (omega arith) (omega arith) high has2
+      (there (or_rangefail (offset_within b 1 (sole_number xs)) store1 s1) _ z store2 s2 (there (expr_mean v e store s) _ xs store1 s1 (both_true _ _ within).1 is) is2) q2.1))))))))
+  members_runs w v lay bodies inside lo hi free b (members e f rs) y at to stack locals store s suited names free_is fits are len low high has within h =
+      let all : List Instr = w.code.instrs in
+      let at1 : ℕ = at + expr_size e in
+      let at2 : ℕ = at1 + 1 in
+      let at3 : ℕ = at2 + expr_size f in
+      let p : ℕ = at + expr_size e + 1 + expr_size f + 3 in
+      let first : List Instr = expr_code lay free e at in
+      let second : List Instr = expr_code lay free f at2 in
+      let rest : List Instr = members_code lay free b rs p in
+      let has1 = has_back all at at1 first (member_offset b ∷ (second ++ (member_offset b ∷ i.Span ∷ i.BitOr ∷ rest))) (ap (λ (j : ℕ). at + j) (expr_length lay free e at fits.0)) has in
+      let has2 = has_back all at2 at3 second (member_offset b ∷ i.Span ∷ i.BitOr ∷ rest) (ap (λ (j : ℕ). at2 + j) (expr_length lay free f at2 fits.2)) has1.1 in
+      let there3 : at3 + 1 + 1 + 1 ≡ p = omega arith in
+      let has3 : HasAt all p rest = subst (λ (j : ℕ). HasAt all j rest) there3 has2.1.1.1 in
+      follows_then_is
+      (expr_runs w v lay bodies inside lo hi free e at at1 (stack ++ one y) locals store s suited names free_is fits.0 refl low (omega arith) (has_front all at first (member_offset b ∷ (second ++ (member_offset b ∷ i.Span ∷ i.BitOr ∷ rest))) has) (both_true _ _ within).0 h)
+      (λ xs store1 s1 locals1 q is.
+      follows_then_is
+      (index_by w b 1 (λ z. Unit {0}) xs at1 at2 lo hi [] (stack ++ one y) locals1 store1 s1 (q.0 ∙ fits.1) refl (omega arith) (omega arith) (none_takes at1) (λ z found. tt) has1.0 q.1)
+      (λ j store2 s2 locals2 q2 is2.
+      let within2 = there (or_rangefail (offset_within b 1 (sole_number xs)) store1 s1) _ j store2 s2 (there (expr_mean v e store s) _ xs store1 s1 (both_true _ _ within).1 is) is2 in
+      follows_then_is
+      (expr_runs w v lay bodies inside lo hi free f at2 at3 ((stack ++ one y) ++ one j) locals2 store2 s2 suited names free_is fits.2 refl (omega arith) (omega arith) (has_front all at2 second (member_offset b ∷ i.Span ∷ i.BitOr ∷ rest) has1.1) (both_true _ _ within2).0 q2.1)
+      (λ ys store3 s3 locals3 q3 is3.
+      follows_then_is
+      (index_by w b 1 (λ z. Unit {0}) ys at3 (at3 + 1) lo hi [] ((stack ++ one y) ++ one j) locals3 store3 s3 (q3.0 ∙ fits.3) refl (omega arith) (omega arith) (none_takes at3) (λ z found. tt) has2.0 q3.1)
+      (λ k store4 s4 locals4 q4 is4.
+      subst (λ (l : List ℤ). Gives w (here w (at3 + 1) (((stack ++ one y) ++ one j) ++ one k) locals4 s4) lo hi to (on_top stack) (IsLong 1) (members_mean v b rs l store4 s4)) (sym (span_one b j k y are))
+      (after (renamed w (at3 + 1) (at3 + 1) (((stack ++ one y) ++ one j) ++ one k) ((stack ++ one y) ++ (j ∷ k ∷ [])) locals4 s4 refl (append_assoc (stack ++ one y) (one j) (one k)))
+      (after (pushes_by w i.Span (at3 + 1) (stack ++ one y) (j ∷ k ∷ []) locals4 s4 (one (span_of j k)) has2.1.0 refl refl)
+      (after (renamed w (at3 + 1 + 1) (at3 + 1 + 1) ((stack ++ one y) ++ one (span_of j k)) (stack ++ (y ∷ span_of j k ∷ [])) locals4 s4 refl (append_assoc stack (one y) (one (span_of j k))))
+      (after (pushes_by w i.BitOr (at3 + 1 + 1) stack (y ∷ span_of j k ∷ []) locals4 s4 (one (union y (span_of j k))) has2.1.1.0 refl refl)
+      (after (renamed w (at3 + 1 + 1 + 1) p (stack ++ one (union y (span_of j k))) (stack ++ one (union y (span_of j k))) locals4 s4 there3 refl)
+      (members_runs w v lay bodies inside lo hi free b rs (union y (span_of j k)) p to stack locals4 store4 s4 suited names free_is fits.4 are (omega arith) (omega arith) high has3
+      (there (or_rangefail (offset_within b 1 (sole_number ys)) store3 s3) _ k store4 s4 (there (expr_mean v f store2 s2) _ ys store3 s3 (both_true _ _ within2).1 is3) is4) q4.1))))))))))

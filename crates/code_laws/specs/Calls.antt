@@ -1,0 +1,219 @@
+-- What it is that the instructions of bodies follow their meaning on every caller, and the law of assembly.
+use Rattle.std.specs.Prelude.{◌≡◌, ℕ, zero, suc, ◌+◌, ◌<◌, ◌≤◌, ◌↔◌, Bool, true, false, List, [], ◌∷◌, ◌++◌, ℤ, pos, length, reverse, map, Option, Some, None, slice_get, IsTrue, IsFalse, MatchBool}
+use Rattle.kernel_base.specs.declared.ends.Exc.{Exc}
+use Rattle.kernel_base.specs.declared.answer.Answer.{Answer}
+use Rattle.kernel_base.specs.declared.event.Event.{Event}
+use Rattle.kernel_base.specs.declared.facts.Facts.{Facts}
+use Rattle.world_model.specs.Session.{Item, Session, session_of, Ticked, GoesOn, Last, tick}
+use Rattle.world_model.specs.Journal.{line_of, answers_of, Birth, born_of}
+use Rattle.modes.specs.ModeTree.{ModeTree}
+use Rattle.modes.specs.Scalars.{scalars_of, lowest_of}
+use Rattle.checked_program.specs.declared.program.Parameter.{Parameter}
+use Rattle.checked_program.specs.declared.program.Passing.{Passing}
+use Rattle.checked_program.specs.declared.program.Passing.TheVariants.{In, Out as OutOf, InOut}
+use Rattle.program_trees.specs.ProgramTree.{LocalRowTree, BodyRowTree, CheckedTree}
+use Rattle.code_types.specs.declared.instr.Instr.TheVariants as i
+use Rattle.code_types.specs.declared.code.BodyRow.{BodyRow}
+use Rattle.code_types.specs.declared.code.Code.{Code}
+use Rattle.code_types.specs.declared.code.Handler.{Handler}
+use Rattle.code_types.specs.Places.{taker}
+use Rattle.code_types.specs.State.{Frame, OpenRegion, State, Mode, Running, Raising}
+use Rattle.code_types.specs.Steps.{Run, At, Over, new_frame, moved, steps}
+use Rattle.code_types.specs.Talk.{start_of}
+use Rattle.code_types.specs.Runs.{ticks_in, IsCodeRun}
+use Rattle.source_meaning.specs.Store.{Store, OpenCall, Taken, brings, lowest}
+use Rattle.source_meaning.specs.Flow.{Flow, Goes, Stops, Gone, Bound}
+use Rattle.source_meaning.specs.BodyMeaning.{Ending, Through, Out, Halted, Ended, Unknown, Bodies, calls_in, body_mean}
+use Rattle.source_meaning.specs.Talk.{talk, process_end, split_over, parameter_scalars}
+use Rattle.source_meaning.specs.Fitting.{has_instances}
+use Rattle.source_meaning.specs.Runs.{IsSourceRun}
+use Rattle.code_laws.specs.Follows.{Around, here, FitRows, Holds, GetsTo, IsFrameOf, AreFramesOf, StopsOpen, HasGone, always, HoldsWith, Follows}
+
+-- ---- what a call takes and gives back
+
+-- the scalars that a call pops: each parameter's value, or the lowest of an OUT parameter
+abbrev pub taken_scalars : List LocalRowTree → List Taken → List ℤ
+taken_scalars rows [] = []
+taken_scalars [] (t ∷ ts) = []
+taken_scalars (row ∷ rows) (brings xs ∷ ts) = xs ++ taken_scalars rows ts
+taken_scalars (row ∷ rows) (lowest ∷ ts) = lowest_of row.mode ++ taken_scalars rows ts
+
+-- the scalars that it pushes above the result: of OUT and INOUT parameters, the last one lowest
+abbrev pub passed_back : Passing → List ℤ → List ℤ
+passed_back In xs = []
+passed_back OutOf xs = xs
+passed_back InOut xs = xs
+
+abbrev pub parameters_back : List Parameter → List (List ℤ) → List ℤ
+parameters_back [] xss = []
+parameters_back (p ∷ ps) [] = []
+parameters_back (p ∷ ps) (xs ∷ xss) = parameters_back ps xss ++ passed_back p.passing xs
+
+abbrev pub results_back : BodyRowTree → Store → List ℤ
+results_back b store = store.result ++ parameters_back b.parameters store.locals
+
+-- ---- bodies
+
+-- a body's first frame on top of its caller's, or alone
+abbrev pub in_frame_of : ℕ → ℕ → BodyRow → List ℤ → List Frame → List OpenRegion → Session → Run
+in_frame_of instance b row xs below regions s = At (record { instance = instance; frames = new_frame b row xs ∷ below; regions = regions; mode = Running }) s
+
+-- the caller goes on behind its call, with what comes back on its stack
+abbrev pub back_in : ℕ → List ℤ → Frame → List Frame → List OpenRegion → Session → Run
+back_in instance results caller below regions s = At (record { instance = instance; frames = moved caller (caller.place + 1) (caller.stack ++ results) ∷ below; regions = regions; mode = Running }) s
+
+-- an exception that no handler of the body takes is on its way out of its frame, which holds the store
+pub record GoesOut (code : Code) (instance b : ℕ) (x : Exc) (below : List Frame) (regions : List OpenRegion) (store : Store) (s : Session) (m : Run) : Type 0 where
+  pub frame : Frame
+  pub shows : IsFrameOf frame (record { body = b; store = store })
+  pub untaken : taker code.handlers frame.place x ≡ None
+  pub by : GetsTo code m (At (record { instance = instance; frames = frame ∷ below; regions = regions; mode = Raising x }) s)
+
+-- how many scalars a result has; none without RETURNS
+abbrev pub result_scalars : Option ModeTree → ℕ
+result_scalars None = 0
+result_scalars (Some m) = scalars_of m
+
+-- a body's store at its end: each local has as many scalars as its row says, and the result as many as its mode
+pub record EndsFitting (b : BodyRowTree) (store : Store) : Type 0 where
+  pub fit : FitRows 0 b.locals store.locals
+  pub result : length store.result ≡ result_scalars b.result
+
+-- what a body's end says of the machine, on a caller
+abbrev pub Returns : Code → ℕ → ℕ → BodyRowTree → Frame → List Frame → List OpenRegion → Run → Ending → Type 0
+Returns code instance b body caller below regions m (Through store s) = EndsFitting body store × GetsTo code m (back_in instance (results_back body store) caller below regions s)
+Returns code instance b body caller below regions m (Out x store s) = GoesOut code instance b x (caller ∷ below) regions store s m
+Returns code instance b body caller below regions m (Halted t inner store) = StopsOpen code (caller ∷ below) m t (record { body = b; store = store } ∷ inner)
+Returns code instance b body caller below regions m (Ended t) = HasGone code m t
+Returns code instance b body caller below regions m Unknown = Unit {0}
+
+-- the frames that entered the open regions are at most so many
+abbrev pub EnteredBelow : ℕ → List OpenRegion → Type 0
+EnteredBelow n [] = Unit {0}
+EnteredBelow n (q ∷ qs) = (q.frame ≤ n) × EnteredBelow n qs
+
+-- the regions that are open, as the meaning has them
+abbrev pub open_in : List OpenRegion → List ℕ
+open_in regions = map (λ q. q.region) regions
+
+-- Of a body in frame number so many, where these regions are open, with what its parameters begin with: whether each value in
+-- it, along what it does, lies in its own bounds.
+abbrev pub BodiesWithin : Type 0
+BodiesWithin = ℕ → ℕ → List ℕ → List Taken → Session → Bool
+
+-- the row of a body has as many parameters, and lists what it lists
+pub record IsRowOf (body : BodyRowTree) (row : BodyRow) : Type 0 where
+  pub params : row.params ≡ parameter_scalars body.locals body.parameters
+  pub listed : row.listed ≡ body.listed
+
+-- Each procedure's instructions follow its meaning, on every caller.
+pub record BodiesFollow (p : CheckedTree) (code : Code) (instance : ℕ) (bodies : Bodies) (within : BodiesWithin) : Type 0 where
+  pub row : (b : ℕ) (body : BodyRowTree) → slice_get p.bodies b ≡ Some body → (row : BodyRow) × (slice_get code.bodies b ≡ Some row) × IsRowOf body row
+  pub at : (b : ℕ) (body : BodyRowTree) (row : BodyRow) (caller : Frame) (below : List Frame) (regions : List OpenRegion) (ts : List Taken) (s : Session)
+      → slice_get p.bodies b ≡ Some body → slice_get code.bodies b ≡ Some row → has_instances body.sort ≡ false
+      → EnteredBelow (length (caller ∷ below)) regions
+      → length (taken_scalars body.locals ts) ≡ row.params
+      → within b (suc (length (caller ∷ below))) (open_in regions) ts s ≡ true
+      → Returns code instance b body caller below regions (in_frame_of instance b row (taken_scalars body.locals ts) (caller ∷ below) regions s) (bodies b (suc (length (caller ∷ below))) (open_in regions) ts s)
+
+-- whether the body that is called behind a tick keeps within
+abbrev pub within_behind : Ticked → (Session → Bool) → Bool
+within_behind (GoesOn s) within = within s
+within_behind (Last t) within = true
+
+abbrev pub call_within : BodiesWithin → ℕ → ℕ → List ℕ → List Taken → Session → Bool
+call_within within b frames open_now ts s = within_behind (tick s) (λ s1. within b (frames + 1) open_now ts s1)
+
+-- A call, once its arguments are on the stack, follows its meaning where the bodies do.
+abbrev pub CallLaw : Type 0
+CallLaw = (w : Around) (p : CheckedTree) (bodies : Bodies) (within : BodiesWithin) (b : ℕ) (body : BodyRowTree) (ts : List Taken) (at lo hi : ℕ) (rows : List Handler) (base locals : List ℤ) (store : Store) (s : Session)
+    → BodiesFollow p w.code w.instance bodies within
+    → slice_get p.bodies b ≡ Some body → has_instances body.sort ≡ false
+    → EnteredBelow (suc (length w.below)) w.regions
+    → length (taken_scalars body.locals ts) ≡ parameter_scalars body.locals body.parameters
+    → slice_get w.code.instrs at ≡ Some (i.Call b)
+    → lo ≤ at → at < hi → ((x : Exc) → taker rows at x ≡ None) → Holds w store locals
+    → call_within within b (suc (length w.below)) (open_in w.regions) ts s ≡ true
+    → Follows w (here w at (base ++ taken_scalars body.locals ts) locals s) lo hi rows (always (at + 1)) (λ final. base ++ results_back body final) (HoldsWith w (EndsFitting body))
+    (calls_in p bodies (suc (length w.below)) (open_in w.regions) b ts store s)
+
+-- ---- the law of assembly
+
+-- what a process's end says of the machine
+abbrev pub Tells : Code → ℕ → Run → Flow (Unit {0}) → Type 0
+Tells code b m (Stops t inner store) = StopsOpen code [] m t (record { body = b; store = store } ∷ inner)
+Tells code b m (Gone t) = HasGone code m t
+Tells code b m Bound = Unit {0}
+Tells code b m o = ⊥
+
+-- Along what bodies do that nest at most so deep, whether each value lies in its own bounds.
+abbrev pub NestedWithin : Type 0
+NestedWithin = ℕ → BodiesWithin
+
+-- In this code the procedure's instructions do what it means, where the bodies that it calls do.
+pub record CarriesProcedure (p : CheckedTree) (code : Code) (within : NestedWithin) (instance b : ℕ) (body : BodyRowTree) (row : BodyRow) : Type 0 where
+  pub returns : (n : ℕ) (caller : Frame) (below : List Frame) (regions : List OpenRegion) (ts : List Taken) (s : Session)
+      → BodiesFollow p code instance (body_mean p instance n) (within n)
+      → EnteredBelow (length (caller ∷ below)) regions
+      → length (taken_scalars body.locals ts) ≡ row.params
+      → within (suc n) b (suc (length (caller ∷ below))) (open_in regions) ts s ≡ true
+      → Returns code instance b body caller below regions (in_frame_of instance b row (taken_scalars body.locals ts) (caller ∷ below) regions s)
+      (body_mean p instance (suc n) b (suc (length (caller ∷ below))) (open_in regions) ts s)
+
+-- So do the instructions of a process, which has no caller.
+pub record CarriesProcess (p : CheckedTree) (code : Code) (within : NestedWithin) (instance b : ℕ) (body : BodyRowTree) (row : BodyRow) : Type 0 where
+  pub tells : (n : ℕ) (ts : List Taken) (s : Session)
+      → BodiesFollow p code instance (body_mean p instance n) (within n)
+      → length (taken_scalars body.locals ts) ≡ row.params
+      → within (suc n) b 1 [] ts s ≡ true
+      → Tells code b (in_frame_of instance b row (taken_scalars body.locals ts) [] [] s) (process_end (body_mean p instance (suc n) b 1 [] ts s))
+
+abbrev pub Carries : CheckedTree → Code → NestedWithin → ℕ → ℕ → BodyRowTree → BodyRow → Type 0
+Carries p code within instance b body row = MatchBool (has_instances body.sort) (CarriesProcess p code within instance b body row) (CarriesProcedure p code within instance b body row)
+
+-- the code has each body of the program, and each does what it means
+pub record CarriesAll (p : CheckedTree) (code : Code) (within : NestedWithin) (instance : ℕ) : Type 0 where
+  pub body : (b : ℕ) (body : BodyRowTree) → slice_get p.bodies b ≡ Some body → (row : BodyRow) × (slice_get code.bodies b ≡ Some row) × IsRowOf body row × Carries p code within instance b body row
+
+-- a process with as many arguments as its parameters have scalars
+pub record FitsBirth (p : CheckedTree) (b : ℕ) (xs : List ℤ) : Type 0 where
+  pub body : BodyRowTree
+  pub is_body : slice_get p.bodies b ≡ Some body
+  pub process : has_instances body.sort ≡ true
+  pub counted : parameter_scalars body.locals body.parameters ≡ length xs
+
+-- the code's trace is that of the text, and where it stops its frames hold the stores of the open calls
+pub record TalksAs (p : CheckedTree) (code : Code) (instance process : ℕ) (xs : List ℤ) (answers : List Answer) (n : ℕ) : Type 0 where
+  pub start : State
+  pub starts : start_of code instance process xs ≡ Some start
+  pub count : ℕ
+  pub state : State
+  pub by : steps code count (At start (session_of answers n)) ≡ Over state (talk p instance process xs answers n).trace
+  pub stands : AreFramesOf (reverse state.frames) (talk p instance process xs answers n).stand
+
+-- The code has the text's talk, as an instance of a process, wherever each value lies in its own bounds.
+abbrev pub HasTalkOf : CheckedTree → Code → NestedWithin → ℕ → Type 0
+HasTalkOf p code within instance = (process : ℕ) (fits_body : BodyRowTree) (xs : List ℤ) (answers : List Answer) (n : ℕ) → 1 ≤ n
+    → FitsBirth p process xs
+    → slice_get p.bodies process ≡ Some fits_body
+    → within n process 1 [] (split_over fits_body.locals fits_body.parameters xs) (session_of answers n) ≡ true
+    → TalksAs p code instance process xs answers n
+
+-- As many turns and calls as there are ticks are enough for every talk.
+abbrev pub IsEnough : CheckedTree → ℕ → Type 0
+IsEnough p instance = (process : ℕ) (ts : List Taken) (answers : List Answer) (n : ℕ) → 1 ≤ n → process_end (body_mean p instance n process 1 [] ts (session_of answers n)) ≡ Bound → ⊥
+
+-- A code that has each body of the program has its talk.
+abbrev pub LawOfAssembly : Type 0
+LawOfAssembly = (p : CheckedTree) (code : Code) (within : NestedWithin) (instance : ℕ) → CarriesAll p code within instance → IsEnough p instance → HasTalkOf p code within instance
+
+-- ---- runs
+
+-- the code has the text's talk of each instance of a journal, with what the journal gave it
+abbrev pub TalksInJournal : CheckedTree → Code → List Event → Type 0
+TalksInJournal p code events = (who : ℕ) (birth : Birth) → born_of who events ≡ Some birth
+    → TalksAs p code who birth.process birth.arguments (answers_of who events) (suc (ticks_in (line_of who events)))
+
+-- A journal in which it has is a run of the code exactly when it is one of the program.
+abbrev pub SameRunsLaw : Type 0
+SameRunsLaw = (p : CheckedTree) (code : Code) (facts : Facts) (events : List Event) → TalksInJournal p code events → IsCodeRun code facts events ↔ IsSourceRun p facts events
