@@ -1,0 +1,7 @@
+// Laws of the runs of a text. Each is a fact about the definitions, which a caller learns by calling the function.
+ghost use Rattle.text_laws.specs.Laws.{SameTalkLaw};
+
+/// Of journals whose births fit the runs of a code with the text's talk are those of the text.
+pub fn same_talk_law()
+    ensures { SameTalkLaw }
+{}
