@@ -1,2 +1,4 @@
 pub mod SameRuns
 pub mod Held
+pub mod Values
+pub mod SoundFacts

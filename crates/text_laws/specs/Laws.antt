@@ -3,6 +3,7 @@ use Rattle.std.specs.Prelude.{◌≡◌, ◌↔◌, ℕ, ◌≤◌, true, List, 
 use Rattle.kernel_base.specs.declared.facts.Facts.{Facts}
 use Rattle.kernel_base.specs.declared.answer.Answer.{Answer}
 use Rattle.kernel_base.specs.declared.event.Event.{Event}
+use Rattle.kernel_base.specs.Facts.{IsSound}
 use Rattle.world_model.specs.Journal.{Birth, born_of}
 use Rattle.program_trees.specs.ProgramTree.{BodyRowTree, CheckedTree}
 use Rattle.code_types.specs.declared.code.Code.{Code}
@@ -11,6 +12,14 @@ use Rattle.code_types.specs.Runs.{IsCodeRun}
 use Rattle.source_meaning.specs.Talk.{talk, parameter_scalars}
 use Rattle.source_meaning.specs.Fitting.{has_instances}
 use Rattle.source_meaning.specs.Runs.{IsSourceRun}
+use Rattle.source_meaning.specs.Facts.{AreFactsOf}
+use Rattle.source_meaning.specs.Typed.{IsTyped}
+
+-- ---- facts
+
+-- The facts of a typed program, with any input and with a budget that there may be, are sound.
+abbrev pub FactsAreSoundLaw : Type 0
+FactsAreSoundLaw = (p : CheckedTree) (input : List ℕ) (units : ℕ) (facts : Facts) → IsTyped p → 1 ≤ units → units ≤ 10000000 → AreFactsOf p input units facts → IsSound facts
 
 -- ---- a code with the talk of a text
 

@@ -1,5 +1,10 @@
 // Laws of the runs of a text. Each is a fact about the definitions, which a caller learns by calling the function.
-ghost use Rattle.text_laws.specs.Laws.{SameTalkLaw};
+ghost use Rattle.text_laws.specs.Laws.{FactsAreSoundLaw, SameTalkLaw};
+
+/// The facts of a typed program are sound.
+pub fn facts_are_sound_law()
+    ensures { FactsAreSoundLaw }
+{}
 
 /// Of journals whose births fit the runs of a code with the text's talk are those of the text.
 pub fn same_talk_law()
