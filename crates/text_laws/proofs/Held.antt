@@ -252,10 +252,13 @@ placed_holds (d ∷ []) (Some s) p word start end e t n h =
     (in_bits d s.signed s.width word start end n.0 (omega (arith, enough, e)) h, tt)
 placed_holds (d ∷ f ∷ ds) (Some s) p word start end e t n h = absurd h
 
+step_end_at : (p : PlaceTree) (c : ℕ) → p.end ≤ 31 → min (c % 32 + (p.end - p.start)) 4294967295 - c % 32 ≡ p.end - p.start
+step_end_at p c high = omega (arith, high)
+
 step_holds : (p : PlaceTree) (e : ModeTree) (d c : ℕ) → IsTrue (parts_fit e) → IsTrue (is_possible e p) → EachHolds (domains_of e) (step_one (p.end - p.start) (is_signed (scalar_of e)) d c).0
 step_holds p e d c f t =
     let high : p.end ≤ 31 = le-from p.end 31 (both _ _ (both _ _ (both _ _ t).0).1).0 in
-    placed_holds (domains_of e) (scalar_of e) p (c / 32) (c % 32) (min (c % 32 + (p.end - p.start)) 4294967295) (omega (arith, high)) (both _ _ t).1 (scalar-narrow e f) (scalar_held e f)
+    placed_holds (domains_of e) (scalar_of e) p (c / 32) (c % 32) (min (c % 32 + (p.end - p.start)) 4294967295) (step_end_at p c high) (both _ _ t).1 (scalar-narrow e f) (scalar_held e f)
 
 step_possible : (t : Bool) (number k : ℕ) → (if t then Ok (next_number number) else Err number) ≡ Ok k → IsTrue t
 step_possible true number k e = refl

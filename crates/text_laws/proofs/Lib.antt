@@ -2,3 +2,5 @@ pub mod SameRuns
 pub mod Held
 pub mod Values
 pub mod SoundFacts
+pub mod Powersets
+pub mod Operations
