@@ -4,3 +4,4 @@ pub mod Values
 pub mod SoundFacts
 pub mod Powersets
 pub mod Operations
+pub mod Taking
