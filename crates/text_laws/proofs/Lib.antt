@@ -5,3 +5,4 @@ pub mod SoundFacts
 pub mod Powersets
 pub mod Operations
 pub mod Taking
+pub mod Stages

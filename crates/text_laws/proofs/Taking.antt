@@ -132,20 +132,17 @@ from_none : (o : Option Bounds) → is_some o ≡ false → o ≡ None
 from_none None e = refl
 from_none (Some b) e = absurd (let f : ⊥ = cc in f)
 
-taken_by : (from to : ModeTree) (o : Option Bounds) (xs : List ℤ) → IsTrue (parts_fit from) → IsTrue (parts_fit to) → shape_of from ≡ shape_of to → bounds_of to ≡ o → IsValueOf from xs → PassesTest o xs → IsValueOf to xs
-taken_by from to None xs p q s e v t =
+pub taken_value : (from to : ModeTree) (o : Option Bounds) (xs : List ℤ) → IsTrue (parts_fit from) → IsTrue (parts_fit to) → shape_of from ≡ shape_of to → bounds_of to ≡ o → IsValueOf from xs → PassesTest o xs → IsValueOf to xs
+taken_value from to None xs p q s e v t =
     let none : bounds_of from ≡ None = from_none (bounds_of from) (sym (single from p) ∙ (ap is_single s ∙ (single to q ∙ ap is_some e))) in
     let same : domains_of from ≡ domains_of to = shaped from p ∙ (ap (λ (o : Option Bounds). domains_in o (shape_of from)) (none ∙ sym e) ∙ (ap (λ (x : Shape). domains_in (bounds_of to) x) s ∙ sym (shaped to q))) in
     subst (λ (ds : List Domain). AreWithin ds xs) same v
-taken_by from to (Some b) xs p q s e v t =
+taken_value from to (Some b) xs p q s e v t =
     let some = from_some (bounds_of from) (sym (single from p) ∙ (ap is_single s ∙ (single to q ∙ ap is_some e))) in
     let w = discrete_number from some.0 xs some.1 v in
     let low : int_le b.low (sole_number xs) ≡ true = and_left (int_le b.low (sole_number xs)) (int_le (sole_number xs) b.high) t in
     let high : int_le (sole_number xs) b.high ≡ true = and_right (int_le b.low (sole_number xs)) (int_le (sole_number xs) b.high) t in
     subst (λ (ys : List ℤ). IsValueOf to ys) (sym w.0) (number_value to b (sole_number xs) e (grind (arith, ints, low)) (grind (arith, ints, high)))
-
-pub taken_value : (from to : ModeTree) (o : Option Bounds) (xs : List ℤ) → IsOfLanguage from → IsOfLanguage to → shape_of from ≡ shape_of to → bounds_of to ≡ o → IsValueOf from xs → PassesTest o xs → IsValueOf to xs
-taken_value from to o xs l k s e v t = taken_by from to o xs l.parts k.parts s e v t
 
 -- ---- parts
 
