@@ -6,3 +6,5 @@ pub mod Powersets
 pub mod Operations
 pub mod Taking
 pub mod Stages
+pub mod Stores
+pub mod ExprAsks

@@ -159,17 +159,27 @@ module _ (g : Whole) (S : Store → Type 0) where
 
 -- ---- requests
 
--- the answer that a request gets
+-- the reply that a request gets
+pub record Replied (g : Whole) (request : Request) (a : Answer) : Type 0 where
+  pub fits : FitsAnswer g.program request a
+  pub in_range : IsAnswerInRange a
+
+abbrev pub NoFailure : Answer → Type 0
+NoFailure (Fail x) = ⊥
+NoFailure a = Unit {0}
+
+-- the answer that it goes on with
 pub record Answers (g : Whole) (request : Request) (a : Answer) : Type 0 where
   pub fits : FitsAnswer g.program request a
   pub in_range : IsAnswerInRange a
+  pub proper : NoFailure a
 
 stage_asked : (g : Whole) (request : Request) (t : List Item) (a : Answer) (left : List Answer) (ticks : ℕ) → Stage g (record { trace = t; answers = a ∷ left; ticks = ticks }) → (Fits g (record { trace = t; answers = a ∷ left; ticks = ticks }) → FitsText g.program request) → Stage g (record { trace = t ++ Ask request ∷ []; answers = left; ticks = ticks })
 stage_asked g request t a left ticks h f = record { asks = ask_on g.program t g.answers request h.asks f; linked = linked_ask t g.answers request a left h.linked }
 
 -- what comes of a reply
 abbrev pub RepliesBy : Whole → (Store → Type 0) → Store → Session → Request → Reply → Type 0
-RepliesBy g S store from request (Given a s) = Here g S store s × (Fits g s → Fits g from × Answers g request a)
+RepliesBy g S store from request (Given a s) = Here g S store s × (Fits g s → Fits g from × Replied g request a)
 RepliesBy g S store from request (Halts t) = AskWell g.program t g.answers
 
 module _ (g : Whole) (S : Store → Type 0) where
@@ -188,16 +198,16 @@ module _ (g : Whole) (S : Store → Type 0) where
   replies request counts store s h f = reply_by request counts store s.trace s.answers s.ticks h f
 
   asked_by : (request : Request) (store : Store) (from : Session) (r : Reply) → RepliesBy g S store from request r → ComesBy g S from (Answers g request) (asked_in r store)
-  asked_by request store from (Given (Value xs) s) c = c
-  asked_by request store from (Given Done s) c = c
-  asked_by request store from (Given (Woken k by) s) c = c
-  asked_by request store from (Given (Got k n xs by) s) c = c
-  asked_by request store from (Given Otherwise s) c = c
-  asked_by request store from (Given (Instance i) s) c = c
+  asked_by request store from (Given (Value xs) s) c = (c.0, λ f. let r = c.1 f in (r.0, record { fits = r.1.fits; in_range = r.1.in_range; proper = tt }))
+  asked_by request store from (Given Done s) c = (c.0, λ f. let r = c.1 f in (r.0, record { fits = r.1.fits; in_range = r.1.in_range; proper = tt }))
+  asked_by request store from (Given (Woken k by) s) c = (c.0, λ f. let r = c.1 f in (r.0, record { fits = r.1.fits; in_range = r.1.in_range; proper = tt }))
+  asked_by request store from (Given (Got k n xs by) s) c = (c.0, λ f. let r = c.1 f in (r.0, record { fits = r.1.fits; in_range = r.1.in_range; proper = tt }))
+  asked_by request store from (Given Otherwise s) c = (c.0, λ f. let r = c.1 f in (r.0, record { fits = r.1.fits; in_range = r.1.in_range; proper = tt }))
+  asked_by request store from (Given (Instance i) s) c = (c.0, λ f. let r = c.1 f in (r.0, record { fits = r.1.fits; in_range = r.1.in_range; proper = tt }))
   asked_by request store from (Given (Fail x) s) c = (c.0, λ f. (c.1 f).0)
-  asked_by request store from (Given (Chose o) s) c = c
-  asked_by request store from (Given (Handed i) s) c = c
-  asked_by request store from (Given Stored s) c = c
+  asked_by request store from (Given (Chose o) s) c = (c.0, λ f. let r = c.1 f in (r.0, record { fits = r.1.fits; in_range = r.1.in_range; proper = tt }))
+  asked_by request store from (Given (Handed i) s) c = (c.0, λ f. let r = c.1 f in (r.0, record { fits = r.1.fits; in_range = r.1.in_range; proper = tt }))
+  asked_by request store from (Given Stored s) c = (c.0, λ f. let r = c.1 f in (r.0, record { fits = r.1.fits; in_range = r.1.in_range; proper = tt }))
   asked_by request store from (Halts t) c = c
 
   -- a request that fits
