@@ -8,3 +8,4 @@ pub mod Taking
 pub mod Stages
 pub mod Stores
 pub mod ExprAsks
+pub mod Combining

@@ -441,9 +441,9 @@ within_or : (m : ModeTree) (d : Bounds) (z : ℤ) (t : Bool) → bounds_of m ≡
 within_or m d z true b low high = number_value m d z b low high
 within_or m d z false b low high = tt
 
-member_by : (m : ModeTree) (d : Bounds) (low : ℤ) (o : Option ℕ) → IsOfLanguage m → bounds_of m ≡ Some d → d.low ≡ low → ((k : ℕ) → o ≡ Some k → k < values_of m) → ComputesBy m (member_at low o)
-member_by m d low None l b e below = tt
-member_by m d low (Some k) l b e below =
+pub member_by : (m : ModeTree) (d : Bounds) (low : ℤ) (o : Option ℕ) → bounds_of m ≡ Some d → d.low ≡ low → ((k : ℕ) → o ≡ Some k → k < values_of m) → ComputesBy m (member_at low o)
+member_by m d low None b e below = tt
+member_by m d low (Some k) b e below =
     let few : k < count_between d.low d.high = subst (λ (n : ℕ). k < n) (ap count_within b) (below k refl) in
     let high : (d.low +ℤ pos k) ≤ℤ d.high = bounds_apart d.low d.high k few in
     within_or m d (pos k +ℤ low) (is_int (pos k +ℤ low)) b (omega (arith, ints, e)) (omega (arith, ints, e, high))
@@ -495,10 +495,10 @@ routine_by (Predecessor low) a m xs l k h v =
     (step_by a d (sole_number xs -ℤ pos 1) (int_le (sole_number xs) low) low h.0.1 (λ e. (grind (arith, ints, e, bottom), omega (arith, ints, w2))))
 routine_by (Least low) a m xs l k h v =
     let w = set_value a m xs l h.1 v in
-    member_by m h.0 low (first_of_list (offsets_of xs)) k h.2 h.3 (λ j e. first_below (values_of m) (offsets_of xs) j (offsets_below (values_of m) 0 (numbers_of (values_of m)) xs w) e)
+    member_by m h.0 low (first_of_list (offsets_of xs)) h.2 h.3 (λ j e. first_below (values_of m) (offsets_of xs) j (offsets_below (values_of m) 0 (numbers_of (values_of m)) xs w) e)
 routine_by (Greatest low) a m xs l k h v =
     let w = set_value a m xs l h.1 v in
-    member_by m h.0 low (last_of_list (offsets_of xs)) k h.2 h.3 (λ j e. last_below (values_of m) (offsets_of xs) j (offsets_below (values_of m) 0 (numbers_of (values_of m)) xs w) e)
+    member_by m h.0 low (last_of_list (offsets_of xs)) h.2 h.3 (λ j e. last_below (values_of m) (offsets_of xs) j (offsets_below (values_of m) 0 (numbers_of (values_of m)) xs w) e)
 
 pub routine_computes : (r : Routine) (a m : ModeTree) (xs : List ℤ) → IsOfLanguage a → IsOfLanguage m → RoutineHas r a m → IsValueOf a xs → Computes m (routine_value r xs)
 routine_computes r a m xs l k h v = record { by = routine_by r a m xs l k h v }

@@ -7,6 +7,7 @@ use Rattle.modes.specs.declared.mode.Bounds.{Bounds}
 use Rattle.modes.specs.ModeTree.{ModeTree, int, boolean, char, instance, set_of, range, powerset, chars, array, structure, event, buffer, read, named, FieldNodes, no_fields, more_fields, SpreadTree}
 use Rattle.modes.specs.Bounds.{bounds_of, bounds_in, natural_of, count_between, count_within, values_of}
 use Rattle.modes.specs.Scalars.{numbers_of, repeated, scalars_of, scalars_in_fields}
+use Rattle.modes.specs.Roots.{root_of}
 use Rattle.modes.specs.Form.{FormTree, of_int, of_boolean, of_char, of_instance, of_set, of_powerset, of_chars, of_array, of_structure, of_meeting, form_of}
 use Rattle.modes.specs.Similar.{Shape, like_int, like_boolean, like_char, like_instance, like_set, like_powerset, like_chars, like_array, like_structure, like_none, part, no_more, next_field, shape_of, shape_of_fields}
 use Rattle.modes.specs.Language.{parts_fit, fields_fit, lie_in, IsOfLanguage}
@@ -25,7 +26,7 @@ use Rattle.text_laws.proofs.Powersets.{and_left, and_right}
 
 -- ---- one shape and one bounds, one list of domains
 
-is_single : Shape → Bool
+abbrev pub is_single : Shape → Bool
 is_single like_int = true
 is_single like_boolean = true
 is_single like_char = true
@@ -45,8 +46,7 @@ ranged None l h t = untrue t
 ranged (Some b) l h t = (refl, refl)
 
 -- a mode is discrete by its shape
-single : (m : ModeTree) → IsTrue (parts_fit m) → is_single (shape_of m) ≡ is_some (bounds_of m)
-unfolding is_single
+pub single : (m : ModeTree) → IsTrue (parts_fit m) → is_single (shape_of m) ≡ is_some (bounds_of m)
 single int p = refl
 single boolean p = refl
 single char p = refl
@@ -82,7 +82,6 @@ domains_in o no_more = []
 domains_in o (next_field name at m fs) = domains_in None m ++ domains_in None fs
 
 single_domains : (s : Shape) (o : Option Bounds) → is_single s ≡ true → domains_in o s ≡ domain_in o ∷ []
-unfolding is_single
 single_domains like_int o e = refl
 single_domains like_boolean o e = refl
 single_domains like_char o e = refl
@@ -124,7 +123,7 @@ abbrev pub PassesTest : Option Bounds → List ℤ → Type 0
 PassesTest None xs = Unit {0}
 PassesTest (Some b) xs = is_between b.low b.high (sole_number xs) ≡ true
 
-from_some : (o : Option Bounds) → is_some o ≡ true → (b : Bounds) × (o ≡ Some b)
+pub from_some : (o : Option Bounds) → is_some o ≡ true → (b : Bounds) × (o ≡ Some b)
 from_some None e = absurd (let f : ⊥ = cc in f)
 from_some (Some b) e = (b, refl)
 
@@ -323,3 +322,105 @@ pub field_fits : (fs : FieldNodes) (from first : ℕ) (m : ModeTree) → IsTrue 
 field_fits no_fields from first m p h = absurd h
 field_fits (more_fields name own at fs) from first m p (inl here) = subst (λ (x : ModeTree). IsTrue (parts_fit x)) here.1 (both _ _ p).0
 field_fits (more_fields name own at fs) from first m p (inr there) = field_fits fs (from + scalars_of own) first m (both _ _ p).1 there
+
+-- ---- bounds of the root
+
+abbrev pub shape_bounds : Shape → Option Bounds
+shape_bounds like_int = bounds_of int
+shape_bounds like_boolean = bounds_of boolean
+shape_bounds like_char = bounds_of char
+shape_bounds (like_set d n) = bounds_of (set_of d n)
+shape_bounds like_instance = None
+shape_bounds (like_powerset m) = None
+shape_bounds (like_chars n) = None
+shape_bounds (like_array i b e how) = None
+shape_bounds (like_structure fs p) = None
+shape_bounds like_none = None
+shape_bounds (part n r b s) = None
+shape_bounds no_more = None
+shape_bounds (next_field name at m fs) = None
+
+pub root_bounds : (m : ModeTree) → bounds_of (root_of m) ≡ shape_bounds (shape_of m)
+root_bounds int = refl
+root_bounds boolean = refl
+root_bounds char = refl
+root_bounds instance = refl
+root_bounds (set_of d n) = refl
+root_bounds (range p l h) = root_bounds p
+root_bounds (powerset m) = refl
+root_bounds (chars n) = refl
+root_bounds (array i e how) = refl
+root_bounds (structure fs p) = refl
+root_bounds (event l) = refl
+root_bounds (buffer l e) = refl
+root_bounds (read m) = root_bounds m
+root_bounds (named d true m) = root_bounds m
+root_bounds (named d false m) = root_bounds m
+
+shape_single : (s : Shape) → is_some (shape_bounds s) ≡ is_single s
+shape_single like_int = refl
+shape_single like_boolean = refl
+shape_single like_char = refl
+shape_single (like_set d n) = refl
+shape_single like_instance = refl
+shape_single (like_powerset m) = refl
+shape_single (like_chars n) = refl
+shape_single (like_array i b e how) = refl
+shape_single (like_structure fs p) = refl
+shape_single like_none = refl
+shape_single (part n r b s) = refl
+shape_single no_more = refl
+shape_single (next_field name at m fs) = refl
+
+-- bounds that lie in others
+abbrev LieIn : Option Bounds → Option Bounds → Type 0
+LieIn None o = Unit {0}
+LieIn (Some d) None = ⊥
+LieIn (Some d) (Some b) = (b.low ≤ℤ d.low) × (d.high ≤ℤ b.high)
+
+same_bounds : (o : Option Bounds) → LieIn o o
+same_bounds None = tt
+same_bounds (Some b) = (omega (arith, ints), omega (arith, ints))
+
+range_lies : (o r : Option Bounds) (l h : ℤ) → LieIn o r → IsTrue (lie_in l h o) → LieIn (bounds_in o l h) r
+range_lies None r l h w t = untrue t
+range_lies (Some d) None l h w t = absurd w
+range_lies (Some d) (Some b) l h w t =
+    let p : IsTrue (int_le d.low l) = (both _ _ (both _ _ t).1).0 in
+    let q : IsTrue (int_le h d.high) = (both _ _ (both _ _ t).1).1 in
+    let w0 = w.0 in
+    let w1 = w.1 in
+    (low_on b.low d.low l w0 p, high_on h d.high b.high q w1)
+  where
+    low_on : (a b c : ℤ) → a ≤ℤ b → IsTrue (int_le b c) → a ≤ℤ c
+    low_on a b c p t = grind (arith, ints, p, t)
+    high_on : (a b c : ℤ) → IsTrue (int_le a b) → b ≤ℤ c → a ≤ℤ c
+    high_on a b c t p = grind (arith, ints, p, t)
+
+lie_in_root : (m : ModeTree) → IsTrue (parts_fit m) → LieIn (bounds_of m) (shape_bounds (shape_of m))
+lie_in_root int p = same_bounds (bounds_of int)
+lie_in_root boolean p = same_bounds (bounds_of boolean)
+lie_in_root char p = same_bounds (bounds_of char)
+lie_in_root instance p = tt
+lie_in_root (set_of d n) p = same_bounds (bounds_of (set_of d n))
+lie_in_root (range q l h) p = range_lies (bounds_of q) (shape_bounds (shape_of q)) l h (lie_in_root q (both _ _ p).0) (both _ _ p).1
+lie_in_root (powerset m) p = tt
+lie_in_root (chars n) p = tt
+lie_in_root (array i e how) p = tt
+lie_in_root (structure fs q) p = tt
+lie_in_root (event l) p = tt
+lie_in_root (buffer l e) p = tt
+lie_in_root (read m) p = lie_in_root m p
+lie_in_root (named d n m) p = lie_in_root m p
+
+-- the number of a value lies in the bounds of the root
+pub number_in_root : (m : ModeTree) (b : Bounds) (xs : List ℤ) → IsTrue (parts_fit m) → shape_bounds (shape_of m) ≡ Some b → IsValueOf m xs → (b.low ≤ℤ sole_number xs) × (sole_number xs ≤ℤ b.high)
+number_in_root m b xs p e v =
+    let some = from_some (bounds_of m) (sym (single m p) ∙ (sym (shape_single (shape_of m)) ∙ ap is_some e)) in
+    let w = discrete_number m some.0 xs some.1 v in
+    let l : LieIn (Some some.0) (Some b) = subst (λ (o : Option Bounds). LieIn (Some some.0) o) e (subst (λ (o : Option Bounds). LieIn o (shape_bounds (shape_of m))) some.1 (lie_in_root m p)) in
+    let l0 = l.0 in
+    let l1 = l.1 in
+    let w1 = w.1 in
+    let w2 = w.2 in
+    (omega (arith, ints, l0, w1), omega (arith, ints, l1, w2))
