@@ -1,5 +1,5 @@
 -- Handlers, labels, regions and loops over parts that ask what fits.
-use Rattle.std.proofs.Common.{◌≡◌, ◌⊎◌, inl, inr, ℕ, zero, suc, ◌+◌, ◌<◌, Bool, true, false, List, [], ◌∷◌, ◌++◌, Option, Some, None, refl, sym, ap, subst, arith}
+use Rattle.std.proofs.Common.{◌≡◌, ℕ, zero, suc, ◌+◌, ◌<◌, Bool, true, false, List, [], ◌∷◌, ◌++◌, Option, Some, None, refl, sym, ap, subst, arith}
 use Rattle.std.specs.Prelude.{ℤ, if◌then◌else◌}
 use Rattle.kernel_base.specs.declared.ends.Exc.{Exc}
 use Rattle.kernel_base.specs.declared.request.Request.TheVariants.{Enter, Leave}
@@ -50,12 +50,12 @@ module _ (g : Whole) (S : Store → Type 0) where
   leave_by r s (Gone t) low c = c
   leave_by r s Bound low c = c
 
-  pub region_asks : (r : ℕ) (w : Setting) (inside : Setting → Meaning (Unit {0})) (store : Store) (s : Session) → Here g S store s → r < g.program.regions → ((w1 : Setting) → (w1 ≡ w) ⊎ (w1 ≡ opened w r) → (store1 : Store) (s1 : Session) → Here g S store1 s1 → Comes g S s1 Any (inside w1 store1 s1)) → Comes g S s Any (at_region (Some r) w inside store s)
-  region_asks r w inside store s h low each = region_by (is_open r w.open_now)
+  pub region_asks : (r : ℕ) (w : Setting) (inside : Setting → Meaning (Unit {0})) (store : Store) (s : Session) → Here g S store s → r < g.program.regions → ((store1 : Store) (s1 : Session) → Here g S store1 s1 → Comes g S s1 Any (inside w store1 s1)) → ((store1 : Store) (s1 : Session) → Here g S store1 s1 → Comes g S s1 Any (inside (opened w r) store1 s1)) → Comes g S s Any (at_region (Some r) w inside store s)
+  region_asks r w inside store s h low outside each = region_by (is_open r w.open_now)
     where
       region_by : (now : Bool) → Comes g S s Any (if now then inside w store s else then_do (done (Enter r) store s) (λ _ store1 s1. then_leave r (inside (opened w r) store1 s1)))
-      region_by true = each w (inl refl) store s h
-      region_by false = bind g S Any (does g S (Enter r) store s h (λ f. low)) (λ v store1 s1 h1 q. record { by = leave_by r s1 (inside (opened w r) store1 s1) low (each (opened w r) (inr refl) store1 s1 h1).by })
+      region_by true = outside store s h
+      region_by false = bind g S Any (does g S (Enter r) store s h (λ f. low)) (λ v store1 s1 h1 q. record { by = leave_by r s1 (inside (opened w r) store1 s1) low (each store1 s1 h1).by })
 
   -- ---- loops
 

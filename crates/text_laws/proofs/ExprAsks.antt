@@ -321,12 +321,12 @@ pub rows_typed : (p : CheckedTree) → IsTyped p → (k : ℕ) (b : BodyRowTree)
 rows_typed p t k b e = rows_are_typed 0 b.locals (t.bodies k b e).locals
 
 -- the mode that a location's base has, and that its parts lead to
-base_fits : (g : Whole) (w : Setting) → RowsFit w.rows → (region : Option ℕ) (b : Base) (of : ModeTree) → BaseHas (context_in g w region) b of → IsTrue (parts_fit of)
+pub base_fits : (g : Whole) (w : Setting) → RowsFit w.rows → (region : Option ℕ) (b : Base) (of : ModeTree) → BaseHas (context_in g w region) b of → IsTrue (parts_fit of)
 base_fits g w rf region (Local i) of t = subst (λ (x : ModeTree). IsTrue (parts_fit x)) t.2 (row_fits w.rows i t.0 rf t.1).1
 base_fits g w rf region (Shared l) of t =
     subst (λ (x : ModeTree). IsTrue (parts_fit x)) t.2 (all_at (λ (row : LocationRowTree). IsOfLanguage row.mode × IfSome row.region (λ r. r < g.program.regions)) g.program.locations l t.0 g.typed.locations t.1).0.parts
 
-address_fits : (g : Whole) (w : Setting) (region : Option ℕ) (b : Base) (of m : ModeTree) (k : ℕ) → BaseHas (context_in g w region) b of → PartAt (domains_of of) m k → AddressFits (context_in g w region) m (address_of b k)
+pub address_fits : (g : Whole) (w : Setting) (region : Option ℕ) (b : Base) (of m : ModeTree) (k : ℕ) → BaseHas (context_in g w region) b of → PartAt (domains_of of) m k → AddressFits (context_in g w region) m (address_of b k)
 address_fits g w region (Local i) of m k t p = (t.0, t.1, subst (λ (x : ModeTree). PartAt (domains_of x) m k) (sym t.2) p)
 address_fits g w region (Shared l) of m k t p = (t.0, t.1, subst (λ (x : ModeTree). PartAt (domains_of x) m k) (sym t.2) p)
 
@@ -342,7 +342,7 @@ element_fits (of_array j e how) b index m f i = subst (λ (y : ModeTree). IsTrue
 element_fits (of_structure fs p) b index m f i = absurd i
 element_fits of_meeting b index m f i = absurd i
 
-parts_lead : (c : Context) (ps : PartNodes) (of m : ModeTree) → IsTrue (parts_fit of) → PartsLead c ps of m → IsTrue (parts_fit m)
+pub parts_lead : (c : Context) (ps : PartNodes) (of m : ModeTree) → IsTrue (parts_fit of) → PartsLead c ps of m → IsTrue (parts_fit m)
 parts_lead c no_parts of m p t = subst (λ (x : ModeTree). IsTrue (parts_fit x)) t p
 parts_lead c (field first count ps) of m p t = parts_lead c ps t.1 m (field_fits t.0 0 first t.1 ((structure_form (form_of of) t.0 (bounds_of of) t.2).1 (form_fits of p)) t.3) t.5
 parts_lead c (element e b count ps) of m p t = parts_lead c ps t.1 m (element_fits (form_of of) b t.0 t.1 (form_fits of p) t.2) t.5
@@ -451,7 +451,7 @@ module _ (g : Whole) (w : Setting) (result : Option ModeTree) (region : Option �
               (λ ys store1 s1 h1 r. assigns o.count o.address ys store1 s1 h1 (λ f. (r f).1))
 
   -- the operator, once its first operand has a value
-  with_asks : (o : Binary) (a b m : ModeTree) (xs : List ℤ) (second : Meaning (List ℤ)) (store : Store) (s : Session) → Here g (StoreFits w.rows result) store s → IsOfLanguage a → IsOfLanguage b → BinaryHas o a b m → (Fits g s → IsValueOf a xs) → Comes g (StoreFits w.rows result) s (IsValueOf b) (second store s) → Comes g (StoreFits w.rows result) s (IsValueOf m) (binary_with o xs second store s)
+  pub with_asks : (o : Binary) (a b m : ModeTree) (xs : List ℤ) (second : Meaning (List ℤ)) (store : Store) (s : Session) → Here g (StoreFits w.rows result) store s → IsTrue (parts_fit a) → IsTrue (parts_fit b) → BinaryHas o a b m → (Fits g s → IsValueOf a xs) → Comes g (StoreFits w.rows result) s (IsValueOf b) (second store s) → Comes g (StoreFits w.rows result) s (IsValueOf m) (binary_with o xs second store s)
   with_asks o a b m xs second store s h la lb t v c = second_by (takes_second o xs) refl
     where
       second_by : (taken : Bool) → takes_second o xs ≡ taken → Comes g (StoreFits w.rows result) s (IsValueOf m) (if taken then then_do (second store s) (λ ys. as_computed (binary_value o xs ys)) else Goes xs store s)
@@ -512,7 +512,7 @@ module _ (g : Whole) (w : Setting) (result : Option ModeTree) (region : Option �
         subst (λ (ds : List Domain). AreWithin ds (repeated j xs)) (sym (form_domains m l.parts ∙ (form.0 ∙ ap (λ (k : ℕ). repeated k (domains_of t.1)) t.3))) (within_repeated j (domains_of t.1) xs (q f).1)))
     operation_asks n (routine r (expr j o)) m store s h l count t =
         bind g (StoreFits w.rows result) (IsValueOf t.0) (expr_asks (expr j o) t.0 store s h t.1) (λ xs store1 s1 h1 q.
-        computes m (routine_value r xs) store1 s1 h1 (λ f. routine_computes r t.0 m xs t.1.0 l t.2 (q f).1))
+        computes m (routine_value r xs) store1 s1 h1 (λ f. routine_computes r t.0 m xs t.1.0 t.2 (q f).1))
     operation_asks n get_int m store s h l count t =
         bind g (StoreFits w.rows result) (Answers g Get) (asks g (StoreFits w.rows result) Get [] store s h (λ f. tt))
         (λ v store1 s1 h1 r. goes g (StoreFits w.rows result) h1 (λ f. subst (λ (x : ModeTree). IsValueOf x (brought_by v)) (sym t) (get_value g v (r f).1)))
@@ -521,7 +521,7 @@ module _ (g : Whole) (w : Setting) (result : Option ModeTree) (region : Option �
         computes m (prefix_value r xs) store1 s1 h1 (λ f. prefix_computes r t.0 m xs t.1.0 t.2 (q f).1))
     operation_asks n (binary o (expr i a) (expr j b)) m store s h l count t =
         bind g (StoreFits w.rows result) (IsValueOf t.0) (expr_asks (expr i a) t.0 store s h t.2) (λ xs store1 s1 h1 q.
-        with_asks o t.0 t.1 m xs (expr_mean w (expr j b)) store1 s1 h1 t.2.0 t.3.0 t.4 (λ f. (q f).1) (expr_asks (expr j b) t.1 store1 s1 h1 t.3))
+        with_asks o t.0 t.1 m xs (expr_mean w (expr j b)) store1 s1 h1 t.2.0.parts t.3.0.parts t.4 (λ f. (q f).1) (expr_asks (expr j b) t.1 store1 s1 h1 t.3))
 
     pub received_asks : (r : ReceivedTree) (m : ModeTree) (store : Store) (s : Session) → Here g (StoreFits w.rows result) store s → IsTrue (parts_fit m) → IsTakenBy (context_in g w region) r m → Comes g (StoreFits w.rows result) s (IsValueOf m) (received_mean w r store s)
     received_asks (received (expr j o) bounds) m store s h p t =

@@ -9,3 +9,5 @@ pub mod Stages
 pub mod Stores
 pub mod ExprAsks
 pub mod Combining
+pub mod StatementAsks
+pub mod TalkAsks

@@ -336,8 +336,8 @@ similar_sets a b e p q f s =
 
 -- what is known of two operands
 pub record Operands (a b m : ModeTree) (xs ys : List ℤ) : Type 0 where
-  pub first : IsOfLanguage a
-  pub second : IsOfLanguage b
+  pub first : IsTrue (parts_fit a)
+  pub second : IsTrue (parts_fit b)
   pub xs_are : IsValueOf a xs
   pub ys_are : IsValueOf b ys
 
@@ -364,10 +364,10 @@ set_operator f each a b m xs ys o h =
     let e : ModeTree = h.0.0.0 in
     let form : form_of a ≡ of_powerset e = h.0.0.1 in
     let similar : Similar a b = h.0.1 in
-    let as_members : domains_of a ≡ member_domains (values_of e) 0 (numbers_of (values_of e)) = set_domains a e o.first.parts form in
+    let as_members : domains_of a ≡ member_domains (values_of e) 0 (numbers_of (values_of e)) = set_domains a e o.first form in
     let v = subst (λ (ds : List Domain). AreWithin ds xs) as_members o.xs_are in
-    let w = subst (λ (ds : List Domain). AreWithin ds ys) (similar_sets a b e o.first.parts o.second.parts form similar ∙ as_members) o.ys_are in
-    subst (λ (ds : List Domain). AreWithin ds (by_pairs f xs ys)) (sym (set_result a b m e o.first.parts o.second.parts form similar h.1 ∙ as_members))
+    let w = subst (λ (ds : List Domain). AreWithin ds ys) (similar_sets a b e o.first o.second form similar ∙ as_members) o.ys_are in
+    subst (λ (ds : List Domain). AreWithin ds (by_pairs f xs ys)) (sym (set_result a b m e o.first o.second form similar h.1 ∙ as_members))
     (pairs_tell f each (values_of e) 0 (numbers_of (values_of e)) xs ys v w)
 
 boolean_value : (m : ModeTree) (t : Bool) → m ≡ boolean → IsValueOf m (truth t)
@@ -386,8 +386,8 @@ binary_by Remainder a b m xs ys k h = int_operator a b m xs ys _ h (if_int_or (t
 binary_by And a b m xs ys k h = truth_operator a b m _ h
 binary_by Or a b m xs ys k h = truth_operator a b m _ h
 binary_by Xor a b m xs ys k h = truth_operator a b m _ h
-binary_by AndIf a b m xs ys k h = truth_kept a b m b ys h k.second.parts (similar_form a b of_boolean tt h.0 h.1) k.ys_are
-binary_by OrIf a b m xs ys k h = truth_kept a b m b ys h k.second.parts (similar_form a b of_boolean tt h.0 h.1) k.ys_are
+binary_by AndIf a b m xs ys k h = truth_kept a b m b ys h k.second (similar_form a b of_boolean tt h.0 h.1) k.ys_are
+binary_by OrIf a b m xs ys k h = truth_kept a b m b ys h k.second (similar_form a b of_boolean tt h.0 h.1) k.ys_are
 binary_by Equal a b m xs ys k h = boolean_value m _ h.1
 binary_by NotEqual a b m xs ys k h = boolean_value m _ h.1
 binary_by Less a b m xs ys k h = boolean_value m _ h.1
@@ -408,9 +408,9 @@ pub binary_computes : (o : Binary) (a b m : ModeTree) (xs ys : List ℤ) → Ope
 binary_computes o a b m xs ys k h = record { by = binary_by o a b m xs ys k h }
 
 -- where the second operand isn't evaluated the first is the value
-pub first_stays : (o : Binary) (a b m : ModeTree) (xs : List ℤ) → IsOfLanguage a → BinaryHas o a b m → IsValueOf a xs → takes_second o xs ≡ false → IsValueOf m xs
-first_stays AndIf a b m xs l h v e = truth_kept a b m a xs h l.parts h.0 v
-first_stays OrIf a b m xs l h v e = truth_kept a b m a xs h l.parts h.0 v
+pub first_stays : (o : Binary) (a b m : ModeTree) (xs : List ℤ) → IsTrue (parts_fit a) → BinaryHas o a b m → IsValueOf a xs → takes_second o xs ≡ false → IsValueOf m xs
+first_stays AndIf a b m xs l h v e = truth_kept a b m a xs h l h.0 v
+first_stays OrIf a b m xs l h v e = truth_kept a b m a xs h l h.0 v
 first_stays o a b m xs l h v e = absurd (let f : ⊥ = cc in f)
 
 prefix_by : (o : Prefix) (a m : ModeTree) (xs : List ℤ) → IsOfLanguage a → PrefixHas o a m → IsValueOf a xs → ComputesBy m (prefix_value o xs)
@@ -459,8 +459,8 @@ step_by : (m : ModeTree) (d : Bounds) (z : ℤ) (t : Bool) (x : ℤ) → bounds_
 step_by m d z true x b h = tt
 step_by m d z false x b h = let w = h refl in number_value m d z b w.0 w.1
 
-routine_by : (r : Routine) (a m : ModeTree) (xs : List ℤ) → IsOfLanguage a → IsOfLanguage m → RoutineHas r a m → IsValueOf a xs → ComputesBy m (routine_value r xs)
-routine_by Number a m xs l k h v =
+routine_by : (r : Routine) (a m : ModeTree) (xs : List ℤ) → IsOfLanguage a → RoutineHas r a m → IsValueOf a xs → ComputesBy m (routine_value r xs)
+routine_by Number a m xs l h v =
     let d : Bounds = h.0.0 in
     let w = discrete_number a d xs h.0.1 v in
     let small = discrete_small a d l h.0.1 in
@@ -469,8 +469,8 @@ routine_by Number a m xs l k h v =
     let w1 = w.1 in
     let w2 = w.2 in
     subst (λ (x : ModeTree). IsValueOf x xs) (sym h.1) (subst (λ (ys : List ℤ). IsValueOf int ys) (sym w.0) ((omega (arith, ints, s0, w1), omega (arith, ints, s1, w2)), tt))
-routine_by Absolute a m xs l k h v = in_int_computes m (magnitude (sole_number xs)) (ap domains_of h.1 ∙ root_domains a of_int tt h.0)
-routine_by Cardinality a m xs l k h v =
+routine_by Absolute a m xs l h v = in_int_computes m (magnitude (sole_number xs)) (ap domains_of h.1 ∙ root_domains a of_int tt h.0)
+routine_by Cardinality a m xs l h v =
     let e : ModeTree = h.0.0 in
     let few = set_members a e l.parts h.0.1 in
     let f1 = few.1 in
@@ -479,26 +479,81 @@ routine_by Cardinality a m xs l k h v =
     let most = offsets_few 0 xs in
     let n : numbers_of (values_of e) ≤ 128 = omega (arith, f1) in
     subst (λ (x : ModeTree). IsValueOf x (one (pos (length (offsets_of xs))))) (sym h.1) ((omega (arith, ints), omega (arith, ints, most, count, n)), tt)
-routine_by (Successor high) a m xs l k h v =
+routine_by (Successor high) a m xs l h v =
     let d : Bounds = h.0.0 in
     let w = discrete_number a d xs h.0.1 v in
     let w1 = w.1 in
     let top : d.high ≡ high = h.0.2 in
     subst (λ (x : ModeTree). ComputesBy x (routine_value (Successor high) xs)) (sym h.1)
     (step_by a d (sole_number xs +ℤ pos 1) (int_le high (sole_number xs)) high h.0.1 (λ e. (omega (arith, ints, w1), grind (arith, ints, e, top))))
-routine_by (Predecessor low) a m xs l k h v =
+routine_by (Predecessor low) a m xs l h v =
     let d : Bounds = h.0.0 in
     let w = discrete_number a d xs h.0.1 v in
     let w2 = w.2 in
     let bottom : d.low ≡ low = h.0.2 in
     subst (λ (x : ModeTree). ComputesBy x (routine_value (Predecessor low) xs)) (sym h.1)
     (step_by a d (sole_number xs -ℤ pos 1) (int_le (sole_number xs) low) low h.0.1 (λ e. (grind (arith, ints, e, bottom), omega (arith, ints, w2))))
-routine_by (Least low) a m xs l k h v =
+routine_by (Least low) a m xs l h v =
     let w = set_value a m xs l h.1 v in
     member_by m h.0 low (first_of_list (offsets_of xs)) h.2 h.3 (λ j e. first_below (values_of m) (offsets_of xs) j (offsets_below (values_of m) 0 (numbers_of (values_of m)) xs w) e)
-routine_by (Greatest low) a m xs l k h v =
+routine_by (Greatest low) a m xs l h v =
     let w = set_value a m xs l h.1 v in
     member_by m h.0 low (last_of_list (offsets_of xs)) h.2 h.3 (λ j e. last_below (values_of m) (offsets_of xs) j (offsets_below (values_of m) 0 (numbers_of (values_of m)) xs w) e)
 
-pub routine_computes : (r : Routine) (a m : ModeTree) (xs : List ℤ) → IsOfLanguage a → IsOfLanguage m → RoutineHas r a m → IsValueOf a xs → Computes m (routine_value r xs)
-routine_computes r a m xs l k h v = record { by = routine_by r a m xs l k h v }
+pub routine_computes : (r : Routine) (a m : ModeTree) (xs : List ℤ) → IsOfLanguage a → RoutineHas r a m → IsValueOf a xs → Computes m (routine_value r xs)
+routine_computes r a m xs l h v = record { by = routine_by r a m xs l h v }
+
+-- ---- the modes of results
+
+root_fits : (m : ModeTree) → IsTrue (parts_fit m) → IsTrue (parts_fit (root_of m))
+root_fits int p = refl
+root_fits boolean p = refl
+root_fits char p = refl
+root_fits instance p = refl
+root_fits (set_of d n) p = p
+root_fits (range q l h) p = root_fits q (both _ _ p).0
+root_fits (powerset m) p = p
+root_fits (chars n) p = p
+root_fits (array i e how) p = p
+root_fits (structure fs q) p = p
+root_fits (event l) p = p
+root_fits (buffer l e) p = p
+root_fits (read m) p = root_fits m p
+root_fits (named d true m) p = root_fits m p
+root_fits (named d false m) p = root_fits m p
+
+either_fits : (a b m : ModeTree) → IsTrue (parts_fit a) → IsTrue (parts_fit b) → IsRootOfEither m a b → IsTrue (parts_fit m)
+either_fits a b m p q (inl is) = subst (λ (x : ModeTree). IsTrue (parts_fit x)) (sym is) (root_fits a p)
+either_fits a b m p q (inr is) = subst (λ (x : ModeTree). IsTrue (parts_fit x)) (sym is) (root_fits b q)
+
+boolean_fits : (m : ModeTree) → m ≡ boolean → IsTrue (parts_fit m)
+boolean_fits m e = subst (λ (x : ModeTree). IsTrue (parts_fit x)) (sym e) refl
+
+-- the result of an operator has a mode that a text can give
+pub result_fits_text : (o : Binary) (a b m : ModeTree) → IsTrue (parts_fit a) → IsTrue (parts_fit b) → BinaryHas o a b m → IsTrue (parts_fit m)
+result_fits_text Add a b m p q h = either_fits a b m p q h.2
+result_fits_text Subtract a b m p q h = either_fits a b m p q h.2
+result_fits_text Multiply a b m p q h = either_fits a b m p q h.2
+result_fits_text Divide a b m p q h = either_fits a b m p q h.2
+result_fits_text Modulo a b m p q h = either_fits a b m p q h.2
+result_fits_text Remainder a b m p q h = either_fits a b m p q h.2
+result_fits_text And a b m p q h = either_fits a b m p q h.2
+result_fits_text Or a b m p q h = either_fits a b m p q h.2
+result_fits_text Xor a b m p q h = either_fits a b m p q h.2
+result_fits_text AndIf a b m p q h = either_fits a b m p q h.2
+result_fits_text OrIf a b m p q h = either_fits a b m p q h.2
+result_fits_text Equal a b m p q h = boolean_fits m h.1
+result_fits_text NotEqual a b m p q h = boolean_fits m h.1
+result_fits_text Less a b m p q h = boolean_fits m h.1
+result_fits_text LessOrEqual a b m p q h = boolean_fits m h.1
+result_fits_text Greater a b m p q h = boolean_fits m h.1
+result_fits_text GreaterOrEqual a b m p q h = boolean_fits m h.1
+result_fits_text Union a b m p q h = either_fits a b m p q h.1
+result_fits_text Intersection a b m p q h = either_fits a b m p q h.1
+result_fits_text SymmetricDifference a b m p q h = either_fits a b m p q h.1
+result_fits_text Difference a b m p q h = either_fits a b m p q h.1
+result_fits_text Included a b m p q h = boolean_fits m h.1
+result_fits_text ProperlyIncluded a b m p q h = boolean_fits m h.1
+result_fits_text Includes a b m p q h = boolean_fits m h.1
+result_fits_text ProperlyIncludes a b m p q h = boolean_fits m h.1
+result_fits_text (Member d) a b m p q h = boolean_fits m h.4
