@@ -1,59 +1,56 @@
 -- What expressions ask fits the text, and their values are of their modes.
-use Rattle.std.proofs.Common.{◌≡◌, ℕ, zero, suc, ◌+◌, ◌-◌, ◌*◌, ◌<◌, ◌≤◌, min, Bool, true, false, ◌&&◌, List, [], ◌∷◌, ◌++◌, length, take, drop, replicate, Option, Some, None, inl, inr, ◌⊎◌, refl, sym, ap, ◌∙◌, subst, arith, append-nil}
-use Rattle.std.specs.Prelude.{ℤ, pos, negsuc, ◌≤ℤ◌, ◌-ℤ◌, ◌+ℤ◌, ◌*ℤ◌, nat_abs, int_le, slice_get, slice_index_or, IsTrue, is_some, All, IfSome, if◌then◌else◌, ◌==◌}
+use Rattle.std.proofs.Common.{◌≡◌, ℕ, zero, suc, ◌+◌, ◌*◌, ◌<◌, ◌≤◌, min, Bool, true, false, List, [], ◌∷◌, ◌++◌, length, take, drop, replicate, Option, Some, None, inl, inr, refl, sym, ap, ◌∙◌, subst, arith}
+use Rattle.std.specs.Prelude.{ℤ, pos, negsuc, ◌≤ℤ◌, ◌-ℤ◌, ◌+ℤ◌, ◌*ℤ◌, nat_abs, int_le, slice_get, IsTrue, IfSome, if◌then◌else◌, ◌==◌}
 use Rattle.std.specs.List.{flat_map}
-use Rattle.std.proofs.lemmas.Bool.{cases_Bool, eqb-true}
+use Rattle.std.proofs.lemmas.Bool.{eqb-true}
 use Rattle.std.proofs.lemmas.Int.{ints}
 use Rattle.std.proofs.lemmas.Option.{slice_get_within}
 use Rattle.std.proofs.lemmas.List.Elements.{All-nil, All-cons}
 use Rattle.kernel_base.specs.declared.ends.Exc.TheVariants.{Rangefail}
 use Rattle.kernel_base.specs.declared.request.Place.{Place}
 use Rattle.kernel_base.specs.declared.request.Alternative.{Alternative}
-use Rattle.kernel_base.specs.declared.request.Request.{Request}
 use Rattle.kernel_base.specs.declared.request.Request.TheVariants.{Read, Write, ReceiveBuffer, Start, Get}
 use Rattle.kernel_base.specs.declared.answer.Answer.{Answer}
 use Rattle.kernel_base.specs.declared.answer.Answer.TheVariants.{Value, Got, Otherwise, Instance, Fail}
-use Rattle.kernel_base.specs.Facts.{NameThings}
 use Rattle.modes.specs.declared.mode.Bounds.{Bounds}
-use Rattle.modes.specs.ModeTree.{ModeTree, int, boolean, char, instance, set_of, range, powerset, chars, array, structure, event, buffer, read, named, FieldNodes, no_fields, more_fields, SpreadTree}
+use Rattle.modes.specs.ModeTree.{ModeTree, int, char, instance, FieldNodes, no_fields, more_fields}
 use Rattle.modes.specs.Bounds.{bounds_of, natural_of, count_between, count_within, values_of}
 use Rattle.modes.specs.Scalars.{numbers_of, repeated, scalars_of}
 use Rattle.modes.specs.Form.{FormTree, of_int, of_boolean, of_char, of_instance, of_set, of_powerset, of_chars, of_array, of_structure, of_meeting, form_of}
-use Rattle.modes.specs.Similar.{Similar, VEquivalent, shape_of}
+use Rattle.modes.specs.Similar.{shape_of}
 use Rattle.modes.specs.Language.{parts_fit, fields_fit, IsOfLanguage}
 use Rattle.checked_program.specs.declared.expr.Base.{Base}
 use Rattle.checked_program.specs.declared.expr.Base.TheVariants.{Shared, Local}
 use Rattle.checked_program.specs.declared.expr.Binary.{Binary}
-use Rattle.checked_program.specs.declared.program.Sort.TheVariants.{Process, Procedure}
-use Rattle.checked_program.specs.declared.program.Passing.TheVariants.{In, Out, InOut}
+use Rattle.checked_program.specs.declared.program.Sort.TheVariants.{Procedure}
+use Rattle.checked_program.specs.declared.program.Passing.TheVariants.{In}
 use Rattle.checked_program.specs.declared.program.Parameter.{Parameter}
 use Rattle.program_trees.specs.ExprTree.{ExprTree, expr, OperationTree, constant, own_instance, contents, part_of, receive, start, call, powerset as powerset_tuple, parts, uniform, routine, get_int, prefixed, binary, ReceivedTree, received, ReceivedNodes, no_received, more_received, PartNodes, no_parts, field, element, RangeNodes, no_ranges, one_member, members, LocationTree, location, StartTree, started, CallTree, called, ArgumentNodes, no_arguments, in_argument, out_argument, inout_argument}
 use Rattle.program_trees.specs.ProgramTree.{LocationRowTree, BufferRowTree, LocalRowTree, BodyRowTree, CheckedTree}
 use Rattle.world_model.specs.Session.{Session}
-use Rattle.world_model.specs.Lists.{number_for, scalars_at, with_scalars}
-use Rattle.world_model.specs.Ranges.{IsNumber, IsAnswerInRange}
-use Rattle.world_model.specs.Gives.{Gives}
+use Rattle.world_model.specs.Lists.{number_for, with_scalars}
+use Rattle.world_model.specs.Ranges.{IsNumber}
 use Rattle.scalar_operators.specs.Numbers.{is_between, where_true, is_scalar}
-use Rattle.scalar_operators.specs.Members.{no_members, union_of, span_in}
+use Rattle.scalar_operators.specs.Members.{span_in}
 use Rattle.scalar_operators.specs.Powersets.{union}
-use Rattle.source_meaning.specs.Store.{Store, local_value, Address, in_local, in_shared, address_of, Taken, brings, lowest}
-use Rattle.source_meaning.specs.Flow.{Flow, Goes, Raised, Meaning, then_do, asked}
+use Rattle.source_meaning.specs.Store.{Store, local_value, Address, in_local, in_shared, address_of, Taken}
+use Rattle.source_meaning.specs.Flow.{Goes, Raised, Meaning, then_do}
 use Rattle.source_meaning.specs.Operators.{sole_number, one, Computed, Yields, Throws, offset_within, width_of, empty_within, with_span, binary_value, takes_second, prefix_value, routine_value}
-use Rattle.source_meaning.specs.ExprMeaning.{Calls, Setting, as_computed, or_rangefail, tested, brought_by, asked_value, read_at, assign_at, CopyOut, Passed, takens, copied_out, all_copied_out, call_with, binary_with, expr_mean, operation_mean, received_mean, all_received_mean, offset_mean, location_mean, members_mean, start_mean, call_mean, arguments_mean, place_mean}
-use Rattle.source_meaning.specs.Values.{Domain, within, any_instance, members_from, domain_in, member_domains, domains_of, domains_of_fields, IsWithin, AreWithin, IsValueOf}
-use Rattle.source_meaning.specs.Fitting.{domains_at, domains_in_buffer, domains_of_parameters, thing_of, FitsAnswer, BringsValue}
-use Rattle.source_meaning.specs.TypedValues.{Context, BaseHas, HasField, IsIndexed, IsStructure, IsArray, IsParameter, AreAllParameters, IsFirstField, BufferHas, BinaryHas, HasMode, OperationHas, IsTakenBy, ElementsHave, FieldsHave, AllHave, PartsLead, RangesHave, LocationHas, IsTypedStart, AllTaken, IsTypedCall, ArgumentsFit}
-use Rattle.source_meaning.specs.Typed.{IsTyped, IsTypedBody, AreLaidFrom}
-use Rattle.text_laws.specs.Requests.{LiesInText, NumbersTell, StartsProcess, FitsText}
+use Rattle.source_meaning.specs.ExprMeaning.{Calls, Setting, as_computed, or_rangefail, tested, brought_by, read_at, assign_at, CopyOut, Passed, takens, copied_out, all_copied_out, binary_with, expr_mean, operation_mean, received_mean, all_received_mean, offset_mean, location_mean, members_mean, start_mean, call_mean, arguments_mean, place_mean}
+use Rattle.source_meaning.specs.Values.{Domain, domain_in, member_domains, domains_of, domains_of_fields, AreWithin, IsValueOf}
+use Rattle.source_meaning.specs.Fitting.{domains_at, domains_in_buffer, domains_of_parameters, thing_of, FitsAnswer}
+use Rattle.source_meaning.specs.TypedValues.{Context, BaseHas, IsIndexed, IsStructure, IsArray, BinaryHas, HasMode, OperationHas, IsTakenBy, ElementsHave, FieldsHave, AllHave, PartsLead, RangesHave, LocationHas, IsTypedStart, AllTaken, IsTypedCall, ArgumentsFit}
+use Rattle.source_meaning.specs.Typed.{IsTyped, AreLaidFrom}
+use Rattle.text_laws.specs.Requests.{LiesInText, NumbersTell}
 use Rattle.modes.proofs.SimilarLemmas.{both}
 use Rattle.text_laws.proofs.Held.{untrue}
 use Rattle.text_laws.proofs.SoundFacts.{all_at}
-use Rattle.text_laws.proofs.Values.{within_append, within_repeated, within_length, none_within, count_domains}
-use Rattle.text_laws.proofs.Operations.{ComputesBy, Computes, Operands, binary_computes, first_stays, prefix_computes, routine_computes, set_domains, set_members}
+use Rattle.text_laws.proofs.Values.{within_append, within_repeated, none_within, count_domains}
+use Rattle.text_laws.proofs.Operations.{Computes, binary_computes, first_stays, prefix_computes, routine_computes, set_domains, set_members}
 use Rattle.text_laws.proofs.Powersets.{union_tells, pairs_tell, spans_tell, and_left, and_right}
 use Rattle.text_laws.proofs.Taking.{PassesTest, taken_value, PartAt, part_whole, part_in, element_part, field_part, FormFits, domains_in_form, form_domains, form_fits, field_fits}
 use Rattle.text_laws.proofs.Stores.{StoreFits, ResultFits, local_fits, with_local_fits, part_value, patched_value, TakenFits, TakensFit, RowsFit, row_fits, ValuesFit, values_fit}
-use Rattle.text_laws.proofs.Stages.{Whole, Fits, Here, Comes, ComesBy, Any, Answers, goes, raises, bind, weaker, asks, does}
+use Rattle.text_laws.proofs.Stages.{Whole, Fits, Here, Comes, Any, Answers, goes, raises, bind, weaker, asks, does}
 
 abbrev pub context_in : Whole → Setting → Option ℕ → Context
 context_in g w region = record { program = g.program; rows = w.rows; region = region }
@@ -172,19 +169,21 @@ indexed_form (of_chars n) o b index m size x z f i c q =
     let d = natural x (omega (arith, ints, low, p)) in
     let at = d.1 in
     let is : nat_abs z ≡ d.0 * size = ap nat_abs (q.is ∙ ap (λ (y : ℤ). y *ℤ pos size) (let e : (x -ℤ b.low) ≡ pos d.0 = omega (arith, ints, low, at) in e)) ∙ times_abs d.0 size in
-    let few : d.0 < n = omega (arith, ints, high, r, at) in
-    (subst (λ (y : ModeTree). PartAt (replicate n (domain_in (bounds_of char))) y (nat_abs z)) i.2
-    (subst (λ (ds : List Domain). PartAt ds char (nat_abs z)) (sym (same_copies n (domain_in (bounds_of char))))
-    (subst (λ (k : ℕ). PartAt (repeated n (domains_of char)) char k) (sym (is ∙ ap (λ (k : ℕ). d.0 * k) (c ∙ ap scalars_of (sym i.2)))) (element_part n d.0 char few))),
-    subst (λ (y : ModeTree). IsTrue (parts_fit y)) i.2 refl)
+    let few : d.0 < n = omega (arith, ints, high, r, at) in (
+      subst (λ (y : ModeTree). PartAt (replicate n (domain_in (bounds_of char))) y (nat_abs z)) i.2
+          (subst (λ (ds : List Domain). PartAt ds char (nat_abs z)) (sym (same_copies n (domain_in (bounds_of char))))
+          (subst (λ (k : ℕ). PartAt (repeated n (domains_of char)) char k) (sym (is ∙ ap (λ (k : ℕ). d.0 * k) (c ∙ ap scalars_of (sym i.2)))) (element_part n d.0 char few))),
+      subst (λ (y : ModeTree). IsTrue (parts_fit y)) i.2 refl,
+    )
 indexed_form (of_array j e how) o b index m size x z f i c q =
     let count : values_of j ≡ count_between b.low b.high = ap count_within i.1 in
     let few : count_between b.low b.high ≤ 4096 = (let top = f.2 in omega (arith, top, count)) in
     let d = offset_number b size x z q few in
-    let low = d.2 in
-    (subst (λ (y : ModeTree). PartAt (repeated (values_of j) (domains_of e)) y (nat_abs z)) i.2
-    (subst (λ (k : ℕ). PartAt (repeated (values_of j) (domains_of e)) e k) (sym (d.1 ∙ ap (λ (k : ℕ). d.0 * k) (c ∙ ap scalars_of (sym i.2)))) (element_part (values_of j) d.0 e (omega (arith, low, count)))),
-    subst (λ (y : ModeTree). IsTrue (parts_fit y)) i.2 f.0)
+    let low = d.2 in (
+      subst (λ (y : ModeTree). PartAt (repeated (values_of j) (domains_of e)) y (nat_abs z)) i.2
+          (subst (λ (k : ℕ). PartAt (repeated (values_of j) (domains_of e)) e k) (sym (d.1 ∙ ap (λ (k : ℕ). d.0 * k) (c ∙ ap scalars_of (sym i.2)))) (element_part (values_of j) d.0 e (omega (arith, low, count)))),
+      subst (λ (y : ModeTree). IsTrue (parts_fit y)) i.2 f.0,
+    )
 indexed_form (of_structure fs p) o b index m size x z f i c q = absurd i
 indexed_form of_meeting o b index m size x z f i c q = absurd i
 
@@ -402,18 +401,22 @@ module _ (g : Whole) (w : Setting) (result : Option ModeTree) (region : Option �
 
   pub assigns : (n : ℕ) (address : Address) (xs : List ℤ) (store : Store) (s : Session) → Here g (StoreFits w.rows result) store s → (Fits g s → Assigned (context_in g w region) n address xs) → Comes g (StoreFits w.rows result) s Any (assign_at n address xs store s)
   assigns n (in_local i first) xs store s h q = goes g (StoreFits w.rows result)
-      (record { stage = h.stage; holds = λ f.
-          let a = q f in
-          let row : LocalRowTree = a.1.0 in
-          with_local_fits w.rows result store i row (with_scalars (local_value store i) first xs) (h.holds f) a.1.1
-          (patched_value (domains_of row.mode) (local_value store i) xs a.0 first (local_fits w.rows store.locals i row (h.holds f).locals a.1.1) a.1.2 a.3) })
+      (record {
+        stage = h.stage;
+        holds = λ f.
+            let a = q f in
+            let row : LocalRowTree = a.1.0 in
+            with_local_fits w.rows result store i row (with_scalars (local_value store i) first xs) (h.holds f) a.1.1
+            (patched_value (domains_of row.mode) (local_value store i) xs a.0 first (local_fits w.rows store.locals i row (h.holds f).locals a.1.1) a.1.2 a.3);
+      })
       (λ f. tt)
   assigns n (in_shared l first) xs store s h q =
       let place : Place = record { location = l; first = first; count = n } in
       does g (StoreFits w.rows result) (Write place xs) store s h (λ f.
-      let a = q f in
-      (lies_there g.program place a.0 a.1.0 a.1.1 a.1.2 a.2,
-      subst (λ (ds : List Domain). AreWithin ds xs) (sym (place_domains g.program place a.0 a.1.0 a.1.1 a.1.2 a.2)) a.3))
+      let a = q f in (
+        lies_there g.program place a.0 a.1.0 a.1.1 a.1.2 a.2,
+        subst (λ (ds : List Domain). AreWithin ds xs) (sym (place_domains g.program place a.0 a.1.0 a.1.1 a.1.2 a.2)) a.3,
+      ))
 
   -- what is copied out
   copy_asks : (m : ModeTree) (o : Option CopyOut) (xs : List ℤ) (store : Store) (s : Session) → Here g (StoreFits w.rows result) store s → IsTrue (parts_fit m) → (Fits g s → CopyFits (context_in g w region) m o) → (Fits g s → IsValueOf m xs) → Comes g (StoreFits w.rows result) s Any (copied_out o xs store s)
@@ -436,10 +439,10 @@ module _ (g : Whole) (w : Setting) (result : Option ModeTree) (region : Option �
       copied_by (Some row) e =
           copy_asks row.mode p.copy_out xs store s h (row_fits rows k row rf e).1
           (λ f.
-              let c = (q f).0 in
-              let same : Some c.0 ≡ Some row = sym c.1 ∙ e in
-              let is : c.0 ≡ row = cc in
-              subst (λ (x : LocalRowTree). CopyFits (context_in g w region) x.mode p.copy_out) is c.3)
+          let c = (q f).0 in
+          let same : Some c.0 ≡ Some row = sym c.1 ∙ e in
+          let is : c.0 ≡ row = cc in
+          subst (λ (x : LocalRowTree). CopyFits (context_in g w region) x.mode p.copy_out) is c.3)
           (λ f. (v f).0 row e)
       copied_by None e = copy_none p.copy_out (λ f. let c = (q f).0 in let same : Some c.0 ≡ None = sym c.1 ∙ e in let no : ⊥ = cc in no)
         where
@@ -556,9 +559,9 @@ module _ (g : Whole) (w : Setting) (result : Option ModeTree) (region : Option �
         bind g (StoreFits w.rows result) (IsOffset b count (sole_number xs)) (ranges (IsOffset b count (sole_number xs)) (offset_within b count (sole_number xs)) store1 s1 h1 (λ z e. offset_is b count (sole_number xs) z e)) (λ z store2 s2 h2 u.
         offset_asks ds ps own m (k + nat_abs z) store2 s2 h2
         (λ f.
-            let v = u f in
-            let part = (indexed_form (form_of of) (bounds_of of) b index own count (sole_number xs) z (form_fits of p) t.2 t.4 v.1).0 in
-            part_in ds of own k (nat_abs z) (q (r v.0).0) (subst (λ (es : List Domain). PartAt es own (nat_abs z)) (sym (form_domains of p)) part))
+        let v = u f in
+        let part = (indexed_form (form_of of) (bounds_of of) b index own count (sole_number xs) z (form_fits of p) t.2 t.4 v.1).0 in
+        part_in ds of own k (nat_abs z) (q (r v.0).0) (subst (λ (es : List Domain). PartAt es own (nat_abs z)) (sym (form_domains of p)) part))
         (element_fits (form_of of) b index own (form_fits of p) t.2) t.5))
 
     pub location_asks : (l : LocationTree) (m : ModeTree) (store : Store) (s : Session) → Here g (StoreFits w.rows result) store s → LocationHas (context_in g w region) l m → Comes g (StoreFits w.rows result) s (AddressFits (context_in g w region) m) (location_mean w l store s)

@@ -1,15 +1,14 @@
 -- The bits of each scalar of a mode hold what the scalar may be.
-use Rattle.std.proofs.Common.{◌≡◌, ◌≢◌, ℕ, zero, suc, ◌+◌, ◌-◌, ◌*◌, ◌/◌, ◌%◌, ◌^◌, ◌<◌, ◌≤◌, min, max, inl, inr, Bool, true, false, ◌&&◌, List, [], ◌∷◌, ◌++◌, replicate, Option, Some, None, Ok, Err, refl, sym, ap, ◌∙◌, subst, arith}
-use Rattle.std.specs.Prelude.{ℤ, pos, negsuc, neg_ℤ, ◌≤ℤ◌, ◌<ℤ◌, ◌-ℤ◌, int_le, int_lt, nat_le, IsTrue, is_some, MatchBool, not, ◌||◌, if◌then◌else◌}
+use Rattle.std.proofs.Common.{◌≡◌, ℕ, zero, suc, ◌+◌, ◌-◌, ◌*◌, ◌/◌, ◌%◌, ◌^◌, ◌<◌, ◌≤◌, min, max, inl, inr, Bool, true, false, ◌&&◌, List, [], ◌∷◌, ◌++◌, replicate, Option, Some, None, Ok, Err, refl, sym, ap, ◌∙◌, subst, arith}
+use Rattle.std.specs.Prelude.{ℤ, pos, negsuc, neg_ℤ, ◌≤ℤ◌, ◌<ℤ◌, ◌-ℤ◌, int_lt, nat_le, IsTrue, is_some, MatchBool, not, ◌||◌, if◌then◌else◌}
 use Rattle.std.specs.Int.{bit_at}
-use Rattle.std.specs.declared.result.Result.{Result}
 use Rattle.std.proofs.Math.Nat.{pow-le-pow_right, mul_comm, div-add-mod, mod-lt}
 use Rattle.std.proofs.lemmas.Nat.Bits.{bit_at-lt, bit_at-zero, bit_at_cat_high, bit_at_above, same_from_bits}
 use Rattle.std.proofs.lemmas.Bool.{cases_lt}
 use Rattle.std.proofs.lemmas.Bool.Decides.{nat_tests}
 use Rattle.std.proofs.lemmas.Int.{ints}
 use Rattle.chill_base.specs.declared.layout.Bits.{Bits}
-use Rattle.kernel_base.specs.Facts.{IsSignedBelow, IsUnsignedBelow, TellsMembers}
+use Rattle.kernel_base.specs.Facts.{IsSignedBelow, IsUnsignedBelow}
 use Rattle.modes.specs.declared.mode.Bounds.{Bounds}
 use Rattle.modes.specs.ModeTree.{ModeTree, int, boolean, char, instance, set_of, range, powerset, chars, array, structure, event, buffer, read, named, FieldNodes, no_fields, more_fields, PlaceTree, SpreadTree, words, packed, step}
 use Rattle.modes.specs.Bounds.{bounds_of, bounds_in, natural_of, values_of}
@@ -17,14 +16,14 @@ use Rattle.modes.specs.Scalars.{numbers_of, repeated}
 use Rattle.modes.specs.Language.{parts_fit, fields_fit, lie_in}
 use Rattle.modes.proofs.SimilarLemmas.{both}
 use Rattle.layout_map.specs.declared.scalar.Scalar.{Scalar}
-use Rattle.layout_map.specs.Scalar.{digits_of, beyond_of, range_scalar, set_scalar, scalar_if, scalar_of, is_signed}
+use Rattle.layout_map.specs.Scalar.{digits_of, beyond_of, range_scalar, scalar_if, scalar_of, is_signed}
 use Rattle.layout_map.specs.Place.{is_possible, is_possible_step, holds}
-use Rattle.layout_map.specs.Numbered.{next_number, is_misplaced, are_mixed, some_placed, all_placed, array_impossible, first_impossible, fields_impossible}
-use Rattle.layout_map.specs.Spots.{follow, times, one_of, one, begin, after, bits_at, numbers, character, steps_laid, step_one, elements, is_placed, placed_spot, placed_spots, placed_end, spot_at, closed, laid, laid_fields}
-use Rattle.layout_map.proofs.Narrow.{digits_enough, bounds-small, Small, scalar-narrow, IsNarrow, values-from}
+use Rattle.layout_map.specs.Numbered.{next_number, is_misplaced, are_mixed, all_placed, array_impossible, first_impossible, fields_impossible}
+use Rattle.layout_map.specs.Spots.{times, one_of, one, begin, numbers, character, step_one, elements, is_placed, placed_spot, placed_spots, placed_end, laid, laid_fields}
+use Rattle.layout_map.proofs.Narrow.{digits_enough, bounds-small, Small, scalar-narrow, IsNarrow}
 use Rattle.layout_map.proofs.Placed.{then-ok, unless-ok}
 use Rattle.layout_map.proofs.Steps.{le-from}
-use Rattle.source_meaning.specs.Values.{Domain, within, any_instance, members_from, domain_in, member_domains, domains_of, domains_of_fields, IsWithin}
+use Rattle.source_meaning.specs.Values.{Domain, within, members_from, domain_in, member_domains, domains_of, domains_of_fields, IsWithin}
 
 -- a test that fails isn't true
 pub untrue : {A : Type 0} → IsTrue false → A
@@ -77,14 +76,14 @@ rest n w = mod-lt n (power w)
 bits_below : (n w : ℕ) → ((k : ℕ) → bit_at n k ≡ 1 → k < w) → n < 2 ^ w
 bits_below n w below =
     let none : (j : ℕ) → bit_at (n / 2 ^ w) j ≡ bit_at 0 j = λ j. (
-      let e : n / 2 ^ w * 2 ^ w + n % 2 ^ w ≡ n = split n w in
-      let high : bit_at (n / 2 ^ w * 2 ^ w + n % 2 ^ w) (w + j) ≡ bit_at (n / 2 ^ w) (w + j - w) = bit_at_cat_high (n / 2 ^ w) w (n % 2 ^ w) (w + j) (rest n w) (omega arith) in
-      let back : w + j - w ≡ j = omega arith in
-      let same : bit_at n (w + j) ≡ bit_at (n / 2 ^ w) j = ap (λ (x : ℕ). bit_at x (w + j)) (sym e) ∙ (high ∙ ap (λ (i : ℕ). bit_at (n / 2 ^ w) i) back) in
-      let two : bit_at n (w + j) < 2 = bit_at-lt n (w + j) in
-      let not_one : (bit_at n (w + j) ≡ 1) → ⊥ = λ is. (let low : w + j < w = below (w + j) is in omega (arith, low)) in
-      let no : bit_at n (w + j) ≡ 0 = grind (arith, two, not_one) in
-      sym same ∙ (no ∙ sym (bit_at-zero j))) in
+    let e : n / 2 ^ w * 2 ^ w + n % 2 ^ w ≡ n = split n w in
+    let high : bit_at (n / 2 ^ w * 2 ^ w + n % 2 ^ w) (w + j) ≡ bit_at (n / 2 ^ w) (w + j - w) = bit_at_cat_high (n / 2 ^ w) w (n % 2 ^ w) (w + j) (rest n w) (omega arith) in
+    let back : w + j - w ≡ j = omega arith in
+    let same : bit_at n (w + j) ≡ bit_at (n / 2 ^ w) j = ap (λ (x : ℕ). bit_at x (w + j)) (sym e) ∙ (high ∙ ap (λ (i : ℕ). bit_at (n / 2 ^ w) i) back) in
+    let two : bit_at n (w + j) < 2 = bit_at-lt n (w + j) in
+    let not_one : (bit_at n (w + j) ≡ 1) → ⊥ = λ is. (let low : w + j < w = below (w + j) is in omega (arith, low)) in
+    let no : bit_at n (w + j) ≡ 0 = grind (arith, two, not_one) in
+    sym same ∙ (no ∙ sym (bit_at-zero j))) in
     let zero_above : n / 2 ^ w ≡ 0 = same_from_bits (n / 2 ^ w) 0 none in
     let e : n / 2 ^ w * 2 ^ w + n % 2 ^ w ≡ n = split n w in
     let r : n % 2 ^ w < 2 ^ w = rest n w in
@@ -95,16 +94,18 @@ plain_bits : (d : Domain) (s : Bool) (width : ℕ) → ((z : ℤ) → IsWithin d
 plain_bits d s width each = record { each = each }
 
 members_held : (size first : ℕ) → HoldsAll (members_from size first) false (min 32 (size - first))
-members_held size first = record { each = λ z t.
-    let is : z ≡ pos t.bits = t.is in
-    let word : t.bits < 2 ^ 32 = t.word in
-    let low : t.bits < 2 ^ min 32 (size - first) = bits_below t.bits (min 32 (size - first)) (λ k one. (
+members_held size first = record {
+  each = λ z t.
+      let is : z ≡ pos t.bits = t.is in
+      let word : t.bits < 2 ^ 32 = t.word in
+      let low : t.bits < 2 ^ min 32 (size - first) = bits_below t.bits (min 32 (size - first)) (λ k one. (
       let member : first + k < size = t.members k one in
       let in_word : k < 32 = elim (cases_lt k 32) [
         | inl l ↦ l
         | inr h ↦ absurd (let zero_there : bit_at t.bits k ≡ 0 = bit_at_above t.bits 32 k word h in let f : ⊥ = omega (arith, one, zero_there) in f)
       ] in omega (arith, member, in_word))) in
-    record { low = rw is (omega (arith, ints)); high = rw is (omega (arith, ints, low)) } }
+      record { low = rw is (omega (arith, ints)); high = rw is (omega (arith, ints, low)) };
+}
 
 natural_held : (h : ℤ) (w : ℕ) → natural_of h < 2 ^ w → (z : ℤ) → pos 0 ≤ℤ z → z ≤ℤ h → IsUnsignedBelow w z
 natural_held (pos n) w f z p q = record { low = p; high = omega (arith, ints, f, q) }
@@ -116,6 +117,7 @@ signed_held l h w a b z p q = record { low = lower l a p; high = upper h b q }
     lower : (l : ℤ) → beyond_of l < 2 ^ w → l ≤ℤ z → neg_ℤ (pos (2 ^ w)) ≤ℤ z
     lower (pos n) a p = let e : 1 ≤ 2 ^ w = power w in omega (arith, ints, e, p)
     lower (negsuc n) a p = omega (arith, ints, a, p)
+
     upper : (h : ℤ) → natural_of h < 2 ^ w → z ≤ℤ h → z <ℤ pos (2 ^ w)
     upper (pos n) b q = omega (arith, ints, b, q)
     upper (negsuc n) b q = let e : 1 ≤ 2 ^ w = power w in omega (arith, ints, e, q)

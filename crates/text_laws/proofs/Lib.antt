@@ -11,3 +11,5 @@ pub mod ExprAsks
 pub mod Combining
 pub mod StatementAsks
 pub mod TalkAsks
+pub mod InRange
+pub mod AsksFit

@@ -1,23 +1,21 @@
 -- What operators and routines make of values are values of the mode that the result has.
-use Rattle.std.proofs.Common.{◌≡◌, ℕ, zero, suc, ◌+◌, ◌-◌, ◌*◌, ◌/◌, ◌<◌, ◌≤◌, min, Bool, true, false, ◌&&◌, List, [], ◌∷◌, ◌++◌, length, replicate, Option, Some, None, inl, inr, ◌⊎◌, refl, sym, ap, ◌∙◌, subst, arith}
-use Rattle.std.specs.Prelude.{ℤ, pos, negsuc, neg_ℤ, ◌≤ℤ◌, ◌-ℤ◌, ◌+ℤ◌, ◌*ℤ◌, int_le, int_div, int_rem, not, IsTrue, if◌then◌else◌}
-use Rattle.std.proofs.lemmas.Bool.{cases_Bool}
+use Rattle.std.proofs.Common.{◌≡◌, ℕ, zero, suc, ◌+◌, ◌-◌, ◌<◌, ◌≤◌, Bool, true, false, List, [], ◌∷◌, length, Option, Some, None, inl, inr, refl, sym, ap, ◌∙◌, subst, arith}
+use Rattle.std.specs.Prelude.{ℤ, pos, negsuc, neg_ℤ, ◌≤ℤ◌, ◌-ℤ◌, ◌+ℤ◌, ◌*ℤ◌, int_le, int_div, int_rem, IsTrue, if◌then◌else◌}
 use Rattle.std.proofs.lemmas.Int.{ints}
 use Rattle.std.specs.Int.{int_rem_euclid}
-use Rattle.std.specs.List.{All}
 use Rattle.kernel_base.specs.declared.ends.Exc.TheVariants.{Overflow}
 use Rattle.kernel_base.specs.Facts.{TellsMembers}
 use Rattle.modes.specs.declared.mode.Bounds.{Bounds}
-use Rattle.modes.specs.ModeTree.{ModeTree, int, boolean, char, instance, set_of, range, powerset, chars, array, structure, event, buffer, read, named, FieldNodes, no_fields, more_fields, SpreadTree}
+use Rattle.modes.specs.ModeTree.{ModeTree, int, boolean, char, instance, set_of, range, powerset, chars, array, structure, event, buffer, read, named}
 use Rattle.modes.specs.Bounds.{bounds_of, bounds_in, natural_of, count_between, count_within, values_of}
-use Rattle.modes.specs.Scalars.{numbers_of, repeated, scalars_of}
+use Rattle.modes.specs.Scalars.{numbers_of}
 use Rattle.modes.specs.Roots.{root_of, novelty_of, read_is}
 use Rattle.modes.specs.Form.{FormTree, of_int, of_boolean, of_char, of_instance, of_set, of_powerset, of_chars, of_array, of_structure, of_meeting, form_of}
-use Rattle.modes.specs.Similar.{Shape, like_int, like_boolean, like_char, like_instance, like_set, like_powerset, like_chars, like_array, like_structure, like_none, part, no_more, next_field, shape_of, shape_of_fields, has_values, Similar}
+use Rattle.modes.specs.Similar.{Shape, like_powerset, part, shape_of, Similar}
 use Rattle.modes.specs.Language.{parts_fit, lie_in, IsOfLanguage}
 use Rattle.modes.proofs.SimilarLemmas.{shape_in, shape-form, both}
 use Rattle.layout_map.proofs.Narrow.{bounds-small, Small, values-from}
-use Rattle.scalar_operators.specs.Numbers.{is_between, is_int, where_true, truth_number, int_result, quotient, remainder, modulus, magnitude, truth_of}
+use Rattle.scalar_operators.specs.Numbers.{is_int, where_true, truth_number, int_result, magnitude, truth_of}
 use Rattle.scalar_operators.specs.Powersets.{union, intersection, symmetric_difference, difference, first_of_list, last_of_list}
 use Rattle.scalar_operators.specs.Members.{by_pairs, complement_of, offsets_of}
 use Rattle.checked_program.specs.declared.expr.Binary.{Binary}
@@ -27,10 +25,10 @@ use Rattle.checked_program.specs.declared.expr.Prefix.TheVariants.{Minus, Not, C
 use Rattle.checked_program.specs.declared.expr.Routine.{Routine}
 use Rattle.checked_program.specs.declared.expr.Routine.TheVariants.{Number, Absolute, Cardinality, Successor, Predecessor, Least, Greatest}
 use Rattle.source_meaning.specs.Operators.{Computed, Yields, Throws, sole_number, one, truth, yields_or, in_int, binary_value, prefix_value, routine_value, member_at, takes_second}
-use Rattle.source_meaning.specs.Values.{Domain, within, any_instance, members_from, domain_in, member_domains, domains_of, domains_of_fields, IsWithin, AreWithin, IsValueOf}
-use Rattle.source_meaning.specs.TypedValues.{BinaryHas, PrefixHas, RoutineHas, IsRootOfEither, IsOnInts, IsOnTruths, AreSets, IsOnSets}
+use Rattle.source_meaning.specs.Values.{Domain, within, domain_in, member_domains, domains_of, IsWithin, AreWithin, IsValueOf}
+use Rattle.source_meaning.specs.TypedValues.{BinaryHas, PrefixHas, RoutineHas, IsRootOfEither, IsOnInts, IsOnTruths, IsOnSets}
 use Rattle.text_laws.proofs.Held.{untrue}
-use Rattle.text_laws.proofs.Values.{within_length, none_within}
+use Rattle.text_laws.proofs.Values.{within_length}
 use Rattle.text_laws.proofs.Powersets.{union_tells, intersection_tells, symmetric_tells, difference_tells, pairs_tell, complements_tell, offsets_below, offsets_few, first_below, last_below, and_left, and_right}
 
 abbrev pub ComputesBy : ModeTree → Computed → Type 0
@@ -175,6 +173,7 @@ root_wider (range q l h) f xs i e p v = root_wider q f xs i e (both _ _ p).0 (pa
         let low : IsTrue (int_le b.low l) = (both _ _ (both _ _ t).1).0 in
         let high : IsTrue (int_le h b.high) = (both _ _ (both _ _ t).1).1 in
         subst (λ (ys : List ℤ). IsValueOf q ys) (sym w.0) (number_value q b (sole_number xs) e (low_from b.low l (sole_number xs) low w.1.0) (high_from h b.high (sole_number xs) high w.1.1))
+
     parent_value : (q : ModeTree) (l h : ℤ) (xs : List ℤ) → IsTrue (lie_in l h (bounds_of q)) → IsValueOf (range q l h) xs → IsValueOf q xs
     parent_value q l h xs t v = parent_by q (bounds_of q) l h xs refl t v
 root_wider (powerset m) f xs i e p v = absurd (subst IsForm (sym e) i)

@@ -1,6 +1,6 @@
 -- What the operators make of powersets are powersets of the same mode.
-use Rattle.std.proofs.Common.{◌≡◌, ℕ, zero, suc, ◌+◌, ◌-◌, ◌*◌, ◌/◌, ◌%◌, ◌^◌, ◌<◌, ◌≤◌, Bool, true, false, ◌&&◌, List, [], ◌∷◌, ◌++◌, length, map, replicate, Option, Some, None, inl, inr, refl, sym, ap, ◌∙◌, subst, arith, length-append}
-use Rattle.std.specs.Prelude.{ℤ, pos, negsuc, ◌≤ℤ◌, ◌-ℤ◌, ◌==◌, ◌||◌, not, int_le, nat_lt, sum_by, if◌then◌else◌}
+use Rattle.std.proofs.Common.{◌≡◌, ℕ, zero, suc, ◌+◌, ◌-◌, ◌*◌, ◌/◌, ◌%◌, ◌^◌, ◌<◌, ◌≤◌, Bool, true, false, ◌&&◌, List, [], ◌∷◌, length, map, Some, inl, inr, refl, sym, ap, ◌∙◌, subst, arith, length-append}
+use Rattle.std.specs.Prelude.{ℤ, pos, ◌≤ℤ◌, ◌-ℤ◌, ◌==◌, ◌||◌, not, int_le, nat_lt, sum_by, if◌then◌else◌}
 use Rattle.std.specs.Int.{bit_at}
 use Rattle.std.specs.List.{All, filter}
 use Rattle.std.proofs.Math.Nat.{pow-suc, mod-eq_of_lt}
@@ -12,9 +12,9 @@ use Rattle.std.proofs.lemmas.List.{length-map}
 use Rattle.std.proofs.lemmas.List.Sums.{sum_by-cons}
 use Rattle.std.proofs.lemmas.List.Elements.{All-nil, All-cons, All-append, All-head, All-tail}
 use Rattle.kernel_base.specs.Facts.{TellsMembers}
-use Rattle.scalar_operators.specs.Powersets.{members_each, low_word, numbers_up, offsets, has_member, members_of, powerset_where, complement_in, union, intersection, symmetric_difference, difference, span_of, first_of_list, last_of_list}
-use Rattle.scalar_operators.specs.Members.{no_members, by_pairs, complement_of, offsets_from, offsets_of, span_in}
-use Rattle.source_meaning.specs.Values.{Domain, members_from, member_domains, AreWithin}
+use Rattle.scalar_operators.specs.Powersets.{numbers_up, offsets, has_member, members_of, powerset_where, complement_in, union, intersection, symmetric_difference, difference, span_of, first_of_list, last_of_list}
+use Rattle.scalar_operators.specs.Members.{by_pairs, complement_of, offsets_from, span_in}
+use Rattle.source_meaning.specs.Values.{member_domains, AreWithin}
 
 abbrev worth : (ℕ → Bool) → ℕ → ℕ
 worth test k = if test k then 2 ^ k else 0

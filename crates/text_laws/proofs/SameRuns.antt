@@ -1,15 +1,14 @@
 -- The runs of a code that has a program's talk are the program's.
-use Rattle.std.proofs.Common.{◌≡◌, ℕ, suc, ◌≤◌, List, Some, subst, arith, ℤ}
-use Rattle.kernel_base.specs.declared.answer.Answer.{Answer}
+use Rattle.std.proofs.Common.{◌≡◌, ℕ, suc, List, subst, arith}
 use Rattle.kernel_base.specs.declared.event.Event.{Event}
 use Rattle.world_model.specs.Session.{Item}
-use Rattle.world_model.specs.Journal.{line_of, answers_of, Birth, born_of}
+use Rattle.world_model.specs.Journal.{line_of, answers_of, Birth}
 use Rattle.program_trees.specs.ProgramTree.{CheckedTree}
 use Rattle.code_types.specs.declared.code.Code.{Code}
 use Rattle.code_types.specs.Talk.{CodeTalk}
-use Rattle.code_types.specs.Runs.{Begins, FollowsCode, IsCodeRun, ticks_in}
+use Rattle.code_types.specs.Runs.{Begins, FollowsCode, ticks_in}
 use Rattle.code_types.proofs.ManySteps.{one_talk}
-use Rattle.source_meaning.specs.Runs.{talk_in_journal, FollowsText, IsSourceRun}
+use Rattle.source_meaning.specs.Runs.{talk_in_journal, FollowsText}
 use Rattle.text_laws.specs.Laws.{FitsBirth, HasTalkOf, SameTalkLaw}
 
 -- the code's talk in a journal is the text's

@@ -1,6 +1,6 @@
 -- The facts of a typed program are sound.
-use Rattle.std.proofs.Common.{◌≡◌, ℕ, zero, suc, ◌+◌, ◌-◌, ◌<◌, ◌≤◌, Bool, true, false, List, [], ◌∷◌, ◌++◌, length, map, get_or, Option, Some, None, refl, sym, ap, ◌∙◌, subst, arith}
-use Rattle.std.specs.Prelude.{ℤ, slice_get, option_map, All, AllPairs, IfSome, IsTrue}
+use Rattle.std.proofs.Common.{◌≡◌, ℕ, zero, suc, ◌+◌, ◌<◌, ◌≤◌, false, List, [], ◌∷◌, length, map, get_or, Option, Some, refl, sym, ap, ◌∙◌, subst, arith}
+use Rattle.std.specs.Prelude.{ℤ, slice_get, option_map, All, IfSome}
 use Rattle.std.proofs.lemmas.Option.{slice_get-map, slice_get_within, get_or_from_slice_get, IfSome_then}
 use Rattle.std.proofs.lemmas.List.{length-map}
 use Rattle.std.proofs.lemmas.List.Elements.{All-nil, All-cons, All-append, All-map, All-weaker}
@@ -15,7 +15,7 @@ use Rattle.modes.specs.Scalars.{repeated, lowest_of}
 use Rattle.modes.specs.Language.{IsOfLanguage}
 use Rattle.layout_map.specs.Words as bits
 use Rattle.layout_map.specs.Apart as apart
-use Rattle.layout_map.specs.Outcome.{outcome_of, spots, unless_shared, unless_impossible}
+use Rattle.layout_map.specs.Outcome.{outcome_of, spots, unless_impossible}
 use Rattle.layout_map.specs.Numbered.{first_impossible}
 use Rattle.layout_map.specs.Spots.{spots_of}
 use Rattle.layout_map.proofs.ModeRuns.{spots_apart, spots_in_words}

@@ -1,8 +1,7 @@
 -- How far a talk has come: what was asked fits, as far as the answers before it fit; and what a part adds to it.
-use Rattle.std.proofs.Common.{◌≡◌, ℕ, zero, suc, ◌<◌, Bool, true, false, List, [], ◌∷◌, ◌++◌, length, Option, Some, None, refl, sym, ap, ◌∙◌, subst, arith}
-use Rattle.std.specs.Prelude.{ℤ, IsTrue, if◌then◌else◌}
+use Rattle.std.proofs.Common.{◌≡◌, ℕ, zero, suc, Bool, true, false, List, [], ◌∷◌, ◌++◌, subst}
+use Rattle.std.specs.Prelude.{if◌then◌else◌}
 use Rattle.std.specs.List.{All}
-use Rattle.std.proofs.lemmas.Bool.{cases_Bool}
 use Rattle.std.proofs.lemmas.List.Elements.{All-head, All-tail}
 use Rattle.kernel_base.specs.declared.ends.Exc.{Exc}
 use Rattle.kernel_base.specs.declared.ends.How.{How}
@@ -10,7 +9,7 @@ use Rattle.kernel_base.specs.declared.request.Request.{Request}
 use Rattle.kernel_base.specs.declared.request.Request.TheVariants.{End}
 use Rattle.kernel_base.specs.declared.answer.Answer.{Answer}
 use Rattle.kernel_base.specs.declared.answer.Answer.TheVariants.{Value, Done, Woken, Got, Otherwise, Instance, Fail, Chose, Handed, Stored}
-use Rattle.world_model.specs.Session.{Item, Tick, Ask, Session, Ticked, GoesOn, Last, tick_of, tick, first_answer}
+use Rattle.world_model.specs.Session.{Item, Tick, Ask, Session, tick_of, tick, first_answer}
 use Rattle.world_model.specs.Ranges.{IsAnswerInRange}
 use Rattle.program_trees.specs.ProgramTree.{CheckedTree}
 use Rattle.source_meaning.specs.Store.{Store, OpenCall}

@@ -1,8 +1,8 @@
 -- What statements ask fits the text, and they leave values of the modes of the locals.
-use Rattle.std.proofs.Common.{◌≡◌, ℕ, zero, suc, ◌+◌, ◌-◌, ◌<◌, ◌≤◌, Bool, true, false, List, [], ◌∷◌, ◌++◌, length, take, drop, Option, Some, None, inl, inr, ◌⊎◌, refl, sym, ap, ◌∙◌, subst, arith, append-nil}
-use Rattle.std.specs.Prelude.{ℤ, pos, negsuc, ◌≤ℤ◌, ◌-ℤ◌, ◌+ℤ◌, int_le, not, slice_get, slice_index_or, IsTrue, IfSome, is_some, All, if◌then◌else◌, ◌==◌}
+use Rattle.std.proofs.Common.{◌≡◌, ℕ, zero, suc, ◌+◌, ◌<◌, Bool, true, false, List, [], ◌∷◌, length, Option, Some, None, inl, inr, refl, sym, ap, ◌∙◌, subst, arith, append-nil}
+use Rattle.std.specs.Prelude.{ℤ, pos, ◌≤ℤ◌, int_le, not, slice_get, IsTrue, IfSome, All, if◌then◌else◌, ◌==◌}
 use Rattle.std.specs.List.{flat_map}
-use Rattle.std.proofs.lemmas.Bool.{cases_Bool, eqb-true, eq-eqb}
+use Rattle.std.proofs.lemmas.Bool.{eqb-true, eq-eqb}
 use Rattle.std.proofs.lemmas.Int.{ints}
 use Rattle.std.proofs.lemmas.Option.{slice_get_within}
 use Rattle.std.proofs.lemmas.List.Elements.{All-nil, All-cons, All-append, All-head, All-tail}
@@ -17,48 +17,43 @@ use Rattle.kernel_base.specs.declared.answer.Answer.TheVariants.{Value, Done, Wo
 use Rattle.kernel_base.specs.Facts.{NameThings}
 use Rattle.modes.specs.declared.mode.Bounds.{Bounds}
 use Rattle.modes.specs.ModeTree.{ModeTree}
-use Rattle.modes.specs.Bounds.{bounds_of, count_within, values_of}
-use Rattle.modes.specs.Scalars.{numbers_of, scalars_of, lowest_of}
-use Rattle.modes.specs.Roots.{root_of}
-use Rattle.modes.specs.Form.{FormTree, of_instance, of_powerset, form_of}
+use Rattle.modes.specs.Bounds.{bounds_of, values_of}
+use Rattle.modes.specs.Scalars.{numbers_of, lowest_of}
+use Rattle.modes.specs.Form.{FormTree, form_of}
 use Rattle.modes.specs.Similar.{shape_of}
 use Rattle.modes.specs.Language.{parts_fit, IsOfLanguage}
 use Rattle.checked_program.specs.declared.expr.Base.{Base}
-use Rattle.checked_program.specs.declared.expr.Base.TheVariants.{Shared, Local}
-use Rattle.checked_program.specs.declared.expr.Binary.{Binary}
 use Rattle.checked_program.specs.declared.program.Sort.{Sort}
-use Rattle.checked_program.specs.declared.program.Sort.TheVariants.{Procedure}
-use Rattle.program_trees.specs.ExprTree.{ExprTree, expr, ReceivedTree, received, ReceivedNodes, LocationTree, location, location_count, StartTree, CallTree}
+use Rattle.program_trees.specs.ExprTree.{ExprTree, expr, ReceivedTree, received, LocationTree, location}
 use Rattle.program_trees.specs.StatementTree.{SentTree, to_buffer, signal, ControlTree, while_true, for_ever, for_members, for_steps, StatementTree, statement, ActionTree, do_nothing, declare, set_lowest, module_at, region_at, assign, update, perform, drop_routine, evaluate, put_int, put_text, put_line, exit_from, return_with, set_result, assert_that, cause, stop, start_of, delay, continue_at, send, if_then, case_of, do_loop, begin_end, delay_case, receive_buffers, receive_signals, StatementNodes, no_statements, more_statements, ChoiceNodes, no_choices, more_choices, CaseNodes, no_cases, more_cases, DelayNodes, no_delays, more_delays, ReceiveNodes, no_receives, more_receives, OtherwiseNode, no_otherwise, otherwise, HandledNodes, no_handled, more_handled, HandlerNode, no_handler, handler}
-use Rattle.program_trees.specs.ProgramTree.{LocationRowTree, BufferRowTree, SignalRowTree, LocalRowTree, CheckedTree}
+use Rattle.program_trees.specs.ProgramTree.{BufferRowTree, SignalRowTree}
 use Rattle.world_model.specs.Session.{Session}
 use Rattle.world_model.specs.Lists.{number_for}
 use Rattle.world_model.specs.Ranges.{IsNumber}
 use Rattle.scalar_operators.specs.Numbers.{is_int, where_true}
 use Rattle.scalar_operators.specs.Powersets.{first_of_list}
 use Rattle.scalar_operators.specs.Members.{offsets_of, span_in}
-use Rattle.code_types.specs.Exceptions.{exception_of}
 use Rattle.code_types.specs.Operands.{number_in as number_of_32, bytes_of}
 use Rattle.code_types.specs.Places.{names_exception}
 use Rattle.source_meaning.specs.Store.{Store, Address, address_of, with_local, with_result}
-use Rattle.source_meaning.specs.Flow.{Flow, Goes, Raised, Exits, Returned, Meaning, then_do, asked, done, finish}
+use Rattle.source_meaning.specs.Flow.{Flow, Goes, Raised, Meaning, then_do}
 use Rattle.source_meaning.specs.Operators.{sole_number, one, is_true, member_at, without_offset, routine_value}
-use Rattle.source_meaning.specs.ExprMeaning.{Setting, as_computed, or_rangefail, tested, read_at, assign_at, expr_mean, binary_with, received_mean}
-use Rattle.source_meaning.specs.StatementMeaning.{nothing, skip, no_state, set_names, set_locals, spread_over, set_to, set_address, put_bytes, send_to, sent_signal, sent_mean, result_mean, return_mean, holds_one, pairs_with, delay_pairs, receive_list, receive_counts, is_written, received_by, Come, comes_to, nothing_came, take_in, woken_as, where_holds, next_member, passes_end, next_value, next_step, bound_mean, step_mean, loop_mean, is_label, opened, region_in, at_region, caught, behind_wait, delay_with, receive_with, statement_mean, handler_mean, alternatives_mean, otherwise_mean, statements_mean, action_mean, choices_mean, cases_mean, delay_mean, receive_mean}
-use Rattle.source_meaning.specs.Values.{Domain, any_instance, member_domains, domains_of, IsWithin, AreWithin, IsValueOf}
+use Rattle.source_meaning.specs.ExprMeaning.{Setting, expr_mean, received_mean}
+use Rattle.source_meaning.specs.StatementMeaning.{skip, no_state, set_names, set_locals, spread_over, set_to, set_address, put_bytes, send_to, sent_signal, sent_mean, result_mean, return_mean, holds_one, pairs_with, delay_pairs, receive_list, receive_counts, is_written, received_by, Come, comes_to, nothing_came, take_in, woken_as, where_holds, next_member, passes_end, next_value, next_step, bound_mean, step_mean, loop_mean, is_label, opened, caught, behind_wait, delay_with, receive_with, statement_mean, handler_mean, alternatives_mean, otherwise_mean, statements_mean, action_mean, choices_mean, cases_mean, delay_mean, receive_mean}
+use Rattle.source_meaning.specs.Values.{Domain, any_instance, member_domains, domains_of, AreWithin, IsValueOf}
 use Rattle.source_meaning.specs.Fitting.{domains_in_buffer, domains_in_signal, thing_of, FitsAnswer}
-use Rattle.source_meaning.specs.TypedValues.{Context, BaseHas, BufferHas, IsRootOfEither, BinaryHas, HasMode, IsTakenBy, LocationHas}
-use Rattle.source_meaning.specs.TypedStatements.{Around, IsCondition, IsSomeCondition, IsOfInt, IsReceiver, TakesInstance, AllBasesHave, LocalHas, LocalsHave, SignalHas, IsEvent, IsStepped, IsTypedSend, IsTypedControl, IsTypedReturn, Brings, BufferBrings, labelled_around, around_in, around_action, around_handler, IsTypedStatement, AreTyped, IsTypedHandler, AreTypedAlternatives, IsTypedOtherwise, IsTypedAction, AreTypedChoices, AreTypedCases, AreTypedDelays, AreTypedReceives}
+use Rattle.source_meaning.specs.TypedValues.{Context, BaseHas, IsRootOfEither, HasMode, IsTakenBy}
+use Rattle.source_meaning.specs.TypedStatements.{Around, IsSomeCondition, IsReceiver, TakesInstance, AllBasesHave, LocalHas, LocalsHave, SignalHas, IsStepped, IsTypedSend, IsTypedControl, IsTypedReturn, Brings, BufferBrings, labelled_around, around_action, around_handler, IsTypedStatement, AreTyped, IsTypedHandler, AreTypedAlternatives, IsTypedOtherwise, IsTypedAction, AreTypedChoices, AreTypedCases, AreTypedDelays, AreTypedReceives}
 use Rattle.source_meaning.specs.Typed.{IsForProcess}
 use Rattle.text_laws.specs.Requests.{NumbersTell, FitsText}
 use Rattle.text_laws.proofs.SoundFacts.{all_at}
 use Rattle.text_laws.proofs.Values.{within_length, lowest_within, count_domains}
-use Rattle.text_laws.proofs.Operations.{Computes, result_fits_text, routine_computes, number_value, set_domains, set_members, member_by}
+use Rattle.text_laws.proofs.Operations.{result_fits_text, routine_computes, number_value, set_domains, member_by}
 use Rattle.text_laws.proofs.Powersets.{differences_tell, span_length, offsets_below, first_below}
-use Rattle.text_laws.proofs.Taking.{taken_value, PartAt, part_whole, domains_in_form, form_domains, shape_bounds, root_bounds, number_in_root}
+use Rattle.text_laws.proofs.Taking.{taken_value, part_whole, domains_in_form, form_domains, shape_bounds, root_bounds, number_in_root}
 use Rattle.text_laws.proofs.Stores.{StoreFits, with_local_fits, with_result_fits, RowsFit, row_fits, set_locals_fit, spread_fits}
-use Rattle.text_laws.proofs.Stages.{Whole, Fits, Here, Comes, ComesBy, Any, Answers, goes, raises, bind, weaker, asks, does, finishes}
-use Rattle.text_laws.proofs.ExprAsks.{context_in, Stands, AddressFits, Assigned, ModesFit, ranges, passes, computes, reads, assigns, with_asks, expr_asks, received_asks, all_received_asks, location_asks, start_asks, call_asks, base_fits, address_fits, parts_lead}
+use Rattle.text_laws.proofs.Stages.{Whole, Fits, Here, Comes, Any, Answers, goes, raises, bind, weaker, asks, does, finishes}
+use Rattle.text_laws.proofs.ExprAsks.{context_in, Stands, AddressFits, ModesFit, ranges, passes, computes, reads, assigns, with_asks, expr_asks, received_asks, all_received_asks, location_asks, start_asks, call_asks, base_fits, address_fits, parts_lead}
 use Rattle.text_laws.proofs.Combining.{TestFits, catches, labels, region_asks, turns_ask}
 
 abbrev pub around_at : Whole → Setting → Option ℕ → Sort → Option ModeTree → ℕ → Around
@@ -237,12 +232,15 @@ module _ (g : Whole) (result : Option ModeTree) (sort : Sort) (mode : IfSome res
   takes_in : (w : Setting) (region : Option ℕ) (stands : Stands g w result) (n : ℕ) (request : Request) (brings : Brings) (rs : ReceiveNodes) (a : Answer) (store : Store) (s : Session) → Here g (StoreFits w.rows result) store s → AreTypedReceives (around_at g w region sort result n) brings rs → (Fits g s → Answers g request a) → ((number sent by : ℕ) (xs : List ℤ) → FitsAnswer g.program request (Got number sent xs by) → (thing : ℕ) × (number_for (receive_list 0 rs) thing ≡ Some number) × ((ms : List ModeTree) → brings thing ms → thing_of (receive_list 0 rs) number ≡ thing → AreWithin (flat_map domains_of ms) xs)) → Comes g (StoreFits w.rows result) s ComeFits (take_in w.rows rs a store s)
   takes_in w region stands n request brings rs (Got number sent xs by) store s h t v b =
       goes g (StoreFits w.rows result)
-      (record { stage = h.stage; holds = λ f.
-          let c = b number sent by xs (v f).fits in
-          let r = brought_by_list (around_at g w region sort result n) brings rs 0 c.0 number t c.1 in
-          let at : r.place ≡ number = (let e = r.is in omega (arith, e)) in
-          subst (λ (k : ℕ). StoreFits w.rows result (spread_over w.rows (received_by k rs) xs store)) at
-          (spread_fits (context_in g w region) result (received_by r.place rs) r.modes xs store stands.rows (h.holds f) r.locals (c.2 r.modes r.brought r.tells)) })
+      (record {
+        stage = h.stage;
+        holds = λ f.
+            let c = b number sent by xs (v f).fits in
+            let r = brought_by_list (around_at g w region sort result n) brings rs 0 c.0 number t c.1 in
+            let at : r.place ≡ number = (let e = r.is in omega (arith, e)) in
+            subst (λ (k : ℕ). StoreFits w.rows result (spread_over w.rows (received_by k rs) xs store)) at
+            (spread_fits (context_in g w region) result (received_by r.place rs) r.modes xs store stands.rows (h.holds f) r.locals (c.2 r.modes r.brought r.tells));
+      })
       (λ f. (v f).in_range.3)
   takes_in w region stands n request brings rs a store s h t v b = goes g (StoreFits w.rows result) h (λ f. tt)
 
@@ -293,18 +291,20 @@ module _ (g : Whole) (result : Option ModeTree) (sort : Sort) (mode : IfSome res
       next_by None e = goes g (StoreFits w.rows result) h (λ f. tt)
       next_by (Some k) e =
           bind g (StoreFits w.rows result) (IsValueOf own)
-          (computes g w result region stands own (member_at low (Some k)) store s h (λ f. record { by = member_by own b low (Some k) bounds at (λ j q.
-              let same : k ≡ j = cc in
-              let below : k < values_of own = first_below (values_of own) (offsets_of set) k (offsets_below (values_of own) 0 (numbers_of (values_of own)) set (v f)) e in
-              omega (arith, same, below)) }))
+          (computes g w result region stands own (member_at low (Some k)) store s h (λ f. record {
+            by = member_by own b low (Some k) bounds at (λ j q.
+                let same : k ≡ j = cc in
+                let below : k < values_of own = first_below (values_of own) (offsets_of set) k (offsets_below (values_of own) 0 (numbers_of (values_of own)) set (v f)) e in
+                omega (arith, same, below));
+          }))
           (λ xs store1 s1 h1 q.
           where_asks (AreWithin (member_domains (values_of own) 0 (numbers_of (values_of own)))) w region stands condition (without_offset k set) (with_local store1 counter xs) s1
           (record { stage = h1.stage; holds = λ f. with_local_fits w.rows result store1 counter local.0 xs (h1.holds f) local.1 (subst (λ (x : ModeTree). IsValueOf x xs) (sym local.2) (q f).1) })
           c
           (λ f.
-              let u = v (q f).0 in
-              differences_tell (values_of own) 0 (numbers_of (values_of own)) set (span_in (length set) (pos k) (pos k))
-              (span_length (length set) (pos k) (pos k) ∙ sym (member_count (values_of own) 0 (numbers_of (values_of own)) set u)) u))
+          let u = v (q f).0 in
+          differences_tell (values_of own) 0 (numbers_of (values_of own)) set (span_in (length set) (pos k) (pos k))
+          (span_length (length set) (pos k) (pos k) ∙ sym (member_count (values_of own) 0 (numbers_of (values_of own)) set u)) u))
         where
           member_count : (size first n : ℕ) (xs : List ℤ) → AreWithin (member_domains size first n) xs → n ≡ length xs
           member_count size first zero [] w = refl
@@ -350,10 +350,13 @@ module _ (g : Whole) (result : Option ModeTree) (sort : Sort) (mode : IfSome res
       step_by true e = goes g (StoreFits w.rows result) h (λ f. tt)
       step_by false e =
           where_asks (λ (z : ℤ). Counts down b z × (pos 1 ≤ℤ by) × (b.low ≤ℤ end) × (end ≤ℤ b.high)) w region stands condition (next_value down value by) (with_local store counter (one value)) s
-          (record { stage = h.stage; holds = λ f.
-              let u = v f in
-              let l = counted_value down b value end u.0 (u.2, u.3) e in
-              with_local_fits w.rows result store counter local.0 (one value) (h.holds f) local.1 (subst (λ (x : ModeTree). IsValueOf x (one value)) (sym local.2) (number_value m b value bounds l.0 l.1)) })
+          (record {
+            stage = h.stage;
+            holds = λ f.
+                let u = v f in
+                let l = counted_value down b value end u.0 (u.2, u.3) e in
+                with_local_fits w.rows result store counter local.0 (one value) (h.holds f) local.1 (subst (λ (x : ModeTree). IsValueOf x (one value)) (sym local.2) (number_value m b value bounds l.0 l.1));
+          })
           c
           (λ f. let u = v f in (counts_on down b value by u.1 u.0, u.1, u.2, u.3))
 
@@ -415,6 +418,7 @@ module _ (g : Whole) (result : Option ModeTree) (sort : Sort) (mode : IfSome res
       sends_to : (xs : List ℤ) (o : Option ℕ) (store1 : Store) (s1 : Session) → Here g (StoreFits w.rows result) store1 s1 → (Fits g s1 → (k < length g.program.signals) × AreWithin (domains_in_signal (slice_get g.program.signals k)) xs) → Comes g (StoreFits w.rows result) s1 Any (send_to k priority xs o store1 s1)
       sends_to xs None store1 s1 h1 v = raises g (StoreFits w.rows result) h1
       sends_to xs (Some i) store1 s1 h1 v = does g (StoreFits w.rows result) (SendSignal k xs (Some i) priority) store1 s1 h1 v
+
       to_by : (o : Option ExprTree) → IsReceiver (context_in g w region) o → (xs : List ℤ) (store1 : Store) (s1 : Session) → Here g (StoreFits w.rows result) store1 s1 → (Fits g s1 → (k < length g.program.signals) × AreWithin (domains_in_signal (slice_get g.program.signals k)) xs) → Comes g (StoreFits w.rows result) s1 Any (sent_signal w k priority o xs store1 s1)
       to_by None u xs store1 s1 h1 v = does g (StoreFits w.rows result) (SendSignal k xs None priority) store1 s1 h1 v
       to_by (Some e) u xs store1 s1 h1 v =
@@ -441,18 +445,24 @@ module _ (g : Whole) (result : Option ModeTree) (sort : Sort) (mode : IfSome res
 
   buffer_gives : (w : Setting) (region : Option ℕ) (rs : ReceiveNodes) (o : Bool) (number sent by : ℕ) (xs : List ℤ) → FitsAnswer g.program (ReceiveBuffer (receive_list 0 rs) o) (Got number sent xs by) → (thing : ℕ) × (number_for (receive_list 0 rs) thing ≡ Some number) × ((ms : List ModeTree) → BufferBrings (context_in g w region) thing ms → thing_of (receive_list 0 rs) number ≡ thing → AreWithin (flat_map domains_of ms) xs)
   buffer_gives w region rs o number sent by xs f =
-      let listed = f.gives.0 in
-      (listed.0, listed.1, λ ms t at.
-      let same : domains_in_buffer (slice_get g.program.buffers (thing_of (receive_list 0 rs) number)) ≡ domains_of t.0 = ap (λ (n : ℕ). domains_in_buffer (slice_get g.program.buffers n)) at ∙ (ap domains_in_buffer t.2.1 ∙ ap domains_of t.2.2) in
-      let joined : flat_map domains_of (t.0 ∷ []) ≡ domains_of t.0 = append-nil (domains_of t.0) in
-      subst (λ (l : List ModeTree). AreWithin (flat_map domains_of l) xs) (sym t.1) (subst (λ (ds : List Domain). AreWithin ds xs) (same ∙ sym joined) f.brings))
+      let listed = f.gives.0 in (
+        listed.0,
+        listed.1,
+        λ ms t at.
+            let same : domains_in_buffer (slice_get g.program.buffers (thing_of (receive_list 0 rs) number)) ≡ domains_of t.0 = ap (λ (n : ℕ). domains_in_buffer (slice_get g.program.buffers n)) at ∙ (ap domains_in_buffer t.2.1 ∙ ap domains_of t.2.2) in
+            let joined : flat_map domains_of (t.0 ∷ []) ≡ domains_of t.0 = append-nil (domains_of t.0) in
+            subst (λ (l : List ModeTree). AreWithin (flat_map domains_of l) xs) (sym t.1) (subst (λ (ds : List Domain). AreWithin ds xs) (same ∙ sym joined) f.brings),
+      )
 
   signal_gives : (w : Setting) (region : Option ℕ) (rs : ReceiveNodes) (o : Bool) (number sent by : ℕ) (xs : List ℤ) → FitsAnswer g.program (ReceiveSignal (receive_list 0 rs) o) (Got number sent xs by) → (thing : ℕ) × (number_for (receive_list 0 rs) thing ≡ Some number) × ((ms : List ModeTree) → SignalHas (context_in g w region) thing ms → thing_of (receive_list 0 rs) number ≡ thing → AreWithin (flat_map domains_of ms) xs)
   signal_gives w region rs o number sent by xs f =
-      let listed = f.gives.0 in
-      (listed.0, listed.1, λ ms t at.
-      let same : domains_in_signal (slice_get g.program.signals (thing_of (receive_list 0 rs) number)) ≡ flat_map domains_of ms = ap (λ (n : ℕ). domains_in_signal (slice_get g.program.signals n)) at ∙ (ap domains_in_signal t.1 ∙ ap (λ (l : List ModeTree). flat_map domains_of l) t.2) in
-      subst (λ (ds : List Domain). AreWithin ds xs) same f.brings)
+      let listed = f.gives.0 in (
+        listed.0,
+        listed.1,
+        λ ms t at.
+            let same : domains_in_signal (slice_get g.program.signals (thing_of (receive_list 0 rs) number)) ≡ flat_map domains_of ms = ap (λ (n : ℕ). domains_in_signal (slice_get g.program.signals n)) at ∙ (ap domains_in_signal t.1 ∙ ap (λ (l : List ModeTree). flat_map domains_of l) t.2) in
+            subst (λ (ds : List Domain). AreWithin ds xs) same f.brings,
+      )
 
   bytes_ask : (w : Setting) (o : Option (List ℕ)) (store : Store) (s : Session) → Here g (StoreFits w.rows result) store s → Comes g (StoreFits w.rows result) s Any (put_bytes o store s)
   bytes_ask w None store s h = raises g (StoreFits w.rows result) h
@@ -493,8 +503,8 @@ module _ (g : Whole) (result : Option ModeTree) (sort : Sort) (mode : IfSome res
         (region_asks g (StoreFits w.rows result) r w (λ w1 store1 s1. caught (action_mean w1 n (region_at r ss) store1 s1) (handler_mean w1 n hn)) store s h t.1.0
         (λ store1 s1 h1. catches g (StoreFits w.rows result) (statements_ask ss w (Some r) stands labelled n store1 s1 h1 t.1.1) (λ x store2 s2 h2. handler_asks hn w (Some r) stands labelled n x store2 s2 h2 t.2.1))
         (λ store1 s1 h1.
-            let inside : Stands g (opened w r) result = record { rows = stands.rows; who = stands.who; calls = stands.calls } in
-            catches g (StoreFits w.rows result) (statements_ask ss (opened w r) (Some r) inside labelled n store1 s1 h1 t.1.1) (λ x store2 s2 h2. handler_asks hn (opened w r) (Some r) inside labelled n x store2 s2 h2 t.2.1)))
+        let inside : Stands g (opened w r) result = record { rows = stands.rows; who = stands.who; calls = stands.calls } in
+        catches g (StoreFits w.rows result) (statements_ask ss (opened w r) (Some r) inside labelled n store1 s1 h1 t.1.1) (λ x store2 s2 h2. handler_asks hn (opened w r) (Some r) inside labelled n x store2 s2 h2 t.2.1)))
     statement_asks (statement l a hn) w region stands labelled n store s h t =
         let around = around_as g w region sort result labelled l a in
         let behind = handler_as g w region t.2.0 sort result labelled l a in

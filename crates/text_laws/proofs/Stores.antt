@@ -1,25 +1,20 @@
 -- Stores whose values are those of the modes of the locals, and what reads and writes of them give.
-use Rattle.std.proofs.Common.{◌≡◌, ℕ, zero, suc, ◌+◌, ◌-◌, ◌<◌, ◌≤◌, Bool, true, false, List, [], ◌∷◌, ◌++◌, length, take, drop, map, Option, Some, None, refl, sym, ap, ◌∙◌, subst, arith}
-use Rattle.std.specs.Prelude.{ℤ, pos, slice_get, slice_set, slice_index_or, IsTrue, IfSome, All}
+use Rattle.std.proofs.Common.{◌≡◌, ℕ, zero, suc, ◌+◌, ◌≤◌, List, [], ◌∷◌, ◌++◌, length, take, drop, Option, Some, None, sym, ap, ◌∙◌, subst, arith}
+use Rattle.std.specs.Prelude.{ℤ, slice_get, slice_set, slice_index_or, IsTrue, All}
 use Rattle.std.specs.List.{flat_map}
 use Rattle.std.proofs.lemmas.List.{take_at, drop_at}
 use Rattle.std.proofs.lemmas.List.Elements.{All-head, All-tail}
 use Rattle.modes.specs.ModeTree.{ModeTree}
-use Rattle.modes.specs.Bounds.{bounds_of}
-use Rattle.modes.specs.Scalars.{scalars_of, lowest_of}
-use Rattle.modes.specs.Language.{parts_fit, IsOfLanguage}
-use Rattle.modes.specs.Similar.{shape_of}
-use Rattle.modes.specs.declared.mode.Bounds.{Bounds}
-use Rattle.checked_program.specs.declared.program.Parameter.{Parameter}
-use Rattle.program_trees.specs.ProgramTree.{LocationRowTree, LocalRowTree, BodyRowTree}
+use Rattle.modes.specs.Scalars.{scalars_of}
+use Rattle.modes.specs.Language.{parts_fit}
+use Rattle.program_trees.specs.ProgramTree.{LocalRowTree}
 use Rattle.world_model.specs.Lists.{scalars_at, with_scalars}
-use Rattle.source_meaning.specs.Store.{Store, local_value, with_local, with_part, with_result, Address, in_local, in_shared, lowest_result, Taken, brings, lowest, begins_with, first_locals, first_store, count_in}
-use Rattle.source_meaning.specs.ExprMeaning.{CopyOut, Passed, takens}
-use Rattle.source_meaning.specs.StatementMeaning.{set_locals, spread_over, counts_over}
+use Rattle.source_meaning.specs.Store.{Store, with_local, with_result, Taken, brings, lowest, begins_with, first_locals, count_in}
+use Rattle.source_meaning.specs.StatementMeaning.{set_locals, spread_over}
 use Rattle.source_meaning.specs.Values.{Domain, domains_of, AreWithin, IsValueOf}
 use Rattle.source_meaning.specs.TypedValues.{Context}
 use Rattle.source_meaning.specs.TypedStatements.{LocalHas, LocalsHave}
-use Rattle.text_laws.proofs.Values.{within_append, within_length, within_take, within_drop, lowest_within, count_domains}
+use Rattle.text_laws.proofs.Values.{within_length, within_take, within_drop, lowest_within, count_domains}
 use Rattle.text_laws.proofs.Taking.{PartAt}
 
 -- each local has a value of its mode
@@ -152,9 +147,10 @@ set_locals_fit c result m (i ∷ is) xs store w h v =
 -- the front of joined values
 front_value : (m : ModeTree) (es : List Domain) (xs : List ℤ) (n : ℕ) → n ≡ scalars_of m → AreWithin (domains_of m ++ es) xs → IsValueOf m (take n xs) × AreWithin es (drop n xs)
 front_value m es xs n e v =
-    let c : length (domains_of m) ≡ n = count_domains m ∙ sym e in
-    (subst (λ (ds : List Domain). AreWithin ds (take n xs)) (take_at (domains_of m) es n c) (within_take n (domains_of m ++ es) xs v),
-    subst (λ (ds : List Domain). AreWithin ds (drop n xs)) (drop_at (domains_of m) es n c) (within_drop n (domains_of m ++ es) xs v))
+    let c : length (domains_of m) ≡ n = count_domains m ∙ sym e in (
+      subst (λ (ds : List Domain). AreWithin ds (take n xs)) (take_at (domains_of m) es n c) (within_take n (domains_of m ++ es) xs v),
+      subst (λ (ds : List Domain). AreWithin ds (drop n xs)) (drop_at (domains_of m) es n c) (within_drop n (domains_of m ++ es) xs v),
+    )
 
 count_of_row : (rows : List LocalRowTree) (i : ℕ) (row : LocalRowTree) → slice_get rows i ≡ Some row → count_in (slice_get rows i) ≡ row.count
 count_of_row rows i row e = ap count_in e

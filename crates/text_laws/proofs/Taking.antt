@@ -1,26 +1,25 @@
 -- A value that goes with a mode, once it is tested by that mode's bounds, is a value of it; and where a part lies in a value.
-use Rattle.std.proofs.Common.{◌≡◌, ℕ, zero, suc, ◌+◌, ◌-◌, ◌*◌, ◌<◌, ◌≤◌, min, Bool, true, false, ◌&&◌, List, [], ◌∷◌, ◌++◌, length, take, drop, replicate, Option, Some, None, inl, inr, ◌⊎◌, refl, sym, ap, ◌∙◌, subst, arith, length-append}
-use Rattle.std.specs.Prelude.{ℤ, pos, negsuc, ◌≤ℤ◌, ◌-ℤ◌, ◌+ℤ◌, ◌*ℤ◌, nat_abs, int_le, IsTrue, is_some, if◌then◌else◌}
+use Rattle.std.proofs.Common.{◌≡◌, ℕ, zero, suc, ◌+◌, ◌*◌, ◌<◌, ◌≤◌, Bool, true, false, List, [], ◌∷◌, ◌++◌, length, take, drop, replicate, Option, Some, None, inl, inr, refl, sym, ap, ◌∙◌, subst, arith, length-append}
+use Rattle.std.specs.Prelude.{ℤ, ◌≤ℤ◌, int_le, IsTrue, is_some}
 use Rattle.std.proofs.lemmas.Int.{ints}
-use Rattle.std.proofs.lemmas.List.{length-drop, drop-drop, take-take, take_at, drop_at, take-append-le, drop-append-le}
+use Rattle.std.proofs.lemmas.List.{drop-drop, take-take, take_at}
 use Rattle.modes.specs.declared.mode.Bounds.{Bounds}
-use Rattle.modes.specs.ModeTree.{ModeTree, int, boolean, char, instance, set_of, range, powerset, chars, array, structure, event, buffer, read, named, FieldNodes, no_fields, more_fields, SpreadTree}
-use Rattle.modes.specs.Bounds.{bounds_of, bounds_in, natural_of, count_between, count_within, values_of}
-use Rattle.modes.specs.Scalars.{numbers_of, repeated, scalars_of, scalars_in_fields}
+use Rattle.modes.specs.ModeTree.{ModeTree, int, boolean, char, instance, set_of, range, powerset, chars, array, structure, event, buffer, read, named, FieldNodes, no_fields, more_fields}
+use Rattle.modes.specs.Bounds.{bounds_of, bounds_in, count_within, values_of}
+use Rattle.modes.specs.Scalars.{numbers_of, repeated, scalars_of}
 use Rattle.modes.specs.Roots.{root_of}
 use Rattle.modes.specs.Form.{FormTree, of_int, of_boolean, of_char, of_instance, of_set, of_powerset, of_chars, of_array, of_structure, of_meeting, form_of}
 use Rattle.modes.specs.Similar.{Shape, like_int, like_boolean, like_char, like_instance, like_set, like_powerset, like_chars, like_array, like_structure, like_none, part, no_more, next_field, shape_of, shape_of_fields}
-use Rattle.modes.specs.Language.{parts_fit, fields_fit, lie_in, IsOfLanguage}
+use Rattle.modes.specs.Language.{parts_fit, fields_fit, lie_in}
 use Rattle.modes.proofs.SimilarLemmas.{both}
 use Rattle.layout_map.proofs.Narrow.{values-from}
 use Rattle.layout_map.proofs.Steps.{le-from}
-use Rattle.scalar_operators.specs.Numbers.{is_between, where_true, is_scalar}
-use Rattle.world_model.specs.Lists.{scalars_at, with_scalars}
-use Rattle.source_meaning.specs.Operators.{sole_number, offset_within}
-use Rattle.source_meaning.specs.Values.{Domain, within, any_instance, members_from, domain_in, member_domains, domains_of, domains_of_fields, IsWithin, AreWithin, IsValueOf}
-use Rattle.source_meaning.specs.TypedValues.{HasField, IsIndexed, IsStructure}
+use Rattle.scalar_operators.specs.Numbers.{is_between}
+use Rattle.source_meaning.specs.Operators.{sole_number}
+use Rattle.source_meaning.specs.Values.{Domain, any_instance, domain_in, member_domains, domains_of, domains_of_fields, AreWithin, IsValueOf}
+use Rattle.source_meaning.specs.TypedValues.{HasField}
 use Rattle.text_laws.proofs.Held.{untrue}
-use Rattle.text_laws.proofs.Values.{within_length, within_take, within_drop, count_domains, count_field_domains, count_repeated}
+use Rattle.text_laws.proofs.Values.{count_domains}
 use Rattle.text_laws.proofs.Operations.{discrete_number, number_value}
 use Rattle.text_laws.proofs.Powersets.{and_left, and_right}
 
@@ -394,6 +393,7 @@ range_lies (Some d) (Some b) l h w t =
   where
     low_on : (a b c : ℤ) → a ≤ℤ b → IsTrue (int_le b c) → a ≤ℤ c
     low_on a b c p t = grind (arith, ints, p, t)
+
     high_on : (a b c : ℤ) → IsTrue (int_le a b) → b ≤ℤ c → a ≤ℤ c
     high_on a b c t p = grind (arith, ints, p, t)
 

@@ -1,43 +1,38 @@
 -- What bodies, calls and processes ask fits the text.
-use Rattle.std.proofs.Common.{◌≡◌, ℕ, zero, suc, ◌+◌, ◌-◌, ◌<◌, ◌≤◌, Bool, true, false, List, [], ◌∷◌, ◌++◌, length, take, drop, Option, Some, None, refl, sym, ap, ◌∙◌, subst, arith}
-use Rattle.std.specs.Prelude.{ℤ, slice_get, IsTrue, IfSome, All, nat_lt, if◌then◌else◌, ◌==◌}
-use Rattle.std.specs.List.{flat_map}
+use Rattle.std.proofs.Common.{◌≡◌, ℕ, zero, suc, ◌+◌, ◌<◌, Bool, true, false, List, [], ◌∷◌, ◌++◌, length, take, drop, Option, Some, None, refl, sym, ◌∙◌, subst}
+use Rattle.std.specs.Prelude.{ℤ, slice_get, IsTrue, IfSome, nat_lt, if◌then◌else◌, ◌==◌}
 use Rattle.std.proofs.lemmas.Option.{IfSome_then}
 use Rattle.std.proofs.lemmas.List.{take_at, drop_at}
-use Rattle.kernel_base.specs.declared.ends.Exc.{Exc}
 use Rattle.kernel_base.specs.declared.ends.Exc.TheVariants.{Spacefail}
 use Rattle.kernel_base.specs.declared.ends.How.TheVariants.{Normal, Raised as RaisedHow}
 use Rattle.kernel_base.specs.declared.request.Request.TheVariants.{Enter, Leave}
 use Rattle.kernel_base.specs.declared.answer.Answer.{Answer}
 use Rattle.modes.specs.ModeTree.{ModeTree}
-use Rattle.modes.specs.Scalars.{scalars_of}
 use Rattle.modes.specs.Language.{parts_fit, IsOfLanguage}
 use Rattle.checked_program.specs.declared.program.Sort.{Sort}
 use Rattle.checked_program.specs.declared.program.Sort.TheVariants.{Outermost, Process, Procedure}
 use Rattle.checked_program.specs.declared.program.Parameter.{Parameter}
 use Rattle.program_trees.specs.ProgramTree.{LocalRowTree, BodyRowTree, CheckedTree}
-use Rattle.world_model.specs.Session.{Item, Session, session_of, tick}
-use Rattle.world_model.specs.Ranges.{IsNumber, IsAnswerInRange}
+use Rattle.world_model.specs.Session.{Session, session_of, tick}
+use Rattle.world_model.specs.Ranges.{IsNumber}
 use Rattle.code_types.specs.Places.{names_exception}
 use Rattle.code_types.specs.Actions.{most_frames}
-use Rattle.source_meaning.specs.Store.{Store, OpenCall, Taken, brings, lowest, lowest_result, first_store}
-use Rattle.source_meaning.specs.Flow.{Flow, Goes, Raised, Exits, Returned, Stops, Gone, Bound, Meaning, then_do, done, finish, after_tick}
+use Rattle.source_meaning.specs.Store.{Store, Taken, lowest_result, first_store}
+use Rattle.source_meaning.specs.Flow.{Flow, Goes, Raised, Exits, Returned, Stops, Gone, Bound, then_do, done, finish, after_tick}
 use Rattle.source_meaning.specs.ExprMeaning.{Calls, Setting}
-use Rattle.source_meaning.specs.StatementMeaning.{statements_mean, handler_mean, caught, is_open}
+use Rattle.source_meaning.specs.StatementMeaning.{is_open}
 use Rattle.source_meaning.specs.BodyMeaning.{Ending, Through, Out, Halted, Ended, Unknown, close, Bodies, listed_by, at_call, calls_in, leaving, behind_enter, in_region, region_if, critical_region, setting_of, inside_of, body_of, body_mean}
-use Rattle.source_meaning.specs.Talk.{Talk, process_end, talk_at, split_over, parameter_scalars, talk_in, talk}
+use Rattle.source_meaning.specs.Talk.{Talk, process_end, talk_at, split_over, parameter_scalars, no_talk, talk_in, talk}
 use Rattle.source_meaning.specs.Values.{Domain, domains_of, AreWithin, IsValueOf}
-use Rattle.source_meaning.specs.Fitting.{domains_of_parameters, has_instances, FitsBody, AreOfTypes, HasFittingAnswers}
+use Rattle.source_meaning.specs.Fitting.{domains_of_parameters, FitsBody, AreOfTypes}
 use Rattle.source_meaning.specs.Typed.{IsTyped, IsTypedBody, HasHead, RegionIsThere}
-use Rattle.source_meaning.specs.TypedStatements.{AreTyped, IsTypedHandler}
 use Rattle.text_laws.specs.Requests.{AskWell}
-use Rattle.text_laws.proofs.Held.{untrue}
 use Rattle.text_laws.proofs.Values.{lowest_within, within_take, within_drop, count_domains}
-use Rattle.text_laws.proofs.Stores.{StoreFits, ResultFits, RowsFit, TakenFits, TakensFit, first_fits}
-use Rattle.text_laws.proofs.Stages.{Whole, Fits, Stage, Here, Comes, ComesBy, Any, goes, raises, bind, does, finishes, ticked}
+use Rattle.text_laws.proofs.Stores.{StoreFits, ResultFits, RowsFit, TakensFit, first_fits}
+use Rattle.text_laws.proofs.Stages.{Whole, Fits, Stage, Here, Comes, ComesBy, Any, earlier, raises, bind, does, finishes, ticked}
 use Rattle.text_laws.proofs.ExprAsks.{CallsFit, Stands, rows_typed}
 use Rattle.text_laws.proofs.Combining.{catches}
-use Rattle.text_laws.proofs.StatementAsks.{around_at, statements_ask, handler_asks}
+use Rattle.text_laws.proofs.StatementAsks.{statements_ask, handler_asks}
 
 -- ---- how a body ends
 
@@ -82,8 +77,8 @@ module _ (g : Whole) (S : Store → Type 0) where
   leaving_by r listed s (Ended t) low c = c
   leaving_by r listed s Unknown low c = c
 
-  enter_by : (s : Session) (o : Flow (Unit {0})) (next : Session → Ending) → ComesBy g S s Any o → ((store : Store) (s1 : Session) → Here g S store s1 → Ends g S s1 (next s1)) → EndsBy g S s (behind_enter o next)
-  enter_by s (Goes v store s1) next c k = ends_from s s1 (next s1) (λ f. (c.1 f).0) (k store s1 c.0).by
+  enter_by : (s : Session) (o : Flow (Unit {0})) (next : Session → Ending) → ComesBy g S s Any o → ((store : Store) (s1 : Session) → Here g S store s1 → (Fits g s1 → Fits g s) → Ends g S s1 (next s1)) → EndsBy g S s (behind_enter o next)
+  enter_by s (Goes v store s1) next c k = ends_from s s1 (next s1) (λ f. (c.1 f).0) (k store s1 c.0 (λ f. (c.1 f).0)).by
   enter_by s (Raised x store s1) next c k = c
   enter_by s (Exits n store s1) next c k = c
   enter_by s (Returned store s1) next c k = c
@@ -110,6 +105,7 @@ call_by g S b body o store from s (Out x inner s1) back h c = out_by (names_exce
   where
     here : Here g S store s1
     here = record { stage = c.0.stage; holds = λ f. h (back (c.1 f)) }
+
     out_by : (t : Bool) → ComesBy g S from (StoreFits body.locals body.result) (if t then Raised x store s1 else finish (RaisedHow x) (record { body = b; store = inner } ∷ []) store s1)
     out_by true = (here, λ f. back (c.1 f))
     out_by false = (earlier g S from s1 (StoreFits body.locals body.result) (finish (RaisedHow x) (record { body = b; store = inner } ∷ []) store s1) (λ f. back (c.1 f)) (finishes g S (StoreFits body.locals body.result) (RaisedHow x) (record { body = b; store = inner } ∷ []) store s1 here)).by
@@ -157,7 +153,83 @@ module _ (g : Whole) (instance : ℕ) (who : IsNumber instance) where
     where
       now_by : (t : Bool) → EndsBy g S s (if t then inside open_now s else behind_enter (done (Enter r) store s) (λ s1. leaving r listed (inside (open_now ++ r ∷ []) s1)))
       now_by true = (k open_now s h.stage h.holds).by
-      now_by false = enter_by g S s (done (Enter r) store s) (λ s1. leaving r listed (inside (open_now ++ r ∷ []) s1)) (done_at).by (λ store1 s1 h1. ?)
+      now_by false = enter_by g S s (done (Enter r) store s) (λ s1. leaving r listed (inside (open_now ++ r ∷ []) s1)) done_at.by (λ store1 s1 h1 back. record { by = leaving_by g S r listed s1 (inside (open_now ++ r ∷ []) s1) there (k (open_now ++ r ∷ []) s1 h1.stage (λ f. h.holds (back f))).by })
         where
           done_at : Comes g S s Any (done (Enter r) store s)
           done_at = does g S (Enter r) store s h (λ f. there)
+
+  -- a body, where the bodies that it calls ask what fits
+  body_ends : (bodies : Bodies) (frames n k : ℕ) (b : BodyRowTree) (open_now : List ℕ) (ts : List Taken) (s : Session) → BodiesFit g bodies → slice_get g.program.bodies k ≡ Some b → Stage g s → (Fits g s → TakensFit b.locals 0 ts) → Ends g (StoreFits b.locals b.result) s (body_of instance (calls_in g.program bodies frames) n open_now ts (Some b) s)
+  body_ends bodies frames n k b open_now ts s fit at stage v =
+      let typed : IsTypedBody g.program k b = g.typed.bodies k b at in
+      let rows : RowsFit b.locals = rows_typed g.program g.typed k b at in
+      let mode : IfSome b.result (λ m. IsTrue (parts_fit m)) = IfSome_then b.result typed.result (λ m l. l.parts) in
+      let calls : List ℕ → Calls = calls_in g.program bodies frames in
+      let h : Here g (StoreFits b.locals b.result) (first_store b ts) s = record { stage = stage; holds = λ f. record { locals = first_fits b.locals ts rows (v f); result_fits = result_begins b.result typed.result } } in
+      record {
+        by = region_by (StoreFits b.locals b.result) (critical_region b) b.listed open_now (first_store b ts) s (λ now s1. close (inside_of b n (setting_of b instance calls now) (first_store b ts) s1))
+            (critical_there g b k b.sort typed.head) h
+            (λ now s1 stage1 holds1.
+            let w : Setting = setting_of b instance calls now in
+            let stands : Stands g w b.result = record { rows = rows; who = who; calls = calls_fit g (StoreFits b.locals b.result) bodies frames fit } in
+            closes g (StoreFits b.locals b.result)
+            (catches g (StoreFits b.locals b.result)
+            (statements_ask g b.result b.sort mode b.statements w b.region stands 0 n (first_store b ts) s1 (record { stage = stage1; holds = holds1 }) typed.statements)
+            (λ x store2 s2 h2. handler_asks g b.result b.sort mode b.handler w b.region stands 0 n x store2 s2 h2 typed.handler)));
+      }
+
+  pub bodies_fit : (n : ℕ) → BodiesFit g (body_mean g.program instance n)
+  bodies_fit zero = record { each = λ b body frames open_now ts s at stage v. record { by = tt } }
+  bodies_fit (suc n) = record {
+    each = λ b body frames open_now ts s at stage v.
+        subst (λ (o : Option BodyRowTree). Ends g (StoreFits body.locals body.result) s (body_of instance (calls_in g.program (body_mean g.program instance n) frames) (suc n) open_now ts o s)) (sym at)
+        (body_ends (body_mean g.program instance n) frames (suc n) b body open_now ts s (bodies_fit n) at stage v);
+  }
+
+-- ---- talks
+
+takens_ahead : (row : LocalRowTree) (rows : List LocalRowTree) (k : ℕ) (ts : List Taken) → TakensFit rows k ts → TakensFit (row ∷ rows) (suc k) ts
+takens_ahead row rows k [] w = tt
+takens_ahead row rows k (t ∷ ts) w = (w.0, takens_ahead row rows (suc k) ts w.1)
+
+split_fits : (rows : List LocalRowTree) (ps : List Parameter) (xs : List ℤ) → RowsFit rows → AreWithin (domains_of_parameters rows ps) xs → TakensFit rows 0 (split_over rows ps xs)
+split_fits rows [] xs r w = tt
+split_fits [] (q ∷ ps) xs r w = tt
+split_fits (row ∷ rows) (q ∷ ps) xs r w =
+    let c : length (domains_of row.mode) ≡ row.count = count_domains row.mode ∙ sym r.0.0 in
+    let front : IsValueOf row.mode (take row.count xs) = subst (λ (ds : List Domain). AreWithin ds (take row.count xs)) (take_at (domains_of row.mode) (domains_of_parameters rows ps) row.count c) (within_take row.count (domains_of row.mode ++ domains_of_parameters rows ps) xs w) in
+    let behind : AreWithin (domains_of_parameters rows ps) (drop row.count xs) = subst (λ (ds : List Domain). AreWithin ds (drop row.count xs)) (drop_at (domains_of row.mode) (domains_of_parameters rows ps) row.count c) (within_drop row.count (domains_of row.mode ++ domains_of_parameters rows ps) xs w) in
+    ((row, refl, front), takens_ahead row rows 0 (split_over rows ps (drop row.count xs)) (split_fits rows ps (drop row.count xs) r.1 behind))
+
+ending_asks : (g : Whole) (S : Store → Type 0) (s : Session) (e : Ending) → EndsBy g S s e → ComesBy g S s Any (process_end e)
+ending_asks g S s (Through store s1) c = (earlier g S s s1 Any (finish Normal [] store s1) c.1 (finishes g S Any Normal [] store s1 c.0)).by
+ending_asks g S s (Out x store s1) c = (earlier g S s s1 Any (finish (RaisedHow x) [] store s1) c.1 (finishes g S Any (RaisedHow x) [] store s1 c.0)).by
+ending_asks g S s (Halted t inner store) c = c
+ending_asks g S s (Ended t) c = c
+ending_asks g S s Unknown c = tt
+
+talk_by : (g : Whole) (S : Store → Type 0) (s : Session) (b : ℕ) (o : Flow (Unit {0})) → ComesBy g S s Any o → AskWell g.program (talk_at b o).trace g.answers
+talk_by g S s b (Goes v store s1) c = c.0.stage.asks
+talk_by g S s b (Raised x store s1) c = c.0.stage.asks
+talk_by g S s b (Exits k store s1) c = c.0.stage.asks
+talk_by g S s b (Returned store s1) c = c.0.stage.asks
+talk_by g S s b (Stops t inner store) c = c
+talk_by g S s b (Gone t) c = c
+talk_by g S s b Bound c = tt
+
+abbrev one_talk_of : Bool → Talk → Talk
+one_talk_of t talked = if t then talked else no_talk
+
+pub talk_asks : (p : CheckedTree) (instance process : ℕ) (zs : List ℤ) (answers : List Answer) (n : ℕ) (body : BodyRowTree) → IsTyped p → AreOfTypes instance zs answers → slice_get p.bodies process ≡ Some body → FitsBody body zs → AskWell p (talk p instance process zs answers n).trace answers
+talk_asks p instance process zs answers n body typed types at fits =
+    subst (λ (o : Option BodyRowTree). AskWell p (talk_in p instance process zs answers n o).trace answers) (sym at) (counted_by (parameter_scalars body.locals body.parameters == length zs))
+  where
+    g : Whole
+    g = record { program = p; typed = typed; answers = answers; in_range = types.given }
+
+    counted_by : (t : Bool) → AskWell p (one_talk_of t (talk_at process (process_end (body_mean p instance n process 1 [] (split_over body.locals body.parameters zs) (session_of answers n))))).trace answers
+    counted_by true =
+        let ends = (bodies_fit g instance types.who n).each process body 1 [] (split_over body.locals body.parameters zs) (session_of answers n) at (record { asks = tt; linked = refl }) (λ f. split_fits body.locals body.parameters zs (rows_typed p typed process body at) fits.values) in
+        talk_by g (StoreFits body.locals body.result) (session_of answers n) process (process_end (body_mean p instance n process 1 [] (split_over body.locals body.parameters zs) (session_of answers n)))
+        (ending_asks g (StoreFits body.locals body.result) (session_of answers n) (body_mean p instance n process 1 [] (split_over body.locals body.parameters zs) (session_of answers n)) ends.by)
+    counted_by false = tt

@@ -1,6 +1,6 @@
 -- Lists of scalars that are values of modes: joined, repeated, cut, and the lowest ones.
-use Rattle.std.proofs.Common.{◌≡◌, ℕ, zero, suc, ◌+◌, ◌-◌, ◌*◌, ◌<◌, ◌≤◌, Bool, true, false, ◌&&◌, List, [], ◌∷◌, ◌++◌, replicate, length, take, drop, Option, Some, None, refl, sym, ap, ◌∙◌, subst, arith, length-append}
-use Rattle.std.specs.Prelude.{ℤ, pos, negsuc, neg_ℤ, ◌≤ℤ◌, ◌-ℤ◌, int_le, slice_get, IsTrue}
+use Rattle.std.proofs.Common.{◌≡◌, ℕ, zero, suc, ◌+◌, ◌*◌, ◌≤◌, List, [], ◌∷◌, ◌++◌, replicate, length, take, drop, Option, Some, None, refl, sym, ap, ◌∙◌, subst, arith, length-append}
+use Rattle.std.specs.Prelude.{ℤ, pos, int_le, slice_get, IsTrue}
 use Rattle.std.specs.Int.{bit_at}
 use Rattle.std.proofs.lemmas.Nat.Bits.{bit_at-zero}
 use Rattle.std.proofs.lemmas.Int.{ints}
@@ -12,7 +12,7 @@ use Rattle.modes.specs.Scalars.{numbers_of, repeated, scalars_of, scalars_in_fie
 use Rattle.modes.specs.Language.{parts_fit, fields_fit, lie_in}
 use Rattle.modes.proofs.SimilarLemmas.{both}
 use Rattle.layout_map.proofs.Steps.{le-from}
-use Rattle.source_meaning.specs.Values.{Domain, within, any_instance, members_from, domain_in, member_domains, domains_of, domains_of_fields, IsWithin, AreWithin, IsValueOf}
+use Rattle.source_meaning.specs.Values.{Domain, domain_in, member_domains, domains_of, domains_of_fields, IsWithin, AreWithin, IsValueOf}
 use Rattle.text_laws.proofs.Held.{untrue}
 
 pub within_append : (ds es : List Domain) (xs ys : List ℤ) → AreWithin ds xs → AreWithin es ys → AreWithin (ds ++ es) (xs ++ ys)

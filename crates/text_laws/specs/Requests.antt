@@ -49,3 +49,9 @@ AskWell p [] answers = Unit {0}
 AskWell p (Tick ∷ items) answers = AskWell p items answers
 AskWell p (Ask request ∷ items) [] = FitsText p request × AskWell p items []
 AskWell p (Ask request ∷ items) (a ∷ answers) = FitsText p request × (FitsAnswer p request a → AskWell p items answers)
+
+-- each request of a trace fits the text
+abbrev pub AllFitText : CheckedTree → List Item → Type 0
+AllFitText p [] = Unit {0}
+AllFitText p (Tick ∷ items) = AllFitText p items
+AllFitText p (Ask request ∷ items) = FitsText p request × AllFitText p items
