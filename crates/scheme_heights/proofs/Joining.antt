@@ -1,11 +1,11 @@
 -- Pieces one behind the other.
-use Rattle.std.proofs.Common.{◌≡◌, ◌⊎◌, ◌+◌, ◌-◌, ◌≤◌, ◌<◌, ℕ, zero, suc, Bool, true, false, List, [], ◌∷◌, ◌++◌, length, take, length-append, refl, sym, ap, ◌∙◌, subst, inl, inr, arith, Option, Some, None}
+use Rattle.std.proofs.Common.{◌≡◌, ◌⊎◌, ◌+◌, ◌-◌, ◌≤◌, ℕ, zero, suc, true, false, List, [], ◌∷◌, ◌++◌, length, take, length-append, refl, sym, ap, ◌∙◌, subst, inl, inr, arith, Option, Some, None}
 use Rattle.code_types.specs.declared.instr.Instr.{Instr}
 use Rattle.code_types.specs.declared.code.Code.{Code}
 use Rattle.code_types.specs.Places.{finds, is_last, jump_of}
 use Rattle.code_types.specs.Agreement.{LeadsForward}
 use Rattle.code_scheme.specs.BodyCode.{height_behind}
-use Rattle.scheme_heights.specs.Pieces.{behind, IsNamedIn, Ways, no_ways, Led, none_led, Lands, JumpsOn, led_behind, IsStep, AreSteps, IsPiece}
+use Rattle.scheme_heights.specs.Pieces.{behind, IsNamedIn, Ways, no_ways, Led, none_led, Lands, JumpsOn, led_behind, AreSteps, IsPiece}
 
 pub behind-append : (heads : Code) (height : ℕ) (a b : List Instr) → behind heads height (a ++ b) ≡ behind heads (behind heads height a) b
 behind-append heads height [] b = refl
@@ -65,15 +65,16 @@ ended_more led more instr to Z all (inr nothing) = inr nothing
 pub steps_more : (heads : Code) (body : ℕ) (ways more : Ways) (led others : Led) (at height : ℕ) (is : List Instr) → MoreWays ways more → MoreLed led others → AreSteps heads body ways led at height is → AreSteps heads body more others at height is
 steps_more heads body ways more led others at height [] all known steps = tt
 steps_more heads body ways more led others at height (instr ∷ is) all known steps =
-    let s = steps.0 in
-    (record {
-      operands = s.operands;
-      named = s.named;
-      forward = s.forward;
-      jumps = jumps_more heads ways more (at + 1) (height_behind heads instr height) is (jump_of instr) all s.jumps;
-      ended = λ last. ended_more led others instr (at + 1) _ known (s.ended last);
-    },
-    steps_more heads body ways more (led_behind led instr) (led_behind others instr) (at + 1) (height_behind heads instr height) is all (led_more led others instr known) steps.1)
+    let s = steps.0 in (
+      record {
+        operands = s.operands;
+        named = s.named;
+        forward = s.forward;
+        jumps = jumps_more heads ways more (at + 1) (height_behind heads instr height) is (jump_of instr) all s.jumps;
+        ended = λ last. ended_more led others instr (at + 1) _ known (s.ended last);
+      },
+      steps_more heads body ways more (led_behind led instr) (led_behind others instr) (at + 1) (height_behind heads instr height) is all (led_more led others instr known) steps.1,
+    )
 
 -- what the jumps out of the first piece come to
 abbrev pub ComesOn : Code → Ways → ℕ → ℕ → List Instr → Ways → Type 0
@@ -96,15 +97,16 @@ steps_join heads body ways others more led at height p h [] b place same comes a
     (subst (λ (n : ℕ). AreSteps heads body others none_led at n b) (sym same) (subst (λ (n : ℕ). AreSteps heads body others none_led n h b) here second))
 steps_join heads body ways others more led at height p h (instr ∷ a) b place same comes all first second =
     let s = first.0 in
-    let next : p ≡ (at + 1) + length a = omega (arith, place) in
-    (record {
-      operands = s.operands;
-      named = s.named;
-      forward = s.forward;
-      jumps = jumps_join heads ways more (at + 1) (height_behind heads instr height) p h a b (jump_of instr) next same comes s.jumps;
-      ended = s.ended;
-    },
-    steps_join heads body ways others more (led_behind led instr) (at + 1) (height_behind heads instr height) p h a b next same comes all first.1 second)
+    let next : p ≡ (at + 1) + length a = omega (arith, place) in (
+      record {
+        operands = s.operands;
+        named = s.named;
+        forward = s.forward;
+        jumps = jumps_join heads ways more (at + 1) (height_behind heads instr height) p h a b (jump_of instr) next same comes s.jumps;
+        ended = s.ended;
+      },
+      steps_join heads body ways others more (led_behind led instr) (at + 1) (height_behind heads instr height) p h a b next same comes all first.1 second,
+    )
 
 -- two pieces with no ways out, one behind the other
 pub join : (heads : Code) (body at height : ℕ) (a b : List Instr) (n m h next p size : ℕ) → p ≡ at + n → size ≡ n + m → IsPiece heads body no_ways at height a n h → IsPiece heads body no_ways p h b m next → IsPiece heads body no_ways at height (a ++ b) size next
@@ -123,13 +125,16 @@ nothing heads body at height next same = record { steps = tt; count = refl; leav
 -- one instruction that doesn't jump
 pub one : (heads : Code) (body at height : ℕ) (instr : Instr) (next : ℕ) → finds heads body instr ≤ height → IsNamedIn heads instr → LeadsForward at instr → jump_of instr ≡ None → is_last instr ≡ false → height_behind heads instr height ≡ next → IsPiece heads body no_ways at height (instr ∷ []) 1 next
 one heads body at height instr next operands named forward stays goes same = record {
-  steps = (record {
-    operands = operands;
-    named = named;
-    forward = forward;
-    jumps = subst (JumpsOn heads no_ways (at + 1) (height_behind heads instr height) []) (sym stays) tt;
-    ended = λ last. absurd (let e : false ≡ true = sym goes ∙ last in let f : ⊥ = cc in f);
-  }, tt);
+  steps = (
+    record {
+      operands = operands;
+      named = named;
+      forward = forward;
+      jumps = subst (JumpsOn heads no_ways (at + 1) (height_behind heads instr height) []) (sym stays) tt;
+      ended = λ last. absurd (let e : false ≡ true = sym goes ∙ last in let f : ⊥ = cc in f);
+    },
+    tt,
+  );
   count = refl;
   leaves = same;
 }

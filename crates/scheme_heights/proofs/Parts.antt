@@ -1,13 +1,9 @@
 -- Pieces that hold no expression.
-use Rattle.std.proofs.Common.{◌≡◌, ◌⊎◌, ◌+◌, ◌-◌, ◌*◌, ◌^◌, ◌≤◌, ◌<◌, min, nat_lt, ℕ, zero, suc, Bool, true, false, List, [], ◌∷◌, ◌++◌, ℤ, pos, length, take, map, length-append, refl, sym, ap, ◌∙◌, subst, inl, inr, arith, rules, Option, Some, None}
-use Rattle.std.specs.Prelude.{if◌then◌else◌, int_le, ◌+ℤ◌, ◌&&◌}
+use Rattle.std.proofs.Common.{◌≡◌, ◌+◌, ◌-◌, ◌*◌, ◌^◌, ◌≤◌, ◌<◌, min, nat_lt, ℕ, zero, suc, Bool, true, false, List, [], ◌∷◌, ◌++◌, ℤ, pos, length, take, length-append, refl, sym, ap, ◌∙◌, subst, inl, inr, arith, rules, Option, Some, None}
+use Rattle.std.specs.Prelude.{if◌then◌else◌, int_le, ◌&&◌}
 use Rattle.std.proofs.lemmas.Bool.{cases_lt}
 use Rattle.std.proofs.Math.Nat.{mul-le-mul}
 use Rattle.modes.specs.declared.mode.Bounds.{Bounds}
-use Rattle.checked_program.specs.declared.expr.Base.{Base}
-use Rattle.checked_program.specs.declared.expr.Base.TheVariants.{Shared, Local}
-use Rattle.checked_program.specs.declared.expr.Binary.{Binary}
-use Rattle.checked_program.specs.declared.expr.Binary.TheVariants.{Add, Subtract, Multiply, Divide, Modulo, Remainder, And, Or, Xor, AndIf, OrIf, Equal, NotEqual, Less, LessOrEqual, Greater, GreaterOrEqual, Union, Intersection, SymmetricDifference, Difference, Included, ProperlyIncluded, Includes, ProperlyIncludes, Member}
 use Rattle.checked_program.specs.declared.expr.Prefix.{Prefix}
 use Rattle.checked_program.specs.declared.expr.Prefix.TheVariants.{Minus, Not, Complement}
 use Rattle.checked_program.specs.declared.expr.Routine.{Routine}
@@ -18,10 +14,10 @@ use Rattle.code_types.specs.declared.code.Code.{Code}
 use Rattle.code_types.specs.Places.{finds, is_last, jump_of}
 use Rattle.code_types.specs.Agreement.{LeadsForward}
 use Rattle.code_scheme.specs.BodyCode.{height_behind}
-use Rattle.code_scheme.specs.Pieces.{pushes, copies_from, copies_code, run_code, are_same, scalars_from, scalars_code, bounds_to_test, check_code, member_code, offset_code, member_or_none, between_code, between_size, swap_code, properly_code, behind_code, behind_size, prefix_code, routine_code}
-use Rattle.scheme_heights.specs.Pieces.{behind, IsNamedIn, no_ways, none_led, Lands, JumpsOn, led_behind, IsStep, AreSteps, IsPiece}
-use Rattle.scheme_heights.specs.Counts.{TakesCounts, TestsOne}
-use Rattle.scheme_heights.proofs.Joining.{steps_more, join, nothing, one, same_piece}
+use Rattle.code_scheme.specs.Pieces.{pushes, copies_from, copies_code, run_code, are_same, scalars_from, scalars_code, bounds_to_test, check_code, member_code, offset_code, prefix_code, routine_code}
+use Rattle.scheme_heights.specs.Pieces.{behind, IsNamedIn, no_ways, none_led, Lands, JumpsOn, led_behind, IsPiece}
+use Rattle.scheme_heights.specs.Counts.{TestsOne}
+use Rattle.scheme_heights.proofs.Joining.{steps_more, join}
 
 -- a piece of as many instructions as there are
 abbrev pub Piece : Code → ℕ → ℕ → ℕ → List Instr → ℕ → Type 0
@@ -40,14 +36,16 @@ end same = record { steps = tt; count = refl; leaves = same }
 pub cons : {heads : Code} {body at height : ℕ} {instr : Instr} {is : List Instr} {next : ℕ} → finds heads body instr ≤ height → IsNamedIn heads instr → LeadsForward at instr → jump_of instr ≡ None → is_last instr ≡ false → Piece heads body (at + 1) (height_behind heads instr height) is next
     → Piece heads body at height (instr ∷ is) next
 cons {heads = heads} {body = body} {at = at} {height = height} {instr = instr} {is = is} operands named forward stays goes rest = record {
-  steps = (record {
-    operands = operands;
-    named = named;
-    forward = forward;
-    jumps = subst (JumpsOn heads no_ways (at + 1) (height_behind heads instr height) is) (sym stays) tt;
-    ended = λ last. absurd (let e : false ≡ true = sym goes ∙ last in let f : ⊥ = cc in f);
-  },
-  steps_more heads body no_ways no_ways none_led (led_behind none_led instr) (at + 1) (height_behind heads instr height) is (λ to k out. out) (λ to none. absurd none) rest.steps);
+  steps = (
+    record {
+      operands = operands;
+      named = named;
+      forward = forward;
+      jumps = subst (JumpsOn heads no_ways (at + 1) (height_behind heads instr height) is) (sym stays) tt;
+      ended = λ last. absurd (let e : false ≡ true = sym goes ∙ last in let f : ⊥ = cc in f);
+    },
+    steps_more heads body no_ways no_ways none_led (led_behind none_led instr) (at + 1) (height_behind heads instr height) is (λ to k out. out) (λ to none. absurd none) rest.steps,
+  );
   count = refl;
   leaves = rest.leaves;
 }
@@ -56,14 +54,16 @@ cons {heads = heads} {body = body} {at = at} {height = height} {instr = instr} {
 pub cons_unless : {heads : Code} {body at height to : ℕ} {is : List Instr} {next : ℕ} → 1 ≤ height → at < to → Lands heads (at + 1) (height_behind heads (i.Unless to) height) is to (height_behind heads (i.Unless to) height) → Piece heads body (at + 1) (height_behind heads (i.Unless to) height) is next
     → Piece heads body at height (i.Unless to ∷ is) next
 cons_unless {heads = heads} {body = body} {at = at} {height = height} {to = to} {is = is} operands forward lands rest = record {
-  steps = (record {
-    operands = operands;
-    named = tt;
-    forward = forward;
-    jumps = inl lands;
-    ended = λ last. absurd (let f : ⊥ = cc in f);
-  },
-  steps_more heads body no_ways no_ways none_led (led_behind none_led (i.Unless to)) (at + 1) (height_behind heads (i.Unless to) height) is (λ to' k out. out) (λ to' none. absurd none) rest.steps);
+  steps = (
+    record {
+      operands = operands;
+      named = tt;
+      forward = forward;
+      jumps = inl lands;
+      ended = λ last. absurd (let f : ⊥ = cc in f);
+    },
+    steps_more heads body no_ways no_ways none_led (led_behind none_led (i.Unless to)) (at + 1) (height_behind heads (i.Unless to) height) is (λ to' k out. out) (λ to' none. absurd none) rest.steps,
+  );
   count = refl;
   leaves = rest.leaves;
 }
@@ -74,6 +74,14 @@ if_piece heads body at height next false x y first second = second
 
 pub joined : (heads : Code) (body at height : ℕ) (a b : List Instr) (h next : ℕ) → Piece heads body at height a h → Piece heads body (at + length a) h b next → Piece heads body at height (a ++ b) next
 joined heads body at height a b h next first second = join heads body at height a b (length a) (length b) h next (at + length a) (length (a ++ b)) refl (length-append a b) first second
+
+-- a place so many instructions further
+pub lands_over : (heads : Code) (at height : ℕ) (is : List Instr) (to n k : ℕ) → to ≡ at + n → n ≤ length is → behind heads height (take n is) ≡ k → Lands heads at height is to k
+lands_over heads at height is to n k place inside same = record {
+  from = omega (arith, place);
+  until = omega (arith, place, inside);
+  same = ap (λ (m : ℕ). behind heads height (take m is)) (let e : to - at ≡ n = omega (arith, place) in e) ∙ same;
+}
 
 -- ---- copies and scalars
 
@@ -166,7 +174,7 @@ check_piece heads body at height (Some b) n one' low = cons (omega (arith, one',
 pub member_piece : (heads : Code) (body at height : ℕ) (low : ℤ) → Piece heads body at (height + 1) (member_code low) (height + 1)
 member_piece heads body at height low = if_piece heads body at (height + 1) (height + 1) (are_same low (pos 0)) _ _ (end refl) (cons (omega arith) tt tt refl refl (cons (omega arith) tt tt refl refl (end (omega arith))))
 
-offset_piece : (heads : Code) (body at height : ℕ) (low : ℤ) → Piece heads body at (height + 1) (offset_code low) (height + 1)
+pub offset_piece : (heads : Code) (body at height : ℕ) (low : ℤ) → Piece heads body at (height + 1) (offset_code low) (height + 1)
 offset_piece heads body at height low = if_piece heads body at (height + 1) (height + 1) (are_same low (pos 0)) _ _ (end refl) (cons (omega arith) tt tt refl refl (cons (omega arith) tt tt refl refl (end (omega arith))))
 
 pub prefix_piece : (heads : Code) (body at height : ℕ) (o : Prefix) → IsPiece heads body no_ways at (height + 1) (prefix_code o) 1 (height + 1)
