@@ -1,0 +1,5 @@
+pub mod Joining
+pub mod Parts
+pub mod Operators
+pub mod Locations
+pub mod Expressions

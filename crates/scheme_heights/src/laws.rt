@@ -1,0 +1,7 @@
+// Laws of the scheme's code. Each is a fact about the definitions, which a caller learns by calling the function.
+ghost use Rattle.scheme_heights.specs.Laws.{ExpressionHeightsLaw};
+
+/// The code of an expression finds its operands, jumps within itself, and leaves the value's scalars above what it found.
+pub fn expression_heights_law()
+    ensures { ExpressionHeightsLaw }
+{}
