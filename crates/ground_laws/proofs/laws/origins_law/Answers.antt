@@ -1,0 +1,4 @@
+use Rattle.ground_laws.proofs.laws.origins_law.Goals as goal
+
+pub returns : goal.returns
+returns c = ?
