@@ -1,14 +1,12 @@
 -- Each use of a program has its row.
-use Rattle.std.proofs.Common.{◌≡◌, ℕ, suc, ◌+◌, ◌<◌, ◌≤◌, ◌==◌, ◌&&◌, Bool, true, false, List, [], ◌∷◌, ◌++◌, length, ◌⊎◌, inl, inr, refl, sym, ap, ◌∙◌, subst, arith, Option, Some, None, Contains}
+use Rattle.std.proofs.Common.{◌≡◌, ℕ, suc, ◌+◌, ◌<◌, ◌≤◌, ◌==◌, ◌&&◌, Bool, true, false, List, [], ◌∷◌, ◌++◌, length, ◌⊎◌, inl, inr, refl, sym, ap, ◌∙◌, subst, arith, Some, Contains}
 use Rattle.std.specs.Prelude.{map, flat_map, slice_index_or, if◌then◌else◌}
 use Rattle.std.proofs.lemmas.Bool.{eqb-true, eq-eqb}
 use Rattle.std.proofs.lemmas.List.{map-append}
-use Rattle.std.proofs.lemmas.List.Elements.{Contains-append_left, Contains-append_right, Contains-append_cases}
+use Rattle.std.proofs.lemmas.List.Elements.{Contains-append_cases}
 use Rattle.chill_base.specs.declared.pos.Pos.{Pos}
 use Rattle.chill_tree.specs.declared.token.Token.{Token}
 use Rattle.chill_tree.specs.ItemTree.{ProgramTree}
-use Rattle.rules_model.specs.ItemGrammar.{IsTreeOf}
-use Rattle.diagnostics.specs.declared.rule.Rule.TheVariants as rules
 use Rattle.diagnostics.specs.declared.diagnostic.Diagnostic.{Diagnostic}
 use Rattle.diagnostics.specs.Listing.{insert_once, placed, listed}
 use Rattle.diagnostics.specs.Order.{diagnostic_cmp}
@@ -26,10 +24,10 @@ use Rattle.names_model.specs.Sizes.{head_size, size_of}
 use Rattle.names_model.specs.Definitions.{text_definitions, with_predefined}
 use Rattle.names_model.specs.Dependence.{groups_in, told_selves}
 use Rattle.names_model.specs.Seeing.{Reach, outermost, in_modulion, in_block, sees}
-use Rattle.names_model.specs.NameRules.{Node, node, nodes, nodes_inside, body_reach, tell, any_kind, fits_argument, told_use, told_mention, told_mentions, told_here, told, twice_inside, told_twice, told_in, told_surplus}
-use Rattle.names_model.specs.Resolving.{broken_names, told_of_names, resolved_mention, resolved_mentions, resolved_here, resolved_in, names_of, level_of}
-use Rattle.names_laws.specs.Laws.{IsInside, StandsIn, IsReachOf, NoneToldTwice}
-use Rattle.names_laws.specs.Rising.{Precedes, PrecedesEach, Rise, token_places, use_places}
+use Rattle.names_model.specs.NameRules.{Node, node, nodes, nodes_inside, body_reach, any_kind, fits_argument, told_use, told_mention, told_mentions, told_here, told, twice_inside, told_twice, told_in, told_surplus}
+use Rattle.names_model.specs.Resolving.{told_of_names, resolved_mention, resolved_mentions, resolved_here, level_of}
+use Rattle.names_laws.specs.Laws.{IsInside, StandsIn, NoneToldTwice}
+use Rattle.names_laws.specs.Rising.{Precedes, PrecedesEach, Rise, use_places}
 use Rattle.names_laws.proofs.Members.{none_in, here_in, later_in, in_cases, in_flat_map, flat_map_in}
 use Rattle.names_laws.proofs.OneSeen.{one_definition}
 use Rattle.names_laws.proofs.Telling.{told_nowhere}

@@ -5,7 +5,6 @@ use Rattle.chill_tree.specs.declared.tree.name.Name.{Name}
 use Rattle.chill_tree.specs.SimpleTree.{ControlTree, while_holds, for_ever, for_members, for_steps}
 use Rattle.chill_tree.specs.ItemTree.{ProgramTree}
 use Rattle.modes.specs.ModeTree.{ModeTree, int, boolean, char, instance}
-use Rattle.names_model.specs.declared.identifier.Identifier.{Identifier}
 use Rattle.names_model.specs.declared.kind.Kind.{Kind}
 use Rattle.names_model.specs.declared.kind.Kind.TheVariants as kinds
 use Rattle.names_model.specs.declared.definition.Definition.{Definition}
