@@ -13,3 +13,5 @@ pub mod StatementAsks
 pub mod TalkAsks
 pub mod InRange
 pub mod AsksFit
+pub mod WorldValues
+pub mod WorldSteps
