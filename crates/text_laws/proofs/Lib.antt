@@ -13,3 +13,4 @@ pub mod StatementAsks
 pub mod TalkAsks
 pub mod InRange
 pub mod AsksFit
+pub mod WorldValues

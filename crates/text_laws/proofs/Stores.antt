@@ -53,7 +53,7 @@ with_result_fits rows m store xs w v = record { locals = w.locals; result_fits =
 -- ---- parts
 
 -- other scalars from one on
-patched : (ds : List Domain) (ys xs : List ℤ) (k n : ℕ) → AreWithin ds ys → length xs ≡ n → k + n ≤ length ds → AreWithin (take n (drop k ds)) xs → AreWithin ds (with_scalars ys k xs)
+pub patched : (ds : List Domain) (ys xs : List ℤ) (k n : ℕ) → AreWithin ds ys → length xs ≡ n → k + n ≤ length ds → AreWithin (take n (drop k ds)) xs → AreWithin ds (with_scalars ys k xs)
 patched ds ys xs zero n w e h v = front ds ys xs n w e v
   where
     front : (ds : List Domain) (ys xs : List ℤ) (n : ℕ) → AreWithin ds ys → length xs ≡ n → AreWithin (take n ds) xs → AreWithin ds (xs ++ drop (0 + length xs) ys)
