@@ -14,3 +14,4 @@ pub mod TalkAsks
 pub mod InRange
 pub mod AsksFit
 pub mod WorldValues
+pub mod WorldSteps
