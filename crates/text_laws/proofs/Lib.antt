@@ -15,3 +15,5 @@ pub mod InRange
 pub mod AsksFit
 pub mod WorldValues
 pub mod WorldSteps
+pub mod Journals
+pub mod JournalLaws

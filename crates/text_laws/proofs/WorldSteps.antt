@@ -146,7 +146,7 @@ module _ (p : CheckedTree) (facts : Facts) (w : World) (i : ℕ) (r : Request) (
   start_brings process scalars (Instance j) e = not_waiting (slice_get (w.phases ++ Active ∷ []) i) r send back a b (pushed_keeps w.phases i Active (Waiting r send back) waits) e
   start_brings process scalars answer e = not_waiting (phase_of w i) r send back a b waits e
 
-  did_brings : (who : ℕ) (request : Request) (answer : Answer) (refill : Option ℕ) → FitsText p request → phase_of (after_request facts w who request answer refill) i ≡ Some (Chosen a b) → BringsValue p r a
+  pub did_brings : (who : ℕ) (request : Request) (answer : Answer) (refill : Option ℕ) → FitsText p request → phase_of (after_request facts w who request answer refill) i ≡ Some (Chosen a b) → BringsValue p r a
   did_brings who (Read place) answer refill f e = not_waiting (phase_of w i) r send back a b waits e
   did_brings who (Write place scalars) answer refill f e = not_waiting (phase_of w i) r send back a b waits e
   did_brings who (Enter at) answer refill f e = not_waiting (phase_of w i) r send back a b waits (ap (λ (ps : List Phase). slice_get ps i) (sym (entered_phases w who at (occupant w at))) ∙ e)
@@ -171,7 +171,7 @@ candidate_fits p None w b value m offers c = m.values b c.0 value c.1
 candidate_fits p (Some zero) w b value m offers c = subst (OfferFits p) c.waits (offers value.sender)
 candidate_fits p (Some (suc n)) w b value m offers c = m.values b c.0 value c.1
 
-answer_brings : (p : CheckedTree) (facts : Facts) (w : World) (who : ℕ) (request : Request) (answer : Answer) (refill : Option ℕ) → FitsText p request → AreOfModes p w → StoreIsOfModes p w.store → ((q : ℕ) → OfferFits p (offer w q)) → Answers facts w who request answer refill → BringsValue p request answer
+pub answer_brings : (p : CheckedTree) (facts : Facts) (w : World) (who : ℕ) (request : Request) (answer : Answer) (refill : Option ℕ) → FitsText p request → AreOfModes p w → StoreIsOfModes p w.store → ((q : ℕ) → OfferFits p (offer w q)) → Answers facts w who request answer refill → BringsValue p request answer
 answer_brings p facts w who (Read place) answer refill f m s offers c =
     let whole = s place.location f.0 f.1 in
     let part = within_take place.count (drop place.first (domains_of f.0.mode)) (drop place.first (slice_index_or w.store place.location [])) (within_drop place.first (domains_of f.0.mode) (slice_index_or w.store place.location []) whole) in
@@ -192,7 +192,7 @@ answer_brings p facts w who request answer refill f m s offers c = tt
 
 -- ---- phases
 
-phase_moved : (p : CheckedTree) (o : Option Request) (old new : Option Phase) → PhaseFits p o old → ((r : Request) (send back : Option ℕ) (a : Answer) (b : Option ℕ) → old ≡ Some (Waiting r send back) → new ≡ Some (Chosen a b) → BringsValue p r a) → Moves old new → PhaseFits p o new
+pub phase_moved : (p : CheckedTree) (o : Option Request) (old new : Option Phase) → PhaseFits p o old → ((r : Request) (send back : Option ℕ) (a : Answer) (b : Option ℕ) → old ≡ Some (Waiting r send back) → new ≡ Some (Chosen a b) → BringsValue p r a) → Moves old new → PhaseFits p o new
 phase_moved p o old new h k (Stays same) = subst (PhaseFits p o) (sym same) h
 phase_moved p o old new h k (IsChosenNow c) =
     let one : o ≡ Some c.request = subst (PhaseFits p o) c.waited h in
@@ -204,29 +204,29 @@ phase_moved p o old new h k (Begins none begins) = subst (PhaseFits p o) (sym be
 abbrev pub changed : (ℕ → Option Request) → ℕ → Option Request → ℕ → Option Request
 changed opens who o i = if who == i then o else opens i
 
-changed_here : (opens : ℕ → Option Request) (who : ℕ) (o : Option Request) (i : ℕ) → i ≡ who → changed opens who o i ≡ o
+pub changed_here : (opens : ℕ → Option Request) (who : ℕ) (o : Option Request) (i : ℕ) → i ≡ who → changed opens who o i ≡ o
 changed_here opens who o i e = let t : (who == i) ≡ true = eq-eqb who i (sym e) in rw t refl
 
-differs : (who i : ℕ) → (i ≡ who → ⊥) → (who == i) ≡ false
+pub differs : (who i : ℕ) → (i ≡ who → ⊥) → (who == i) ≡ false
 differs who i apart = elim (cases_Bool (who == i)) [
   | inl same ↦ absurd (apart (sym (eqb-true who i same)))
   | inr fails ↦ fails
 ]
 
-changed_elsewhere : (opens : ℕ → Option Request) (who : ℕ) (o : Option Request) (i : ℕ) → (i ≡ who → ⊥) → changed opens who o i ≡ opens i
+pub changed_elsewhere : (opens : ℕ → Option Request) (who : ℕ) (o : Option Request) (i : ℕ) → (i ≡ who → ⊥) → changed opens who o i ≡ opens i
 changed_elsewhere opens who o i apart = let t = differs who i apart in rw t refl
 
-open_more : (p : CheckedTree) (line more : List Item) (as' bs : List Answer) (o : Option Request) → IsOpenWith p line as' None → IsOpenWith p more bs o → IsOpenWith p (line ++ more) (as' ++ bs) o
+pub open_more : (p : CheckedTree) (line more : List Item) (as' bs : List Answer) (o : Option Request) → IsOpenWith p line as' None → IsOpenWith p more bs o → IsOpenWith p (line ++ more) (as' ++ bs) o
 open_more p [] more as' bs o h k = subst (λ (xs : List Answer). IsOpenWith p more (xs ++ bs) o) (sym h.0) k
 open_more p (Tick ∷ line) more as' bs o h k = open_more p line more as' bs o h k
 open_more p (Ask q ∷ line) more [] bs o h k = absurd (let e : None ≡ Some q = h.1 in let f : ⊥ = cc in f)
 open_more p (Ask q ∷ line) more (a ∷ as') bs o h k = (h.0, open_more p line more as' bs o h.1 k)
 
-open_ticks : (p : CheckedTree) (n : ℕ) (more : List Item) (bs : List Answer) (o : Option Request) → IsOpenWith p more bs o → IsOpenWith p (ticks_of n ++ more) bs o
+pub open_ticks : (p : CheckedTree) (n : ℕ) (more : List Item) (bs : List Answer) (o : Option Request) → IsOpenWith p more bs o → IsOpenWith p (ticks_of n ++ more) bs o
 open_ticks p zero more bs o h = h
 open_ticks p (suc n) more bs o h = open_ticks p n more bs o h
 
-open_goes : (p : CheckedTree) (line : List Item) (as' : List Answer) (r : Request) (a : Answer) → IsOpenWith p line as' (Some r) → FitsAnswer p r a → IsOpenWith p line (as' ++ a ∷ []) None
+pub open_goes : (p : CheckedTree) (line : List Item) (as' : List Answer) (r : Request) (a : Answer) → IsOpenWith p line as' (Some r) → FitsAnswer p r a → IsOpenWith p line (as' ++ a ∷ []) None
 open_goes p [] as' r a h f = absurd (let e : Some r ≡ None = h.1 in let no : ⊥ = cc in no)
 open_goes p (Tick ∷ line) as' r a h f = open_goes p line as' r a h f
 open_goes p (Ask q ∷ line) [] r a h f =
