@@ -1,8 +1,8 @@
 -- Runs of the text: their requests fit it, and so do all that its processes get.
-use Rattle.std.proofs.Common.{◌≡◌, ◌+◌, ◌≤◌, ◌<◌, ◌^◌, ℕ, zero, suc, Bool, true, false, List, [], ◌∷◌, ◌++◌, ℤ, length, map, get_or, refl, sym, ap, ◌∙◌, subst, inl, inr, ◌⊎◌, arith, Option, Some, None, slice_get, append-nil, append_assoc, eq-eqb, length-append}
+use Rattle.std.proofs.Common.{◌≡◌, ◌≤◌, ◌<◌, ℕ, zero, suc, Bool, true, false, List, [], ◌∷◌, ◌++◌, ℤ, length, map, get_or, refl, sym, ap, ◌∙◌, subst, inl, inr, arith, Option, Some, None, slice_get, append-nil, append_assoc, eq-eqb, length-append}
 use Rattle.std.specs.Prelude.{if◌then◌else◌, ◌==◌, slice_index_or, replicate, All, IfSome}
 use Rattle.std.specs.List.{flat_map}
-use Rattle.std.proofs.lemmas.Bool.{cases_Bool, eqb-true}
+use Rattle.std.proofs.lemmas.Bool.{eqb-true}
 use Rattle.std.proofs.lemmas.Option.{slice_get-get_or, slice_get_within}
 use Rattle.std.proofs.lemmas.List.Concat.{flat_map-append}
 use Rattle.std.proofs.lemmas.List.Elements.{All-nil, All-cons, All-append}
@@ -15,8 +15,7 @@ use Rattle.kernel_base.specs.declared.event.Event.{Event}
 use Rattle.kernel_base.specs.declared.event.Event.TheVariants.{Did, Waits, Goes, Runs}
 use Rattle.kernel_base.specs.Facts.{IsSound}
 use Rattle.kernel_base.specs.Value.{scalars_of}
-use Rattle.world_model.specs.declared.world.Phase.{Phase}
-use Rattle.world_model.specs.declared.world.Phase.TheVariants.{Active, Waiting, Chosen}
+use Rattle.world_model.specs.declared.world.Phase.TheVariants.{Active}
 use Rattle.world_model.specs.declared.world.StoredValue.{StoredValue}
 use Rattle.world_model.specs.declared.world.World.{World}
 use Rattle.world_model.specs.Waiting.{phase_of, IsActive}
@@ -27,21 +26,21 @@ use Rattle.world_model.specs.Journal.{ticks_of, items_by, line_of, answers_by, a
 use Rattle.world_model.specs.Session.{Item, Tick, Ask}
 use Rattle.world_model.proofs.RunParts.{front_runs, next_allowed}
 use Rattle.world_model.proofs.Well.{IsWell, some_active, run_well, opening_well}
-use Rattle.run_laws.specs.Laws.{birth_in, birth_at, Births}
+use Rattle.run_laws.specs.Laws.{birth_in, Births}
 use Rattle.run_laws.proofs.Births.{births_law}
 use Rattle.modes.specs.Scalars.{lowest_of}
 use Rattle.modes.specs.Language.{IsOfLanguage}
 use Rattle.checked_program.specs.declared.program.Parameter.{Parameter}
-use Rattle.program_trees.specs.ProgramTree.{LocationRowTree, LocalRowTree, BodyRowTree, CheckedTree}
-use Rattle.code_types.specs.Runs.{Begins, ticks_in}
-use Rattle.source_meaning.specs.Talk.{talk, parameter_scalars}
-use Rattle.source_meaning.specs.Runs.{talk_in_journal, FollowsText, IsSourceRun}
+use Rattle.program_trees.specs.ProgramTree.{LocationRowTree, LocalRowTree, CheckedTree}
+use Rattle.code_types.specs.Runs.{ticks_in}
+use Rattle.source_meaning.specs.Talk.{parameter_scalars}
+use Rattle.source_meaning.specs.Runs.{talk_in_journal, FollowsText}
 use Rattle.source_meaning.specs.Values.{domains_of, IsValueOf}
-use Rattle.source_meaning.specs.Fitting.{domains_of_parameters, AreOfTypes, FitsAnswer, HasFittingAnswers}
+use Rattle.source_meaning.specs.Fitting.{domains_of_parameters, AreOfTypes, HasFittingAnswers}
 use Rattle.source_meaning.specs.Facts.{AreFactsOf}
 use Rattle.source_meaning.specs.Typed.{IsTyped}
 use Rattle.text_laws.specs.Requests.{FitsText, AskWell}
-use Rattle.text_laws.specs.Journals.{AsksText, AllAskText, IsOpenWith, PhaseFits, IsBirth, BirthsFit, HoldsValues, GetsValues, KeepsValues}
+use Rattle.text_laws.specs.Journals.{AsksText, AllAskText, IsOpenWith, PhaseFits, IsBirth, KeepsValues}
 use Rattle.text_laws.specs.Laws.{FitsBirth, WorldKeepsLaw, RunFitsLaw, SameRunsLaw}
 use Rattle.text_laws.proofs.Values.{within_length, lowest_within, count_domains}
 use Rattle.text_laws.proofs.SoundFacts.{all_at, facts_are_sound}
@@ -49,7 +48,7 @@ use Rattle.text_laws.proofs.Stores.{RowsFit}
 use Rattle.text_laws.proofs.ExprAsks.{rows_typed}
 use Rattle.text_laws.proofs.TalkAsks.{talk_asks}
 use Rattle.text_laws.proofs.WorldValues.{StoreIsOfModes}
-use Rattle.text_laws.proofs.Journals.{births_first, first_in, Kept, KeptSome, if_true, step_kept}
+use Rattle.text_laws.proofs.Journals.{births_first, first_in, KeptSome, if_true, step_kept}
 use Rattle.text_laws.proofs.SameRuns.{as_text, as_code, in_journal}
 
 -- ---- the opening
@@ -169,9 +168,10 @@ made_birth w before b (suc (suc i)) some low =
     let pl = b.processes in
     let al = b.arguments in
     let at : slice_get w.processes (suc (suc i)) ≡ Some (get_or w.processes (suc (suc i)) 0) = slice_get-get_or w.processes (suc (suc i)) 0 (omega (arith, low, pl)) in
-    let args : slice_get w.arguments (suc (suc i)) ≡ Some (get_or w.arguments (suc (suc i)) []) = slice_get-get_or w.arguments (suc (suc i)) [] (omega (arith, low, al)) in
-    (record { process = get_or w.processes (suc (suc i)) 0; arguments = get_or w.arguments (suc (suc i)) [] },
-    b.births (suc (suc i)) (omega arith) ∙ (ap (λ (o : Option ℕ). birth_in o (slice_get w.arguments (suc (suc i)))) at ∙ ap (λ (o : Option (List ℤ)). birth_in (Some (get_or w.processes (suc (suc i)) 0)) o) args))
+    let args : slice_get w.arguments (suc (suc i)) ≡ Some (get_or w.arguments (suc (suc i)) []) = slice_get-get_or w.arguments (suc (suc i)) [] (omega (arith, low, al)) in (
+      record { process = get_or w.processes (suc (suc i)) 0; arguments = get_or w.arguments (suc (suc i)) [] },
+      b.births (suc (suc i)) (omega arith) ∙ (ap (λ (o : Option ℕ). birth_in o (slice_get w.arguments (suc (suc i)))) at ∙ ap (λ (o : Option (List ℤ)). birth_in (Some (get_or w.processes (suc (suc i)) 0)) o) args),
+    )
 
 first_keeps : (xs ys : List Birth) (birth : Birth) → first_birth xs ≡ Some birth → first_birth (xs ++ ys) ≡ Some birth
 first_keeps [] ys birth e = absurd (let f : ⊥ = cc in f)

@@ -1,15 +1,12 @@
 -- Journals whose requests fit the text: values stay of their modes, answers and births fit.
-use Rattle.std.proofs.Common.{◌≡◌, ◌+◌, ◌≤◌, ◌<◌, ℕ, zero, suc, Bool, true, false, List, [], ◌∷◌, ◌++◌, ℤ, length, refl, sym, ap, ◌∙◌, subst, inl, inr, ◌⊎◌, arith, Option, Some, None, slice_get, slice_set, append-nil, append_assoc, eq-eqb}
-use Rattle.std.specs.Prelude.{if◌then◌else◌, ◌==◌, slice_index_or, replicate, map, All}
-use Rattle.std.specs.Option.{option_map, option_and_then}
+use Rattle.std.proofs.Common.{◌≡◌, ◌≤◌, ℕ, zero, suc, Bool, true, false, List, [], ◌∷◌, ◌++◌, refl, sym, ap, ◌∙◌, subst, inl, inr, ◌⊎◌, Option, Some, None, slice_get, slice_set, append-nil, eq-eqb}
+use Rattle.std.specs.Prelude.{if◌then◌else◌, ◌==◌}
 use Rattle.std.specs.List.{flat_map}
-use Rattle.std.proofs.lemmas.Bool.{cases_eq, cases_Bool, cases_lt}
-use Rattle.std.proofs.lemmas.Option.{slice_get_within, slice_get_past, slice_get_cases}
+use Rattle.std.proofs.lemmas.Bool.{cases_eq}
 use Rattle.std.proofs.lemmas.List.Concat.{flat_map-append}
-use Rattle.kernel_base.specs.declared.ends.How.{How}
 use Rattle.kernel_base.specs.declared.facts.Facts.{Facts}
 use Rattle.kernel_base.specs.declared.request.Request.{Request}
-use Rattle.kernel_base.specs.declared.request.Request.TheVariants.{Read, Write, Enter, Leave, Delay, Continue, SendBuffer, ReceiveBuffer, SendSignal, ReceiveSignal, Start, Put, Get, End}
+use Rattle.kernel_base.specs.declared.request.Request.TheVariants.{Enter, Start, End}
 use Rattle.kernel_base.specs.declared.answer.Answer.{Answer}
 use Rattle.kernel_base.specs.declared.answer.Answer.TheVariants.{Done, Instance}
 use Rattle.kernel_base.specs.declared.event.Event.{Event}
@@ -19,18 +16,18 @@ use Rattle.world_model.specs.declared.world.Phase.TheVariants.{Active, Waiting, 
 use Rattle.world_model.specs.declared.world.World.{World}
 use Rattle.world_model.specs.Lists.{last_of}
 use Rattle.world_model.specs.Waiting.{phase_of, IsActive, offer}
-use Rattle.world_model.specs.World.{opening, held_by, with_phase, with_drawn, drawn, freed_last, locked_back, back_in, after_request, after_waits, after, after_all, world_of}
-use Rattle.world_model.specs.Allowed.{IsPossible, IsAllowed, IsRun}
-use Rattle.world_model.specs.Journal.{ticks_of, items_by, line_of, answers_by, answers_of, Birth, births_by, first_birth, started_as, born_of}
-use Rattle.world_model.specs.Session.{Item, Tick, Ask}
+use Rattle.world_model.specs.World.{held_by, drawn, locked_back, back_in, after_request, after_waits, after}
+use Rattle.world_model.specs.Allowed.{IsPossible}
+use Rattle.world_model.specs.Journal.{ticks_of, items_by, line_of, answers_by, answers_of, Birth, births_by, first_birth, started_as}
+use Rattle.world_model.specs.Session.{Item, Ask}
 use Rattle.world_model.proofs.ChangedLists.{written_here, written_elsewhere}
 use Rattle.world_model.proofs.Stores.{KeepsStores}
 use Rattle.world_model.proofs.Freeing.{freeing_kept, back_kept}
 use Rattle.world_model.proofs.PhaseMoves.{did_moves}
-use Rattle.world_model.proofs.Well.{IsWell, some_active, freeing_stores, back_stores, step_well}
+use Rattle.world_model.proofs.Well.{IsWell, some_active, freeing_stores, back_stores}
 use Rattle.world_model.proofs.Given.{did_gives}
 use Rattle.checked_program.specs.declared.program.Sort.{Sort}
-use Rattle.checked_program.specs.declared.program.Sort.TheVariants.{Outermost, Process}
+use Rattle.checked_program.specs.declared.program.Sort.TheVariants.{Outermost}
 use Rattle.checked_program.specs.declared.program.Parameter.{Parameter}
 use Rattle.program_trees.specs.ProgramTree.{BodyRowTree, CheckedTree}
 use Rattle.source_meaning.specs.Values.{AreWithin}
@@ -47,11 +44,14 @@ outermost_birth : (p : CheckedTree) → IsTyped p → IsBirth p 0 []
 outermost_birth p t =
     let b : BodyRowTree = t.outermost.0 in
     let head : HasHead p 0 b Outermost = subst (λ (s : Sort). HasHead p 0 b s) t.outermost.2 (t.bodies 0 b t.outermost.1).head in
-    let none : b.parameters ≡ [] = head.2 in
-    (b, t.outermost.1, record {
-      process = ap has_instances t.outermost.2;
-      values = subst (λ (ps : List Parameter). AreWithin (domains_of_parameters b.locals ps) []) (sym none) tt;
-    })
+    let none : b.parameters ≡ [] = head.2 in (
+      b,
+      t.outermost.1,
+      record {
+        process = ap has_instances t.outermost.2;
+        values = subst (λ (ps : List Parameter). AreWithin (domains_of_parameters b.locals ps) []) (sym none) tt;
+      },
+    )
 
 birth_in_event : (p : CheckedTree) (i : ℕ) (event : Event) (birth : Birth) → AsksText p event → first_birth (births_by i event ++ []) ≡ Some birth → IsBirth p birth.process birth.arguments
 birth_in_event p i (Did who ticks (Start process zs) (Instance j) refill) birth f e = made_by (j == i) e

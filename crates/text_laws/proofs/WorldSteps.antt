@@ -1,46 +1,34 @@
 -- What an event makes of a world that holds values, and of what the processes get.
-use Rattle.std.proofs.Common.{◌≡◌, ◌≢◌, ◌+◌, ◌≤◌, ◌<◌, ℕ, zero, suc, Bool, true, false, List, [], ◌∷◌, ◌++◌, ℤ, take, drop, replicate, length, refl, sym, ap, ◌∙◌, subst, inl, inr, ◌⊎◌, arith, Option, Some, None, slice_get, slice_set, append-nil, append_assoc, eq-eqb}
+use Rattle.std.proofs.Common.{◌≡◌, ◌+◌, ℕ, zero, suc, Bool, true, false, List, [], ◌∷◌, ◌++◌, ℤ, drop, refl, sym, ap, ◌∙◌, subst, inl, inr, Option, Some, None, slice_get, slice_set, eq-eqb}
 use Rattle.std.specs.Prelude.{if◌then◌else◌, ◌==◌, slice_index_or}
-use Rattle.std.specs.Option.{option_map, option_and_then}
-use Rattle.std.specs.List.{flat_map}
-use Rattle.std.proofs.lemmas.Bool.{cases_eq, cases_Bool, eqb-true}
-use Rattle.std.proofs.lemmas.List.Concat.{flat_map-append}
-use Rattle.kernel_base.specs.declared.ends.How.{How}
+use Rattle.std.specs.Option.{option_and_then}
+use Rattle.std.proofs.lemmas.Bool.{cases_Bool, eqb-true}
 use Rattle.kernel_base.specs.declared.facts.Facts.{Facts}
-use Rattle.kernel_base.specs.declared.request.Place.{Place}
-use Rattle.kernel_base.specs.declared.request.Alternative.{Alternative}
 use Rattle.kernel_base.specs.declared.request.Request.{Request}
 use Rattle.kernel_base.specs.declared.request.Request.TheVariants.{Read, Write, Enter, Leave, Delay, Continue, SendBuffer, ReceiveBuffer, SendSignal, ReceiveSignal, Start, Put, Get, End}
 use Rattle.kernel_base.specs.declared.answer.Answer.{Answer}
-use Rattle.kernel_base.specs.declared.answer.Answer.TheVariants.{Value, Done, Woken, Got, Otherwise, Instance, Fail, Chose, Handed, Stored}
-use Rattle.kernel_base.specs.declared.event.Event.{Event}
-use Rattle.kernel_base.specs.declared.event.Event.TheVariants.{Did, Waits, Goes, Runs}
+use Rattle.kernel_base.specs.declared.answer.Answer.TheVariants.{Woken, Got, Instance, Chose, Handed, Stored}
 use Rattle.world_model.specs.declared.world.Phase.{Phase}
 use Rattle.world_model.specs.declared.world.Phase.TheVariants.{Active, Waiting, Chosen, Ended}
 use Rattle.world_model.specs.declared.world.StoredValue.{StoredValue}
-use Rattle.world_model.specs.declared.world.PendingSignal.{PendingSignal}
 use Rattle.world_model.specs.declared.world.World.{World}
 use Rattle.world_model.specs.declared.waiting.Waiter.{Waiter}
 use Rattle.world_model.specs.declared.waiting.Offer.{Offer}
-use Rattle.world_model.specs.Lists.{last_of, number_for, scalars_at}
-use Rattle.world_model.specs.Waiting.{phase_of, IsActive, waiter_for, sleeper, buffer_receiver_in, buffer_receiver, signal_receiver_in, signal_receiver, may_receive, offer}
-use Rattle.world_model.specs.World.{held_by, occupant, with_phase, chosen, with_next_send, with_drawn, drawn, buffer_length, freed_last, locked_back, back_in, refilled, refilled_by, refilled_buffer, after_continue, after_send_buffer, after_receive_buffer, after_send_signal, after_receive_signal, after_start, after_request, after_waits, after}
-use Rattle.world_model.specs.Allowed.{IsPossible, IsAllowed, IsCandidateOf, TakesValue, Answers}
-use Rattle.world_model.specs.Journal.{ticks_of, items_by, line_of, answers_by, answers_of}
+use Rattle.world_model.specs.Lists.{number_for, scalars_at}
+use Rattle.world_model.specs.Waiting.{phase_of, waiter_for, sleeper, buffer_receiver_in, buffer_receiver, signal_receiver_in, signal_receiver, may_receive, offer}
+use Rattle.world_model.specs.World.{occupant, chosen, with_next_send, buffer_length, refilled, refilled_by, refilled_buffer, after_continue, after_send_buffer, after_receive_buffer, after_send_signal, after_receive_signal, after_start, after_request}
+use Rattle.world_model.specs.Allowed.{IsCandidateOf, Answers}
+use Rattle.world_model.specs.Journal.{ticks_of}
 use Rattle.world_model.specs.Session.{Item, Tick, Ask}
-use Rattle.world_model.proofs.ChangedLists.{written_or_old, written_here, written_elsewhere, pushed_keeps}
-use Rattle.world_model.proofs.Stores.{KeepsStores}
-use Rattle.world_model.proofs.Freeing.{freeing_kept, back_kept}
-use Rattle.world_model.proofs.PhaseMoves.{Moves, Stays, IsChosenNow, Begins, IsChosen, did_moves, entered_phases, left_phases, refilled_buffer_phases}
-use Rattle.world_model.proofs.Well.{IsWell, some_active, freeing_stores, back_stores}
-use Rattle.world_model.proofs.Given.{did_gives}
+use Rattle.world_model.proofs.ChangedLists.{written_or_old, pushed_keeps}
+use Rattle.world_model.proofs.PhaseMoves.{Moves, Stays, IsChosenNow, Begins, entered_phases, left_phases, refilled_buffer_phases}
 use Rattle.program_trees.specs.ProgramTree.{LocationRowTree, CheckedTree}
-use Rattle.source_meaning.specs.Values.{Domain, domains_of, AreWithin}
+use Rattle.source_meaning.specs.Values.{domains_of, AreWithin}
 use Rattle.source_meaning.specs.Fitting.{domains_at, domains_in_buffer, domains_in_signal, thing_of, BringsValue, FitsAnswer}
-use Rattle.text_laws.specs.Requests.{NumbersTell, FitsText}
-use Rattle.text_laws.specs.Journals.{AsksText, IsOpenWith, PhaseFits}
+use Rattle.text_laws.specs.Requests.{FitsText}
+use Rattle.text_laws.specs.Journals.{IsOpenWith, PhaseFits}
 use Rattle.text_laws.proofs.Values.{within_take, within_drop}
-use Rattle.text_laws.proofs.WorldValues.{IsOfBuffer, IsOfSignal, AreOfModes, kept_modes, OfferFits, did_modes, StoreIsOfModes, did_store_modes, offer_fits}
+use Rattle.text_laws.proofs.WorldValues.{IsOfBuffer, IsOfSignal, AreOfModes, OfferFits, StoreIsOfModes}
 
 -- ---- answers
 
