@@ -262,7 +262,7 @@ born_in_range facts w events (suc (suc i)) birth run e = started_in_range facts 
 
 -- ---- runs of the text
 
-types_of : (facts : Facts) (events : List Event) (who : ℕ) (birth : Birth) → IsRun facts events → born_of who events ≡ Some birth → AreOfTypes who birth.arguments (answers_of who events)
+pub types_of : (facts : Facts) (events : List Event) (who : ℕ) (birth : Birth) → IsRun facts events → born_of who events ≡ Some birth → AreOfTypes who birth.arguments (answers_of who events)
 types_of facts events who birth run born =
     let r = born_in_range facts (opening facts) events who birth run born in
     record { who = r.0; arguments = r.1; given = answers_in_range facts (opening facts) events who run }
@@ -275,7 +275,7 @@ lines_follow p facts events typed run follows who birth born fits =
     let w : AskWell p trace (answers_of who events) = talk_asks p who birth.process birth.arguments (answers_of who events) (suc (ticks_in (line_of who events))) fits.0 typed (types_of facts events who birth run born) fits.1 fits.2 in
     ask_front p (line_of who events) f.0 (answers_of who events) (subst (λ (t : List Item). AskWell p t (answers_of who events)) f.1 w)
 
-run_kept : (p : CheckedTree) (input : List ℕ) (units : ℕ) (facts : Facts) (events : List Event) → IsTyped p → 1 ≤ units → units ≤ 10000000 → AreFactsOf p input units facts → IsRun facts events → ((who : ℕ) (birth : Birth) → born_of who events ≡ Some birth → IsBirth p birth.process birth.arguments → FollowsText p events who birth) → KeptSome p (world_of facts events) events
+pub run_kept : (p : CheckedTree) (input : List ℕ) (units : ℕ) (facts : Facts) (events : List Event) → IsTyped p → 1 ≤ units → units ≤ 10000000 → AreFactsOf p input units facts → IsRun facts events → ((who : ℕ) (birth : Birth) → born_of who events ≡ Some birth → IsBirth p birth.process birth.arguments → FollowsText p events who birth) → KeptSome p (world_of facts events) events
 run_kept p input units facts events typed least most are run follows =
     all_kept p input units facts events typed least most are run (good_lines p facts events (facts_are_sound p input units facts typed least most are) run (lines_follow p facts events typed run follows))
 

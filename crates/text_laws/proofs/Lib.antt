@@ -17,3 +17,4 @@ pub mod WorldValues
 pub mod WorldSteps
 pub mod Journals
 pub mod JournalLaws
+pub mod NextFits

@@ -1,5 +1,5 @@
 -- The laws of the runs of a text.
-use Rattle.std.specs.Prelude.{◌≡◌, ◌↔◌, ℕ, ◌≤◌, true, List, ℤ, length, Some, slice_get}
+use Rattle.std.specs.Prelude.{◌≡◌, ◌↔◌, ℕ, ◌≤◌, true, List, ℤ, length, Some, slice_get, IsSomeAnd}
 use Rattle.kernel_base.specs.declared.facts.Facts.{Facts}
 use Rattle.kernel_base.specs.declared.answer.Answer.{Answer}
 use Rattle.kernel_base.specs.declared.event.Event.{Event}
@@ -10,7 +10,7 @@ use Rattle.world_model.specs.Allowed.{IsRun}
 use Rattle.program_trees.specs.ProgramTree.{BodyRowTree, CheckedTree}
 use Rattle.code_types.specs.declared.code.Code.{Code}
 use Rattle.code_types.specs.Talk.{CodeTalk}
-use Rattle.code_types.specs.Runs.{IsCodeRun}
+use Rattle.code_types.specs.Runs.{IsCodeRun, RequestsFit, BirthsFit}
 use Rattle.source_meaning.specs.Talk.{talk, parameter_scalars}
 use Rattle.source_meaning.specs.Fitting.{has_instances, HasFittingAnswers, FitsBody, AreOfTypes, IsFitting}
 use Rattle.source_meaning.specs.Runs.{IsSourceRun, talk_in_journal}
@@ -79,3 +79,13 @@ SameTalkLaw = (p : CheckedTree) (code : Code) → HasTalkOf p code → (facts : 
 -- From the facts of a typed program the runs of a code with the text's talk are those of the text.
 abbrev pub SameRunsLaw : Type 0
 SameRunsLaw = (p : CheckedTree) (code : Code) (input : List ℕ) (units : ℕ) (facts : Facts) (events : List Event) → IsTyped p → 1 ≤ units → units ≤ 10000000 → AreFactsOf p input units facts → HasTalkOf p code → IsCodeRun code facts events ↔ IsSourceRun p facts events
+
+-- the code has each process of the program, with as many parameters as its arguments are
+abbrev pub HasProcessesOf : CheckedTree → Code → Type 0
+HasProcessesOf p code = (process : ℕ) (zs : List ℤ) → FitsBirth p process zs → IsSomeAnd (slice_get code.bodies process) (λ row. row.params ≡ length zs)
+
+-- In each run of a code with the text's talk, each next request of an active process fits the facts, and each instance names a body
+-- with as many parameters as it has arguments.
+pub record NextFitsLaw : Type 0 where
+  pub requests : (p : CheckedTree) (code : Code) (input : List ℕ) (units : ℕ) (facts : Facts) → IsTyped p → 1 ≤ units → units ≤ 10000000 → AreFactsOf p input units facts → HasTalkOf p code → RequestsFit code facts
+  pub births : (p : CheckedTree) (code : Code) (input : List ℕ) (units : ℕ) (facts : Facts) → IsTyped p → 1 ≤ units → units ≤ 10000000 → AreFactsOf p input units facts → HasTalkOf p code → HasProcessesOf p code → BirthsFit code facts
