@@ -466,7 +466,7 @@ module _ (g : Whole) (w : Setting) (result : Option ModeTree) (region : Option �
 
   mutual
     pub expr_asks : (e : ExprTree) (m : ModeTree) (store : Store) (s : Session) → Here g (StoreFits w.rows result) store s → HasMode (context_in g w region) e m → Comes g (StoreFits w.rows result) s (IsValueOf m) (expr_mean w e store s)
-    expr_asks (expr n rn o) m store s h t = operation_asks n o m store s h t.0 t.1 t.2
+    expr_asks (expr n root_n o) m store s h t = operation_asks n o m store s h t.0 t.1 t.3
 
     pub operation_asks : (n : ℕ) (o : OperationTree) (m : ModeTree) (store : Store) (s : Session) → Here g (StoreFits w.rows result) store s → IsOfLanguage m → n ≡ scalars_of m → OperationHas (context_in g w region) o m → Comes g (StoreFits w.rows result) s (IsValueOf m) (operation_mean w n o store s)
     operation_asks n (constant xs) m store s h l count t = goes g (StoreFits w.rows result) h (λ f. t)
@@ -474,10 +474,10 @@ module _ (g : Whole) (w : Setting) (result : Option ModeTree) (region : Option �
     operation_asks n (contents place) m store s h l count t =
         bind g (StoreFits w.rows result) (AddressFits (context_in g w region) m) (location_asks place m store s h t)
         (λ address store1 s1 h1 r. reads m n address store1 s1 h1 (λ f. ((r f).1, count)))
-    operation_asks n (part_of (expr j rj o) ps) m store s h l count t =
+    operation_asks n (part_of (expr j root_j o) ps) m store s h l count t =
         let of : ModeTree = t.0 in
         let lo : IsOfLanguage of = t.1.0 in
-        bind g (StoreFits w.rows result) (IsValueOf of) (expr_asks (expr j rj o) of store s h t.1) (λ xs store1 s1 h1 r.
+        bind g (StoreFits w.rows result) (IsValueOf of) (expr_asks (expr j root_j o) of store s h t.1) (λ xs store1 s1 h1 r.
         bind g (StoreFits w.rows result) (λ (k : ℕ). PartAt (domains_of of) m k) (offset_asks (domains_of of) ps of m 0 store1 s1 h1 (λ f. part_whole of) lo.parts t.2) (λ k store2 s2 h2 q.
         goes g (StoreFits w.rows result) h2 (λ f. let u = q f in part_value (domains_of of) xs m k n (r u.0).1 u.1 count)))
     operation_asks n (receive b) m store s h l count t =
@@ -513,23 +513,23 @@ module _ (g : Whole) (w : Setting) (result : Option ModeTree) (region : Option �
         bind g (StoreFits w.rows result) (IsValueOf t.1) (received_asks r t.1 store s h (form.1 (form_fits m l.parts)) t.4) (λ xs store1 s1 h1 q.
         goes g (StoreFits w.rows result) h1 (λ f.
         subst (λ (ds : List Domain). AreWithin ds (repeated j xs)) (sym (form_domains m l.parts ∙ (form.0 ∙ ap (λ (k : ℕ). repeated k (domains_of t.1)) t.3))) (within_repeated j (domains_of t.1) xs (q f).1)))
-    operation_asks n (routine r (expr j rj o)) m store s h l count t =
-        bind g (StoreFits w.rows result) (IsValueOf t.0) (expr_asks (expr j rj o) t.0 store s h t.1) (λ xs store1 s1 h1 q.
+    operation_asks n (routine r (expr j root_j o)) m store s h l count t =
+        bind g (StoreFits w.rows result) (IsValueOf t.0) (expr_asks (expr j root_j o) t.0 store s h t.1) (λ xs store1 s1 h1 q.
         computes m (routine_value r xs) store1 s1 h1 (λ f. routine_computes r t.0 m xs t.1.0 t.2 (q f).1))
     operation_asks n get_int m store s h l count t =
         bind g (StoreFits w.rows result) (Answers g Get) (asks g (StoreFits w.rows result) Get [] store s h (λ f. tt))
         (λ v store1 s1 h1 r. goes g (StoreFits w.rows result) h1 (λ f. subst (λ (x : ModeTree). IsValueOf x (brought_by v)) (sym t) (get_value g v (r f).1)))
-    operation_asks n (prefixed r (expr j rj o)) m store s h l count t =
-        bind g (StoreFits w.rows result) (IsValueOf t.0) (expr_asks (expr j rj o) t.0 store s h t.1) (λ xs store1 s1 h1 q.
+    operation_asks n (prefixed r (expr j root_j o)) m store s h l count t =
+        bind g (StoreFits w.rows result) (IsValueOf t.0) (expr_asks (expr j root_j o) t.0 store s h t.1) (λ xs store1 s1 h1 q.
         computes m (prefix_value r xs) store1 s1 h1 (λ f. prefix_computes r t.0 m xs t.1.0 t.2 (q f).1))
-    operation_asks n (binary o (expr i ri a) (expr j rj b)) m store s h l count t =
-        bind g (StoreFits w.rows result) (IsValueOf t.0) (expr_asks (expr i ri a) t.0 store s h t.2) (λ xs store1 s1 h1 q.
-        with_asks o t.0 t.1 m xs (expr_mean w (expr j rj b)) store1 s1 h1 t.2.0.parts t.3.0.parts t.4 (λ f. (q f).1) (expr_asks (expr j rj b) t.1 store1 s1 h1 t.3))
+    operation_asks n (binary o (expr i root_i a) (expr j root_j b)) m store s h l count t =
+        bind g (StoreFits w.rows result) (IsValueOf t.0) (expr_asks (expr i root_i a) t.0 store s h t.2) (λ xs store1 s1 h1 q.
+        with_asks o t.0 t.1 m xs (expr_mean w (expr j root_j b)) store1 s1 h1 t.2.0.parts t.3.0.parts t.4 (λ f. (q f).1) (expr_asks (expr j root_j b) t.1 store1 s1 h1 t.3))
 
     pub received_asks : (r : ReceivedTree) (m : ModeTree) (store : Store) (s : Session) → Here g (StoreFits w.rows result) store s → IsTrue (parts_fit m) → IsTakenBy (context_in g w region) r m → Comes g (StoreFits w.rows result) s (IsValueOf m) (received_mean w r store s)
-    received_asks (received (expr j rj o) bounds) m store s h p t =
+    received_asks (received (expr j root_j o) bounds) m store s h p t =
         let own : ModeTree = t.0.0 in
-        bind g (StoreFits w.rows result) (IsValueOf own) (expr_asks (expr j rj o) own store s h t.0.1) (λ xs store1 s1 h1 q.
+        bind g (StoreFits w.rows result) (IsValueOf own) (expr_asks (expr j root_j o) own store s h t.0.1) (λ xs store1 s1 h1 q.
         passes (IsValueOf m) bounds xs store1 s1 h1 (λ test f. taken_value own m bounds xs t.0.1.0.parts p t.0.2.shape t.1 (q f).1 test))
 
     pub all_received_asks : (rs : ReceivedNodes) (ms : List ModeTree) (store : Store) (s : Session) → Here g (StoreFits w.rows result) store s → ModesFit ms → AllHave (context_in g w region) rs ms → Comes g (StoreFits w.rows result) s (AreWithin (flat_map domains_of ms)) (all_received_mean w rs store s)
@@ -552,10 +552,10 @@ module _ (g : Whole) (w : Setting) (result : Option ModeTree) (region : Option �
         offset_asks ds ps own m (k + first) store s h
         (λ f. subst (λ (j : ℕ). PartAt ds own (k + j)) (sym first_is) (part_in ds of own k at.0 (q f) (subst (λ (es : List Domain). PartAt es own at.0) (sym (form_domains of p ∙ form.0)) at.2)))
         (field_fits t.0 0 first own (form.1 (form_fits of p)) t.3) t.5
-    offset_asks ds (element (expr j rj o) b count ps) of m k store s h q p t =
+    offset_asks ds (element (expr j root_j o) b count ps) of m k store s h q p t =
         let index : ModeTree = t.0 in
         let own : ModeTree = t.1 in
-        bind g (StoreFits w.rows result) (IsValueOf t.3.0) (expr_asks (expr j rj o) t.3.0 store s h t.3.1) (λ xs store1 s1 h1 r.
+        bind g (StoreFits w.rows result) (IsValueOf t.3.0) (expr_asks (expr j root_j o) t.3.0 store s h t.3.1) (λ xs store1 s1 h1 r.
         bind g (StoreFits w.rows result) (IsOffset b count (sole_number xs)) (ranges (IsOffset b count (sole_number xs)) (offset_within b count (sole_number xs)) store1 s1 h1 (λ z e. offset_is b count (sole_number xs) z e)) (λ z store2 s2 h2 u.
         offset_asks ds ps own m (k + nat_abs z) store2 s2 h2
         (λ f.
@@ -573,14 +573,14 @@ module _ (g : Whole) (w : Setting) (result : Option ModeTree) (region : Option �
 
     pub members_ask : (b : Bounds) (rs : RangeNodes) (e : ModeTree) (set : List ℤ) (store : Store) (s : Session) → Here g (StoreFits w.rows result) store s → RangesHave (context_in g w region) rs e → count_between b.low b.high ≤ 4096 → (Fits g s → AreWithin (member_domains (count_between b.low b.high) 0 (width_of b)) set) → Comes g (StoreFits w.rows result) s (AreWithin (member_domains (count_between b.low b.high) 0 (width_of b))) (members_mean w b rs set store s)
     members_ask b no_ranges e set store s h t few v = goes g (StoreFits w.rows result) h v
-    members_ask b (one_member (expr i ri o) rs) e set store s h t few v =
-        bind g (StoreFits w.rows result) (IsValueOf t.0.0) (expr_asks (expr i ri o) t.0.0 store s h t.0.1) (λ xs store1 s1 h1 r.
+    members_ask b (one_member (expr i root_i o) rs) e set store s h t few v =
+        bind g (StoreFits w.rows result) (IsValueOf t.0.0) (expr_asks (expr i root_i o) t.0.0 store s h t.0.1) (λ xs store1 s1 h1 r.
         bind g (StoreFits w.rows result) (IsOffset b 1 (sole_number xs)) (ranges (IsOffset b 1 (sole_number xs)) (offset_within b 1 (sole_number xs)) store1 s1 h1 (λ z q. offset_is b 1 (sole_number xs) z q)) (λ k store2 s2 h2 u.
         members_ask b rs e (with_span b k k set) store2 s2 h2 t.1 few (λ f. let a = u f in span_within b k k (sole_number xs) set few a.1 (v (r a.0).0))))
-    members_ask b (members (expr i ri o) (expr j rj q) rs) e set store s h t few v =
-        bind g (StoreFits w.rows result) (IsValueOf t.0.0) (expr_asks (expr i ri o) t.0.0 store s h t.0.1) (λ xs store1 s1 h1 r.
+    members_ask b (members (expr i root_i o) (expr j root_j q) rs) e set store s h t few v =
+        bind g (StoreFits w.rows result) (IsValueOf t.0.0) (expr_asks (expr i root_i o) t.0.0 store s h t.0.1) (λ xs store1 s1 h1 r.
         bind g (StoreFits w.rows result) (IsOffset b 1 (sole_number xs)) (ranges (IsOffset b 1 (sole_number xs)) (offset_within b 1 (sole_number xs)) store1 s1 h1 (λ z y. offset_is b 1 (sole_number xs) z y)) (λ low store2 s2 h2 u.
-        bind g (StoreFits w.rows result) (IsValueOf t.1.0) (expr_asks (expr j rj q) t.1.0 store2 s2 h2 t.1.1) (λ ys store3 s3 h3 c.
+        bind g (StoreFits w.rows result) (IsValueOf t.1.0) (expr_asks (expr j root_j q) t.1.0 store2 s2 h2 t.1.1) (λ ys store3 s3 h3 c.
         bind g (StoreFits w.rows result) (IsOffset b 1 (sole_number ys)) (ranges (IsOffset b 1 (sole_number ys)) (offset_within b 1 (sole_number ys)) store3 s3 h3 (λ z y. offset_is b 1 (sole_number ys) z y)) (λ high store4 s4 h4 d.
         members_ask b rs e (with_span b low high set) store4 s4 h4 t.2 few (λ f. let a = d f in span_within b low high (sole_number ys) set few a.1 (v (r (u (c a.0).0).0).0))))))
 

@@ -15,3 +15,6 @@ pub mod InRange
 pub mod AsksFit
 pub mod WorldValues
 pub mod WorldSteps
+pub mod Journals
+pub mod JournalLaws
+pub mod NextFits

@@ -25,7 +25,7 @@ as_text p code events who birth talks f =
 pub as_code : (p : CheckedTree) (code : Code) (events : List Event) (who : ℕ) (birth : Birth) → TalksInJournal p code events who birth → FollowsText p events who birth → FollowsCode code events who birth
 as_code p code events who birth talks f = record { trace = (talk_in_journal p events who birth).trace; talks = talks; begins = f }
 
-in_journal : (p : CheckedTree) (code : Code) → HasTalkOf p code → (events : List Event) (who : ℕ) (birth : Birth) → FitsBirth p birth.process birth.arguments → TalksInJournal p code events who birth
+pub in_journal : (p : CheckedTree) (code : Code) → HasTalkOf p code → (events : List Event) (who : ℕ) (birth : Birth) → FitsBirth p birth.process birth.arguments → TalksInJournal p code events who birth
 in_journal p code has events who birth fits = has who birth.process birth.arguments (answers_of who events) (suc (ticks_in (line_of who events))) (omega arith) fits
 
 pub same_talk : SameTalkLaw

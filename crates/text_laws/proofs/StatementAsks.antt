@@ -374,24 +374,24 @@ module _ (g : Whole) (result : Option ModeTree) (sort : Sort) (mode : IfSome res
       turns_ask g (StoreFits w.rows result) Any n (where_holds w (Some e)) body (λ c store1 s1 h1 i. where_asks Any w region stands (Some e) c store1 s1 h1 t i) b no_state store s h (λ f. tt)
   loop_asks w region stands n for_ever body store s h t b =
       turns_ask g (StoreFits w.rows result) Any n (where_holds w None) body (λ c store1 s1 h1 i. where_asks Any w region stands None c store1 s1 h1 tt i) b no_state store s h (λ f. tt)
-  loop_asks w region stands n (for_members counter (expr j rj o) low condition) body store s h t b =
+  loop_asks w region stands n (for_members counter (expr j root_j o) low condition) body store s h t b =
       let m : ModeTree = t.0.0 in
       let own : ModeTree = t.0.1 in
       let l : IsOfLanguage m = t.0.3.0 in
-      bind g (StoreFits w.rows result) (IsValueOf m) (expr_asks g w result region stands (expr j rj o) m store s h t.0.3) (λ xs store1 s1 h1 q.
+      bind g (StoreFits w.rows result) (IsValueOf m) (expr_asks g w result region stands (expr j root_j o) m store s h t.0.3) (λ xs store1 s1 h1 q.
       turns_ask g (StoreFits w.rows result) (AreWithin (member_domains (values_of own) 0 (numbers_of (values_of own)))) n (λ set. next_member w counter low condition set (first_of_list (offsets_of set))) body
       (λ set store2 s2 h2 i. member_asks w region stands counter low condition own t.0.2 set store2 s2 h2 t.0.5 t.0.6 t.0.7 t.1 i) b xs store1 s1 h1
       (λ f. subst (λ (ds : List Domain). AreWithin ds xs) (set_domains m own l.parts t.0.4) (q f).1))
-  loop_asks w region stands n (for_steps counter (expr j rj o) step (expr i ri p) down condition) body store s h t b =
+  loop_asks w region stands n (for_steps counter (expr j root_j o) step (expr i root_i p) down condition) body store s h t b =
       let m : ModeTree = t.0.0 in
       let own : ModeTree = t.0.1 in
       let other : ModeTree = t.0.2 in
       let d : Bounds = t.0.3 in
       let shapes : shape_of own ≡ shape_of other = t.0.6.shape in
       let root : shape_bounds (shape_of own) ≡ Some d = bound_in w region m own other d shapes t.0.8 t.0.9 in
-      bind g (StoreFits w.rows result) (λ (z : ℤ). (d.low ≤ℤ z) × (z ≤ℤ d.high)) (bound_asks w region stands (expr j rj o) own (λ (z : ℤ). (d.low ≤ℤ z) × (z ≤ℤ d.high)) store s h t.0.4 (λ xs v. number_in_root own d xs t.0.4.0.parts root v)) (λ from store1 s1 h1 q.
+      bind g (StoreFits w.rows result) (λ (z : ℤ). (d.low ≤ℤ z) × (z ≤ℤ d.high)) (bound_asks w region stands (expr j root_j o) own (λ (z : ℤ). (d.low ≤ℤ z) × (z ≤ℤ d.high)) store s h t.0.4 (λ xs v. number_in_root own d xs t.0.4.0.parts root v)) (λ from store1 s1 h1 q.
       bind g (StoreFits w.rows result) (λ (z : ℤ). pos 1 ≤ℤ z) (step_asks w region stands step (form_of own) store1 s1 h1 t.0.10) (λ by store2 s2 h2 r.
-      bind g (StoreFits w.rows result) (λ (z : ℤ). (d.low ≤ℤ z) × (z ≤ℤ d.high)) (bound_asks w region stands (expr i ri p) other (λ (z : ℤ). (d.low ≤ℤ z) × (z ≤ℤ d.high)) store2 s2 h2 t.0.5 (λ xs v. number_in_root other d xs t.0.5.0.parts (ap shape_bounds (sym shapes) ∙ root) v)) (λ end store3 s3 h3 u.
+      bind g (StoreFits w.rows result) (λ (z : ℤ). (d.low ≤ℤ z) × (z ≤ℤ d.high)) (bound_asks w region stands (expr i root_i p) other (λ (z : ℤ). (d.low ≤ℤ z) × (z ≤ℤ d.high)) store2 s2 h2 t.0.5 (λ xs v. number_in_root other d xs t.0.5.0.parts (ap shape_bounds (sym shapes) ∙ root) v)) (λ end store3 s3 h3 u.
       turns_ask g (StoreFits w.rows result) (λ (z : ℤ). Counts down d z × (pos 1 ≤ℤ by) × (d.low ≤ℤ end) × (end ≤ℤ d.high)) n (next_step w counter down by end condition) body
       (λ value store4 s4 h4 v. step_on w region stands counter down by end condition m d value store4 s4 h4 t.0.9 t.0.7 t.1 v) b from store3 s3 h3
       (λ f. let a = u f in let c = r a.0 in (counts_first down d from (q c.0).1, c.1, a.1.0, a.1.1)))))
@@ -484,10 +484,10 @@ module _ (g : Whole) (result : Option ModeTree) (sort : Sort) (mode : IfSome res
 
   -- a declaration with names takes a value of their mode
   declare_asks : (w : Setting) (region : Option ℕ) (stands : Stands g w result) (names : List Base) (r : ReceivedTree) (store : Store) (s : Session) → Here g (StoreFits w.rows result) store s → (m : ModeTree) × AllBasesHave (context_in g w region) names m × IsTakenBy (context_in g w region) r m → Comes g (StoreFits w.rows result) s Any (then_do (received_mean w r store s) (set_names names))
-  declare_asks w region stands [] (received (expr j rj o) bounds) store s h t =
+  declare_asks w region stands [] (received (expr j root_j o) bounds) store s h t =
       let own : ModeTree = t.2.0.0 in
       bind g (StoreFits w.rows result) Any
-      (bind g (StoreFits w.rows result) (IsValueOf own) (expr_asks g w result region stands (expr j rj o) own store s h t.2.0.1) (λ xs store1 s1 h1 q. passes g w result region stands Any bounds xs store1 s1 h1 (λ test f. tt)))
+      (bind g (StoreFits w.rows result) (IsValueOf own) (expr_asks g w result region stands (expr j root_j o) own store s h t.2.0.1) (λ xs store1 s1 h1 q. passes g w result region stands Any bounds xs store1 s1 h1 (λ test f. tt)))
       (λ xs store1 s1 h1 q. goes g (StoreFits w.rows result) h1 (λ f. tt))
   declare_asks w region stands (b ∷ bs) r store s h t =
       let m : ModeTree = t.0 in
@@ -547,20 +547,20 @@ module _ (g : Whole) (result : Option ModeTree) (sort : Sort) (mode : IfSome res
         bind g (StoreFits w.rows result) (AddressFits (context_in g w region) m) (location_asks g w result region stands (location b ps k) m store s h t.1) (λ address store1 s1 h1 q.
         bind g (StoreFits w.rows result) (IsValueOf m) (received_asks g w result region stands r m store1 s1 h1 fit t.2) (λ xs store2 s2 h2 u.
         assigns g w result region stands k address xs store2 s2 h2 (λ f. let a = u f in (m, (q a.0).1, t.1.3, a.1))))
-    action_asks (update (location b ps k) o (expr j rj e) bounds) w region stands labelled n store s h t =
+    action_asks (update (location b ps k) o (expr j root_j e) bounds) w region stands labelled n store s h t =
         let m : ModeTree = t.0 in
         let own : ModeTree = t.1 in
         let of : ModeTree = t.2 in
         let fit : IsTrue (parts_fit m) = parts_lead (context_in g w region) ps t.3.0 m (base_fits g w stands.rows region b t.3.0 t.3.1) t.3.2 in
         bind g (StoreFits w.rows result) (AddressFits (context_in g w region) m) (location_asks g w result region stands (location b ps k) m store s h t.3) (λ address store1 s1 h1 q.
         bind g (StoreFits w.rows result) (IsValueOf m) (reads g w result region stands m k address store1 s1 h1 (λ f. ((q f).1, t.3.3))) (λ xs store2 s2 h2 u.
-        bind g (StoreFits w.rows result) (IsValueOf of) (with_asks g w result region stands o m own of xs (expr_mean w (expr j rj e)) store2 s2 h2 fit t.4.0.parts t.5 (λ f. (u f).1) (expr_asks g w result region stands (expr j rj e) own store2 s2 h2 t.4)) (λ ys store3 s3 h3 v.
+        bind g (StoreFits w.rows result) (IsValueOf of) (with_asks g w result region stands o m own of xs (expr_mean w (expr j root_j e)) store2 s2 h2 fit t.4.0.parts t.5 (λ f. (u f).1) (expr_asks g w result region stands (expr j root_j e) own store2 s2 h2 t.4)) (λ ys store3 s3 h3 v.
         bind g (StoreFits w.rows result) (IsValueOf m) (passes g w result region stands (IsValueOf m) bounds ys store3 s3 h3 (λ test f. taken_value of m bounds ys (result_fits_text o m own of fit t.4.0.parts t.5) fit t.6.shape t.7 (v f).1 test)) (λ zs store4 s4 h4 c.
         assigns g w result region stands k address zs store4 s4 h4 (λ f. let a = c f in (m, (q (u (v a.0).0).0).1, t.3.3, a.1))))))
     action_asks (perform ct) w region stands labelled n store s h t =
         bind g (StoreFits w.rows result) Any (weaker g (StoreFits w.rows result) _ (λ v f i. tt) (call_asks g w result region stands ct t.0 store s h t.1)) (λ v store1 s1 h1 q. goes g (StoreFits w.rows result) h1 (λ f. tt))
-    action_asks (drop_routine r (expr j rj e)) w region stands labelled n store s h t =
-        bind g (StoreFits w.rows result) (IsValueOf t.0) (expr_asks g w result region stands (expr j rj e) t.0 store s h t.2) (λ xs store1 s1 h1 q.
+    action_asks (drop_routine r (expr j root_j e)) w region stands labelled n store s h t =
+        bind g (StoreFits w.rows result) (IsValueOf t.0) (expr_asks g w result region stands (expr j root_j e) t.0 store s h t.2) (λ xs store1 s1 h1 q.
         bind g (StoreFits w.rows result) Any (weaker g (StoreFits w.rows result) (IsValueOf t.1) (λ v f i. tt) (computes g w result region stands t.1 (routine_value r xs) store1 s1 h1 (λ f. routine_computes r t.0 t.1 xs t.2.0 t.3 (q f).1))) (λ v store2 s2 h2 u. goes g (StoreFits w.rows result) h2 (λ f. tt)))
     action_asks (evaluate e) w region stands labelled n store s h t =
         bind g (StoreFits w.rows result) (IsValueOf t.0) (expr_asks g w result region stands e t.0 store s h t.1) (λ v store1 s1 h1 q. goes g (StoreFits w.rows result) h1 (λ f. tt))

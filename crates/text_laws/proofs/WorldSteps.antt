@@ -1,46 +1,34 @@
 -- What an event makes of a world that holds values, and of what the processes get.
-use Rattle.std.proofs.Common.{◌≡◌, ◌≢◌, ◌+◌, ◌≤◌, ◌<◌, ℕ, zero, suc, Bool, true, false, List, [], ◌∷◌, ◌++◌, ℤ, take, drop, replicate, length, refl, sym, ap, ◌∙◌, subst, inl, inr, ◌⊎◌, arith, Option, Some, None, slice_get, slice_set, append-nil, append_assoc, eq-eqb}
+use Rattle.std.proofs.Common.{◌≡◌, ◌+◌, ℕ, zero, suc, Bool, true, false, List, [], ◌∷◌, ◌++◌, ℤ, drop, refl, sym, ap, ◌∙◌, subst, inl, inr, Option, Some, None, slice_get, slice_set, eq-eqb}
 use Rattle.std.specs.Prelude.{if◌then◌else◌, ◌==◌, slice_index_or}
-use Rattle.std.specs.Option.{option_map, option_and_then}
-use Rattle.std.specs.List.{flat_map}
-use Rattle.std.proofs.lemmas.Bool.{cases_eq, cases_Bool, eqb-true}
-use Rattle.std.proofs.lemmas.List.Concat.{flat_map-append}
-use Rattle.kernel_base.specs.declared.ends.How.{How}
+use Rattle.std.specs.Option.{option_and_then}
+use Rattle.std.proofs.lemmas.Bool.{cases_Bool, eqb-true}
 use Rattle.kernel_base.specs.declared.facts.Facts.{Facts}
-use Rattle.kernel_base.specs.declared.request.Place.{Place}
-use Rattle.kernel_base.specs.declared.request.Alternative.{Alternative}
 use Rattle.kernel_base.specs.declared.request.Request.{Request}
 use Rattle.kernel_base.specs.declared.request.Request.TheVariants.{Read, Write, Enter, Leave, Delay, Continue, SendBuffer, ReceiveBuffer, SendSignal, ReceiveSignal, Start, Put, Get, End}
 use Rattle.kernel_base.specs.declared.answer.Answer.{Answer}
-use Rattle.kernel_base.specs.declared.answer.Answer.TheVariants.{Value, Done, Woken, Got, Otherwise, Instance, Fail, Chose, Handed, Stored}
-use Rattle.kernel_base.specs.declared.event.Event.{Event}
-use Rattle.kernel_base.specs.declared.event.Event.TheVariants.{Did, Waits, Goes, Runs}
+use Rattle.kernel_base.specs.declared.answer.Answer.TheVariants.{Woken, Got, Instance, Chose, Handed, Stored}
 use Rattle.world_model.specs.declared.world.Phase.{Phase}
 use Rattle.world_model.specs.declared.world.Phase.TheVariants.{Active, Waiting, Chosen, Ended}
 use Rattle.world_model.specs.declared.world.StoredValue.{StoredValue}
-use Rattle.world_model.specs.declared.world.PendingSignal.{PendingSignal}
 use Rattle.world_model.specs.declared.world.World.{World}
 use Rattle.world_model.specs.declared.waiting.Waiter.{Waiter}
 use Rattle.world_model.specs.declared.waiting.Offer.{Offer}
-use Rattle.world_model.specs.Lists.{last_of, number_for, scalars_at}
-use Rattle.world_model.specs.Waiting.{phase_of, IsActive, waiter_for, sleeper, buffer_receiver_in, buffer_receiver, signal_receiver_in, signal_receiver, may_receive, offer}
-use Rattle.world_model.specs.World.{held_by, occupant, with_phase, chosen, with_next_send, with_drawn, drawn, buffer_length, freed_last, locked_back, back_in, refilled, refilled_by, refilled_buffer, after_continue, after_send_buffer, after_receive_buffer, after_send_signal, after_receive_signal, after_start, after_request, after_waits, after}
-use Rattle.world_model.specs.Allowed.{IsPossible, IsAllowed, IsCandidateOf, TakesValue, Answers}
-use Rattle.world_model.specs.Journal.{ticks_of, items_by, line_of, answers_by, answers_of}
+use Rattle.world_model.specs.Lists.{number_for, scalars_at}
+use Rattle.world_model.specs.Waiting.{phase_of, waiter_for, sleeper, buffer_receiver_in, buffer_receiver, signal_receiver_in, signal_receiver, may_receive, offer}
+use Rattle.world_model.specs.World.{occupant, chosen, with_next_send, buffer_length, refilled, refilled_by, refilled_buffer, after_continue, after_send_buffer, after_receive_buffer, after_send_signal, after_receive_signal, after_start, after_request}
+use Rattle.world_model.specs.Allowed.{IsCandidateOf, Answers}
+use Rattle.world_model.specs.Journal.{ticks_of}
 use Rattle.world_model.specs.Session.{Item, Tick, Ask}
-use Rattle.world_model.proofs.ChangedLists.{written_or_old, written_here, written_elsewhere, pushed_keeps}
-use Rattle.world_model.proofs.Stores.{KeepsStores}
-use Rattle.world_model.proofs.Freeing.{freeing_kept, back_kept}
-use Rattle.world_model.proofs.PhaseMoves.{Moves, Stays, IsChosenNow, Begins, IsChosen, did_moves, entered_phases, left_phases, refilled_buffer_phases}
-use Rattle.world_model.proofs.Well.{IsWell, some_active, freeing_stores, back_stores}
-use Rattle.world_model.proofs.Given.{did_gives}
+use Rattle.world_model.proofs.ChangedLists.{written_or_old, pushed_keeps}
+use Rattle.world_model.proofs.PhaseMoves.{Moves, Stays, IsChosenNow, Begins, entered_phases, left_phases, refilled_buffer_phases}
 use Rattle.program_trees.specs.ProgramTree.{LocationRowTree, CheckedTree}
-use Rattle.source_meaning.specs.Values.{Domain, domains_of, AreWithin}
+use Rattle.source_meaning.specs.Values.{domains_of, AreWithin}
 use Rattle.source_meaning.specs.Fitting.{domains_at, domains_in_buffer, domains_in_signal, thing_of, BringsValue, FitsAnswer}
-use Rattle.text_laws.specs.Requests.{NumbersTell, FitsText}
-use Rattle.text_laws.specs.Journals.{AsksText, IsOpenWith, PhaseFits}
+use Rattle.text_laws.specs.Requests.{FitsText}
+use Rattle.text_laws.specs.Journals.{IsOpenWith, PhaseFits}
 use Rattle.text_laws.proofs.Values.{within_take, within_drop}
-use Rattle.text_laws.proofs.WorldValues.{IsOfBuffer, IsOfSignal, AreOfModes, kept_modes, OfferFits, did_modes, StoreIsOfModes, did_store_modes, offer_fits}
+use Rattle.text_laws.proofs.WorldValues.{IsOfBuffer, IsOfSignal, AreOfModes, OfferFits, StoreIsOfModes}
 
 -- ---- answers
 
@@ -146,7 +134,7 @@ module _ (p : CheckedTree) (facts : Facts) (w : World) (i : ℕ) (r : Request) (
   start_brings process scalars (Instance j) e = not_waiting (slice_get (w.phases ++ Active ∷ []) i) r send back a b (pushed_keeps w.phases i Active (Waiting r send back) waits) e
   start_brings process scalars answer e = not_waiting (phase_of w i) r send back a b waits e
 
-  did_brings : (who : ℕ) (request : Request) (answer : Answer) (refill : Option ℕ) → FitsText p request → phase_of (after_request facts w who request answer refill) i ≡ Some (Chosen a b) → BringsValue p r a
+  pub did_brings : (who : ℕ) (request : Request) (answer : Answer) (refill : Option ℕ) → FitsText p request → phase_of (after_request facts w who request answer refill) i ≡ Some (Chosen a b) → BringsValue p r a
   did_brings who (Read place) answer refill f e = not_waiting (phase_of w i) r send back a b waits e
   did_brings who (Write place scalars) answer refill f e = not_waiting (phase_of w i) r send back a b waits e
   did_brings who (Enter at) answer refill f e = not_waiting (phase_of w i) r send back a b waits (ap (λ (ps : List Phase). slice_get ps i) (sym (entered_phases w who at (occupant w at))) ∙ e)
@@ -171,7 +159,7 @@ candidate_fits p None w b value m offers c = m.values b c.0 value c.1
 candidate_fits p (Some zero) w b value m offers c = subst (OfferFits p) c.waits (offers value.sender)
 candidate_fits p (Some (suc n)) w b value m offers c = m.values b c.0 value c.1
 
-answer_brings : (p : CheckedTree) (facts : Facts) (w : World) (who : ℕ) (request : Request) (answer : Answer) (refill : Option ℕ) → FitsText p request → AreOfModes p w → StoreIsOfModes p w.store → ((q : ℕ) → OfferFits p (offer w q)) → Answers facts w who request answer refill → BringsValue p request answer
+pub answer_brings : (p : CheckedTree) (facts : Facts) (w : World) (who : ℕ) (request : Request) (answer : Answer) (refill : Option ℕ) → FitsText p request → AreOfModes p w → StoreIsOfModes p w.store → ((q : ℕ) → OfferFits p (offer w q)) → Answers facts w who request answer refill → BringsValue p request answer
 answer_brings p facts w who (Read place) answer refill f m s offers c =
     let whole = s place.location f.0 f.1 in
     let part = within_take place.count (drop place.first (domains_of f.0.mode)) (drop place.first (slice_index_or w.store place.location [])) (within_drop place.first (domains_of f.0.mode) (slice_index_or w.store place.location []) whole) in
@@ -192,7 +180,7 @@ answer_brings p facts w who request answer refill f m s offers c = tt
 
 -- ---- phases
 
-phase_moved : (p : CheckedTree) (o : Option Request) (old new : Option Phase) → PhaseFits p o old → ((r : Request) (send back : Option ℕ) (a : Answer) (b : Option ℕ) → old ≡ Some (Waiting r send back) → new ≡ Some (Chosen a b) → BringsValue p r a) → Moves old new → PhaseFits p o new
+pub phase_moved : (p : CheckedTree) (o : Option Request) (old new : Option Phase) → PhaseFits p o old → ((r : Request) (send back : Option ℕ) (a : Answer) (b : Option ℕ) → old ≡ Some (Waiting r send back) → new ≡ Some (Chosen a b) → BringsValue p r a) → Moves old new → PhaseFits p o new
 phase_moved p o old new h k (Stays same) = subst (PhaseFits p o) (sym same) h
 phase_moved p o old new h k (IsChosenNow c) =
     let one : o ≡ Some c.request = subst (PhaseFits p o) c.waited h in
@@ -204,29 +192,29 @@ phase_moved p o old new h k (Begins none begins) = subst (PhaseFits p o) (sym be
 abbrev pub changed : (ℕ → Option Request) → ℕ → Option Request → ℕ → Option Request
 changed opens who o i = if who == i then o else opens i
 
-changed_here : (opens : ℕ → Option Request) (who : ℕ) (o : Option Request) (i : ℕ) → i ≡ who → changed opens who o i ≡ o
+pub changed_here : (opens : ℕ → Option Request) (who : ℕ) (o : Option Request) (i : ℕ) → i ≡ who → changed opens who o i ≡ o
 changed_here opens who o i e = let t : (who == i) ≡ true = eq-eqb who i (sym e) in rw t refl
 
-differs : (who i : ℕ) → (i ≡ who → ⊥) → (who == i) ≡ false
+pub differs : (who i : ℕ) → (i ≡ who → ⊥) → (who == i) ≡ false
 differs who i apart = elim (cases_Bool (who == i)) [
   | inl same ↦ absurd (apart (sym (eqb-true who i same)))
   | inr fails ↦ fails
 ]
 
-changed_elsewhere : (opens : ℕ → Option Request) (who : ℕ) (o : Option Request) (i : ℕ) → (i ≡ who → ⊥) → changed opens who o i ≡ opens i
+pub changed_elsewhere : (opens : ℕ → Option Request) (who : ℕ) (o : Option Request) (i : ℕ) → (i ≡ who → ⊥) → changed opens who o i ≡ opens i
 changed_elsewhere opens who o i apart = let t = differs who i apart in rw t refl
 
-open_more : (p : CheckedTree) (line more : List Item) (as' bs : List Answer) (o : Option Request) → IsOpenWith p line as' None → IsOpenWith p more bs o → IsOpenWith p (line ++ more) (as' ++ bs) o
+pub open_more : (p : CheckedTree) (line more : List Item) (as' bs : List Answer) (o : Option Request) → IsOpenWith p line as' None → IsOpenWith p more bs o → IsOpenWith p (line ++ more) (as' ++ bs) o
 open_more p [] more as' bs o h k = subst (λ (xs : List Answer). IsOpenWith p more (xs ++ bs) o) (sym h.0) k
 open_more p (Tick ∷ line) more as' bs o h k = open_more p line more as' bs o h k
 open_more p (Ask q ∷ line) more [] bs o h k = absurd (let e : None ≡ Some q = h.1 in let f : ⊥ = cc in f)
 open_more p (Ask q ∷ line) more (a ∷ as') bs o h k = (h.0, open_more p line more as' bs o h.1 k)
 
-open_ticks : (p : CheckedTree) (n : ℕ) (more : List Item) (bs : List Answer) (o : Option Request) → IsOpenWith p more bs o → IsOpenWith p (ticks_of n ++ more) bs o
+pub open_ticks : (p : CheckedTree) (n : ℕ) (more : List Item) (bs : List Answer) (o : Option Request) → IsOpenWith p more bs o → IsOpenWith p (ticks_of n ++ more) bs o
 open_ticks p zero more bs o h = h
 open_ticks p (suc n) more bs o h = open_ticks p n more bs o h
 
-open_goes : (p : CheckedTree) (line : List Item) (as' : List Answer) (r : Request) (a : Answer) → IsOpenWith p line as' (Some r) → FitsAnswer p r a → IsOpenWith p line (as' ++ a ∷ []) None
+pub open_goes : (p : CheckedTree) (line : List Item) (as' : List Answer) (r : Request) (a : Answer) → IsOpenWith p line as' (Some r) → FitsAnswer p r a → IsOpenWith p line (as' ++ a ∷ []) None
 open_goes p [] as' r a h f = absurd (let e : Some r ≡ None = h.1 in let no : ⊥ = cc in no)
 open_goes p (Tick ∷ line) as' r a h f = open_goes p line as' r a h f
 open_goes p (Ask q ∷ line) [] r a h f =

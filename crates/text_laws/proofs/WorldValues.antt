@@ -1,6 +1,6 @@
 -- What is stored and pending stays of its mode.
-use Rattle.std.proofs.Common.{◌≡◌, ◌+◌, ◌≤◌, take, drop, ℕ, zero, suc, Bool, true, false, List, [], ◌∷◌, ◌++◌, ℤ, map, length, refl, sym, ap, ◌∙◌, subst, inl, inr, ◌⊎◌, arith, Option, Some, None, slice_get, slice_set}
-use Rattle.std.specs.Prelude.{if◌then◌else◌, ◌==◌, not, slice_index_or}
+use Rattle.std.proofs.Common.{◌≡◌, ◌+◌, ◌≤◌, take, drop, ℕ, zero, suc, List, [], ◌∷◌, ◌++◌, ℤ, map, refl, sym, ap, ◌∙◌, subst, inl, inr, ◌⊎◌, arith, Option, Some, None, slice_get, slice_set}
+use Rattle.std.specs.Prelude.{◌==◌, not, slice_index_or}
 use Rattle.std.specs.Option.{option_and_then}
 use Rattle.std.proofs.lemmas.List.{length-take, length-drop}
 use Rattle.std.proofs.lemmas.Bool.{cases_eq}
@@ -9,7 +9,7 @@ use Rattle.kernel_base.specs.declared.request.Place.{Place}
 use Rattle.kernel_base.specs.declared.request.Request.{Request}
 use Rattle.kernel_base.specs.declared.request.Request.TheVariants.{Read, Write, Enter, Leave, Delay, Continue, SendBuffer, ReceiveBuffer, SendSignal, ReceiveSignal, Start, Put, Get, End}
 use Rattle.kernel_base.specs.declared.answer.Answer.{Answer}
-use Rattle.kernel_base.specs.declared.answer.Answer.TheVariants.{Woken, Got, Instance, Chose, Handed, Stored}
+use Rattle.kernel_base.specs.declared.answer.Answer.TheVariants.{Got, Handed, Stored}
 use Rattle.world_model.specs.declared.world.Phase.{Phase}
 use Rattle.world_model.specs.declared.world.Phase.TheVariants.{Waiting}
 use Rattle.world_model.specs.declared.world.StoredValue.{StoredValue}
@@ -17,12 +17,12 @@ use Rattle.world_model.specs.declared.world.PendingSignal.{PendingSignal}
 use Rattle.world_model.specs.declared.world.World.{World}
 use Rattle.world_model.specs.declared.waiting.Offer.{Offer}
 use Rattle.world_model.specs.Lists.{with_scalars}
-use Rattle.world_model.specs.Waiting.{phase_of, buffer_receiver, signal_receiver, offer_in, offer}
+use Rattle.world_model.specs.Waiting.{buffer_receiver, signal_receiver, offer_in, offer}
 use Rattle.world_model.specs.World.{occupant, with_next_send, next_value, stored_in, with_stored, values_but, refilled, refilled_by, refilled_buffer, buffer_length, after_send_buffer, after_receive_buffer, after_send_signal, after_receive_signal, after_request}
 use Rattle.world_model.proofs.ChangedLists.{read_elsewhere, read_here, pushed_or_old}
 use Rattle.world_model.proofs.Stores.{KeepsStores, chosen_stores, continue_stores, start_stores, entered_stores, left_stores, in_filter, read_mapped, did_store}
 use Rattle.program_trees.specs.ProgramTree.{LocationRowTree, CheckedTree}
-use Rattle.source_meaning.specs.Values.{Domain, domains_of, AreWithin, IsValueOf}
+use Rattle.source_meaning.specs.Values.{domains_of, AreWithin, IsValueOf}
 use Rattle.source_meaning.specs.Fitting.{domains_at, domains_in_buffer, domains_in_signal}
 use Rattle.modes.specs.Scalars.{scalars_of}
 use Rattle.text_laws.specs.Requests.{LiesInText, FitsText}

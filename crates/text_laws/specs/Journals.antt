@@ -1,18 +1,19 @@
 -- What the world holds where all requests of a journal fit a text, and what its processes get.
 use Rattle.std.specs.Prelude.{◌≡◌, ℕ, List, [], ◌∷◌, ℤ, Some, None, slice_get, slice_index_or}
 use Rattle.std.specs.declared.option.Option.{Option}
+use Rattle.kernel_base.specs.declared.facts.Facts.{Facts}
 use Rattle.kernel_base.specs.declared.request.Request.{Request}
 use Rattle.kernel_base.specs.declared.answer.Answer.{Answer}
 use Rattle.kernel_base.specs.declared.event.Event.{Event}
-use Rattle.kernel_base.specs.declared.event.Event.TheVariants.{Did, Waits, Goes, Runs}
+use Rattle.kernel_base.specs.declared.event.Event.TheVariants.{Did, Waits}
 use Rattle.world_model.specs.declared.world.Phase.{Phase}
-use Rattle.world_model.specs.declared.world.Phase.TheVariants.{Active, Waiting, Chosen, Ended}
+use Rattle.world_model.specs.declared.world.Phase.TheVariants.{Waiting, Chosen}
 use Rattle.world_model.specs.declared.world.StoredValue.{StoredValue}
 use Rattle.world_model.specs.declared.world.PendingSignal.{PendingSignal}
 use Rattle.world_model.specs.declared.world.World.{World}
 use Rattle.world_model.specs.Session.{Item, Tick, Ask}
 use Rattle.world_model.specs.Waiting.{phase_of}
-use Rattle.world_model.specs.World.{stored_in}
+use Rattle.world_model.specs.World.{stored_in, world_of}
 use Rattle.world_model.specs.Journal.{line_of, answers_of, Birth, born_of}
 use Rattle.program_trees.specs.ProgramTree.{LocationRowTree, BodyRowTree, CheckedTree}
 use Rattle.source_meaning.specs.Values.{AreWithin, IsValueOf}
@@ -57,3 +58,13 @@ pub record GetsValues (p : CheckedTree) (w : World) (events : List Event) (who :
 
 abbrev pub BirthsFit : CheckedTree → List Event → Type 0
 BirthsFit p events = (who : ℕ) (birth : Birth) → born_of who events ≡ Some birth → IsBirth p birth.process birth.arguments
+
+abbrev pub AllAskText : CheckedTree → List Event → Type 0
+AllAskText p [] = Unit {0}
+AllAskText p (event ∷ events) = AsksText p event × AllAskText p events
+
+-- The world behind a journal holds values, and so does all that its processes were born with and got.
+pub record KeepsValues (p : CheckedTree) (facts : Facts) (events : List Event) : Type 0 where
+  pub holds : HoldsValues p (world_of facts events)
+  pub gets : (who : ℕ) → GetsValues p (world_of facts events) events who
+  pub births : BirthsFit p events

@@ -1,20 +1,22 @@
 -- The laws of the runs of a text.
-use Rattle.std.specs.Prelude.{◌≡◌, ◌↔◌, ℕ, ◌≤◌, true, List, ℤ, length, Some, slice_get}
+use Rattle.std.specs.Prelude.{◌≡◌, ◌↔◌, ℕ, ◌≤◌, true, List, ℤ, length, Some, slice_get, IsSomeAnd}
 use Rattle.kernel_base.specs.declared.facts.Facts.{Facts}
 use Rattle.kernel_base.specs.declared.answer.Answer.{Answer}
 use Rattle.kernel_base.specs.declared.event.Event.{Event}
 use Rattle.kernel_base.specs.declared.request.Request.{Request}
 use Rattle.kernel_base.specs.Facts.{IsSound, FitsRequest}
-use Rattle.world_model.specs.Journal.{Birth, born_of}
+use Rattle.world_model.specs.Journal.{Birth, born_of, answers_of}
+use Rattle.world_model.specs.Allowed.{IsRun}
 use Rattle.program_trees.specs.ProgramTree.{BodyRowTree, CheckedTree}
 use Rattle.code_types.specs.declared.code.Code.{Code}
 use Rattle.code_types.specs.Talk.{CodeTalk}
-use Rattle.code_types.specs.Runs.{IsCodeRun}
+use Rattle.code_types.specs.Runs.{IsCodeRun, RequestsFit, BirthsFit}
 use Rattle.source_meaning.specs.Talk.{talk, parameter_scalars}
-use Rattle.source_meaning.specs.Fitting.{has_instances, FitsBody, AreOfTypes, IsFitting}
-use Rattle.source_meaning.specs.Runs.{IsSourceRun}
+use Rattle.source_meaning.specs.Fitting.{has_instances, HasFittingAnswers, FitsBody, AreOfTypes, IsFitting}
+use Rattle.source_meaning.specs.Runs.{IsSourceRun, talk_in_journal}
 use Rattle.source_meaning.specs.Facts.{AreFactsOf}
 use Rattle.source_meaning.specs.Typed.{IsTyped}
+use Rattle.text_laws.specs.Journals.{AllAskText, KeepsValues}
 use Rattle.text_laws.specs.Requests.{FitsText, AskWell, AllFitText}
 
 -- ---- facts
@@ -38,6 +40,21 @@ pub record AsksFitLaw : Type 0 where
       → IsTyped p → AreFactsOf p input units facts → FitsText p request
       → FitsRequest facts request
 
+-- ---- journals
+
+-- In an allowed journal from the facts of a typed program whose requests fit the text, values stay of their modes.
+abbrev pub WorldKeepsLaw : Type 0
+WorldKeepsLaw = (p : CheckedTree) (input : List ℕ) (units : ℕ) (facts : Facts) (events : List Event) → IsTyped p → 1 ≤ units → units ≤ 10000000 → AreFactsOf p input units facts → IsRun facts events → AllAskText p events → KeepsValues p facts events
+
+-- So it is in each run of the text, and each instance's answers fit what it asks in its talk.
+pub record RunFitsLaw : Type 0 where
+  pub keeps : (p : CheckedTree) (input : List ℕ) (units : ℕ) (facts : Facts) (events : List Event)
+      → IsTyped p → 1 ≤ units → units ≤ 10000000 → AreFactsOf p input units facts → IsSourceRun p facts events
+      → KeepsValues p facts events
+  pub answers : (p : CheckedTree) (input : List ℕ) (units : ℕ) (facts : Facts) (events : List Event) (who : ℕ) (birth : Birth)
+      → IsTyped p → 1 ≤ units → units ≤ 10000000 → AreFactsOf p input units facts → IsSourceRun p facts events → born_of who events ≡ Some birth
+      → HasFittingAnswers p (talk_in_journal p events who birth).trace (answers_of who events)
+
 -- ---- a code with the talk of a text
 
 -- instances run the body, and there are as many arguments as its parameters have scalars
@@ -58,3 +75,17 @@ BirthsCount p events = (who : ℕ) (birth : Birth) → born_of who events ≡ So
 -- Of such journals the runs of a code with the text's talk are those of the text.
 abbrev pub SameTalkLaw : Type 0
 SameTalkLaw = (p : CheckedTree) (code : Code) → HasTalkOf p code → (facts : Facts) (events : List Event) → BirthsCount p events → IsCodeRun code facts events ↔ IsSourceRun p facts events
+
+-- From the facts of a typed program the runs of a code with the text's talk are those of the text.
+abbrev pub SameRunsLaw : Type 0
+SameRunsLaw = (p : CheckedTree) (code : Code) (input : List ℕ) (units : ℕ) (facts : Facts) (events : List Event) → IsTyped p → 1 ≤ units → units ≤ 10000000 → AreFactsOf p input units facts → HasTalkOf p code → IsCodeRun code facts events ↔ IsSourceRun p facts events
+
+-- the code has each process of the program, with as many parameters as its arguments are
+abbrev pub HasProcessesOf : CheckedTree → Code → Type 0
+HasProcessesOf p code = (process : ℕ) (zs : List ℤ) → FitsBirth p process zs → IsSomeAnd (slice_get code.bodies process) (λ row. row.params ≡ length zs)
+
+-- In each run of a code with the text's talk, each next request of an active process fits the facts, and each instance names a body
+-- with as many parameters as it has arguments.
+pub record NextFitsLaw : Type 0 where
+  pub requests : (p : CheckedTree) (code : Code) (input : List ℕ) (units : ℕ) (facts : Facts) → IsTyped p → 1 ≤ units → units ≤ 10000000 → AreFactsOf p input units facts → HasTalkOf p code → RequestsFit code facts
+  pub births : (p : CheckedTree) (code : Code) (input : List ℕ) (units : ℕ) (facts : Facts) → IsTyped p → 1 ≤ units → units ≤ 10000000 → AreFactsOf p input units facts → HasTalkOf p code → HasProcessesOf p code → BirthsFit code facts

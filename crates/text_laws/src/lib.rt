@@ -6,4 +6,7 @@
 
 mod laws;
 
-pub use laws::{asks_fit_law, facts_are_sound_law, same_talk_law};
+pub use laws::{
+    asks_fit_law, facts_are_sound_law, next_fits_law, run_fits_law, same_runs_law, same_talk_law,
+    world_keeps_law,
+};

@@ -1,0 +1,5 @@
+use Rattle.text_laws.proofs.laws.same_runs_law.Goals as goal
+use Rattle.text_laws.proofs.JournalLaws.{same_runs}
+
+pub returns : goal.returns
+returns c = same_runs
