@@ -54,7 +54,7 @@ mutual
   pub expr_piece : (lay : Layout) (body free : ℕ) (e : ExprTree) → CountsFit lay.program e → (at height : ℕ) → IsPiece (heads_of lay.program) body no_ways at height (expr_code lay free e at) (expr_size e) (height + count_of e)
   expr_piece lay body free (expr n own o) fits at height = operation_piece lay body free n o fits at height
 
-  operation_piece : (lay : Layout) (body free n : ℕ) (o : OperationTree) → OperationFits lay.program n o → (at height : ℕ) → IsPiece (heads_of lay.program) body no_ways at height (operation_code lay free n o at) (operation_size o) (height + n)
+  pub operation_piece : (lay : Layout) (body free n : ℕ) (o : OperationTree) → OperationFits lay.program n o → (at height : ℕ) → IsPiece (heads_of lay.program) body no_ways at height (operation_code lay free n o at) (operation_size o) (height + n)
   operation_piece lay body free n (constant xs) fits at height =
       let count = fits.0 in
       let few = fits.1 in

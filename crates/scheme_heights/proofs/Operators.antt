@@ -95,7 +95,7 @@ between_piece heads body at height o own second m n strict takes = record { step
 
 -- ---- operators that may leave out their second operand
 
-take_all : (is : List Instr) → take (length is) is ≡ is
+pub take_all : (is : List Instr) → take (length is) is ≡ is
 take_all [] = refl
 take_all (x ∷ is) = ap (λ (l : List Instr). x ∷ l) (take_all is)
 
