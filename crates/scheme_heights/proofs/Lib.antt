@@ -3,3 +3,4 @@ pub mod Parts
 pub mod Operators
 pub mod Locations
 pub mod Expressions
+pub mod Conditions

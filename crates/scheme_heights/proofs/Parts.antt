@@ -1,4 +1,4 @@
--- Pieces that hold no expression.
+-- Stretches that hold no expression.
 use Rattle.std.proofs.Common.{◌≡◌, ◌+◌, ◌-◌, ◌*◌, ◌^◌, ◌≤◌, ◌<◌, min, nat_lt, ℕ, zero, suc, Bool, true, false, List, [], ◌∷◌, ◌++◌, ℤ, pos, length, take, length-append, refl, sym, ap, ◌∙◌, subst, inl, inr, arith, rules, Option, Some, None}
 use Rattle.std.specs.Prelude.{if◌then◌else◌, int_le, ◌&&◌}
 use Rattle.std.proofs.lemmas.Bool.{cases_lt}
@@ -15,44 +15,44 @@ use Rattle.code_types.specs.Places.{finds, is_last, jump_of}
 use Rattle.code_types.specs.Agreement.{LeadsForward}
 use Rattle.code_scheme.specs.BodyCode.{height_behind}
 use Rattle.code_scheme.specs.Pieces.{pushes, copies_from, copies_code, run_code, are_same, scalars_from, scalars_code, bounds_to_test, check_code, member_code, offset_code, prefix_code, routine_code}
-use Rattle.scheme_heights.specs.Pieces.{behind, IsNamedIn, no_ways, none_led, Lands, JumpsOn, led_behind, IsPiece}
+use Rattle.scheme_heights.specs.Stretches.{behind, IsNamedIn, no_outlets, none_led, Lands, JumpsOn, led_behind, IsStretch}
 use Rattle.scheme_heights.specs.Counts.{TestsOne}
 use Rattle.scheme_heights.proofs.Joining.{steps_more, join}
 
--- a piece of as many instructions as there are
-abbrev pub Piece : Code → ℕ → ℕ → ℕ → List Instr → ℕ → Type 0
-Piece heads body at height is next = IsPiece heads body no_ways at height is (length is) next
+-- a stretch of as many instructions as there are
+abbrev pub Stretch : Code → ℕ → ℕ → ℕ → List Instr → ℕ → Type 0
+Stretch heads body at height is next = IsStretch heads body no_outlets at height is (length is) next
 
-pub resized : {heads : Code} {body at height : ℕ} {is : List Instr} {n next : ℕ} → IsPiece heads body no_ways at height is n next → Piece heads body at height is next
-resized piece = record { steps = piece.steps; count = refl; leaves = piece.leaves }
+pub resized : {heads : Code} {body at height : ℕ} {is : List Instr} {n next : ℕ} → IsStretch heads body no_outlets at height is n next → Stretch heads body at height is next
+resized stretch = record { steps = stretch.steps; count = refl; leaves = stretch.leaves }
 
-pub sized : {heads : Code} {body at height : ℕ} {is : List Instr} {next : ℕ} (n : ℕ) → length is ≡ n → Piece heads body at height is next → IsPiece heads body no_ways at height is n next
-sized n same piece = record { steps = piece.steps; count = same; leaves = piece.leaves }
+pub sized : {heads : Code} {body at height : ℕ} {is : List Instr} {next : ℕ} (n : ℕ) → length is ≡ n → Stretch heads body at height is next → IsStretch heads body no_outlets at height is n next
+sized n same stretch = record { steps = stretch.steps; count = same; leaves = stretch.leaves }
 
-pub end : {heads : Code} {body at height next : ℕ} → height ≡ next → Piece heads body at height [] next
+pub end : {heads : Code} {body at height next : ℕ} → height ≡ next → Stretch heads body at height [] next
 end same = record { steps = tt; count = refl; leaves = same }
 
--- an instruction that doesn't jump, before a piece
-pub cons : {heads : Code} {body at height : ℕ} {instr : Instr} {is : List Instr} {next : ℕ} → finds heads body instr ≤ height → IsNamedIn heads instr → LeadsForward at instr → jump_of instr ≡ None → is_last instr ≡ false → Piece heads body (at + 1) (height_behind heads instr height) is next
-    → Piece heads body at height (instr ∷ is) next
+-- an instruction that doesn't jump, before a stretch
+pub cons : {heads : Code} {body at height : ℕ} {instr : Instr} {is : List Instr} {next : ℕ} → finds heads body instr ≤ height → IsNamedIn heads instr → LeadsForward at instr → jump_of instr ≡ None → is_last instr ≡ false → Stretch heads body (at + 1) (height_behind heads instr height) is next
+    → Stretch heads body at height (instr ∷ is) next
 cons {heads = heads} {body = body} {at = at} {height = height} {instr = instr} {is = is} operands named forward stays goes rest = record {
   steps = (
     record {
       operands = operands;
       named = named;
       forward = forward;
-      jumps = subst (JumpsOn heads no_ways (at + 1) (height_behind heads instr height) is) (sym stays) tt;
+      jumps = subst (JumpsOn heads no_outlets (at + 1) (height_behind heads instr height) is) (sym stays) tt;
       ended = λ last. absurd (let e : false ≡ true = sym goes ∙ last in let f : ⊥ = cc in f);
     },
-    steps_more heads body no_ways no_ways none_led (led_behind none_led instr) (at + 1) (height_behind heads instr height) is (λ to k out. out) (λ to none. absurd none) rest.steps,
+    steps_more heads body no_outlets no_outlets none_led (led_behind none_led instr) (at + 1) (height_behind heads instr height) is (λ to k out. out) (λ to none. absurd none) rest.steps,
   );
   count = refl;
   leaves = rest.leaves;
 }
 
 -- an Unless that leads on among the instructions behind it
-pub cons_unless : {heads : Code} {body at height to : ℕ} {is : List Instr} {next : ℕ} → 1 ≤ height → at < to → Lands heads (at + 1) (height_behind heads (i.Unless to) height) is to (height_behind heads (i.Unless to) height) → Piece heads body (at + 1) (height_behind heads (i.Unless to) height) is next
-    → Piece heads body at height (i.Unless to ∷ is) next
+pub cons_unless : {heads : Code} {body at height to : ℕ} {is : List Instr} {next : ℕ} → 1 ≤ height → at < to → Lands heads (at + 1) (height_behind heads (i.Unless to) height) is to (height_behind heads (i.Unless to) height) → Stretch heads body (at + 1) (height_behind heads (i.Unless to) height) is next
+    → Stretch heads body at height (i.Unless to ∷ is) next
 cons_unless {heads = heads} {body = body} {at = at} {height = height} {to = to} {is = is} operands forward lands rest = record {
   steps = (
     record {
@@ -62,17 +62,17 @@ cons_unless {heads = heads} {body = body} {at = at} {height = height} {to = to} 
       jumps = inl lands;
       ended = λ last. absurd (let f : ⊥ = cc in f);
     },
-    steps_more heads body no_ways no_ways none_led (led_behind none_led (i.Unless to)) (at + 1) (height_behind heads (i.Unless to) height) is (λ to' k out. out) (λ to' none. absurd none) rest.steps,
+    steps_more heads body no_outlets no_outlets none_led (led_behind none_led (i.Unless to)) (at + 1) (height_behind heads (i.Unless to) height) is (λ to' k out. out) (λ to' none. absurd none) rest.steps,
   );
   count = refl;
   leaves = rest.leaves;
 }
 
-pub if_piece : (heads : Code) (body at height next : ℕ) (b : Bool) (x y : List Instr) → Piece heads body at height x next → Piece heads body at height y next → Piece heads body at height (if b then x else y) next
-if_piece heads body at height next true x y first second = first
-if_piece heads body at height next false x y first second = second
+pub if_stretch : (heads : Code) (body at height next : ℕ) (b : Bool) (x y : List Instr) → Stretch heads body at height x next → Stretch heads body at height y next → Stretch heads body at height (if b then x else y) next
+if_stretch heads body at height next true x y first second = first
+if_stretch heads body at height next false x y first second = second
 
-pub joined : (heads : Code) (body at height : ℕ) (a b : List Instr) (h next : ℕ) → Piece heads body at height a h → Piece heads body (at + length a) h b next → Piece heads body at height (a ++ b) next
+pub joined : (heads : Code) (body at height : ℕ) (a b : List Instr) (h next : ℕ) → Stretch heads body at height a h → Stretch heads body (at + length a) h b next → Stretch heads body at height (a ++ b) next
 joined heads body at height a b h next first second = join heads body at height a b (length a) (length b) h next (at + length a) (length (a ++ b)) refl (length-append a b) first second
 
 -- a place so many instructions further
@@ -89,14 +89,14 @@ copies_over : (k there elements n : ℕ) → elements ≤ there → copies_from 
 copies_over zero there elements n low = refl
 copies_over (suc k) there elements n low = let h : nat_lt there elements ≡ false = search rules in rw h refl
 
-copies_piece : (heads : Code) (body at base k there elements n : ℕ) → 1 ≤ there → there ≤ elements → elements ≤ there * 2 ^ k → Piece heads body at (base + there * n) (copies_from k there elements n) (base + elements * n)
-copies_piece heads body at base zero there elements n some low high =
+copies_stretch : (heads : Code) (body at base k there elements n : ℕ) → 1 ≤ there → there ≤ elements → elements ≤ there * 2 ^ k → Stretch heads body at (base + there * n) (copies_from k there elements n) (base + elements * n)
+copies_stretch heads body at base zero there elements n some low high =
     let e : there ≡ elements = (let one' : there * 2 ^ zero ≡ there = grind arith in omega (arith, low, high, one')) in
     end (ap (λ (m : ℕ). base + m * n) e)
-copies_piece heads body at base (suc k) there elements n some low high = elim (cases_lt there elements) [
+copies_stretch heads body at base (suc k) there elements n some low high = elim (cases_lt there elements) [
   | inr over ↦ (
       let e : there ≡ elements = omega (arith, low, over) in
-      subst (λ (is : List Instr). Piece heads body at (base + there * n) is (base + elements * n)) (sym (copies_over (suc k) there elements n over)) (end (ap (λ (m : ℕ). base + m * n) e)))
+      subst (λ (is : List Instr). Stretch heads body at (base + there * n) is (base + elements * n)) (sym (copies_over (suc k) there elements n over)) (end (ap (λ (m : ℕ). base + m * n) e)))
   | inl less ↦ (
       let h : nat_lt there elements ≡ true = search rules in
       let m : ℕ = min there (elements - there) in
@@ -106,9 +106,9 @@ copies_piece heads body at base (suc k) there elements n some low high = elim (c
       let sum : base + there * n - 0 + m * n ≡ base + (there + m) * n = grind arith in
       let up : there + m ≤ elements = omega (arith, less) in
       let reach : elements ≤ (there + m) * 2 ^ k = reaches there elements k m less high refl in
-      let rest : Piece heads body (at + 1) (base + (there + m) * n) (copies_from k (there + m) elements n) (base + elements * n) = copies_piece heads body (at + 1) base k (there + m) elements n (omega (arith, some)) up reach in
-      subst (λ (is : List Instr). Piece heads body at (base + there * n) is (base + elements * n)) (sym on)
-      (cons (omega (arith, enough)) tt tt refl refl (subst (λ (h : ℕ). Piece heads body (at + 1) h (copies_from k (there + m) elements n) (base + elements * n)) (sym sum) rest)))
+      let rest : Stretch heads body (at + 1) (base + (there + m) * n) (copies_from k (there + m) elements n) (base + elements * n) = copies_stretch heads body (at + 1) base k (there + m) elements n (omega (arith, some)) up reach in
+      subst (λ (is : List Instr). Stretch heads body at (base + there * n) is (base + elements * n)) (sym on)
+      (cons (omega (arith, enough)) tt tt refl refl (subst (λ (h : ℕ). Stretch heads body (at + 1) h (copies_from k (there + m) elements n) (base + elements * n)) (sym sum) rest)))
 ]
   where
     reaches : (there elements k m : ℕ) → there < elements → elements ≤ there * 2 ^ suc k → m ≡ min there (elements - there) → elements ≤ (there + m) * 2 ^ k
@@ -126,35 +126,35 @@ copies_piece heads body at base (suc k) there elements n some low high = elim (c
     ]
 
 -- the copies of one value of n scalars
-pub copies_code_piece : (heads : Code) (body at base elements n : ℕ) → 1 ≤ elements → elements ≤ 4294967295 → Piece heads body at (base + n) (copies_code elements n) (base + elements * n)
-copies_code_piece heads body at base elements n some few =
+pub copies_code_stretch : (heads : Code) (body at base elements n : ℕ) → 1 ≤ elements → elements ≤ 4294967295 → Stretch heads body at (base + n) (copies_code elements n) (base + elements * n)
+copies_code_stretch heads body at base elements n some few =
     let e : base + 1 * n ≡ base + n = omega arith in
     let all : elements ≤ 1 * 2 ^ 32 = omega (arith, few) in
-    subst (λ (h : ℕ). Piece heads body at h (copies_code elements n) (base + elements * n)) e (copies_piece heads body at base 32 1 elements n (omega arith) some all)
+    subst (λ (h : ℕ). Stretch heads body at h (copies_code elements n) (base + elements * n)) e (copies_stretch heads body at base 32 1 elements n (omega arith) some all)
 
-run_piece : (heads : Code) (body at height : ℕ) (x : ℤ) (n : ℕ) → n ≤ 4294967295 → Piece heads body at height (run_code x n) (height + n)
-run_piece heads body at height x zero few = end (omega arith)
-run_piece heads body at height x (suc n) few =
-    let copies = copies_code_piece heads body (at + 1) height (suc n) 1 (omega arith) few in
+run_stretch : (heads : Code) (body at height : ℕ) (x : ℤ) (n : ℕ) → n ≤ 4294967295 → Stretch heads body at height (run_code x n) (height + n)
+run_stretch heads body at height x zero few = end (omega arith)
+run_stretch heads body at height x (suc n) few =
+    let copies = copies_code_stretch heads body (at + 1) height (suc n) 1 (omega arith) few in
     let first : height + 1 ≡ height - 0 + 1 = omega arith in
     let last : height + suc n * 1 ≡ height + suc n = omega arith in
-    cons (omega arith) tt tt refl refl (subst (λ (h : ℕ). Piece heads body (at + 1) h (copies_code (suc n) 1) (height + suc n)) first (subst (λ (h : ℕ). Piece heads body (at + 1) (height + 1) (copies_code (suc n) 1) h) last copies))
+    cons (omega arith) tt tt refl refl (subst (λ (h : ℕ). Stretch heads body (at + 1) h (copies_code (suc n) 1) (height + suc n)) first (subst (λ (h : ℕ). Stretch heads body (at + 1) (height + 1) (copies_code (suc n) 1) h) last copies))
 
-scalars_from_piece : (heads : Code) (body at height : ℕ) (x : ℤ) (n : ℕ) (ys : List ℤ) → n + length ys ≤ 4294967295 → Piece heads body at height (scalars_from x n ys) (height + (n + length ys))
-scalars_from_piece heads body at height x n [] few = subst (λ (h : ℕ). Piece heads body at height (run_code x n) h) (let e : height + n ≡ height + (n + 0) = omega arith in e) (run_piece heads body at height x n (omega (arith, few)))
-scalars_from_piece heads body at height x n (y ∷ ys) few =
-    if_piece heads body at height (height + (n + suc (length ys))) (nat_lt 0 n && are_same x y) _ _
-    (subst (λ (h : ℕ). Piece heads body at height (scalars_from x (suc n) ys) h) (let e : height + (suc n + length ys) ≡ height + (n + suc (length ys)) = omega arith in e) (scalars_from_piece heads body at height x (suc n) ys (omega (arith, few))))
-    (joined heads body at height (run_code x n) (scalars_from y 1 ys) (height + n) (height + (n + suc (length ys))) (run_piece heads body at height x n (omega (arith, few)))
-    (subst (λ (h : ℕ). Piece heads body (at + length (run_code x n)) (height + n) (scalars_from y 1 ys) h) (let e : height + n + (1 + length ys) ≡ height + (n + suc (length ys)) = omega arith in e) (scalars_from_piece heads body (at + length (run_code x n)) (height + n) y 1 ys (omega (arith, few)))))
+scalars_from_stretch : (heads : Code) (body at height : ℕ) (x : ℤ) (n : ℕ) (ys : List ℤ) → n + length ys ≤ 4294967295 → Stretch heads body at height (scalars_from x n ys) (height + (n + length ys))
+scalars_from_stretch heads body at height x n [] few = subst (λ (h : ℕ). Stretch heads body at height (run_code x n) h) (let e : height + n ≡ height + (n + 0) = omega arith in e) (run_stretch heads body at height x n (omega (arith, few)))
+scalars_from_stretch heads body at height x n (y ∷ ys) few =
+    if_stretch heads body at height (height + (n + suc (length ys))) (nat_lt 0 n && are_same x y) _ _
+    (subst (λ (h : ℕ). Stretch heads body at height (scalars_from x (suc n) ys) h) (let e : height + (suc n + length ys) ≡ height + (n + suc (length ys)) = omega arith in e) (scalars_from_stretch heads body at height x (suc n) ys (omega (arith, few))))
+    (joined heads body at height (run_code x n) (scalars_from y 1 ys) (height + n) (height + (n + suc (length ys))) (run_stretch heads body at height x n (omega (arith, few)))
+    (subst (λ (h : ℕ). Stretch heads body (at + length (run_code x n)) (height + n) (scalars_from y 1 ys) h) (let e : height + n + (1 + length ys) ≡ height + (n + suc (length ys)) = omega arith in e) (scalars_from_stretch heads body (at + length (run_code x n)) (height + n) y 1 ys (omega (arith, few)))))
 
-pub scalars_piece : (heads : Code) (body at height : ℕ) (xs : List ℤ) → length xs ≤ 4294967295 → Piece heads body at height (scalars_code xs) (height + length xs)
-scalars_piece heads body at height xs few = subst (λ (h : ℕ). Piece heads body at height (scalars_code xs) h) (let e : height + (0 + length xs) ≡ height + length xs = omega arith in e) (scalars_from_piece heads body at height (pos 0) 0 xs (omega (arith, few)))
+pub scalars_stretch : (heads : Code) (body at height : ℕ) (xs : List ℤ) → length xs ≤ 4294967295 → Stretch heads body at height (scalars_code xs) (height + length xs)
+scalars_stretch heads body at height xs few = subst (λ (h : ℕ). Stretch heads body at height (scalars_code xs) h) (let e : height + (0 + length xs) ≡ height + length xs = omega arith in e) (scalars_from_stretch heads body at height (pos 0) 0 xs (omega (arith, few)))
 
-pub pushes_piece : (heads : Code) (body at height : ℕ) (xs : List ℤ) → Piece heads body at height (pushes xs) (height + length xs)
-pushes_piece heads body at height [] = end (omega arith)
-pushes_piece heads body at height (x ∷ xs) =
-    cons (omega arith) tt tt refl refl (subst (λ (h : ℕ). Piece heads body (at + 1) (height - 0 + 1) (pushes xs) h) (let e : height - 0 + 1 + length xs ≡ height + suc (length xs) = omega arith in e) (pushes_piece heads body (at + 1) (height - 0 + 1) xs))
+pub pushes_stretch : (heads : Code) (body at height : ℕ) (xs : List ℤ) → Stretch heads body at height (pushes xs) (height + length xs)
+pushes_stretch heads body at height [] = end (omega arith)
+pushes_stretch heads body at height (x ∷ xs) =
+    cons (omega arith) tt tt refl refl (subst (λ (h : ℕ). Stretch heads body (at + 1) (height - 0 + 1) (pushes xs) h) (let e : height - 0 + 1 + length xs ≡ height + suc (length xs) = omega arith in e) (pushes_stretch heads body (at + 1) (height - 0 + 1) xs))
 
 -- ---- tests and members
 
@@ -167,26 +167,26 @@ tests_less (Some b) (Some own) n one' = if_tests (int_le b.low own.low && int_le
     if_tests true b n one' = tt
     if_tests false b n one' = one'
 
-pub check_piece : (heads : Code) (body at height : ℕ) (o : Option Bounds) (n : ℕ) → TestsOne o n → n ≤ height → Piece heads body at height (check_code o) height
-check_piece heads body at height None n one' low = end refl
-check_piece heads body at height (Some b) n one' low = cons (omega (arith, one', low)) tt tt refl refl (end (omega arith))
+pub check_stretch : (heads : Code) (body at height : ℕ) (o : Option Bounds) (n : ℕ) → TestsOne o n → n ≤ height → Stretch heads body at height (check_code o) height
+check_stretch heads body at height None n one' low = end refl
+check_stretch heads body at height (Some b) n one' low = cons (omega (arith, one', low)) tt tt refl refl (end (omega arith))
 
-pub member_piece : (heads : Code) (body at height : ℕ) (low : ℤ) → Piece heads body at (height + 1) (member_code low) (height + 1)
-member_piece heads body at height low = if_piece heads body at (height + 1) (height + 1) (are_same low (pos 0)) _ _ (end refl) (cons (omega arith) tt tt refl refl (cons (omega arith) tt tt refl refl (end (omega arith))))
+pub member_stretch : (heads : Code) (body at height : ℕ) (low : ℤ) → Stretch heads body at (height + 1) (member_code low) (height + 1)
+member_stretch heads body at height low = if_stretch heads body at (height + 1) (height + 1) (are_same low (pos 0)) _ _ (end refl) (cons (omega arith) tt tt refl refl (cons (omega arith) tt tt refl refl (end (omega arith))))
 
-pub offset_piece : (heads : Code) (body at height : ℕ) (low : ℤ) → Piece heads body at (height + 1) (offset_code low) (height + 1)
-offset_piece heads body at height low = if_piece heads body at (height + 1) (height + 1) (are_same low (pos 0)) _ _ (end refl) (cons (omega arith) tt tt refl refl (cons (omega arith) tt tt refl refl (end (omega arith))))
+pub offset_stretch : (heads : Code) (body at height : ℕ) (low : ℤ) → Stretch heads body at (height + 1) (offset_code low) (height + 1)
+offset_stretch heads body at height low = if_stretch heads body at (height + 1) (height + 1) (are_same low (pos 0)) _ _ (end refl) (cons (omega arith) tt tt refl refl (cons (omega arith) tt tt refl refl (end (omega arith))))
 
-pub prefix_piece : (heads : Code) (body at height : ℕ) (o : Prefix) → IsPiece heads body no_ways at (height + 1) (prefix_code o) 1 (height + 1)
-prefix_piece heads body at height Minus = sized 1 refl (cons (omega arith) tt tt refl refl (end (omega arith)))
-prefix_piece heads body at height Not = sized 1 refl (cons (omega arith) tt tt refl refl (end (omega arith)))
-prefix_piece heads body at height (Complement m) = sized 1 refl (cons (omega arith) tt tt refl refl (end (omega arith)))
+pub prefix_stretch : (heads : Code) (body at height : ℕ) (o : Prefix) → IsStretch heads body no_outlets at (height + 1) (prefix_code o) 1 (height + 1)
+prefix_stretch heads body at height Minus = sized 1 refl (cons (omega arith) tt tt refl refl (end (omega arith)))
+prefix_stretch heads body at height Not = sized 1 refl (cons (omega arith) tt tt refl refl (end (omega arith)))
+prefix_stretch heads body at height (Complement m) = sized 1 refl (cons (omega arith) tt tt refl refl (end (omega arith)))
 
-pub routine_piece : (heads : Code) (body at height : ℕ) (r : Routine) → Piece heads body at (height + 1) (routine_code r) (height + 1)
-routine_piece heads body at height Number = end refl
-routine_piece heads body at height Absolute = cons (omega arith) tt tt refl refl (end (omega arith))
-routine_piece heads body at height Cardinality = cons (omega arith) tt tt refl refl (end (omega arith))
-routine_piece heads body at height (Successor high) = cons (omega arith) tt tt refl refl (end (omega arith))
-routine_piece heads body at height (Predecessor low) = cons (omega arith) tt tt refl refl (end (omega arith))
-routine_piece heads body at height (Least low) = cons (omega arith) tt tt refl refl (subst (λ (h : ℕ). Piece heads body (at + 1) h (member_code low) (height + 1)) (let e : height + 1 ≡ height + 1 - 1 + 1 = omega arith in e) (member_piece heads body (at + 1) height low))
-routine_piece heads body at height (Greatest low) = cons (omega arith) tt tt refl refl (subst (λ (h : ℕ). Piece heads body (at + 1) h (member_code low) (height + 1)) (let e : height + 1 ≡ height + 1 - 1 + 1 = omega arith in e) (member_piece heads body (at + 1) height low))
+pub routine_stretch : (heads : Code) (body at height : ℕ) (r : Routine) → Stretch heads body at (height + 1) (routine_code r) (height + 1)
+routine_stretch heads body at height Number = end refl
+routine_stretch heads body at height Absolute = cons (omega arith) tt tt refl refl (end (omega arith))
+routine_stretch heads body at height Cardinality = cons (omega arith) tt tt refl refl (end (omega arith))
+routine_stretch heads body at height (Successor high) = cons (omega arith) tt tt refl refl (end (omega arith))
+routine_stretch heads body at height (Predecessor low) = cons (omega arith) tt tt refl refl (end (omega arith))
+routine_stretch heads body at height (Least low) = cons (omega arith) tt tt refl refl (subst (λ (h : ℕ). Stretch heads body (at + 1) h (member_code low) (height + 1)) (let e : height + 1 ≡ height + 1 - 1 + 1 = omega arith in e) (member_stretch heads body (at + 1) height low))
+routine_stretch heads body at height (Greatest low) = cons (omega arith) tt tt refl refl (subst (λ (h : ℕ). Stretch heads body (at + 1) h (member_code low) (height + 1)) (let e : height + 1 ≡ height + 1 - 1 + 1 = omega arith in e) (member_stretch heads body (at + 1) height low))

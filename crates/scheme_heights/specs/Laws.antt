@@ -1,16 +1,29 @@
 -- The laws of the heights in compiled code.
-use Rattle.std.specs.Prelude.{ℕ, ◌+◌}
+use Rattle.std.specs.Prelude.{◌≡◌, ℕ, ◌+◌, ◌≤◌, Bool}
 use Rattle.program_trees.specs.ExprTree.{ExprTree, count_of}
 use Rattle.code_scheme.specs.Pieces.{Layout}
-use Rattle.code_scheme.specs.ExprSizes.{expr_size}
-use Rattle.code_scheme.specs.ExprCode.{expr_code}
+use Rattle.code_scheme.specs.ExprSizes.{expr_size, condition_size}
+use Rattle.code_scheme.specs.ExprCode.{expr_code, condition_code}
 use Rattle.code_scheme.specs.BodyCode.{heads_of}
-use Rattle.scheme_heights.specs.Pieces.{no_ways, IsPiece}
+use Rattle.scheme_heights.specs.Stretches.{Outlets, no_outlets, IsStretch}
 use Rattle.scheme_heights.specs.Counts.{CountsFit}
 
--- The code of an expression, wherever it stands: it is a piece out of which no jump leads, has as many instructions as its size
+-- The code of an expression, wherever it stands: it is a stretch out of which no jump leads, has as many instructions as its size
 -- says, and leaves the scalars of its value above what was on the stack.
 abbrev pub ExpressionHeightsLaw : Type 0
 ExpressionHeightsLaw = (lay : Layout) (body free : ℕ) (e : ExprTree) (at height : ℕ)
     → CountsFit lay.program e
-    → IsPiece (heads_of lay.program) body no_ways at height (expr_code lay free e at) (expr_size e) (height + count_of e)
+    → IsStretch (heads_of lay.program) body no_outlets at height (expr_code lay free e at) (expr_size e) (height + count_of e)
+
+-- a jump leads to this place, and leaves this height
+abbrev pub to_place : ℕ → ℕ → Outlets
+to_place target height to k = (to ≡ target) × (k ≡ height)
+
+-- The code of a condition, a Boolean's, which leads to a place behind it where it has a value: it is a stretch out of which jumps
+-- lead to that place alone, and leaves the stack as it was, there and behind it.
+abbrev pub ConditionHeightsLaw : Type 0
+ConditionHeightsLaw = (lay : Layout) (body free : ℕ) (e : ExprTree) (when : Bool) (target at height : ℕ)
+    → CountsFit lay.program e
+    → count_of e ≡ 1
+    → at + condition_size e when ≤ target
+    → IsStretch (heads_of lay.program) body (to_place target height) at height (condition_code lay free e when target at) (condition_size e when) height

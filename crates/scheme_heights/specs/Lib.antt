@@ -1,3 +1,3 @@
-pub mod Pieces
+pub mod Stretches
 pub mod Counts
 pub mod Laws

@@ -1,7 +1,12 @@
 // Laws of the scheme's code. Each is a fact about the definitions, which a caller learns by calling the function.
-ghost use Rattle.scheme_heights.specs.Laws.{ExpressionHeightsLaw};
+ghost use Rattle.scheme_heights.specs.Laws.{ConditionHeightsLaw, ExpressionHeightsLaw};
 
 /// The code of an expression finds its operands, jumps within itself, and leaves the value's scalars above what it found.
 pub fn expression_heights_law()
     ensures { ExpressionHeightsLaw }
+{}
+
+/// The code of a condition finds its operands, and leaves the stack as it was, where it jumps and behind it.
+pub fn condition_heights_law()
+    ensures { ConditionHeightsLaw }
 {}
