@@ -1,7 +1,7 @@
 // Real files as a library. It keeps one count of faults for all names, and the file that was read last stays open: what follows
 // the bytes that were read is read on from it, so a pipe is read as a whole, and a file that is replaced meanwhile isn't mixed.
-ghost use Rattle.std.specs.Prelude.{None};
 ghost use Rattle.std.specs.Io.{ReadsAtMost};
+ghost use Rattle.outside_ports.specs.Library.{untold};
 
 use crate::patience::read_patiently;
 use outside_ports::{Library, PortFault};
@@ -66,7 +66,7 @@ fn read_on<R: Files + Clock + AllocGlobal>(
 }
 
 impl<R: Files + Clock + AllocGlobal> Library for FileLibrary<'_, R> {
-    ghost bytes = { λ _ _. None };
+    ghost contents = { λ _ _. untold };
 
     ghost faults = { λ l _. l.faults };
 

@@ -1,5 +1,5 @@
 -- What a call answers, by how far it came.
-use Rattle.std.proofs.Common.{◌≡◌, ◌⊎◌, ℕ, Bool, true, false, List, [], ◌++◌, refl, sym, ap, ◌∙◌, subst, IfOk, OnOk, IsErrOf}
+use Rattle.std.proofs.Common.{◌≡◌, ◌⊎◌, inl, inr, ℕ, Bool, true, false, List, [], ◌++◌, refl, sym, ap, ◌∙◌, subst, IfOk, OnOk, IsErrOf}
 use Rattle.std.specs.Prelude.{None, Some, Ok, Err, IfSome, if◌then◌else◌}
 use Rattle.std.specs.declared.result.Result.{Result}
 use Rattle.std.specs.declared.option.Option.{Option}
@@ -10,13 +10,14 @@ use Rattle.kernel_base.specs.declared.ends.Over.{Over}
 use Rattle.kernel_base.specs.declared.ends.Over.TheVariants.{AllEnded, Still, Spent}
 use Rattle.kernel_base.specs.declared.event.Event.{Event}
 use Rattle.listing.specs.Diagnostics.{lines_of}
+use Rattle.outside_ports.specs.Library.{Contents}
 use Rattle.outside_ports.specs.Watcher.{Watching}
 use Rattle.word_reader.specs.declared.command.Command.{Command}
 use Rattle.chill_top.specs.Causes.{IsReadFault, IsFeedFault}
 use Rattle.chill_top.specs.Commands.{task_of, is_watched, IsTextBy}
-use Rattle.chill_top.specs.Plan.{IsPlan, IsPlanOf, IsPlanFor, IsRunOf, status_of, out_of, err_of}
+use Rattle.chill_top.specs.Plan.{IsPlan, IsPlanOf, IsPlanFor, status_of, out_of, err_of}
 use Rattle.chill_top.specs.Runs.{is_some_raised, status_of_run}
-use Rattle.chill_top.specs.Outcomes.{Answers, IsNothing, Sinks, Sources, SameCounts, Wrote, NothingWritten, IsCutShort, IsPartlyShown, IsCarriedOut, done, broken, no_memory, IsAnswer, planned, unread, no_memory_before, IsJournal, IsRefused, IsRefusedUnder, outcome_with, without_run, shown_of, watchers_after, dropped_of, told_by, watch_of}
+use Rattle.chill_top.specs.Outcomes.{Answers, IsNothing, Sinks, Sources, SameCounts, Wrote, NothingWritten, IsCutShort, IsPartlyShown, IsCarriedOut, done, broken, no_memory, IsAnswer, planned, unread, no_memory_before, IsJournal, IsReported, IsRefused, IsRefusedUnder, outcome_with, without_run, shown_of, watchers_after, dropped_of, told_by, watch_of}
 use Rattle.chill_top.specs.declared.plan.Plan.{Plan}
 use Rattle.chill_top.specs.declared.plan.Plan.TheVariants as plans
 use Rattle.chill_top.specs.declared.plan.Ran.{Ran}
@@ -60,18 +61,18 @@ keeps_same (Some bytes) = refl
 -- ---- what comes of words
 
 -- words that mean nothing have a plan of their own
-pub answer_usage : (said : Option Command) (bytes : List ℕ → Option (List ℕ)) (feed : Option (List ℕ)) (watchers after : List Watching) (sources : Sources) (before behind : Sinks) (outcome : Outcome)
+pub answer_usage : (said : Option Command) (contents : List ℕ → Contents) (watchers after : List Watching) (sources : Sources) (before behind : Sinks) (outcome : Outcome)
     → said ≡ None → IsCarriedOut false plans.Usage watchers after before behind outcome
-    → IsAnswer said bytes feed watchers after sources sources before behind outcome
-answer_usage said bytes feed watchers after sources before behind outcome none carried =
-    subst (λ (o : Option Command). IsAnswer o bytes feed watchers after sources sources before behind outcome) (sym none)
+    → IsAnswer said contents watchers after sources sources before behind outcome
+answer_usage said contents watchers after sources before behind outcome none carried =
+    subst (λ (o : Option Command). IsAnswer o contents watchers after sources sources before behind outcome) (sym none)
     (planned plans.Usage refl (record { library = λ name. refl; feed = refl }) carried)
 
 -- an answer is that of the words that mean its command
-pub answer_as : (said other : Option Command) (bytes : List ℕ → Option (List ℕ)) (feed : Option (List ℕ)) (watchers after : List Watching) (sources left : Sources) (before behind : Sinks) (outcome : Outcome)
-    → said ≡ other → IsAnswer other bytes feed watchers after sources left before behind outcome → IsAnswer said bytes feed watchers after sources left before behind outcome
-answer_as said other bytes feed watchers after sources left before behind outcome same answer =
-    subst (λ (o : Option Command). IsAnswer o bytes feed watchers after sources left before behind outcome) (sym same) answer
+pub answer_as : (said other : Option Command) (contents : List ℕ → Contents) (watchers after : List Watching) (sources left : Sources) (before behind : Sinks) (outcome : Outcome)
+    → said ≡ other → IsAnswer other contents watchers after sources left before behind outcome → IsAnswer said contents watchers after sources left before behind outcome
+answer_as said other contents watchers after sources left before behind outcome same answer =
+    subst (λ (o : Option Command). IsAnswer o contents watchers after sources left before behind outcome) (sym same) answer
 
 -- there is no plan
 pub answers_memory : (watch : Bool) (made : Result Plan ReadRefusal) (watchers : List Watching) (before behind : Sinks) (outcome : Outcome) → made ≡ Err refusals.Memory → NothingWritten before behind → outcome ≡ without_run 8
@@ -84,87 +85,99 @@ pub answers_fault : (watch : Bool) (made : Result Plan ReadRefusal) (watchers : 
 answers_fault watch made watchers before behind outcome made_is nothing outcome_is =
     subst (λ (m : Result Plan ReadRefusal). Answers watch m watchers watchers before behind outcome) (sym made_is) (record { stay = refl; nothing = nothing; is = outcome_is })
 
-planned_answer : (command : Command) (bytes : List ℕ → Option (List ℕ)) (feed : Option (List ℕ)) (watchers after : List Watching) (sources left : Sources) (before behind : Sinks) (watch : Bool) (made : Result Plan ReadRefusal) (outcome : Outcome)
-    → watch ≡ is_watched command → IfOk made (IsPlanOf command bytes feed)
+planned_answer : (command : Command) (contents : List ℕ → Contents) (watchers after : List Watching) (sources left : Sources) (before behind : Sinks) (watch : Bool) (made : Result Plan ReadRefusal) (outcome : Outcome)
+    → watch ≡ is_watched command → IfOk made (IsPlanOf command contents sources.input left.input)
     → OnOk made ((name : List ℕ) → left.library name ≡ sources.library name) → OnOk made (left.feed ≡ sources.feed)
-    → (IsErrOf made refusals.Fault → IsReadFault command sources.library left.library ⊎ IsFeedFault command sources.feed left.feed)
+    → (IsErrOf made refusals.Fault → IsReadFault command sources.library left.library ⊎ IsFeedFault command contents sources.feed left.feed)
     → Answers watch made watchers after before behind outcome
-    → IsAnswer (Some command) bytes feed watchers after sources left before behind outcome
-planned_answer command bytes feed watchers after sources left before behind watch (Ok plan) outcome watch_is is kept stays fault answered =
+    → IsAnswer (Some command) contents watchers after sources left before behind outcome
+planned_answer command contents watchers after sources left before behind watch (Ok plan) outcome watch_is is kept stays fault answered =
     planned plan is (record { library = kept; feed = stays }) (subst (λ (w : Bool). IsCarriedOut w plan watchers after before behind outcome) watch_is answered)
-planned_answer command bytes feed watchers after sources left before behind watch (Err refusals.Fault) outcome watch_is is kept stays fault answered =
-    subst (IsAnswer (Some command) bytes feed watchers after sources left before behind) (sym answered.is) (unread command refl (fault refl) answered.stay answered.nothing)
-planned_answer command bytes feed watchers after sources left before behind watch (Err refusals.Memory) outcome watch_is is kept stays fault answered =
-    subst (IsAnswer (Some command) bytes feed watchers after sources left before behind) (sym answered.is) (no_memory_before answered.stay answered.nothing)
+planned_answer command contents watchers after sources left before behind watch (Err refusals.Fault) outcome watch_is is kept stays fault answered =
+    subst (IsAnswer (Some command) contents watchers after sources left before behind) (sym answered.is) (unread command refl (fault refl) answered.stay answered.nothing)
+planned_answer command contents watchers after sources left before behind watch (Err refusals.Memory) outcome watch_is is kept stays fault answered =
+    subst (IsAnswer (Some command) contents watchers after sources left before behind) (sym answered.is) (no_memory_before answered.stay answered.nothing)
 
 -- what is answered of a plan for the command that the words mean
-pub answer_of : (said : Option Command) (command : Command) (bytes : List ℕ → Option (List ℕ)) (feed : Option (List ℕ)) (watchers after : List Watching) (sources left : Sources) (before behind : Sinks) (watch : Bool) (made : Result Plan ReadRefusal) (outcome : Outcome)
-    → said ≡ Some command → watch ≡ is_watched command → IfOk made (IsPlanOf command bytes feed)
+pub answer_of : (said : Option Command) (command : Command) (contents : List ℕ → Contents) (watchers after : List Watching) (sources left : Sources) (before behind : Sinks) (watch : Bool) (made : Result Plan ReadRefusal) (outcome : Outcome)
+    → said ≡ Some command → watch ≡ is_watched command → IfOk made (IsPlanOf command contents sources.input left.input)
     → OnOk made ((name : List ℕ) → left.library name ≡ sources.library name) → OnOk made (left.feed ≡ sources.feed)
-    → (IsErrOf made refusals.Fault → IsReadFault command sources.library left.library ⊎ IsFeedFault command sources.feed left.feed)
+    → (IsErrOf made refusals.Fault → IsReadFault command sources.library left.library ⊎ IsFeedFault command contents sources.feed left.feed)
     → Answers watch made watchers after before behind outcome
-    → IsAnswer said bytes feed watchers after sources left before behind outcome
-answer_of said command bytes feed watchers after sources left before behind watch made outcome named watch_is is kept stays fault answered =
-    answer_as said (Some command) bytes feed watchers after sources left before behind outcome named
-    (planned_answer command bytes feed watchers after sources left before behind watch made outcome watch_is is kept stays fault answered)
+    → IsAnswer said contents watchers after sources left before behind outcome
+answer_of said command contents watchers after sources left before behind watch made outcome named watch_is is kept stays fault answered =
+    answer_as said (Some command) contents watchers after sources left before behind outcome named
+    (planned_answer command contents watchers after sources left before behind watch made outcome watch_is is kept stays fault answered)
 
-pub answer_no_memory : (said : Option Command) (bytes : List ℕ → Option (List ℕ)) (feed : Option (List ℕ)) (watchers : List Watching) (sources left : Sources) (before behind : Sinks) (outcome : Outcome)
-    → NothingWritten before behind → outcome ≡ without_run 8 → IsAnswer said bytes feed watchers watchers sources left before behind outcome
-answer_no_memory said bytes feed watchers sources left before behind outcome nothing outcome_is =
-    subst (IsAnswer said bytes feed watchers watchers sources left before behind) (sym outcome_is) (no_memory_before refl nothing)
+pub answer_no_memory : (said : Option Command) (contents : List ℕ → Contents) (watchers : List Watching) (sources left : Sources) (before behind : Sinks) (outcome : Outcome)
+    → NothingWritten before behind → outcome ≡ without_run 8 → IsAnswer said contents watchers watchers sources left before behind outcome
+answer_no_memory said contents watchers sources left before behind outcome nothing outcome_is =
+    subst (IsAnswer said contents watchers watchers sources left before behind) (sym outcome_is) (no_memory_before refl nothing)
 
 -- ---- the journal of an answer
 
-journal_by : (said : Option Command) (bytes : List ℕ → Option (List ℕ)) (feed : Option (List ℕ)) (command : Command) (ran : Ran) (status : ℕ) (dropped : List ℕ) (task : Task) (text : List ℕ)
-    → said ≡ Some command → task_of command ≡ task → IsTextBy command bytes text → IsPlanFor task text feed (plans.Ran ran)
-    → IsJournal said bytes feed (outcome_with (plans.Ran ran) status dropped) ran.driven.value.over
-journal_by said bytes feed command ran status dropped Format text named is_task told is = absurd is
-journal_by said bytes feed command ran status dropped (Build (Run units)) text named is_task told is = record {
+-- what was written of a plan with a status
+abbrev Reports : Option Command → List Watching → Sinks → Sinks → ℕ → Plan → Type 0
+Reports said watchers before behind status plan =
+    IsReported before behind status (status_of plan) (out_of plan) (err_of plan ++ told_by (shown_of (watch_of said) plan) watchers)
+
+journal_by : (said : Option Command) (contents : List ℕ → Contents) (watchers : List Watching) (sources left : Sources) (before behind : Sinks) (command : Command) (ran : Ran) (status : ℕ) (dropped : List ℕ) (task : Task) (text : List ℕ)
+    → said ≡ Some command → task_of command ≡ task → IsTextBy command contents text → IsPlanFor task text sources.input left.input (plans.Ran ran)
+    → Reports said watchers before behind status (plans.Ran ran)
+    → IsJournal said contents watchers sources left before behind (outcome_with (plans.Ran ran) status dropped) ran.driven.value.over
+journal_by said contents watchers sources left before behind command ran status dropped Format text named is_task told is reported = absurd is
+journal_by said contents watchers sources left before behind command ran status dropped (Build (Run units)) text named is_task told is reported = record {
   command = command;
   named = named;
   units = units;
   is_task = is_task;
   text = text;
   told = told;
-  accepted = is.0;
   program = ran.built.value.program.checked.value;
   code = ran.built.value.code;
   held = refl;
-  run = is.1;
+  run = is;
+  reported = reported;
 }
-journal_by said bytes feed command ran status dropped (Build Check) text named is_task told is = absurd is.1
-journal_by said bytes feed command ran status dropped (Build Listing) text named is_task told is = absurd is.1
+journal_by said contents watchers sources left before behind command ran status dropped (Build Check) text named is_task told is reported = absurd is
+journal_by said contents watchers sources left before behind command ran status dropped (Build Listing) text named is_task told is reported = absurd is
 
-journal_of_ran : (said : Option Command) (bytes : List ℕ → Option (List ℕ)) (feed : Option (List ℕ)) (ran : Ran) (status : ℕ) (dropped : List ℕ) → IsPlan said bytes feed (plans.Ran ran)
-    → IsJournal said bytes feed (outcome_with (plans.Ran ran) status dropped) ran.driven.value.over
-journal_of_ran None bytes feed ran status dropped is = absurd (let no : ⊥ = cc in no)
-journal_of_ran (Some command) bytes feed ran status dropped is = journal_by (Some command) bytes feed command ran status dropped (task_of command) is.text refl refl is.told is.is
+journal_of_ran : (said : Option Command) (contents : List ℕ → Contents) (watchers : List Watching) (sources left : Sources) (before behind : Sinks) (ran : Ran) (status : ℕ) (dropped : List ℕ) → IsPlan said contents sources.input left.input (plans.Ran ran)
+    → Reports said watchers before behind status (plans.Ran ran)
+    → IsJournal said contents watchers sources left before behind (outcome_with (plans.Ran ran) status dropped) ran.driven.value.over
+journal_of_ran None contents watchers sources left before behind ran status dropped is reported = absurd (let no : ⊥ = cc in no)
+journal_of_ran (Some command) contents watchers sources left before behind ran status dropped is reported =
+    journal_by (Some command) contents watchers sources left before behind command ran status dropped (task_of command) is.text refl refl is.told is.is reported
 
 -- the outcome of a plan has a journal where it has a run
-journal_with : (said : Option Command) (bytes : List ℕ → Option (List ℕ)) (feed : Option (List ℕ)) (plan : Plan) (status : ℕ) (dropped : List ℕ) → IsPlan said bytes feed plan
-    → IfSome (outcome_with plan status dropped).over (λ over. IsJournal said bytes feed (outcome_with plan status dropped) over)
-journal_with said bytes feed plans.Usage status dropped is = tt
-journal_with said bytes feed (plans.Refused told) status dropped is = tt
-journal_with said bytes feed plans.Accepted status dropped is = tt
-journal_with said bytes feed (plans.Listed built) status dropped is = tt
-journal_with said bytes feed (plans.Formatted canonical) status dropped is = tt
-journal_with said bytes feed plans.InputTooLong status dropped is = tt
-journal_with said bytes feed (plans.Ran ran) status dropped is = journal_of_ran said bytes feed ran status dropped is
+journal_with : (said : Option Command) (contents : List ℕ → Contents) (watchers : List Watching) (sources left : Sources) (before behind : Sinks) (plan : Plan) (status : ℕ) (dropped : List ℕ) → IsPlan said contents sources.input left.input plan
+    → Reports said watchers before behind status plan
+    → IfSome (outcome_with plan status dropped).over (λ over. IsJournal said contents watchers sources left before behind (outcome_with plan status dropped) over)
+journal_with said contents watchers sources left before behind plans.Usage status dropped is reported = tt
+journal_with said contents watchers sources left before behind (plans.Refused told) status dropped is reported = tt
+journal_with said contents watchers sources left before behind plans.Accepted status dropped is reported = tt
+journal_with said contents watchers sources left before behind (plans.Listed built) status dropped is reported = tt
+journal_with said contents watchers sources left before behind (plans.Formatted canonical) status dropped is reported = tt
+journal_with said contents watchers sources left before behind plans.InputTooLong status dropped is reported = tt
+journal_with said contents watchers sources left before behind (plans.Ran ran) status dropped is reported =
+    journal_of_ran said contents watchers sources left before behind ran status dropped is reported
 
-journal_carried : (said : Option Command) (bytes : List ℕ → Option (List ℕ)) (feed : Option (List ℕ)) (watch : Bool) (plan : Plan) (watchers after : List Watching) (before behind : Sinks) (outcome : Outcome)
-    → IsPlan said bytes feed plan → IsCarriedOut watch plan watchers after before behind outcome → IfSome outcome.over (λ over. IsJournal said bytes feed outcome over)
-journal_carried said bytes feed watch plan watchers after before behind _ is (done stayed wrote) =
-    journal_with said bytes feed plan (status_of plan) (dropped_of (shown_of watch plan) watchers) is
-journal_carried said bytes feed watch plan watchers after before behind _ is (broken stayed cut) =
-    journal_with said bytes feed plan 5 (dropped_of (shown_of watch plan) watchers) is
-journal_carried said bytes feed watch plan watchers after before behind _ is (no_memory partly nothing) = tt
+journal_carried : (said : Option Command) (contents : List ℕ → Contents) (watchers after : List Watching) (sources left : Sources) (before behind : Sinks) (plan : Plan) (outcome : Outcome)
+    → IsPlan said contents sources.input left.input plan → IsCarriedOut (watch_of said) plan watchers after before behind outcome
+    → IfSome outcome.over (λ over. IsJournal said contents watchers sources left before behind outcome over)
+journal_carried said contents watchers after sources left before behind plan _ is (done stayed wrote) =
+    journal_with said contents watchers sources left before behind plan (status_of plan) (dropped_of (shown_of (watch_of said) plan) watchers) is (inl (refl, wrote))
+journal_carried said contents watchers after sources left before behind plan _ is (broken stayed cut) =
+    journal_with said contents watchers sources left before behind plan 5 (dropped_of (shown_of (watch_of said) plan) watchers) is (inr (refl, cut))
+journal_carried said contents watchers after sources left before behind plan _ is (no_memory partly nothing) = tt
 
-pub journal_of : (said : Option Command) (bytes : List ℕ → Option (List ℕ)) (feed : Option (List ℕ)) (watchers after : List Watching) (sources left : Sources) (before behind : Sinks) (outcome : Outcome)
-    → IsAnswer said bytes feed watchers after sources left before behind outcome → IfSome outcome.over (λ over. IsJournal said bytes feed outcome over)
-journal_of said bytes feed watchers after sources left before behind outcome (planned plan is same carried) =
-    journal_carried said bytes feed (watch_of said) plan watchers after before behind outcome is carried
-journal_of said bytes feed watchers after sources left before behind _ (unread command named fault same nothing) = tt
-journal_of said bytes feed watchers after sources left before behind _ (no_memory_before same nothing) = tt
+pub journal_of : (said : Option Command) (contents : List ℕ → Contents) (watchers after : List Watching) (sources left : Sources) (before behind : Sinks) (outcome : Outcome)
+    → IsAnswer said contents watchers after sources left before behind outcome
+    → IfSome outcome.over (λ over. IsJournal said contents watchers sources left before behind outcome over)
+journal_of said contents watchers after sources left before behind outcome (planned plan is same carried) =
+    journal_carried said contents watchers after sources left before behind plan outcome is carried
+journal_of said contents watchers after sources left before behind _ (unread command named fault same nothing) = tt
+journal_of said contents watchers after sources left before behind _ (no_memory_before same nothing) = tt
 
 -- ---- what is refused
 
@@ -177,46 +190,47 @@ no_run_is_refused AllEnded events refused = no_ending_is_refused events (is_some
 no_run_is_refused Still events refused = let no : ⊥ = cc in no
 no_run_is_refused Spent events refused = let no : ⊥ = cc in no
 
-refused_by : (said : Option Command) (bytes : List ℕ → Option (List ℕ)) (before behind : Sinks) (command : Command) (task : Task) (text : List ℕ) (told : List Diagnostic) (feed : Option (List ℕ))
-    → said ≡ Some command → task_of command ≡ task → IsTextBy command bytes text → IsPlanFor task text feed (plans.Refused told) → Wrote before behind [] (lines_of told)
-    → IsRefused said bytes before behind
-refused_by said bytes before behind command Format text told feed named is_task of is wrote = record {
+refused_by : (said : Option Command) (contents : List ℕ → Contents) (sources left : Sources) (before behind : Sinks) (command : Command) (task : Task) (text : List ℕ) (told : List Diagnostic)
+    → said ≡ Some command → task_of command ≡ task → IsTextBy command contents text → IsPlanFor task text sources.input left.input (plans.Refused told) → Wrote before behind [] (lines_of told)
+    → IsRefused said contents sources left before behind
+refused_by said contents sources left before behind command Format text told named is_task of is wrote = record {
   command = command;
   named = named;
   text = text;
   told = of;
   diagnostics = told;
-  refused = subst (λ (t : Task). IsRefusedUnder t text told) (sym is_task) is;
+  refused = subst (λ (t : Task). IsRefusedUnder t text sources.input left.input told) (sym is_task) is;
   written = wrote;
 }
-refused_by said bytes before behind command (Build purpose) text told feed named is_task of is wrote = record {
+refused_by said contents sources left before behind command (Build purpose) text told named is_task of is wrote = record {
   command = command;
   named = named;
   text = text;
   told = of;
   diagnostics = told;
-  refused = subst (λ (t : Task). IsRefusedUnder t text told) (sym is_task) is;
+  refused = subst (λ (t : Task). IsRefusedUnder t text sources.input left.input told) (sym is_task) is;
   written = wrote;
 }
 
-refused_of_plan : (said : Option Command) (bytes : List ℕ → Option (List ℕ)) (feed : Option (List ℕ)) (before behind : Sinks) (told : List Diagnostic) → IsPlan said bytes feed (plans.Refused told)
-    → Wrote before behind [] (lines_of told) → IsRefused said bytes before behind
-refused_of_plan None bytes feed before behind told is wrote = absurd (let no : ⊥ = cc in no)
-refused_of_plan (Some command) bytes feed before behind told is wrote =
-    refused_by (Some command) bytes before behind command (task_of command) is.text told feed refl refl is.told is.is wrote
+refused_of_plan : (said : Option Command) (contents : List ℕ → Contents) (sources left : Sources) (before behind : Sinks) (told : List Diagnostic)
+    → IsPlan said contents sources.input left.input (plans.Refused told)
+    → Wrote before behind [] (lines_of told) → IsRefused said contents sources left before behind
+refused_of_plan None contents sources left before behind told is wrote = absurd (let no : ⊥ = cc in no)
+refused_of_plan (Some command) contents sources left before behind told is wrote =
+    refused_by (Some command) contents sources left before behind command (task_of command) is.text told refl refl is.told is.is wrote
 
 -- a plan whose status is that of a refusal is a refusal, of which no watcher tells
-refused_done : (said : Option Command) (bytes : List ℕ → Option (List ℕ)) (feed : Option (List ℕ)) (watch : Bool) (plan : Plan) (watchers : List Watching) (before behind : Sinks) (status : ℕ) (dropped : List ℕ)
-    → IsPlan said bytes feed plan → Wrote before behind (out_of plan) (err_of plan ++ told_by (shown_of watch plan) watchers) → status ≡ status_of plan
-    → (outcome_with plan status dropped).status ≡ 3 → IsRefused said bytes before behind
-refused_done said bytes feed watch plans.Usage watchers before behind status dropped is wrote status_is refused = absurd (let no : ⊥ = cc in no)
-refused_done said bytes feed watch (plans.Refused told) watchers before behind status dropped is wrote status_is refused =
-    refused_of_plan said bytes feed before behind told is (subst (λ (t : List ℕ). Wrote before behind [] t) (append-nil (lines_of told)) wrote)
-refused_done said bytes feed watch plans.Accepted watchers before behind status dropped is wrote status_is refused = absurd (let no : ⊥ = cc in no)
-refused_done said bytes feed watch (plans.Listed built) watchers before behind status dropped is wrote status_is refused = absurd (let no : ⊥ = cc in no)
-refused_done said bytes feed watch (plans.Formatted canonical) watchers before behind status dropped is wrote status_is refused = absurd (let no : ⊥ = cc in no)
-refused_done said bytes feed watch plans.InputTooLong watchers before behind status dropped is wrote status_is refused = absurd (let no : ⊥ = cc in no)
-refused_done said bytes feed watch (plans.Ran ran) watchers before behind status dropped is wrote status_is refused =
+refused_done : (said : Option Command) (contents : List ℕ → Contents) (sources left : Sources) (watch : Bool) (plan : Plan) (watchers : List Watching) (before behind : Sinks) (status : ℕ) (dropped : List ℕ)
+    → IsPlan said contents sources.input left.input plan → Wrote before behind (out_of plan) (err_of plan ++ told_by (shown_of watch plan) watchers) → status ≡ status_of plan
+    → (outcome_with plan status dropped).status ≡ 3 → IsRefused said contents sources left before behind
+refused_done said contents sources left watch plans.Usage watchers before behind status dropped is wrote status_is refused = absurd (let no : ⊥ = cc in no)
+refused_done said contents sources left watch (plans.Refused told) watchers before behind status dropped is wrote status_is refused =
+    refused_of_plan said contents sources left before behind told is (subst (λ (t : List ℕ). Wrote before behind [] t) (append-nil (lines_of told)) wrote)
+refused_done said contents sources left watch plans.Accepted watchers before behind status dropped is wrote status_is refused = absurd (let no : ⊥ = cc in no)
+refused_done said contents sources left watch (plans.Listed built) watchers before behind status dropped is wrote status_is refused = absurd (let no : ⊥ = cc in no)
+refused_done said contents sources left watch (plans.Formatted canonical) watchers before behind status dropped is wrote status_is refused = absurd (let no : ⊥ = cc in no)
+refused_done said contents sources left watch plans.InputTooLong watchers before behind status dropped is wrote status_is refused = absurd (let no : ⊥ = cc in no)
+refused_done said contents sources left watch (plans.Ran ran) watchers before behind status dropped is wrote status_is refused =
     absurd (no_run_is_refused ran.driven.value.over ran.driven.value.events (sym status_is ∙ refused))
 
 -- a plan that was broken off has another status
@@ -229,17 +243,17 @@ refused_broken (plans.Formatted canonical) dropped refused = let no : ⊥ = cc i
 refused_broken plans.InputTooLong dropped refused = let no : ⊥ = cc in no
 refused_broken (plans.Ran ran) dropped refused = let no : ⊥ = cc in no
 
-refused_carried : (said : Option Command) (bytes : List ℕ → Option (List ℕ)) (feed : Option (List ℕ)) (watch : Bool) (plan : Plan) (watchers after : List Watching) (before behind : Sinks) (outcome : Outcome)
-    → IsPlan said bytes feed plan → IsCarriedOut watch plan watchers after before behind outcome → outcome.status ≡ 3 → IsRefused said bytes before behind
-refused_carried said bytes feed watch plan watchers after before behind _ is (done stayed wrote) refused =
-    refused_done said bytes feed watch plan watchers before behind (status_of plan) (dropped_of (shown_of watch plan) watchers) is wrote refl refused
-refused_carried said bytes feed watch plan watchers after before behind _ is (broken stayed cut) refused =
+refused_carried : (said : Option Command) (contents : List ℕ → Contents) (sources left : Sources) (watch : Bool) (plan : Plan) (watchers after : List Watching) (before behind : Sinks) (outcome : Outcome)
+    → IsPlan said contents sources.input left.input plan → IsCarriedOut watch plan watchers after before behind outcome → outcome.status ≡ 3 → IsRefused said contents sources left before behind
+refused_carried said contents sources left watch plan watchers after before behind _ is (done stayed wrote) refused =
+    refused_done said contents sources left watch plan watchers before behind (status_of plan) (dropped_of (shown_of watch plan) watchers) is wrote refl refused
+refused_carried said contents sources left watch plan watchers after before behind _ is (broken stayed cut) refused =
     absurd (refused_broken plan (dropped_of (shown_of watch plan) watchers) refused)
-refused_carried said bytes feed watch plan watchers after before behind _ is (no_memory partly nothing) refused = absurd (let no : ⊥ = cc in no)
+refused_carried said contents sources left watch plan watchers after before behind _ is (no_memory partly nothing) refused = absurd (let no : ⊥ = cc in no)
 
-pub refused_of : (said : Option Command) (bytes : List ℕ → Option (List ℕ)) (feed : Option (List ℕ)) (watchers after : List Watching) (sources left : Sources) (before behind : Sinks) (outcome : Outcome)
-    → IsAnswer said bytes feed watchers after sources left before behind outcome → outcome.status ≡ 3 → IsRefused said bytes before behind
-refused_of said bytes feed watchers after sources left before behind outcome (planned plan is same carried) refused =
-    refused_carried said bytes feed (watch_of said) plan watchers after before behind outcome is carried refused
-refused_of said bytes feed watchers after sources left before behind _ (unread command named fault same nothing) refused = absurd (let no : ⊥ = cc in no)
-refused_of said bytes feed watchers after sources left before behind _ (no_memory_before same nothing) refused = absurd (let no : ⊥ = cc in no)
+pub refused_of : (said : Option Command) (contents : List ℕ → Contents) (watchers after : List Watching) (sources left : Sources) (before behind : Sinks) (outcome : Outcome)
+    → IsAnswer said contents watchers after sources left before behind outcome → outcome.status ≡ 3 → IsRefused said contents sources left before behind
+refused_of said contents watchers after sources left before behind outcome (planned plan is same carried) refused =
+    refused_carried said contents sources left (watch_of said) plan watchers after before behind outcome is carried refused
+refused_of said contents watchers after sources left before behind _ (unread command named fault same nothing) refused = absurd (let no : ⊥ = cc in no)
+refused_of said contents watchers after sources left before behind _ (no_memory_before same nothing) refused = absurd (let no : ⊥ = cc in no)

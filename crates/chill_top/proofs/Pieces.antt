@@ -2,6 +2,8 @@
 use Rattle.std.proofs.Common.{◌≡◌, inl, inr, ℕ, ◌+◌, ◌-◌, ◌<◌, ◌≤◌, List, ◌++◌, length, take, drop, refl, sym, ap, ◌∙◌, subst, arith, append_assoc, length-append, length-take, IfOk}
 use Rattle.std.specs.Prelude.{None, Some, Ok, Err}
 use Rattle.std.specs.declared.result.Result.{Result}
+use Rattle.checked_program.specs.declared.program.Checked.{Checked}
+use Rattle.code_types.specs.declared.code.Code.{Code}
 use Rattle.diagnostics.specs.declared.diagnostic.Diagnostic.{Diagnostic}
 use Rattle.rules_model.specs.Diagnoses.{Diagnoses, IsShort, too_long, no_token, too_deep, no_program}
 use Rattle.text_to_code.specs.Telling.{IsAccepted, IsUnread, IsCanonicalOf, Breaks, Refuses, broken, misnamed, breaks, later, Tells}
@@ -10,7 +12,7 @@ use Rattle.text_to_code.specs.declared.told.Told.TheVariants as tellings
 use Rattle.std.specs.declared.option.Option.{Option}
 use Rattle.chill_top.specs.Commands.{IsTextOf}
 use Rattle.chill_top.specs.Reading.{IsReadingOf}
-use Rattle.outside_ports.specs.Library.{Gives}
+use Rattle.outside_ports.specs.Library.{Contents, untold, missing, held, Gives}
 use Rattle.outside_ports.specs.declared.library.PortFault.{PortFault}
 use Rattle.chill_top.specs.Reading.{IsFront}
 use Rattle.std.specs.Io.KnownBytes.{Appends}
@@ -30,26 +32,35 @@ pub Appends-rest : (a b c : Option (List ℕ)) (text : List ℕ) (k n : ℕ) →
 Appends-rest a b c text k n before piece = Appends-next a b c text k n before (rw take_rest at piece)
 
 -- a front of a file goes on with the piece that stands there
-front_goes_on : (told : Option (List ℕ)) (read piece : List ℕ) (n : ℕ) → IsFront told read → Gives {E = PortFault} told (length read) (Ok n) piece → n ≤ length piece → IsFront told (read ++ take n piece)
-front_goes_on None read piece n front gives le = tt
-front_goes_on (Some text) read piece n front gives le =
+front_goes_on : (told : Contents) (read piece : List ℕ) (n : ℕ) → IsFront told read → Gives {E = PortFault} told (length read) (Ok n) piece → n ≤ length piece → IsFront told (read ++ take n piece)
+front_goes_on untold read piece n front gives le = tt
+front_goes_on missing read piece n front gives le = absurd gives
+front_goes_on (held text) read piece n front gives le =
     ap (λ (m : ℕ). take m text) (length-append read (take n piece) ∙ ap (λ (m : ℕ). length read + m) (length-take-le n piece le))
     ∙ take-add (length read) n text
     ∙ ap (λ w. w ++ take n (drop (length read) text)) front
     ∙ ap (λ w. read ++ w) (sym gives.bytes)
 
-pub IsFront-next : (told told' : Option (List ℕ)) (read now piece : List ℕ) (at n : ℕ) → told' ≡ told → at ≡ length read → IsFront told read → Gives {E = PortFault} told at (Ok n) piece → n ≤ length piece → now ≡ read ++ take n piece → IsFront told' now
+pub IsFront-next : (told told' : Contents) (read now piece : List ℕ) (at n : ℕ) → told' ≡ told → at ≡ length read → IsFront told read → Gives {E = PortFault} told at (Ok n) piece → n ≤ length piece → now ≡ read ++ take n piece → IsFront told' now
 IsFront-next told told' read now piece at n same place front gives le is =
     rw (same, is) (front_goes_on told read piece n front (rw place at gives) le)
 
+-- where a read gave nothing, the front is the whole file
+pub ended : (told : Contents) (read piece : List ℕ) (at n : ℕ) → at ≡ length read → IsFront told read → Gives {E = PortFault} told at (Ok n) piece → n ≡ 0 → 0 < length piece → IsTextOf told read
+ended untold read piece at n place front gives none room = tt
+ended missing read piece at n place front gives none room = absurd gives
+ended (held text) read piece at n place front gives none room =
+    sym (take_all (length read) text (omega (arith, gives.end none room, place))) ∙ front
+
 -- what was read to the end of a file is the file's text
-pub reading-whole : (told : Option (List ℕ)) (read : List ℕ) → IsTextOf told read → (text : List ℕ) × IsTextOf told text × IsReadingOf text read
+pub reading-whole : (told : Contents) (read : List ℕ) → IsTextOf told read → (text : List ℕ) × IsTextOf told text × IsReadingOf text read
 reading-whole told read is = (read, is, inl refl)
 
 -- what was read as far as it goes is the front of a file's text
-pub reading-front : (told : Option (List ℕ)) (read : List ℕ) → length read ≡ 262145 → IsFront told read → (text : List ℕ) × IsTextOf told text × IsReadingOf text read
-reading-front None read long front = (read, tt, inl refl)
-reading-front (Some text) read long front = (text, refl, inr (sym front ∙ ap (λ (n : ℕ). take n text) long))
+pub reading-front : (told : Contents) (read : List ℕ) → length read ≡ 262145 → IsFront told read → (text : List ℕ) × IsTextOf told text × IsReadingOf text read
+reading-front untold read long front = (read, tt, inl refl)
+reading-front missing read long front = absurd (let no : ⊥ = omega (arith, long, ap length front) in no)
+reading-front (held text) read long front = (text, refl, inr (sym front ∙ ap (λ (n : ℕ). take n text) long))
 
 -- what is no longer than a text may be was read whole
 pub reading-short : (text read : List ℕ) → IsReadingOf text read → length read ≤ 262144 → read ≡ text
@@ -65,8 +76,8 @@ reading-long text read (inr front) long = omega (arith, long, ap length front, l
 Refuses-short : (text read : List ℕ) (told : List Diagnostic) → read ≡ text → Refuses read told → Refuses text told
 Refuses-short text read told same refuses = subst (λ (t : List ℕ). Refuses t told) same refuses
 
-Accepted-reading : (text read : List ℕ) → IsReadingOf text read → IsAccepted read → IsAccepted text
-Accepted-reading text read of accepted = subst (λ (t : List ℕ). IsAccepted t) (reading-short text read of accepted.resolved.has.short) accepted
+Accepted-reading : (text read : List ℕ) (program : Checked) (code : Code) → IsReadingOf text read → IsAccepted read program code → IsAccepted text program code
+Accepted-reading text read program code of accepted = subst (λ (t : List ℕ). IsAccepted t program code) (reading-short text read of accepted.resolved.has.short) accepted
 
 Diagnoses-short : (text read : List ℕ) (told : Diagnostic) → IsReadingOf text read → IsShort read → Diagnoses read told → Diagnoses text told
 Diagnoses-short text read told of short r = subst (λ (t : List ℕ). Diagnoses t told) (reading-short text read of short) r
@@ -91,7 +102,7 @@ Refuses-reading text read told of (later resolved may) = Refuses-short text read
 
 pub Tells-reading : (text read : List ℕ) (told : Told) → IsReadingOf text read → Tells read told → Tells text told
 Tells-reading text read (tellings.Refused told) of tells = Refuses-reading text read told of tells
-Tells-reading text read (tellings.Accepted built) of tells = Accepted-reading text read of tells
+Tells-reading text read (tellings.Accepted built) of tells = Accepted-reading text read built.value.program.checked.value built.value.code of tells
 
 pub Unread-reading : (text read : List ℕ) (told : List Diagnostic) → IsReadingOf text read → IsUnread read told → IsUnread text told
 Unread-reading text read told of unread =

@@ -1,20 +1,35 @@
 -- The input of a program, and how far a command comes.
-use Rattle.std.proofs.Common.{◌≡◌, ◌⊎◌, inl, inr, ℕ, ◌<◌, ◌≤◌, Bool, true, false, List, [], ◌∷◌, length, take, refl, sym, ap, ◌∙◌, subst, arith, length-take, IfOk}
-use Rattle.std.specs.Prelude.{None, Some, Ok, Err, IfSome, MatchBool}
+use Rattle.std.proofs.Common.{◌≡◌, ◌⊎◌, inl, inr, ℕ, ◌<◌, ◌≤◌, Bool, true, false, List, [], ◌∷◌, length, take, refl, sym, ap, ◌∙◌, subst, arith, length-take, IfOk, IsErrOf}
+use Rattle.std.specs.Prelude.{◌↔◌, None, Some, Ok, Err, Any, IfSome, IsTrue, MatchBool}
+use Rattle.std.specs.Global.{Box}
 use Rattle.std.specs.declared.option.Option.{Option}
 use Rattle.std.specs.declared.result.Result.{Result}
 use Rattle.std.proofs.lemmas.Bool.{cases_lt}
 use Rattle.std.proofs.lemmas.List.{take_all}
 use Rattle.diagnostics.specs.declared.diagnostic.Diagnostic.{Diagnostic}
-use Rattle.text_to_code.specs.Telling.{IsAccepted, Refuses, Tells, later}
+use Rattle.checked_program.specs.declared.program.Checked.{Checked}
+use Rattle.code_gen.specs.Facts.{facts_of, HasNoLayout}
+use Rattle.code_types.specs.declared.code.Code.{Code}
+use Rattle.code_types.specs.Runs.{Suits}
+use Rattle.expr_gen.specs.declared.refusal.PartRefusal.{PartRefusal}
+use Rattle.expr_gen.specs.declared.refusal.PartRefusal.TheVariants.{Unsound}
+use Rattle.kernel_base.specs.declared.facts.Facts.{Facts}
+use Rattle.kernel_base.specs.Facts.{IsSound}
+use Rattle.outside_ports.specs.Faults.{Rose}
+use Rattle.outside_ports.specs.Library.{Contents}
+use Rattle.serial_run.specs.Driven.{IsDriven}
+use Rattle.text_to_code.specs.Telling.{IsAccepted, Tells}
 use Rattle.text_to_code.specs.declared.build.Built.{Built}
 use Rattle.text_to_code.specs.declared.told.Told.{Told}
+use Rattle.text_to_code.specs.declared.told.Told.TheVariants as tellings
 use Rattle.word_reader.specs.declared.command.Command.{Command}
 use Rattle.word_reader.specs.declared.command.Command.TheVariants as words
-use Rattle.chill_top.specs.Commands.{task_of, IsTextBy, IsTextOf}
-use Rattle.chill_top.specs.Plan.{IsInputOf, IsInputTooLong, IsRunFor, IsFormatPlan, IsPlanFor, IsPlanOf, IsReadyFor, IsStageFor, IsStageOf, IsNotBuilt, IsPlanAfter, Completes}
-use Rattle.chill_top.specs.Runs.{AreFactsWith, IsAttempt}
+use Rattle.chill_top.specs.Causes.{IsFeedFault}
+use Rattle.chill_top.specs.Commands.{task_of, IsRunning, IsRunningTask, IsTextBy, IsTextOf}
+use Rattle.chill_top.specs.Plan.{AreFactsOf, HasNoFacts, IsInputOf, IsInputTooLong, IsRefusedFor, IsRunFor, IsBuildPlan, IsFormatPlan, IsPlanFor, IsPlanOf, IsReadyFor, IsStageFor, IsStageOf, IsNotBuilt, IsPlanAfter, Completes, HasProgram, ReadsInput, unfounded, unsuited}
+use Rattle.chill_top.specs.Runs.{IsAttempt}
 use Rattle.chill_top.specs.declared.run.Attempt.{Attempt}
+use Rattle.chill_top.specs.declared.run.Attempt.TheVariants as attempts
 use Rattle.chill_top.specs.Reading.{IsInputRead, IsRead, IsReadingOf}
 use Rattle.chill_top.specs.declared.plan.Plan.{Plan}
 use Rattle.chill_top.specs.declared.plan.Plan.TheVariants as plans
@@ -22,14 +37,15 @@ use Rattle.chill_top.specs.declared.plan.Ready.{Ready}
 use Rattle.chill_top.specs.declared.plan.Stage.{Stage}
 use Rattle.chill_top.specs.declared.plan.Stage.TheVariants as stages
 use Rattle.chill_top.specs.declared.read.ReadRefusal.{ReadRefusal}
+use Rattle.chill_top.specs.declared.read.ReadRefusal.TheVariants as refusals
 use Rattle.chill_top.specs.declared.task.Task.{Task}
 use Rattle.chill_top.specs.declared.task.Task.TheVariants.{Format, Build}
 use Rattle.chill_top.specs.declared.task.Purpose.{Purpose}
-use Rattle.chill_top.specs.declared.task.Purpose.TheVariants.{Run}
+use Rattle.chill_top.specs.declared.task.Purpose.TheVariants.{Run, Check, List as Listing}
 use Rattle.chill_top.proofs.Pieces.{Tells-reading}
 
 -- an input that was read past the greatest length is too long
-pub too_long_input : (reads : Bool) (told : Option (List ℕ)) (input : List ℕ) → MatchBool reads (IsInputRead told input) (input ≡ []) → 1048576 < length input → IsInputTooLong told
+too_long_input : (reads : Bool) (told : Option (List ℕ)) (input : List ℕ) → MatchBool reads (IsInputRead told input) (input ≡ []) → 1048576 < length input → IsInputTooLong told
 too_long_input true None input is long = tt
 too_long_input true (Some whole) input is long = omega (arith, ap length is.front, length-take 1048577 whole, long)
 too_long_input false told input is long = absurd (let no : ⊥ = omega (arith, ap length is, long) in no)
@@ -39,7 +55,7 @@ whole_by whole input is short (inl less) = is ∙ take_all 1048577 whole (omega 
 whole_by whole input is short (inr more) = absurd (let no : ⊥ = omega (arith, ap length is, length-take 1048577 whole, short, more) in no)
 
 -- and else it was read whole
-pub whole_input : (reads : Bool) (told : Option (List ℕ)) (input : List ℕ) → MatchBool reads (IsInputRead told input) (input ≡ []) → length input ≤ 1048576 → MatchBool reads (IfSome told (λ whole. input ≡ whole)) (input ≡ [])
+whole_input : (reads : Bool) (told : Option (List ℕ)) (input : List ℕ) → MatchBool reads (IsInputRead told input) (input ≡ []) → length input ≤ 1048576 → MatchBool reads (IfSome told (λ whole. input ≡ whole)) (input ≡ [])
 whole_input true None input is short = tt
 whole_input true (Some whole) input is short = whole_by whole input is.front short (cases_lt (length whole) 1048577)
 whole_input false told input is short = is
@@ -48,13 +64,13 @@ whole_input false told input is short = is
 abbrev pub NamesFile : Command → List ℕ → Type 0
 NamesFile command file = ((workers : ℕ) × (units : ℕ) × (watch : Bool) × (command ≡ words.Run file workers units watch)) ⊎ (command ≡ words.Check file) ⊎ (command ≡ words.List file) ⊎ (command ≡ words.Format file)
 
-text_by_file : (command : Command) (file : List ℕ) (bytes : List ℕ → Option (List ℕ)) (text : List ℕ) → NamesFile command file → IsTextOf (bytes file) text → IsTextBy command bytes text
+text_by_file : (command : Command) (file : List ℕ) (bytes : List ℕ → Contents) (text : List ℕ) → NamesFile command file → IsTextOf (bytes file) text → IsTextBy command bytes text
 text_by_file command file bytes text (inl h) is = subst (λ (c : Command). IsTextBy c bytes text) (sym h.3) is
 text_by_file command file bytes text (inr (inl h)) is = subst (λ (c : Command). IsTextBy c bytes text) (sym h) is
 text_by_file command file bytes text (inr (inr (inl h))) is = subst (λ (c : Command). IsTextBy c bytes text) (sym h) is
 text_by_file command file bytes text (inr (inr (inr h))) is = subst (λ (c : Command). IsTextBy c bytes text) (sym h) is
 
-pub ok-read-file : {V E : Type 0} (items : V → List ℕ) (command : Command) (bytes : List ℕ → Option (List ℕ)) (name file : List ℕ) (made : Result V E) → NamesFile command file → name ≡ file
+pub ok-read-file : {V E : Type 0} (items : V → List ℕ) (command : Command) (bytes : List ℕ → Contents) (name file : List ℕ) (made : Result V E) → NamesFile command file → name ≡ file
     → IfOk made (λ read. (text : List ℕ) × IsTextOf (bytes name) text × IsReadingOf text (items read))
     → IfOk made (λ read. IsRead command bytes (items read))
 ok-read-file items command bytes name file (Ok read) names same found =
@@ -62,69 +78,163 @@ ok-read-file items command bytes name file (Ok read) names same found =
 ok-read-file items command bytes name file (Err e) names same found = tt
 
 -- what is told of what was read is told of the text
-pub ok-stage-told : (read : List ℕ) (task : Task) (purpose : Purpose) (feed : Option (List ℕ)) (told : Told) (made : Result Stage ReadRefusal) → task ≡ Build purpose → Tells read told
-    → IfOk made (λ stage. (text : List ℕ) → Tells text told → IsStageFor (Build purpose) text feed stage)
-    → IfOk made (λ stage. (text : List ℕ) → IsReadingOf text read → IsStageFor task text feed stage)
-ok-stage-told read task purpose feed told (Ok stage) task_is tells is =
-    λ text of. subst (λ (t : Task). IsStageFor t text feed stage) (sym task_is) (is text (Tells-reading text read told of tells))
-ok-stage-told read task purpose feed told (Err e) task_is tells is = tt
+pub ok-stage-told : (read : List ℕ) (task : Task) (purpose : Purpose) (feed left : Option (List ℕ)) (told : Told) (made : Result Stage ReadRefusal) → task ≡ Build purpose → Tells read told
+    → IfOk made (λ stage. (text : List ℕ) → Tells text told → IsStageFor (Build purpose) text feed left stage)
+    → IfOk made (λ stage. (text : List ℕ) → IsReadingOf text read → IsStageFor task text feed left stage)
+ok-stage-told read task purpose feed left told (Ok stage) task_is tells is =
+    λ text of. subst (λ (t : Task). IsStageFor t text feed left stage) (sym task_is) (is text (Tells-reading text read told of tells))
+ok-stage-told read task purpose feed left told (Err e) task_is tells is = tt
 
-pub format_stage : (read : List ℕ) (task : Task) (feed : Option (List ℕ)) (plan : Plan) → task ≡ Format → ((text : List ℕ) → IsReadingOf text read → IsFormatPlan text plan)
-    → (text : List ℕ) → IsReadingOf text read → IsStageFor task text feed (stages.Decided plan)
-format_stage read task feed plan task_is is text of = subst (λ (t : Task). IsStageFor t text feed (stages.Decided plan)) (sym task_is) (is text of)
+-- and so is that its program reads input
+pub reads_told : (read : List ℕ) (told : Told) (made : Result Stage ReadRefusal) → Tells read told
+    → (IsErrOf made refusals.Fault → (text : List ℕ) → Tells text told → ReadsInput text)
+    → IsErrOf made refusals.Fault → (text : List ℕ) → IsReadingOf text read → ReadsInput text
+reads_told read told made tells reads fault = λ text of. reads fault text (Tells-reading text read told of tells)
+
+pub format_stage : (read : List ℕ) (task : Task) (feed left : Option (List ℕ)) (plan : Plan) → task ≡ Format → ((text : List ℕ) → IsReadingOf text read → IsFormatPlan text plan)
+    → (text : List ℕ) → IsReadingOf text read → IsStageFor task text feed left (stages.Decided plan)
+format_stage read task feed left plan task_is is text of = subst (λ (t : Task). IsStageFor t text feed left (stages.Decided plan)) (sym task_is) (is text of)
 
 -- how far a command comes is how far what was read of its text does
-pub ok-stage-of : (command : Command) (bytes : List ℕ → Option (List ℕ)) (feed : Option (List ℕ)) (read : List ℕ) (task : Task) (made : Result Stage ReadRefusal) → IsRead command bytes read → task ≡ task_of command
-    → IfOk made (λ stage. (text : List ℕ) → IsReadingOf text read → IsStageFor task text feed stage)
-    → IfOk made (IsStageOf command bytes feed)
-ok-stage-of command bytes feed read task (Ok stage) found same is =
-    record { text = found.text; told = found.told; is = subst (λ (t : Task). IsStageFor t found.text feed stage) same (is found.text found.reading) }
-ok-stage-of command bytes feed read task (Err e) found same is = tt
+pub ok-stage-of : (command : Command) (contents : List ℕ → Contents) (feed left : Option (List ℕ)) (read : List ℕ) (task : Task) (made : Result Stage ReadRefusal) → IsRead command contents read → task ≡ task_of command
+    → IfOk made (λ stage. (text : List ℕ) → IsReadingOf text read → IsStageFor task text feed left stage)
+    → IfOk made (IsStageOf command contents feed left)
+ok-stage-of command contents feed left read task (Ok stage) found same is =
+    record { text = found.text; told = found.told; is = subst (λ (t : Task). IsStageFor t found.text feed left stage) same (is found.text found.reading) }
+ok-stage-of command contents feed left read task (Err e) found same is = tt
 
--- a program with such facts is ready for a run
-pub ready_for : (units : ℕ) (text : List ℕ) (feed : Option (List ℕ)) (ready : Ready) (input : List ℕ) → AreFactsWith units input ready.facts → IsInputOf ready.built.value.program.checked.value feed input → IsAccepted text
-    → IsReadyFor (Build (Run units)) text feed ready
-ready_for units text feed ready input are reads accepted = record {
-  is_task = ap (λ (n : ℕ). Build (Run n)) (sym are.budget);
-  accepted = accepted;
-  sound = are.sound;
-  reads = subst (IsInputOf ready.built.value.program.checked.value feed) (sym are.reads) reads;
+-- a fault of the feed is one of a command whose program reads input
+pub feed_fault : (command : Command) (contents : List ℕ → Contents) (read : List ℕ) (task : Task) (before now : ℕ) → IsRead command contents read → task ≡ task_of command
+    → IsRunningTask task × Rose before now → ((text : List ℕ) → IsReadingOf text read → ReadsInput text)
+    → IsFeedFault command contents before now
+feed_fault command contents read task before now found same rose reads = record {
+  running = subst IsRunningTask same rose.0;
+  text = found.text;
+  told = found.told;
+  reads = reads found.text found.reading;
+  rose = rose.1;
 }
 
--- what isn't built is told of a text that is accepted
-pub refused_not_built : (text : List ℕ) (told : List Diagnostic) → IsAccepted text → IsNotBuilt told → Refuses text told
-refused_not_built text told accepted is = later accepted.resolved (inr (inr (accepted.small, is)))
+-- an input that is long was read of the feed
+is_read_input : (reads : Bool) (told : Option (List ℕ)) (input : List ℕ) → MatchBool reads (IsInputRead told input) (input ≡ []) → 1048576 < length input → reads ≡ true
+is_read_input true told input is long = refl
+is_read_input false told input is long = absurd (let no : ⊥ = omega (arith, ap length is, long) in no)
+
+-- the plan for an input that is too long
+pub too_long_for : (units : ℕ) (text : List ℕ) (program : Checked) (code : Code) (feed : Option (List ℕ)) (input : List ℕ) → IsAccepted text program code
+    → MatchBool program.reads_input (IsInputRead feed input) (input ≡ []) → 1048576 < length input
+    → IsRunning (Run units) × ReadsInput text × IsInputTooLong feed
+too_long_for units text program code feed input accepted is long = (
+  tt,
+  record { program = program; code = code; accepted = accepted; reads = is_read_input program.reads_input feed input is long },
+  too_long_input program.reads_input feed input is long,
+)
+
+-- an input that isn't too long
+pub input_for : (program : Checked) (feed left : Option (List ℕ)) (input : List ℕ) → MatchBool program.reads_input (IsInputRead feed input) (input ≡ []) → length input ≤ 1048576
+    → (program.reads_input ≡ false → left ≡ feed) → IsInputOf program feed left input
+input_for program feed left input is short untouched =
+    record { whole = whole_input program.reads_input feed input is short; short = short; untouched = untouched }
+
+-- a program with such facts is ready for a run
+pub ready_for : (units : ℕ) (text : List ℕ) (feed left : Option (List ℕ)) (ready : Ready) (input : List ℕ)
+    → AreFactsOf ready.built.value.program.checked.value input units ready.facts → IsInputOf ready.built.value.program.checked.value feed left input
+    → IsAccepted text ready.built.value.program.checked.value ready.built.value.code
+    → IsReadyFor (Build (Run units)) text feed left ready
+ready_for units text feed left ready input are reads accepted =
+    record { units = units; is_task = refl; accepted = accepted; input = input; reads = reads; facts = are }
+
+-- one without facts isn't run
+pub unfounded_for : (units : ℕ) (text : List ℕ) (program : Checked) (code : Code) (feed left : Option (List ℕ)) (input : List ℕ) (told : List Diagnostic)
+    → IsAccepted text program code → IsInputOf program feed left input → HasNoFacts program input units → IsNotBuilt told
+    → IsRefusedFor (Run units) text feed left told
+unfounded_for units text program code feed left input told accepted reads none is =
+    inr (record { program = program; code = code; accepted = accepted; input = input; reads = reads; cause = unfounded none; is = is })
+
+-- the facts aren't sound, or there are none
+pub unsound_facts : (program other : Checked) (input : List ℕ) (units : ℕ) (facts : Facts) (yes : Bool) → other ≡ program → facts ≡ facts_of other input units → IsTrue yes ↔ IsSound facts → yes ≡ false
+    → HasNoFacts program input units
+unsound_facts program other input units facts yes same are exact no = inr (λ sound.
+    let told : IsTrue yes = exact.1 (subst IsSound (sym (are ∙ ap (λ (p : Checked). facts_of p input units) same)) sound) in
+    let never : ⊥ = cc in never)
+
+pub no_layouts : {T : Type 0} (program other : Checked) (input : List ℕ) (units : ℕ) (refusal : PartRefusal) → other ≡ program → refusal ≡ Unsound
+    → (IsErrOf {T = T} (Err refusal) Unsound → Any HasNoLayout other.locations) → HasNoFacts program input units
+no_layouts program other input units refusal same is unsound = inl (subst (λ (p : Checked). Any HasNoLayout p.locations) same (unsound (ap (λ (e : PartRefusal). Err e) is)))
+
+-- a plan for a run is one for the task that it was made for
+run_plan : (task : Task) (units : ℕ) (text : List ℕ) (feed left : Option (List ℕ)) (plan : Plan) → task ≡ Build (Run units) → IsBuildPlan (Run units) text feed left plan → IsPlanFor task text feed left plan
+run_plan task units text feed left plan same is = subst (λ (t : Task). IsPlanFor t text feed left plan) (sym same) is
 
 -- what comes of the run of a program that is ready is the plan
-completed : (task : Task) (text : List ℕ) (feed : Option (List ℕ)) (ready : Ready) (attempt : Attempt) (plan : Plan) → IsReadyFor task text feed ready → IsAttempt ready.built.value.code ready.facts attempt
-    → IsPlanAfter ready.built.value attempt plan → IsPlanFor task text feed plan
-completed task text feed ready attempt plans.Usage is ran after = absurd after
-completed task text feed ready attempt (plans.Refused told) is ran after =
-    subst (λ (t : Task). IsPlanFor t text feed (plans.Refused told)) (sym is.is_task) (refused_not_built text told is.accepted after.1)
-completed task text feed ready attempt plans.Accepted is ran after = absurd after
-completed task text feed ready attempt (plans.Listed built) is ran after = absurd after
-completed task text feed ready attempt (plans.Formatted canonical) is ran after = absurd after
-completed task text feed ready attempt plans.InputTooLong is ran after = absurd after
-completed task text feed ready attempt (plans.Ran one) is ran after =
-    subst (λ (t : Task). IsPlanFor t text feed (plans.Ran one)) (sym is.is_task) (
-      is.accepted,
-      subst (λ (b : Built). IsRunFor (Run ready.facts.units) b.program.checked.value b.code feed one.driven.value) (sym after.1) (record {
-        input = ready.facts.input;
-        reads = is.reads;
-        run = record {
-          facts = ready.facts;
-          are = record { sound = is.sound; reads = refl; budget = refl };
-          run = subst (IsAttempt ready.built.value.code ready.facts) after.0 ran;
-        };
-      }),
-    )
+completed : (task : Task) (text : List ℕ) (feed left : Option (List ℕ)) (ready : Ready) (attempt : Attempt) (plan : Plan) → IsReadyFor task text feed left ready → IsAttempt ready.built.value.code ready.facts attempt
+    → IsPlanAfter ready.built.value attempt plan → IsPlanFor task text feed left plan
+completed task text feed left ready attempt plans.Usage is ran after = absurd after
+completed task text feed left ready attempt (plans.Refused told) is ran after =
+    let unsuited_to : IsAttempt ready.built.value.code ready.facts attempts.NotBuilt = subst (IsAttempt ready.built.value.code ready.facts) after.0 ran in
+    run_plan task is.units text feed left (plans.Refused told) is.is_task (inr (record {
+      program = ready.built.value.program.checked.value;
+      code = ready.built.value.code;
+      accepted = is.accepted;
+      input = is.input;
+      reads = is.reads;
+      cause = unsuited (subst (λ (f : Facts). Suits ready.built.value.code f → ⊥) is.facts.are unsuited_to);
+      is = after.1;
+    }))
+completed task text feed left ready attempt plans.Accepted is ran after = absurd after
+completed task text feed left ready attempt (plans.Listed built) is ran after = absurd after
+completed task text feed left ready attempt (plans.Formatted canonical) is ran after = absurd after
+completed task text feed left ready attempt plans.InputTooLong is ran after = absurd after
+completed task text feed left ready attempt (plans.Ran one) is ran after =
+    run_plan task is.units text feed left (plans.Ran one) is.is_task
+    (subst (λ (b : Built). IsRunFor (Run is.units) text b.program.checked.value b.code feed left one.driven.value) (sym after.1) (record {
+      accepted = is.accepted;
+      input = is.input;
+      reads = is.reads;
+      sound = subst IsSound is.facts.are is.facts.sound;
+      run = subst (λ (f : Facts). IsDriven ready.built.value.code f one.driven.value) is.facts.are (subst (IsAttempt ready.built.value.code ready.facts) after.0 ran);
+    }))
 
-pub ok-plan-completed : (command : Command) (bytes : List ℕ → Option (List ℕ)) (feed : Option (List ℕ)) (ready : Ready) (plan : Plan) → IsStageOf command bytes feed (stages.Ready ready) → Completes ready plan → IsPlanOf command bytes feed plan
-ok-plan-completed command bytes feed ready plan stage completes =
-    record { text = stage.text; told = stage.told; is = completed (task_of command) stage.text feed ready completes.attempt plan stage.is completes.ran completes.is }
+pub ok-plan-completed : (command : Command) (contents : List ℕ → Contents) (feed left : Option (List ℕ)) (ready : Ready) (plan : Plan) → IsStageOf command contents feed left (stages.Ready ready) → Completes ready plan
+    → IsPlanOf command contents feed left plan
+ok-plan-completed command contents feed left ready plan stage completes =
+    record { text = stage.text; told = stage.told; is = completed (task_of command) stage.text feed left ready completes.attempt plan stage.is completes.ran completes.is }
 
 -- a plan after an attempt is what comes of the run
 pub ok-completes : {E : Type 0} (ready : Ready) (attempt : Attempt) (made : Result Plan E) → IsAttempt ready.built.value.code ready.facts attempt
     → IfOk made (IsPlanAfter ready.built.value attempt) → IfOk made (Completes ready)
 ok-completes ready attempt (Ok plan) ran is = record { attempt = attempt; ran = ran; is = is }
 ok-completes ready attempt (Err e) ran is = tt
+
+-- what is accepted has a program, and one that reads input where that one does
+has_program : (text : List ℕ) (built : Built) → IsAccepted text built.program.checked.value built.code → HasProgram text
+has_program text built accepted = record { program = built.program.checked.value; code = built.code; accepted = accepted }
+
+reads_accepted : (text : List ℕ) (built : Built) → IsAccepted text built.program.checked.value built.code → built.program.checked.value.reads_input ≡ true → ReadsInput text
+reads_accepted text built accepted reads = record { program = built.program.checked.value; code = built.code; accepted = accepted; reads = reads }
+
+-- ---- how far a text comes of which something is told
+
+pub stage-refused : (purpose : Purpose) (feed : Option (List ℕ)) (told : Told) (list : List Diagnostic) → told ≡ tellings.Refused list
+    → (text : List ℕ) → Tells text told → IsStageFor (Build purpose) text feed feed (stages.Decided (plans.Refused list))
+stage-refused purpose feed told list is text tells = inl (subst (Tells text) is tells, refl)
+
+pub stage-accepted : (purpose : Purpose) (feed : Option (List ℕ)) (told : Told) (built : Box Built) → told ≡ tellings.Accepted built → purpose ≡ Check
+    → (text : List ℕ) → Tells text told → IsStageFor (Build purpose) text feed feed (stages.Decided plans.Accepted)
+stage-accepted purpose feed told built is same text tells = (same, has_program text built.value (subst (Tells text) is tells))
+
+pub stage-listed : (purpose : Purpose) (feed : Option (List ℕ)) (told : Told) (built : Box Built) → told ≡ tellings.Accepted built → purpose ≡ Listing
+    → (text : List ℕ) → Tells text told → IsStageFor (Build purpose) text feed feed (stages.Decided (plans.Listed built))
+stage-listed purpose feed told built is same text tells = (same, subst (Tells text) is tells)
+
+pub ok-stage-run : (purpose : Purpose) (units : ℕ) (feed left : Option (List ℕ)) (told : Told) (built : Box Built) (made : Result Stage ReadRefusal) → told ≡ tellings.Accepted built → purpose ≡ Run units
+    → IfOk made (λ stage. (text : List ℕ) → IsAccepted text built.value.program.checked.value built.value.code → IsStageFor (Build (Run units)) text feed left stage)
+    → IfOk made (λ stage. (text : List ℕ) → Tells text told → IsStageFor (Build purpose) text feed left stage)
+ok-stage-run purpose units feed left told built (Ok stage) is same runs =
+    λ text tells. subst (λ (p : Purpose). IsStageFor (Build p) text feed left stage) (sym same) (runs text (subst (Tells text) is tells))
+ok-stage-run purpose units feed left told built (Err e) is same runs = tt
+
+pub reads_run : (told : Told) (built : Box Built) (made : Result Stage ReadRefusal) → told ≡ tellings.Accepted built
+    → (IsErrOf made refusals.Fault → built.value.program.checked.value.reads_input ≡ true)
+    → IsErrOf made refusals.Fault → (text : List ℕ) → Tells text told → ReadsInput text
+reads_run told built made is reads fault text tells = reads_accepted text built.value (subst (Tells text) is tells) (reads fault)

@@ -3,8 +3,10 @@ use Rattle.std.specs.Prelude.{◌≡◌, ℕ, ◌<◌, List, length, take, Some}
 use Rattle.std.specs.declared.option.Option.{Option}
 use Rattle.std.specs.Io.KnownBytes.{Appends, Keeps}
 use Rattle.outside_ports.specs.Faults.{Rose}
+use Rattle.outside_ports.specs.Library.{Contents}
 use Rattle.word_reader.specs.declared.command.Command.{Command}
-use Rattle.chill_top.specs.Commands.{file_of, Runs}
+use Rattle.chill_top.specs.Commands.{file_of, IsTextBy, Runs}
+use Rattle.chill_top.specs.Plan.{ReadsInput}
 
 -- the library's count for the file that the command names rose
 pub record IsReadFault (command : Command) (before now : List ℕ → ℕ) : Type 0 where
@@ -12,9 +14,12 @@ pub record IsReadFault (command : Command) (before now : List ℕ → ℕ) : Typ
   pub named : file_of command ≡ Some file
   pub rose : Rose (before file) (now file)
 
--- the feed's count rose, under a command that runs its text
-pub record IsFeedFault (command : Command) (before now : ℕ) : Type 0 where
+-- the feed's count rose, under a command that runs its text, of which the program reads input
+pub record IsFeedFault (command : Command) (contents : List ℕ → Contents) (before now : ℕ) : Type 0 where
   pub running : Runs command
+  pub text : List ℕ
+  pub told : IsTextBy command contents text
+  pub reads : ReadsInput text
   pub rose : Rose before now
 
 -- a sink took a proper front of a text

@@ -1,7 +1,8 @@
 -- What commands do, and where their texts come from.
-use Rattle.std.specs.Prelude.{◌≡◌, ℕ, Bool, true, false, List, None, Some, IfSome}
+use Rattle.std.specs.Prelude.{◌≡◌, ℕ, Bool, true, false, List, None, Some}
 use Rattle.std.specs.declared.option.Option.{Option}
 use Rattle.exchange_text.specs.Exchange.{exchange_text}
+use Rattle.outside_ports.specs.Library.{Contents, untold, missing, held}
 use Rattle.chill_top.specs.declared.task.Task.{Task}
 use Rattle.chill_top.specs.declared.task.Task.TheVariants.{Format, Build}
 use Rattle.chill_top.specs.declared.task.Purpose.{Purpose}
@@ -33,17 +34,19 @@ file_of (words.List file) = Some file
 file_of (words.Format file) = Some file
 file_of (words.Make subscribers) = None
 
--- the text is the file's, where the library tells it
-abbrev pub IsTextOf : Option (List ℕ) → List ℕ → Type 0
-IsTextOf told text = IfSome told (λ whole. whole ≡ text)
+-- the text is the file's, where the library tells it; a file that is told to be missing has none
+abbrev pub IsTextOf : Contents → List ℕ → Type 0
+IsTextOf untold text = Unit {0}
+IsTextOf missing text = ⊥
+IsTextOf (held whole) text = whole ≡ text
 
 -- the text of a command: that of the file that it names, or the one that it makes
-abbrev pub IsTextBy : Command → (List ℕ → Option (List ℕ)) → List ℕ → Type 0
-IsTextBy (words.Run file workers units watch) bytes text = IsTextOf (bytes file) text
-IsTextBy (words.Check file) bytes text = IsTextOf (bytes file) text
-IsTextBy (words.List file) bytes text = IsTextOf (bytes file) text
-IsTextBy (words.Format file) bytes text = IsTextOf (bytes file) text
-IsTextBy (words.Make subscribers) bytes text = text ≡ exchange_text subscribers
+abbrev pub IsTextBy : Command → (List ℕ → Contents) → List ℕ → Type 0
+IsTextBy (words.Run file workers units watch) contents text = IsTextOf (contents file) text
+IsTextBy (words.Check file) contents text = IsTextOf (contents file) text
+IsTextBy (words.List file) contents text = IsTextOf (contents file) text
+IsTextBy (words.Format file) contents text = IsTextOf (contents file) text
+IsTextBy (words.Make subscribers) contents text = text ≡ exchange_text subscribers
 
 -- the text is run
 abbrev pub IsRunning : Purpose → Type 0

@@ -10,15 +10,16 @@ use Rattle.diagnostics.specs.declared.diagnostic.Diagnostic.{Diagnostic}
 use Rattle.kernel_base.specs.declared.ends.Over.{Over}
 use Rattle.kernel_base.specs.declared.event.Event.{Event}
 use Rattle.listing.specs.Diagnostics.{lines_of}
+use Rattle.outside_ports.specs.Library.{Contents}
 use Rattle.outside_ports.specs.Watcher.{Watching, told}
 use Rattle.run_texts.specs.Report.{report_of}
-use Rattle.text_to_code.specs.Telling.{IsAccepted, IsUnread, Refuses}
+use Rattle.text_to_code.specs.Telling.{IsUnread}
 use Rattle.watchers.specs.Shown.{stayed, places, IsLeft}
 use Rattle.word_reader.specs.declared.command.Command.{Command}
 use Rattle.world_model.specs.Journal.{output_of}
 use Rattle.chill_top.specs.Commands.{task_of, is_watched, IsTextBy}
 use Rattle.chill_top.specs.Runs.{status_of_run}
-use Rattle.chill_top.specs.Plan.{IsPlan, IsRunOf, status_of, out_of, err_of}
+use Rattle.chill_top.specs.Plan.{IsPlan, IsRefusedFor, IsRunOf, status_of, out_of, err_of}
 use Rattle.chill_top.specs.Causes.{IsReadFault, IsFeedFault, IsOutBroken, IsErrBroken}
 use Rattle.chill_top.specs.declared.plan.Plan.{Plan}
 use Rattle.chill_top.specs.declared.plan.Plan.TheVariants as plans
@@ -109,13 +110,14 @@ abbrev pub IsCutShort : Sinks → Sinks → List ℕ → List ℕ → Type 0
 IsCutShort before behind out err = IsOutBroken out before.out_taken behind.out_taken before.err_taken behind.err_taken before.out behind.out
     ⊎ IsErrBroken out err before.out_taken behind.out_taken before.err_taken behind.err_taken before.err behind.err
 
--- the counts of faults of the library and of the feed
+-- the counts of faults of the library and of the feed, and what is left of the input, where the feed tells it
 pub record Sources : Type 0 where
   pub library : List ℕ → ℕ
   pub feed : ℕ
+  pub input : Option (List ℕ)
 
-abbrev pub sources_at : (List ℕ → ℕ) → ℕ → Sources
-sources_at library feed = record { library = library; feed = feed }
+abbrev pub sources_at : (List ℕ → ℕ) → ℕ → Option (List ℕ) → Sources
+sources_at library feed input = record { library = library; feed = feed; input = input }
 
 -- no count rose
 pub record SameCounts (before behind : Sources) : Type 0 where
@@ -154,42 +156,52 @@ watch_of (Some command) = is_watched command
 
 -- What a call answers, for the command of its words, what the library and the feed tell, and the ports and the watchers before
 -- and behind it.
-pub data IsAnswer (said : Option Command) (bytes : List ℕ → Option (List ℕ)) (feed : Option (List ℕ)) (watchers after : List Watching) (sources left : Sources) (before behind : Sinks) : Outcome → Type 0 where
+pub data IsAnswer (said : Option Command) (contents : List ℕ → Contents) (watchers after : List Watching) (sources left : Sources) (before behind : Sinks) : Outcome → Type 0 where
   -- the plan for the words was carried out
-  planned : {outcome : Outcome} (plan : Plan) → IsPlan said bytes feed plan → SameCounts sources left → IsCarriedOut (watch_of said) plan watchers after before behind outcome
-      → IsAnswer said bytes feed watchers after sources left before behind outcome
+  planned : {outcome : Outcome} (plan : Plan) → IsPlan said contents sources.input left.input plan → SameCounts sources left → IsCarriedOut (watch_of said) plan watchers after before behind outcome
+      → IsAnswer said contents watchers after sources left before behind outcome
   -- a file or the input wasn't read
-  unread : (command : Command) → said ≡ Some command → IsReadFault command sources.library left.library ⊎ IsFeedFault command sources.feed left.feed → after ≡ watchers → NothingWritten before behind
-      → IsAnswer said bytes feed watchers after sources left before behind (without_run 4)
+  unread : (command : Command) → said ≡ Some command → IsReadFault command sources.library left.library ⊎ IsFeedFault command contents sources.feed left.feed → after ≡ watchers → NothingWritten before behind
+      → IsAnswer said contents watchers after sources left before behind (without_run 4)
   -- no memory was to be had
-  no_memory_before : after ≡ watchers → NothingWritten before behind → IsAnswer said bytes feed watchers after sources left before behind (without_run 8)
+  no_memory_before : after ≡ watchers → NothingWritten before behind → IsAnswer said contents watchers after sources left before behind (without_run 8)
+
+-- the texts of a run, with its status; or a sink failed at them
+abbrev pub IsReported : Sinks → Sinks → ℕ → ℕ → List ℕ → List ℕ → Type 0
+IsReported before behind status of_run out err = ((status ≡ of_run) × Wrote before behind out err) ⊎ ((status ≡ 5) × IsCutShort before behind out err)
+
+-- the events that the watchers of a command are shown
+abbrev pub events_shown : Option Command → List Event → Option (List Event)
+events_shown said events = if watch_of said then Some events else None
 
 -- The journal of an outcome: the text of the command has a program, whose code the outcome holds, and the events are a run of that
--- code to its end, from the program's facts with its input; the machines stand where the events leave them.
-pub record IsJournal (said : Option Command) (bytes : List ℕ → Option (List ℕ)) (feed : Option (List ℕ)) (outcome : Outcome) (over : Over) : Type 0 where
+-- code to its end, from the facts of that program with its input and the budget; the machines stand where the events leave them.
+-- The texts that were written are the output of the events, and their report with the names of that program.
+pub record IsJournal (said : Option Command) (contents : List ℕ → Contents) (watchers : List Watching) (sources left : Sources) (before behind : Sinks) (outcome : Outcome) (over : Over) : Type 0 where
   pub command : Command
   pub named : said ≡ Some command
   pub units : ℕ
   pub is_task : task_of command ≡ Build (Run units)
   pub text : List ℕ
-  pub told : IsTextBy command bytes text
-  pub accepted : IsAccepted text
+  pub told : IsTextBy command contents text
   pub program : Checked
   pub code : Code
   pub held : outcome.code ≡ Some code
-  pub run : IsRunOf units program code feed (record { events = outcome.events; machines = outcome.machines; over = over })
+  pub run : IsRunOf units text program code sources.input left.input (record { events = outcome.events; machines = outcome.machines; over = over })
+  pub reported : IsReported before behind outcome.status (status_of_run over outcome.events) (output_of outcome.events)
+      (report_of program outcome.events over ++ told_by (events_shown said outcome.events) watchers)
 
--- the diagnostics of a text that is refused under a task
-abbrev pub IsRefusedUnder : Task → List ℕ → List Diagnostic → Type 0
-IsRefusedUnder Format text told = IsUnread text told
-IsRefusedUnder (Build purpose) text told = Refuses text told
+-- the diagnostics of a text that is refused under a task, and what is left of the input
+abbrev pub IsRefusedUnder : Task → List ℕ → Option (List ℕ) → Option (List ℕ) → List Diagnostic → Type 0
+IsRefusedUnder Format text feed left told = IsUnread text told
+IsRefusedUnder (Build purpose) text feed left told = IsRefusedFor purpose text feed left told
 
 -- The text of the command is refused, and err took a line for each of its diagnostics, and out nothing.
-pub record IsRefused (said : Option Command) (bytes : List ℕ → Option (List ℕ)) (before behind : Sinks) : Type 0 where
+pub record IsRefused (said : Option Command) (contents : List ℕ → Contents) (sources left : Sources) (before behind : Sinks) : Type 0 where
   pub command : Command
   pub named : said ≡ Some command
   pub text : List ℕ
-  pub told : IsTextBy command bytes text
+  pub told : IsTextBy command contents text
   pub diagnostics : List Diagnostic
-  pub refused : IsRefusedUnder (task_of command) text diagnostics
+  pub refused : IsRefusedUnder (task_of command) text sources.input left.input diagnostics
   pub written : Wrote before behind [] (lines_of diagnostics)

@@ -1,24 +1,29 @@
 -- What a call has to answer and to write, by its command, the text of that and the input.
-use Rattle.std.specs.Prelude.{◌≡◌, ◌<◌, ℕ, List, [], ◌∷◌, ◌++◌, length, None, Some, IfSome, MatchBool, codes}
+use Rattle.std.specs.Prelude.{◌≡◌, ◌⊎◌, ◌<◌, ◌≤◌, ℕ, true, false, List, [], ◌∷◌, ◌++◌, length, None, Some, IfSome, MatchBool, Any, codes}
 use Rattle.std.specs.declared.option.Option.{Option}
 use Rattle.checked_program.specs.declared.program.Checked.{Checked}
+use Rattle.code_gen.specs.Facts.{facts_of, HasNoLayout}
 use Rattle.code_types.specs.declared.code.Code.{Code}
+use Rattle.code_types.specs.Runs.{Suits}
 use Rattle.diagnostics.specs.declared.diagnostic.Diagnostic.{Diagnostic}
 use Rattle.diagnostics.specs.declared.rule.Rule.TheVariants as rules
 use Rattle.kernel_base.specs.Facts.{IsSound}
+use Rattle.kernel_base.specs.declared.facts.Facts.{Facts}
 use Rattle.list_texts.specs.Layouts.{layout_lines}
 use Rattle.list_texts.specs.Code.{code_lines}
 use Rattle.listing.specs.Diagnostics.{lines_of}
 use Rattle.rules_model.specs.TokensCut.{first_place}
 use Rattle.rules_model.specs.Diagnoses.{plain}
 use Rattle.run_texts.specs.Report.{report_of}
+use Rattle.outside_ports.specs.Library.{Contents}
 use Rattle.serial_run.specs.declared.serial.Driven.{Driven}
+use Rattle.serial_run.specs.Driven.{IsDriven}
 use Rattle.text_to_code.specs.Telling.{IsAccepted, IsUnread, IsCanonicalOf, Refuses}
 use Rattle.text_to_code.specs.declared.build.Built.{Built}
 use Rattle.word_reader.specs.declared.command.Command.{Command}
 use Rattle.world_model.specs.Journal.{output_of}
 use Rattle.chill_top.specs.Commands.{task_of, IsTextBy, IsRunning}
-use Rattle.chill_top.specs.Runs.{IsAttempt, IsRunWith, status_of_run}
+use Rattle.chill_top.specs.Runs.{IsAttempt, status_of_run}
 use Rattle.chill_top.specs.declared.run.Attempt.{Attempt}
 use Rattle.chill_top.specs.declared.run.Attempt.TheVariants as attempts
 use Rattle.chill_top.specs.declared.plan.Plan.{Plan}
@@ -37,25 +42,81 @@ usage_line = codes "usage: chill run FILE [--workers N] [--units N] [--watch] | 
 abbrev pub too_long_line : List ℕ
 too_long_line = codes "input longer than 1048576 bytes\n"
 
--- the input of a program: all that the feed gives where it reads some, and else none
-abbrev pub IsInputOf : Checked → Option (List ℕ) → List ℕ → Type 0
-IsInputOf program feed input = MatchBool program.reads_input (IfSome feed (λ whole. input ≡ whole)) (input ≡ [])
-
 -- the feed gives more than 1048576 bytes, where it tells them
 abbrev pub IsInputTooLong : Option (List ℕ) → Type 0
 IsInputTooLong feed = IfSome feed (λ whole. 1048576 < length whole)
 
--- a run of a code, with the input of the program that the report names
-pub record IsRunOf (units : ℕ) (program : Checked) (code : Code) (feed : Option (List ℕ)) (driven : Driven) : Type 0 where
+-- The input of a program: all that the feed gives where the program reads some, and else none. It isn't too long. Where the
+-- program reads none, the feed is left as it was.
+pub record IsInputOf (program : Checked) (feed left : Option (List ℕ)) (input : List ℕ) : Type 0 where
+  pub whole : MatchBool program.reads_input (IfSome feed (λ whole. input ≡ whole)) (input ≡ [])
+  pub short : length input ≤ 1048576
+  pub untouched : program.reads_input ≡ false → left ≡ feed
+
+-- a text is accepted, with some program and its code
+pub record HasProgram (text : List ℕ) : Type 0 where
+  pub program : Checked
+  pub code : Code
+  pub accepted : IsAccepted text program code
+
+-- a text is accepted, and its program reads input
+pub record ReadsInput (text : List ℕ) : Type 0 where
+  pub program : Checked
+  pub code : Code
+  pub accepted : IsAccepted text program code
+  pub reads : program.reads_input ≡ true
+
+-- ---- runs
+
+-- sound facts of a program with an input and a budget
+pub record AreFactsOf (program : Checked) (input : List ℕ) (units : ℕ) (facts : Facts) : Type 0 where
+  pub are : facts ≡ facts_of program input units
+  pub sound : IsSound facts
+
+-- a run of the code of a text from the facts of its program
+pub record IsRunOf (units : ℕ) (text : List ℕ) (program : Checked) (code : Code) (feed left : Option (List ℕ)) (driven : Driven) : Type 0 where
+  pub accepted : IsAccepted text program code
   pub input : List ℕ
-  pub reads : IsInputOf program feed input
-  pub run : IsRunWith units code input driven
+  pub reads : IsInputOf program feed left input
+  pub sound : IsSound (facts_of program input units)
+  pub run : IsDriven code (facts_of program input units) driven
 
 -- the same for a purpose
-abbrev pub IsRunFor : Purpose → Checked → Code → Option (List ℕ) → Driven → Type 0
-IsRunFor (Run units) program code feed driven = IsRunOf units program code feed driven
-IsRunFor Check program code feed driven = ⊥
-IsRunFor Listing program code feed driven = ⊥
+abbrev pub IsRunFor : Purpose → List ℕ → Checked → Code → Option (List ℕ) → Option (List ℕ) → Driven → Type 0
+IsRunFor (Run units) text program code feed left driven = IsRunOf units text program code feed left driven
+IsRunFor Check text program code feed left driven = ⊥
+IsRunFor Listing text program code feed left driven = ⊥
+
+-- there are no facts to run a program from: a location has no layout, or they aren't sound
+abbrev pub HasNoFacts : Checked → List ℕ → ℕ → Type 0
+HasNoFacts program input units = Any HasNoLayout program.locations ⊎ (IsSound (facts_of program input units) → ⊥)
+
+-- why an accepted text isn't run: each is a fault of this compiler, and none of the text
+pub data IsUnrun (program : Checked) (code : Code) (input : List ℕ) (units : ℕ) : Type 0 where
+  unfounded : HasNoFacts program input units → IsUnrun program code input units
+  unsuited : (Suits code (facts_of program input units) → ⊥) → IsUnrun program code input units
+
+-- what isn't built is told so
+abbrev pub IsNotBuilt : List Diagnostic → Type 0
+IsNotBuilt told = told ≡ plain first_place rules.B1 ∷ []
+
+-- an accepted text isn't run, and is told so
+pub record TellsUnrun (units : ℕ) (text : List ℕ) (feed left : Option (List ℕ)) (told : List Diagnostic) : Type 0 where
+  pub program : Checked
+  pub code : Code
+  pub accepted : IsAccepted text program code
+  pub input : List ℕ
+  pub reads : IsInputOf program feed left input
+  pub cause : IsUnrun program code input units
+  pub is : IsNotBuilt told
+
+-- the same for a purpose
+abbrev pub TellsUnrunFor : Purpose → List ℕ → Option (List ℕ) → Option (List ℕ) → List Diagnostic → Type 0
+TellsUnrunFor (Run units) text feed left told = TellsUnrun units text feed left told
+TellsUnrunFor Check text feed left told = ⊥
+TellsUnrunFor Listing text feed left told = ⊥
+
+-- ---- plans
 
 -- the plan for a text that is formatted: it is refused for its tokens or its grammar alone
 abbrev pub IsFormatPlan : List ℕ → Plan → Type 0
@@ -67,36 +128,38 @@ IsFormatPlan text (plans.Formatted canonical) = IsCanonicalOf text canonical
 IsFormatPlan text plans.InputTooLong = ⊥
 IsFormatPlan text (plans.Ran ran) = ⊥
 
--- the plan for a text that is built for a purpose
-abbrev pub IsBuildPlan : Purpose → List ℕ → Option (List ℕ) → Plan → Type 0
-IsBuildPlan purpose text feed plans.Usage = ⊥
-IsBuildPlan purpose text feed (plans.Refused told) = Refuses text told
-IsBuildPlan purpose text feed plans.Accepted = (purpose ≡ Check) × IsAccepted text
-IsBuildPlan purpose text feed (plans.Listed built) = (purpose ≡ Listing) × IsAccepted text
-IsBuildPlan purpose text feed (plans.Formatted canonical) = ⊥
-IsBuildPlan purpose text feed plans.InputTooLong = IsRunning purpose × IsAccepted text × IsInputTooLong feed
-IsBuildPlan purpose text feed (plans.Ran ran) = IsAccepted text × IsRunFor purpose ran.built.value.program.checked.value ran.built.value.code feed ran.driven.value
+-- the diagnostics of a text that is built for a purpose: the text is refused, and the feed is left as it was; or it isn't run
+abbrev pub IsRefusedFor : Purpose → List ℕ → Option (List ℕ) → Option (List ℕ) → List Diagnostic → Type 0
+IsRefusedFor purpose text feed left told = (Refuses text told × (left ≡ feed)) ⊎ TellsUnrunFor purpose text feed left told
 
--- the plan for a text
-abbrev pub IsPlanFor : Task → List ℕ → Option (List ℕ) → Plan → Type 0
-IsPlanFor Format text feed plan = IsFormatPlan text plan
-IsPlanFor (Build purpose) text feed plan = IsBuildPlan purpose text feed plan
+-- the plan for a text that is built for a purpose
+abbrev pub IsBuildPlan : Purpose → List ℕ → Option (List ℕ) → Option (List ℕ) → Plan → Type 0
+IsBuildPlan purpose text feed left plans.Usage = ⊥
+IsBuildPlan purpose text feed left (plans.Refused told) = IsRefusedFor purpose text feed left told
+IsBuildPlan purpose text feed left plans.Accepted = (purpose ≡ Check) × HasProgram text
+IsBuildPlan purpose text feed left (plans.Listed built) = (purpose ≡ Listing) × IsAccepted text built.value.program.checked.value built.value.code
+IsBuildPlan purpose text feed left (plans.Formatted canonical) = ⊥
+IsBuildPlan purpose text feed left plans.InputTooLong = IsRunning purpose × ReadsInput text × IsInputTooLong feed
+IsBuildPlan purpose text feed left (plans.Ran ran) = IsRunFor purpose text ran.built.value.program.checked.value ran.built.value.code feed left ran.driven.value
+
+-- the plan for a text, and what is left of the input
+abbrev pub IsPlanFor : Task → List ℕ → Option (List ℕ) → Option (List ℕ) → Plan → Type 0
+IsPlanFor Format text feed left plan = IsFormatPlan text plan
+IsPlanFor (Build purpose) text feed left plan = IsBuildPlan purpose text feed left plan
 
 -- a program is ready for a run of a text
-pub record IsReadyFor (task : Task) (text : List ℕ) (feed : Option (List ℕ)) (ready : Ready) : Type 0 where
-  pub is_task : task ≡ Build (Run ready.facts.units)
-  pub accepted : IsAccepted text
-  pub sound : IsSound ready.facts
-  pub reads : IsInputOf ready.built.value.program.checked.value feed ready.facts.input
+pub record IsReadyFor (task : Task) (text : List ℕ) (feed left : Option (List ℕ)) (ready : Ready) : Type 0 where
+  pub units : ℕ
+  pub is_task : task ≡ Build (Run units)
+  pub accepted : IsAccepted text ready.built.value.program.checked.value ready.built.value.code
+  pub input : List ℕ
+  pub reads : IsInputOf ready.built.value.program.checked.value feed left input
+  pub facts : AreFactsOf ready.built.value.program.checked.value input units ready.facts
 
 -- how far a text comes without a run
-abbrev pub IsStageFor : Task → List ℕ → Option (List ℕ) → Stage → Type 0
-IsStageFor task text feed (stages.Decided plan) = IsPlanFor task text feed plan
-IsStageFor task text feed (stages.Ready ready) = IsReadyFor task text feed ready
-
--- what isn't built is told so
-abbrev pub IsNotBuilt : List Diagnostic → Type 0
-IsNotBuilt told = told ≡ plain first_place rules.B1 ∷ []
+abbrev pub IsStageFor : Task → List ℕ → Option (List ℕ) → Option (List ℕ) → Stage → Type 0
+IsStageFor task text feed left (stages.Decided plan) = IsPlanFor task text feed left plan
+IsStageFor task text feed left (stages.Ready ready) = IsReadyFor task text feed left ready
 
 -- the plan of a program after an attempt to run its code
 abbrev pub IsPlanAfter : Built → Attempt → Plan → Type 0
@@ -115,20 +178,20 @@ pub record Completes (ready : Ready) (plan : Plan) : Type 0 where
   pub is : IsPlanAfter ready.built.value attempt plan
 
 -- the same for the text of a command
-pub record IsStageOf (command : Command) (bytes : List ℕ → Option (List ℕ)) (feed : Option (List ℕ)) (stage : Stage) : Type 0 where
+pub record IsStageOf (command : Command) (contents : List ℕ → Contents) (feed left : Option (List ℕ)) (stage : Stage) : Type 0 where
   pub text : List ℕ
-  pub told : IsTextBy command bytes text
-  pub is : IsStageFor (task_of command) text feed stage
+  pub told : IsTextBy command contents text
+  pub is : IsStageFor (task_of command) text feed left stage
 
-pub record IsPlanOf (command : Command) (bytes : List ℕ → Option (List ℕ)) (feed : Option (List ℕ)) (plan : Plan) : Type 0 where
+pub record IsPlanOf (command : Command) (contents : List ℕ → Contents) (feed left : Option (List ℕ)) (plan : Plan) : Type 0 where
   pub text : List ℕ
-  pub told : IsTextBy command bytes text
-  pub is : IsPlanFor (task_of command) text feed plan
+  pub told : IsTextBy command contents text
+  pub is : IsPlanFor (task_of command) text feed left plan
 
 -- the plan for words, by the command that they mean
-abbrev pub IsPlan : Option Command → (List ℕ → Option (List ℕ)) → Option (List ℕ) → Plan → Type 0
-IsPlan None bytes feed plan = plan ≡ plans.Usage
-IsPlan (Some command) bytes feed plan = IsPlanOf command bytes feed plan
+abbrev pub IsPlan : Option Command → (List ℕ → Contents) → Option (List ℕ) → Option (List ℕ) → Plan → Type 0
+IsPlan None contents feed left plan = plan ≡ plans.Usage
+IsPlan (Some command) contents feed left plan = IsPlanOf command contents feed left plan
 
 -- the status of a plan
 abbrev pub status_of : Plan → ℕ

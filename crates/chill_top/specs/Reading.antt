@@ -1,21 +1,24 @@
 -- What was read of a file or of the input.
-use Rattle.std.specs.Prelude.{◌≡◌, ◌⊎◌, ℕ, List, ◌++◌, length, take, None, Some, IfSome, IsSomeAnd}
+use Rattle.std.specs.Prelude.{◌≡◌, ◌⊎◌, ℕ, List, [], ◌++◌, length, take, None, Some, IfSome, IsSomeAnd}
 use Rattle.std.specs.declared.option.Option.{Option}
+use Rattle.outside_ports.specs.Library.{Contents, untold, missing, held}
 use Rattle.chill_top.specs.Commands.{IsTextBy}
 use Rattle.word_reader.specs.declared.command.Command.{Command}
 
 -- what was read is a front of the file, where that is told
-abbrev pub IsFront : Option (List ℕ) → List ℕ → Type 0
-IsFront told read = IfSome told (λ text. take (length read) text ≡ read)
+abbrev pub IsFront : Contents → List ℕ → Type 0
+IsFront untold read = Unit {0}
+IsFront missing read = read ≡ []
+IsFront (held text) read = take (length read) text ≡ read
 
 -- what was read is the text, or the first 262145 bytes of a longer one
 abbrev pub IsReadingOf : List ℕ → List ℕ → Type 0
 IsReadingOf text read = (read ≡ text) ⊎ (read ≡ take 262145 text)
 
 -- what was read is a reading of the text of the command
-pub record IsRead (command : Command) (bytes : List ℕ → Option (List ℕ)) (read : List ℕ) : Type 0 where
+pub record IsRead (command : Command) (contents : List ℕ → Contents) (read : List ℕ) : Type 0 where
   pub text : List ℕ
-  pub told : IsTextBy command bytes text
+  pub told : IsTextBy command contents text
   pub reading : IsReadingOf text read
 
 -- what was read is the whole input, or the first 1048577 bytes of a longer one

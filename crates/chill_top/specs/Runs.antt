@@ -1,5 +1,5 @@
 -- The run of a program.
-use Rattle.std.specs.Prelude.{◌≡◌, ℕ, List, [], ◌∷◌, if◌then◌else◌, Bool, true, false}
+use Rattle.std.specs.Prelude.{ℕ, List, [], ◌∷◌, if◌then◌else◌, Bool, true, false}
 use Rattle.kernel_base.specs.declared.ends.How.{How}
 use Rattle.kernel_base.specs.declared.ends.How.TheVariants.{Normal, Stopped, Raised}
 use Rattle.kernel_base.specs.declared.ends.Over.{Over}
@@ -9,29 +9,16 @@ use Rattle.kernel_base.specs.declared.request.Request.TheVariants.{End}
 use Rattle.kernel_base.specs.declared.event.Event.{Event}
 use Rattle.kernel_base.specs.declared.event.Event.TheVariants.{Did}
 use Rattle.kernel_base.specs.declared.facts.Facts.{Facts}
-use Rattle.kernel_base.specs.Facts.{IsSound}
 use Rattle.code_types.specs.declared.code.Code.{Code}
-use Rattle.serial_run.specs.declared.serial.Driven.{Driven}
+use Rattle.code_types.specs.Runs.{Suits}
 use Rattle.serial_run.specs.Driven.{IsDriven}
 use Rattle.chill_top.specs.declared.run.Attempt.{Attempt}
 use Rattle.chill_top.specs.declared.run.Attempt.TheVariants as attempts
 
--- sound facts with this input and budget
-pub record AreFactsWith (units : ℕ) (input : List ℕ) (facts : Facts) : Type 0 where
-  pub sound : IsSound facts
-  pub reads : facts.input ≡ input
-  pub budget : facts.units ≡ units
-
--- the run of a code from such facts
-pub record IsRunWith (units : ℕ) (code : Code) (input : List ℕ) (driven : Driven) : Type 0 where
-  pub facts : Facts
-  pub are : AreFactsWith units input facts
-  pub run : IsDriven code facts driven
-
--- what comes of an attempt is a run of the code from the facts, where it is one
+-- what comes of an attempt is a run of the code from the facts; or else the code doesn't suit these
 abbrev pub IsAttempt : Code → Facts → Attempt → Type 0
 IsAttempt code facts (attempts.Driven driven) = IsDriven code facts driven.value
-IsAttempt code facts attempts.NotBuilt = Unit {0}
+IsAttempt code facts attempts.NotBuilt = Suits code facts → ⊥
 
 -- a process ended with an exception
 abbrev pub is_raised : Event → Bool

@@ -57,7 +57,7 @@ pub(crate) fn read_text<L: Library>(
     name: &str,
 ) -> Result<Vec<u8>, ReadRefusal>
     ensures kept { OnOk result ((n : List ℕ) → L.faults library.new n ≡ L.faults library.old n) }
-    ensures text { IfOk result (λ read. (text : List ℕ) × IsTextOf (L.bytes library.old name.now) text × IsReadingOf text read.items) }
+    ensures text { IfOk result (λ read. (text : List ℕ) × IsTextOf (L.contents library.old name.now) text × IsReadingOf text read.items) }
     ensures fault { IsErrOf result ReadRefusal.Fault → Rose (L.faults library.old name.now) (L.faults library.new name.now) }
 {
     let mut text = Vec::new(alloc);
@@ -86,13 +86,13 @@ fn read_piece<L: Library>(
     text: &mut Vec<u8>,
 ) -> Result<bool, ReadRefusal>
     requires room { 0 < length piece.old }
-    requires front { IsFront (L.bytes library.old name.now) text.old.items }
-    ensures front { OnOk result (IsFront (L.bytes library.new name.now) text.new.items) }
+    requires front { IsFront (L.contents library.old name.now) text.old.items }
+    ensures front { OnOk result (IsFront (L.contents library.new name.now) text.new.items) }
     ensures more { IfOk result (λ more. OnTrue more (length text.old.items < length text.new.items)) }
     ensures fits { OnOk result (length text.new.items ≤ length text.old.items + length piece.old) }
-    ensures end { IfOk result (λ more. OnFalse more (IsTextOf (L.bytes library.old name.now) text.new.items)) }
+    ensures end { IfOk result (λ more. OnFalse more (IsTextOf (L.contents library.old name.now) text.new.items)) }
     ensures kept { IfOk result (λ more. OnFalse more (text.new.items ≡ text.old.items)) }
-    ensures same { (n : List ℕ) → L.bytes library.new n ≡ L.bytes library.old n }
+    ensures same { (n : List ℕ) → L.contents library.new n ≡ L.contents library.old n }
     ensures stays { OnOk result ((n : List ℕ) → L.faults library.new n ≡ L.faults library.old n) }
     ensures fault { IsErrOf result ReadRefusal.Fault → Rose (L.faults library.old name.now) (L.faults library.new name.now) }
 {

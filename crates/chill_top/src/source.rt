@@ -19,7 +19,7 @@ pub(crate) fn read_source<L: Library>(
     command: &Command,
     library: &mut L,
 ) -> Result<Vec<u8>, ReadRefusal>
-    ensures read { IfOk result (λ read. IsRead command.now (L.bytes library.old) read.items) }
+    ensures read { IfOk result (λ read. IsRead command.now (L.contents library.old) read.items) }
     ensures kept { OnOk result ((n : List ℕ) → L.faults library.new n ≡ L.faults library.old n) }
     ensures fault { IsErrOf result ReadRefusal.Fault
         → IsReadFault command.now (L.faults library.old) (L.faults library.new) }

@@ -1,11 +1,10 @@
 // How far a command comes without a run.
-ghost use Rattle.std.specs.Prelude.{◌≡◌, ◌⊎◌, ℕ, List, [], None, OnOk, IfOk, IfSome, IsErrOf, MatchBool};
+ghost use Rattle.std.specs.Prelude.{◌≡◌, ◌⊎◌, ℕ, List, [], None, false, true, OnOk, IfOk, IsErrOf, MatchBool, MatchOption};
 ghost use Rattle.outside_ports.specs.Faults.{Rose};
 ghost use Rattle.chill_top.specs.Causes.{IsReadFault, IsFeedFault};
 ghost use Rattle.chill_top.specs.Commands.{IsRunning, IsRunningTask, Runs, file_of};
-ghost use Rattle.chill_top.specs.Plan.{IsFormatPlan, IsStageFor, IsStageOf};
+ghost use Rattle.chill_top.specs.Plan.{AreFactsOf, HasNoFacts, IsFormatPlan, IsStageFor, IsStageOf, ReadsInput};
 ghost use Rattle.chill_top.specs.Reading.{IsInputRead, IsReadingOf};
-ghost use Rattle.chill_top.specs.Runs.{AreFactsWith};
 ghost use Rattle.chill_top.specs.declared.task.Task.TheVariants as tasks;
 ghost use Rattle.chill_top.specs.declared.task.Purpose.TheVariants as purposes;
 ghost use Rattle.text_to_code.specs.Telling.{IsAccepted, Tells};
@@ -29,8 +28,10 @@ use word_reader::Command;
 fn input_of<I: Feed>(alloc: Global, built: &Built, feed: &mut I) -> Result<Text, ReadRefusal>
     ensures input { IfOk result (λ input.
         MatchBool built.now.program.checked.value.reads_input (IsInputRead (I.bytes feed.old) input) (input ≡ [])) }
+    ensures untouched { built.now.program.checked.value.reads_input ≡ false → feed.new ≡ feed.old }
     ensures stays { OnOk result (I.faults feed.new ≡ I.faults feed.old) }
     ensures fault { IsErrOf result ReadRefusal.Fault → Rose (I.faults feed.old) (I.faults feed.new) }
+    ensures reads { IsErrOf result ReadRefusal.Fault → built.now.program.checked.value.reads_input ≡ true }
 {
     if !built.program.checked().reads_input {
         return Ok(Text::new(alloc));
@@ -39,9 +40,11 @@ fn input_of<I: Feed>(alloc: Global, built: &Built, feed: &mut I) -> Result<Text,
     Ok(Text::from_vec(input))
 }
 
-// The facts of a program with an input and a budget, where they are sound.
+// The facts of a program with an input and a budget, where there are some and they are sound.
 fn facts_for(alloc: Global, built: &Built, input: Text, units: u64) -> Result<Option<Facts>, Memory>
-    ensures { IfOk result (λ facts. IfSome facts (AreFactsWith units input)) }
+    ensures { IfOk result (λ facts. MatchOption facts
+        (HasNoFacts built.now.program.checked.value input units)
+        (AreFactsOf built.now.program.checked.value input units)) }
 {
     match facts_of(alloc, built.program.checked(), input, units) {
         Ok(facts) => {
@@ -63,10 +66,12 @@ fn stage_for_run<I: Feed>(
     units: u64,
     feed: &mut I,
 ) -> Result<Stage, ReadRefusal>
-    ensures stage { IfOk result (λ stage. (text : List ℕ) → IsAccepted text
-        → IsStageFor (tasks.Build (purposes.Run units)) text (I.bytes feed.old) stage) }
+    ensures stage { IfOk result (λ stage. (text : List ℕ)
+        → IsAccepted text built.value.program.checked.value built.value.code
+        → IsStageFor (tasks.Build (purposes.Run units)) text (I.bytes feed.old) (I.bytes feed.new) stage) }
     ensures stays { OnOk result (I.faults feed.new ≡ I.faults feed.old) }
     ensures fault { IsErrOf result ReadRefusal.Fault → Rose (I.faults feed.old) (I.faults feed.new) }
+    ensures reads { IsErrOf result ReadRefusal.Fault → built.value.program.checked.value.reads_input ≡ true }
 {
     let input = input_of(alloc, &built, feed)?;
     if input.len() > MAX_INPUT {
@@ -86,10 +91,11 @@ fn stage_for_told<I: Feed>(
     feed: &mut I,
 ) -> Result<Stage, ReadRefusal>
     ensures stage { IfOk result (λ stage. (text : List ℕ) → Tells text told
-        → IsStageFor (tasks.Build purpose) text (I.bytes feed.old) stage) }
+        → IsStageFor (tasks.Build purpose) text (I.bytes feed.old) (I.bytes feed.new) stage) }
     ensures stays { OnOk result (I.faults feed.new ≡ I.faults feed.old) }
     ensures fault { IsErrOf result ReadRefusal.Fault
         → IsRunning purpose × Rose (I.faults feed.old) (I.faults feed.new) }
+    ensures reads { IsErrOf result ReadRefusal.Fault → (text : List ℕ) → Tells text told → ReadsInput text }
     ensures unfed { (IsRunning purpose → ⊥) → feed.new ≡ feed.old }
 {
     match told {
@@ -120,10 +126,12 @@ fn stage_for_text<I: Feed>(
     feed: &mut I,
 ) -> Result<Stage, ReadRefusal>
     ensures stage { IfOk result (λ stage. (text : List ℕ) → IsReadingOf text read.now
-        → IsStageFor task text (I.bytes feed.old) stage) }
+        → IsStageFor task text (I.bytes feed.old) (I.bytes feed.new) stage) }
     ensures stays { OnOk result (I.faults feed.new ≡ I.faults feed.old) }
     ensures fault { IsErrOf result ReadRefusal.Fault
         → IsRunningTask task × Rose (I.faults feed.old) (I.faults feed.new) }
+    ensures reads { IsErrOf result ReadRefusal.Fault
+        → (text : List ℕ) → IsReadingOf text read.now → ReadsInput text }
     ensures unfed { (IsRunningTask task → ⊥) → feed.new ≡ feed.old }
 {
     match task {
@@ -142,12 +150,13 @@ pub(crate) fn make_stage<L: Library, I: Feed>(
     library: &mut L,
     feed: &mut I,
 ) -> Result<Stage, ReadRefusal>
-    ensures stage { IfOk result (IsStageOf command.now (L.bytes library.old) (I.bytes feed.old)) }
+    ensures stage { IfOk result
+        (IsStageOf command.now (L.contents library.old) (I.bytes feed.old) (I.bytes feed.new)) }
     ensures stays { OnOk result (I.faults feed.new ≡ I.faults feed.old) }
     ensures kept { OnOk result ((n : List ℕ) → L.faults library.new n ≡ L.faults library.old n) }
     ensures fault { IsErrOf result ReadRefusal.Fault
         → IsReadFault command.now (L.faults library.old) (L.faults library.new)
-        ⊎ IsFeedFault command.now (I.faults feed.old) (I.faults feed.new) }
+        ⊎ IsFeedFault command.now (L.contents library.old) (I.faults feed.old) (I.faults feed.new) }
     ensures no_file { file_of command.now ≡ None → library.new ≡ library.old }
     ensures unfed { (Runs command.now → ⊥) → feed.new ≡ feed.old }
 {

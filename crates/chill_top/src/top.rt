@@ -161,12 +161,12 @@ fn plan_alone<L: Library, I: Feed>(
     library: &mut L,
     input: &mut I,
 ) -> Result<Plan, ReadRefusal>
-    ensures plan { IfOk result (IsPlanOf command.now (L.bytes library.old) (I.bytes input.old)) }
+    ensures plan { IfOk result (IsPlanOf command.now (L.contents library.old) (I.bytes input.old) (I.bytes input.new)) }
     ensures stays { OnOk result (I.faults input.new ≡ I.faults input.old) }
     ensures kept { OnOk result ((n : List ℕ) → L.faults library.new n ≡ L.faults library.old n) }
     ensures fault { IsErrOf result ReadRefusal.Fault
         → IsReadFault command.now (L.faults library.old) (L.faults library.new)
-        ⊎ IsFeedFault command.now (I.faults input.old) (I.faults input.new) }
+        ⊎ IsFeedFault command.now (L.contents library.old) (I.faults input.old) (I.faults input.new) }
     ensures no_file { commands.file_of command.now ≡ None → library.new ≡ library.old }
     ensures unfed { (Runs command.now → ⊥) → input.new ≡ input.old }
 {
@@ -184,12 +184,12 @@ fn plan_by_workers<R: Threads + Wait + Sync, L: Library, I: Feed, G: Gate>(
     input: &mut I,
     workers: &Workers<'_, R, G>,
 ) -> Result<Plan, ReadRefusal>
-    ensures plan { IfOk result (IsPlanOf command.now (L.bytes library.old) (I.bytes input.old)) }
+    ensures plan { IfOk result (IsPlanOf command.now (L.contents library.old) (I.bytes input.old) (I.bytes input.new)) }
     ensures stays { OnOk result (I.faults input.new ≡ I.faults input.old) }
     ensures kept { OnOk result ((n : List ℕ) → L.faults library.new n ≡ L.faults library.old n) }
     ensures fault { IsErrOf result ReadRefusal.Fault
         → IsReadFault command.now (L.faults library.old) (L.faults library.new)
-        ⊎ IsFeedFault command.now (I.faults input.old) (I.faults input.new) }
+        ⊎ IsFeedFault command.now (L.contents library.old) (I.faults input.old) (I.faults input.new) }
     ensures no_file { commands.file_of command.now ≡ None → library.new ≡ library.old }
     ensures unfed { (Runs command.now → ⊥) → input.new ≡ input.old }
 {
@@ -211,13 +211,25 @@ pub fn chill_alone<L: Library, I: Feed, O: Sink, E: Sink>(
     watchers: &mut Vec<Box<dyn Watcher>>,
 ) -> Outcome
     requires few { length watchers.old.items < 2 ^ 32 }
-    ensures answer { IsAnswer (Some command.now) (L.bytes library.old) (I.bytes input.old)
+    ensures answer { IsAnswer (Some command.now) (L.contents library.old)
         (map (λ b. watching b) watchers.old.items) (map (λ b. watching b) watchers.new.items)
-        (sources_at (L.faults library.old) (I.faults input.old))
-        (sources_at (L.faults library.new) (I.faults input.new))
+        (sources_at (L.faults library.old) (I.faults input.old) (I.bytes input.old))
+        (sources_at (L.faults library.new) (I.faults input.new) (I.bytes input.new))
         (sinks_at (O.faults out.old) (E.faults err.old) (O.taken out.old) (E.taken err.old))
         (sinks_at (O.faults out.new) (E.faults err.new) (O.taken out.new) (E.taken err.new))
         result }
+    ensures journal { IfSome result.over (λ over. IsJournal (Some command.now) (L.contents library.old)
+        (map (λ b. watching b) watchers.old.items)
+        (sources_at (L.faults library.old) (I.faults input.old) (I.bytes input.old))
+        (sources_at (L.faults library.new) (I.faults input.new) (I.bytes input.new))
+        (sinks_at (O.faults out.old) (E.faults err.old) (O.taken out.old) (E.taken err.old))
+        (sinks_at (O.faults out.new) (E.faults err.new) (O.taken out.new) (E.taken err.new))
+        result over) }
+    ensures refused { result.status ≡ 3 → IsRefused (Some command.now) (L.contents library.old)
+        (sources_at (L.faults library.old) (I.faults input.old) (I.bytes input.old))
+        (sources_at (L.faults library.new) (I.faults input.new) (I.bytes input.new))
+        (sinks_at (O.faults out.old) (E.faults err.old) (O.taken out.old) (E.taken err.old))
+        (sinks_at (O.faults out.new) (E.faults err.new) (O.taken out.new) (E.taken err.new)) }
     // Without `--watch` the watchers are untouched.
     ensures unwatched { commands.is_watched command.now ≡ false → watchers.new ≡ watchers.old }
     // A command that names no file reads none, and one that runs no text no input.
@@ -242,16 +254,23 @@ pub fn chill<R: Threads + Wait + Sync, L: Library, I: Feed, O: Sink, E: Sink, G:
     watchers: &mut Vec<Box<dyn Watcher>>,
 ) -> Outcome
     requires few { length watchers.old.items < 2 ^ 32 }
-    ensures answer { IsAnswer (said (map string_bytes words.now)) (L.bytes library.old) (I.bytes input.old)
+    ensures answer { IsAnswer (said (map string_bytes words.now)) (L.contents library.old)
         (map (λ b. watching b) watchers.old.items) (map (λ b. watching b) watchers.new.items)
-        (sources_at (L.faults library.old) (I.faults input.old))
-        (sources_at (L.faults library.new) (I.faults input.new))
+        (sources_at (L.faults library.old) (I.faults input.old) (I.bytes input.old))
+        (sources_at (L.faults library.new) (I.faults input.new) (I.bytes input.new))
         (sinks_at (O.faults out.old) (E.faults err.old) (O.taken out.old) (E.taken err.old))
         (sinks_at (O.faults out.new) (E.faults err.new) (O.taken out.new) (E.taken err.new))
         result }
-    ensures journal { IfSome result.over (λ over.
-        IsJournal (said (map string_bytes words.now)) (L.bytes library.old) (I.bytes input.old) result over) }
-    ensures refused { result.status ≡ 3 → IsRefused (said (map string_bytes words.now)) (L.bytes library.old)
+    ensures journal { IfSome result.over (λ over. IsJournal (said (map string_bytes words.now)) (L.contents library.old)
+        (map (λ b. watching b) watchers.old.items)
+        (sources_at (L.faults library.old) (I.faults input.old) (I.bytes input.old))
+        (sources_at (L.faults library.new) (I.faults input.new) (I.bytes input.new))
+        (sinks_at (O.faults out.old) (E.faults err.old) (O.taken out.old) (E.taken err.old))
+        (sinks_at (O.faults out.new) (E.faults err.new) (O.taken out.new) (E.taken err.new))
+        result over) }
+    ensures refused { result.status ≡ 3 → IsRefused (said (map string_bytes words.now)) (L.contents library.old)
+        (sources_at (L.faults library.old) (I.faults input.old) (I.bytes input.old))
+        (sources_at (L.faults library.new) (I.faults input.new) (I.bytes input.new))
         (sinks_at (O.faults out.old) (E.faults err.old) (O.taken out.old) (E.taken err.old))
         (sinks_at (O.faults out.new) (E.faults err.new) (O.taken out.new) (E.taken err.new)) }
     // Without `--watch` the watchers are untouched.

@@ -1,1 +1,3 @@
 pub mod ExprExamples
+pub mod StatementExamples
+pub mod Lemmas

@@ -1,3 +1,13 @@
 pub mod Pieces
 pub mod ExprSizes
 pub mod ExprCode
+pub mod StatementSite
+pub mod StatementGoing
+pub mod StatementPlain
+pub mod StatementLoops
+pub mod StatementWaits
+pub mod StatementSize
+pub mod StatementCode
+pub mod StatementRows
+pub mod BodyItems
+pub mod BodyCode

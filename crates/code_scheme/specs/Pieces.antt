@@ -55,6 +55,13 @@ run_code x (suc n) = i.Push x ∷ copies_code (suc n) 1
 abbrev pub are_same : ℤ → ℤ → Bool
 are_same x y = int_le x y && int_le y x
 
+-- the run of a scalar that another one ends, and how often the other one stands there then
+abbrev pub run_ended : ℤ → ℕ → ℤ → List Instr
+run_ended x n y = if nat_lt 0 n && are_same x y then [] else run_code x n
+
+abbrev pub run_behind : ℤ → ℕ → ℤ → ℕ
+run_behind x n y = if nat_lt 0 n && are_same x y then suc n else 1
+
 -- scalars behind so many equal ones
 abbrev pub scalars_from : ℤ → ℕ → List ℤ → List Instr
 scalars_from x n [] = run_code x n

@@ -5,6 +5,7 @@ use Rattle.std.specs.declared.result.Result.{Result}
 use Rattle.std.specs.Str.{bytes_eq}
 use Rattle.outside_ports.specs.declared.memory_library.File.{File}
 use Rattle.outside_ports.specs.Faults.{count_after}
+use Rattle.outside_ports.specs.Library.{Contents, missing, held}
 
 -- a library in memory: its files, the numbers of the reads that fail, and how many reads there were and failed
 pub record LibraryState : Type 0 where
@@ -20,6 +21,14 @@ new_library files fails = record { files = files; fails = fails; calls = 0; faul
 abbrev pub bytes_of : List File → List ℕ → Option (List ℕ)
 bytes_of [] name = None
 bytes_of (file ∷ files) name = if bytes_eq file.name name then Some file.bytes else bytes_of files name
+
+-- what is told of a name
+abbrev pub told_of : Option (List ℕ) → Contents
+told_of None = missing
+told_of (Some bytes) = held bytes
+
+abbrev pub contents_of : List File → List ℕ → Contents
+contents_of files name = told_of (bytes_of files name)
 
 -- the next read is a fault: it is one of those that fail, or there is no file of this name
 abbrev pub FailsAt : LibraryState → List ℕ → Type 0

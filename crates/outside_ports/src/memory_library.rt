@@ -3,7 +3,7 @@ ghost use Rattle.std.specs.Prelude.{◌≡◌, ◌≤◌, ◌↔◌, ◌⊎◌, 
 ghost use Rattle.std.specs.Io.{ReadsAtMost};
 ghost use Rattle.outside_ports.specs.Faults.{HasCause};
 ghost use Rattle.outside_ports.specs.Library.{Copies, Gives};
-ghost use Rattle.outside_ports.specs.MemoryLibrary.{bytes_of, FailsAt, library_after, new_library};
+ghost use Rattle.outside_ports.specs.MemoryLibrary.{bytes_of, contents_of, FailsAt, library_after, new_library};
 
 use crate::{Library, PortFault};
 use chill_base::{List, Numbers, Text};
@@ -83,14 +83,14 @@ fn copy_from(text: &[u8], at: u64, into: &mut [u8]) -> usize
 }
 
 impl Library for MemoryLibrary {
-    ghost bytes = { λ l name. bytes_of l.files name };
+    ghost contents = { λ l name. contents_of l.files name };
 
     ghost faults = { λ l name. l.faults };
 
     fn read(&mut self, name: &str, at: u64, into: &mut [u8]) -> Result<usize, PortFault>
         ensures bound { ReadsAtMost result into.new }
-        ensures gives { Gives (bytes_of self.old.files name.now) at result into.new }
-        ensures same { (n : List ℕ) → bytes_of self.new.files n ≡ bytes_of self.old.files n }
+        ensures gives { Gives (contents_of self.old.files name.now) at result into.new }
+        ensures same { (n : List ℕ) → contents_of self.new.files n ≡ contents_of self.old.files n }
         ensures later { (n : List ℕ) → self.old.faults ≤ self.new.faults }
         ensures stays { (n : List ℕ) → OnOk result (self.new.faults ≡ self.old.faults) }
         ensures cause { HasCause self.old.faults self.new.faults result }

@@ -34,7 +34,7 @@ event_asks i (Goes who answer) = refl
 event_asks i (Runs who ticks) = no_asks_if (who == i) (ticks_of ticks) (ticks_ask ticks)
 
 -- the requests of an instance are those of its line
-line_asks : (i : ℕ) (events : List Event) → asks_in (line_of i events) ≡ requests_of i events
+pub line_asks : (i : ℕ) (events : List Event) → asks_in (line_of i events) ≡ requests_of i events
 line_asks i [] = refl
 line_asks i (event ∷ events) =
     asks_in-append (items_by i event) (line_of i events)

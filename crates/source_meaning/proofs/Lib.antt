@@ -4,3 +4,7 @@ mod CallExamples
 mod CompositeExamples
 mod MeetingExamples
 mod ValueExamples
+pub mod EnoughFlows
+pub mod EnoughExpressions
+pub mod EnoughStatements
+pub mod EnoughBodies

@@ -13,3 +13,4 @@ pub mod Facts
 pub mod TypedValues
 pub mod TypedStatements
 pub mod Typed
+pub mod Laws

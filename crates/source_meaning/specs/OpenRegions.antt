@@ -1,16 +1,17 @@
 -- Which regions a process has open at each of its requests, and that it reads and writes a region's locations inside it alone.
 use Rattle.std.specs.Prelude.{ℕ, List, [], ◌∷◌, ◌++◌, Option, Some, None, slice_get, IsTrue}
 use Rattle.kernel_base.specs.declared.request.Request.{Request}
-use Rattle.kernel_base.specs.declared.request.Request.TheVariants.{Read, Write, Enter, Leave}
+use Rattle.kernel_base.specs.declared.request.Request.TheVariants.{Read, Write, Enter, Leave, End}
 use Rattle.world_model.specs.Session.{Item, Tick, Ask}
 use Rattle.world_model.specs.Lists.{without}
 use Rattle.program_trees.specs.ProgramTree.{LocationRowTree, CheckedTree}
 use Rattle.source_meaning.specs.StatementMeaning.{is_open}
 
--- the regions that are open behind a request which is answered, in the order in which they were entered
+-- The regions that are open behind a request which is answered, in the order in which they were entered. Who has ended has none.
 abbrev pub open_by : Request → List ℕ → List ℕ
 open_by (Enter r) open_now = open_now ++ r ∷ []
 open_by (Leave r) open_now = without r open_now
+open_by (End how) open_now = []
 open_by request open_now = open_now
 
 -- the regions that are open behind a trace whose requests are answered

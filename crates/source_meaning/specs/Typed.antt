@@ -3,6 +3,8 @@ use Rattle.std.specs.Prelude.{◌≡◌, ℕ, suc, ◌+◌, ◌≤◌, ◌<◌, 
 use Rattle.modes.specs.ModeTree.{ModeTree}
 use Rattle.modes.specs.Scalars.{scalars_of}
 use Rattle.modes.specs.Language.{IsOfLanguage}
+use Rattle.layout_map.specs.Spots.{spots_of}
+use Rattle.layout_map.specs.Outcome.{outcome_of, spots}
 use Rattle.checked_program.specs.declared.program.Sort.{Sort}
 use Rattle.checked_program.specs.declared.program.Sort.TheVariants.{Outermost, Process, Procedure}
 use Rattle.checked_program.specs.declared.program.Passing.TheVariants.{In}
@@ -54,10 +56,12 @@ abbrev pub IsForProcess : CheckedTree → ℕ → Type 0
 IsForProcess p k = (b : BodyRowTree) × (slice_get p.bodies k ≡ Some b) × (b.sort ≡ Process)
 
 -- What `elaborated` owes of each program that it gives: there is an outermost process, each body is as its head, its modes
--- and its numbers say, and all modes are those that a text can give.
+-- and its numbers say, all modes are those that a text can give, and the places that those of shared locations have are possible
+-- and share no bit.
 pub record IsTyped (p : CheckedTree) : Type 0 where
   pub outermost : (b : BodyRowTree) × (slice_get p.bodies 0 ≡ Some b) × (b.sort ≡ Outermost)
   pub bodies : (k : ℕ) (b : BodyRowTree) → slice_get p.bodies k ≡ Some b → IsTypedBody p k b
   pub locations : All (λ row. IsOfLanguage row.mode × IfSome row.region (λ r. r < p.regions)) p.locations
+  pub layouts : All (λ row. outcome_of row.mode ≡ spots (spots_of row.mode)) p.locations
   pub buffers : All (λ row. IsOfLanguage row.element) p.buffers
   pub signals : All (λ row. All IsOfLanguage row.parts × IfSome row.process (IsForProcess p)) p.signals

@@ -23,6 +23,8 @@ use Rattle.tree_print.specs.Canonical.{canonical_text, token_kinds}
 use Rattle.tree_print.specs.SameProgram.{program_text}
 use Rattle.tree_print.proofs.TreeTokensItem.{tokens_are}
 use Rattle.names_model.specs.Resolving.{broken_names, level_of}
+use Rattle.text_size.specs.Sizes.{program_size}
+use Rattle.text_to_code.specs.Building.{IsUnbuilt}
 use Rattle.text_to_code.specs.Telling.{IsResolved, Breaks, Refuses, broken, misnamed, breaks, later, MayTell, SameButForPlace, RefusesTree, TellsTree, Tells}
 use Rattle.text_to_code.specs.declared.told.Told.{Told}
 use Rattle.text_to_code.specs.declared.told.Told.TheVariants as tellings
@@ -161,10 +163,16 @@ pub program_text_of : (text : List ℕ) (tokens : List Token) (tree : ProgramTre
 program_text_of text tokens tree are has =
     ap (λ (toks : List Token). canonical_text (token_kinds toks)) (one_list text tokens has.tokens are has.are) ∙ ap canonical_text (tokens_are has.tree_of)
 
+-- a tree that isn't built is told so
+pub unbuilt_told : (tree : ProgramTree) (made : Result Told Memory) → broken_names (level_of tree) ≡ [] → program_size tree ≤ 65536 → IsUnbuilt tree → IfOk made (λ t. t ≡ tellings.Refused (plain first_place rules.B1 ∷ []))
+    → IfOk made (λ t. TellsTree tree t)
+unbuilt_told tree (Ok told) named small cause is = subst (TellsTree tree) (sym is) (inr (named, inr (inr (record { small = small; cause = cause; is = refl }))))
+unbuilt_told tree (Err e) named small cause is = tt
+
 -- what is told of a tree is told of its text
 pub text_told : (text : List ℕ) (tree : ProgramTree) (told : Told) → HasTree text tree → TellsTree tree told → Tells text told
 text_told text tree (tellings.Refused told) has h = tree_refused text tree told has h
-text_told text tree (tellings.Accepted built) has h = record { resolved = record { tree = tree; has = has; named = h.0 }; small = h.1 }
+text_told text tree (tellings.Accepted built) has h = record { resolved = record { tree = tree; has = has; named = h.named }; small = h.small; built = h.built }
 
 -- a rule that a text breaks is told of it
 pub broken_told : (text : List ℕ) (one : Diagnostic) (made : Result Told Memory) → Diagnoses text one → IfOk made (λ t. t ≡ tellings.Refused (one ∷ [])) → IfOk made (λ t. Tells text t)

@@ -11,6 +11,10 @@ use Rattle.rules_model.specs.Diagnoses.{HasTree, Diagnoses, plain}
 use Rattle.tree_print.specs.SameProgram.{program_text}
 use Rattle.names_model.specs.Resolving.{broken_names, level_of}
 use Rattle.text_size.specs.Sizes.{program_size}
+use Rattle.checked_program.specs.declared.program.Checked.{Checked}
+use Rattle.code_types.specs.declared.code.Code.{Code}
+use Rattle.text_to_code.specs.Building.{IsBuiltOf, IsUnbuilt}
+use Rattle.text_to_code.specs.declared.build.Built.{Built}
 use Rattle.visibility.specs.declared.refusal.Refusal.{Refusal}
 use Rattle.visibility.specs.declared.refusal.Refusal.TheVariants as refusals
 use Rattle.text_to_code.specs.declared.grammar.NoTree.{NoTree}
@@ -44,15 +48,22 @@ IsInOrder (Ok done) = Unit {0}
 IsInOrder (Err (refusals.Broken told)) = AreInOrder told
 IsInOrder (Err refusals.Memory) = Unit {0}
 
--- the text has such a tree, and its size isn't above 65,536
-pub record IsAccepted (text : List ℕ) : Type 0 where
+-- the text has such a tree, whose size isn't above 65,536, and this is the program of that tree and its code
+pub record IsAccepted (text : List ℕ) (program : Checked) (code : Code) : Type 0 where
   pub resolved : IsResolved text
   pub small : program_size resolved.tree ≤ 65536
+  pub built : IsBuiltOf resolved.tree program code
 
--- what may be told of a tree that breaks no rule on names: what the checks tell; or that the text is too large, or that it isn't
--- built, by its size. That the checks tell the rules which it breaks isn't said here.
+-- a tree that isn't built, though its size isn't above 65,536, and why
+pub record TellsUnbuilt (tree : ProgramTree) (told : List Diagnostic) : Type 0 where
+  pub small : program_size tree ≤ 65536
+  pub cause : IsUnbuilt tree
+  pub is : told ≡ plain first_place rules.B1 ∷ []
+
+-- What may be told of a tree that breaks no rule on names: what the checks tell; or that the text is too large, exactly by its
+-- size; or that it isn't built. That the checks tell exactly the rules which it breaks isn't said here.
 abbrev pub MayTell : ProgramTree → List Diagnostic → Type 0
-MayTell tree told = AreInOrder told ⊎ ((65536 < program_size tree) × (told ≡ plain first_place rules.L8 ∷ [])) ⊎ ((program_size tree ≤ 65536) × (told ≡ plain first_place rules.B1 ∷ []))
+MayTell tree told = AreInOrder told ⊎ ((65536 < program_size tree) × (told ≡ plain first_place rules.L8 ∷ [])) ⊎ TellsUnbuilt tree told
 
 -- the diagnostics of a text that is refused
 pub data Refuses : List ℕ → List Diagnostic → Type 0 where
@@ -67,15 +78,21 @@ SameButForPlace told other = (told ≡ other) ⊎ (((at : Pos) × (told ≡ plai
 abbrev pub RefusesTree : ProgramTree → List Diagnostic → Type 0
 RefusesTree tree told = ((told ≡ broken_names (level_of tree)) × (told ≢ [])) ⊎ ((broken_names (level_of tree) ≡ []) × MayTell tree told)
 
+-- what is accepted of a tree
+pub record AcceptsTree (tree : ProgramTree) (made : Built) : Type 0 where
+  pub named : broken_names (level_of tree) ≡ []
+  pub small : program_size tree ≤ 65536
+  pub built : IsBuiltOf tree made.program.checked.value made.code
+
 -- what is told of a text by its tree alone
 abbrev pub TellsTree : ProgramTree → Told → Type 0
 TellsTree tree (tellings.Refused told) = RefusesTree tree told
-TellsTree tree (tellings.Accepted built) = (broken_names (level_of tree) ≡ []) × (program_size tree ≤ 65536)
+TellsTree tree (tellings.Accepted built) = AcceptsTree tree built.value
 
 -- what the code tells of a text
 abbrev pub Tells : List ℕ → Told → Type 0
 Tells text (tellings.Refused told) = Refuses text told
-Tells text (tellings.Accepted built) = IsAccepted text
+Tells text (tellings.Accepted built) = IsAccepted text built.value.program.checked.value built.value.code
 
 -- why a text has no tree, where it is for a rule: the first that it breaks
 abbrev pub IsNoTree : List ℕ → NoTree → Type 0

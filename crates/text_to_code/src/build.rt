@@ -1,4 +1,10 @@
 // The code of a program that breaks no rule on names, modes, statements and processes.
+ghost use Rattle.std.specs.Prelude.{◌≡◌, IfErr, IfOk, IsErrOf};
+ghost use Rattle.chill_tree.specs.ItemTree.{program_tree};
+ghost use Rattle.code_types.specs.Agreement.{Agrees};
+ghost use Rattle.program_ranges.specs.ProgramRanges.{AreInRange};
+ghost use Rattle.text_to_code.specs.Building.{IsBuiltOf, IsCompiled, IsGivenUp};
+
 use checked_program::Checked;
 use chill_tree::tree::Tree;
 use code_gen::{CodeRefusal, compile};
@@ -19,7 +25,7 @@ pub struct Built {
 /// Why a program has no code.
 #[derive(Drop)]
 pub(crate) enum BuildRefusal {
-    /// The compiler doesn't take it, or the guard doesn't take its code. This comes of no program that breaks no rule.
+    /// It isn't elaborated or compiled, or the guard doesn't take its code. No program that breaks no rule should come to this.
     NotBuilt,
     /// No memory was to be had.
     Memory,
@@ -30,14 +36,19 @@ pub(crate) fn build(
     alloc: Global,
     tree: &Tree,
     evaluation: &Evaluation<'_>,
-) -> Result<Built, BuildRefusal> {
+) -> Result<Built, BuildRefusal>
+    ensures built { IfOk result (λ b. IsBuiltOf (program_tree tree.now) b.program.checked.value b.code) }
+    ensures refused { IfErr result (IsGivenUp (program_tree tree.now)) }
+{
     let program = elaborated(evaluation, tree)?;
     let code = compiled(alloc, program.checked())?;
     let code = guarded(alloc, code)?;
     Ok(Built { program, code })
 }
 
-fn elaborated(evaluation: &Evaluation<'_>, tree: &Tree) -> Result<Program, BuildRefusal> {
+fn elaborated(evaluation: &Evaluation<'_>, tree: &Tree) -> Result<Program, BuildRefusal>
+    ensures { IfOk result (λ p. AreInRange p.checked.value) }
+{
     match elaborate(evaluation, tree) {
         Ok(program) => Ok(program),
         Err(ElaborationRefusal::Memory) => Err(BuildRefusal::Memory),
@@ -45,7 +56,9 @@ fn elaborated(evaluation: &Evaluation<'_>, tree: &Tree) -> Result<Program, Build
     }
 }
 
-fn compiled(alloc: Global, program: &Checked) -> Result<Code, BuildRefusal> {
+fn compiled(alloc: Global, program: &Checked) -> Result<Code, BuildRefusal>
+    ensures { IfOk result (IsCompiled program.now) }
+{
     match compile(alloc, program) {
         Ok(code) => Ok(code),
         Err(CodeRefusal::CodeTooLong | CodeRefusal::Unsound) => Err(BuildRefusal::NotBuilt),
@@ -53,7 +66,10 @@ fn compiled(alloc: Global, program: &Checked) -> Result<Code, BuildRefusal> {
     }
 }
 
-fn guarded(alloc: Global, code: Code) -> Result<Guarded, BuildRefusal> {
+fn guarded(alloc: Global, code: Code) -> Result<Guarded, BuildRefusal>
+    ensures guarded { IfOk result (λ guarded. (guarded ≡ code) × Agrees code) }
+    ensures refused { IsErrOf result BuildRefusal.NotBuilt → Agrees code → ⊥ }
+{
     match guard(alloc, code) {
         Ok(code) => Ok(code),
         Err(GuardRefusal::Disagrees(_)) => Err(BuildRefusal::NotBuilt),

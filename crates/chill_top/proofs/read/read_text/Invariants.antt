@@ -7,9 +7,9 @@ abbrev pub invariant-pieces : goal.invariant-pieces
 invariant-pieces g l =
     let library = g.L.Library in
     record {
-      front : IsFront (library.bytes l.library l.name) l.text.items;
+      front : IsFront (library.contents l.library l.name) l.text.items;
       fits : length l.text.items ≤ 262145;
-      same : (n : List ℕ) → library.bytes l.library n ≡ library.bytes l.fn.library n;
+      same : (n : List ℕ) → library.contents l.library n ≡ library.contents l.fn.library n;
       stays : (n : List ℕ) → library.faults l.library n ≡ library.faults l.fn.library n;
       room : length l.piece.items ≡ 65536;
     }

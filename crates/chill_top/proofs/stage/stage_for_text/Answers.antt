@@ -1,12 +1,16 @@
-use Rattle.chill_top.proofs.StageLemmas.{ok-stage-told, format_stage}
+use Rattle.chill_top.proofs.StageLemmas.{ok-stage-told, reads_told, format_stage}
 use Rattle.chill_top.proofs.stage.stage_for_text.Goals as goal
 
 -- it is formatted
 pub returns-in_ok-formatted-in-Format-clause-stage : goal.returns-in_ok-formatted-in-Format-clause-stage
 returns-in_ok-formatted-in-Format-clause-stage g c =
-    format_stage c.args.read.now c.args.task (g.I.Feed.bytes c.args.feed.now) c.in_ok-formatted-in-Format.field-0 c.in-Format.is c.in_ok-formatted-in-Format.ensures
+    format_stage c.args.read.now c.args.task (g.I.Feed.bytes c.args.feed.now) _ c.in_ok-formatted-in-Format.field-0 c.in-Format.is c.in_ok-formatted-in-Format.ensures
 
 -- it is built
 pub returns-in_ok-told-in-Build-clause-stage : goal.returns-in_ok-told-in-Build-clause-stage
 returns-in_ok-told-in-Build-clause-stage g c =
-    ok-stage-told c.args.read.now c.args.task c.in-Build.purpose (g.I.Feed.bytes c.args.feed.now) c.in_ok-told-in-Build.told c.stage_for_told.result c.in-Build.is c.in_ok-told-in-Build.ensures c.stage_for_told.ensures.stage
+    ok-stage-told c.args.read.now c.args.task c.in-Build.purpose (g.I.Feed.bytes c.args.feed.now) _ c.in_ok-told-in-Build.told c.stage_for_told.result c.in-Build.is c.in_ok-told-in-Build.ensures c.stage_for_told.ensures.stage
+
+pub returns-in_ok-told-in-Build-clause-reads : goal.returns-in_ok-told-in-Build-clause-reads
+returns-in_ok-told-in-Build-clause-reads g c =
+    reads_told c.args.read.now c.in_ok-told-in-Build.told c.stage_for_told.result c.in_ok-told-in-Build.ensures c.stage_for_told.ensures.reads

@@ -8,36 +8,36 @@ use Rattle.chill_top.proofs.top.chill.Goals as goal
 pub returns-in-Some-clause-answer : goal.returns-in-Some-clause-answer
 returns-in-Some-clause-answer g c =
     let made = c.plan_by_workers-planned in
-    answer_of _ c.in-Ok.command _ _ _ _ _ _ _ _ c.is_watched.result made.result _ c.in-Ok.ensures.ok c.is_watched.ensures made.ensures.plan made.ensures.kept made.ensures.stays made.ensures.fault c.answer.ensures.answered
+    answer_of _ c.in-Ok.command _ _ _ _ _ _ _ c.is_watched.result made.result _ c.in-Ok.ensures.ok c.is_watched.ensures made.ensures.plan made.ensures.kept made.ensures.stays made.ensures.fault c.answer.ensures.answered
 
 pub returns-in-Some-clause-journal : goal.returns-in-Some-clause-journal
-returns-in-Some-clause-journal g c = journal_of _ _ _ _ _ _ _ _ _ _ (returns-in-Some-clause-answer g c)
+returns-in-Some-clause-journal g c = journal_of _ _ _ _ _ _ _ _ _ (returns-in-Some-clause-answer g c)
 
 pub returns-in-Some-clause-refused : goal.returns-in-Some-clause-refused
-returns-in-Some-clause-refused g c = refused_of _ _ _ _ _ _ _ _ _ _ (returns-in-Some-clause-answer g c)
+returns-in-Some-clause-refused g c = refused_of _ _ _ _ _ _ _ _ _ (returns-in-Some-clause-answer g c)
 
 -- one worker does it, or there is none
 pub returns-in-Ok-clause-answer : goal.returns-in-Ok-clause-answer
-returns-in-Ok-clause-answer g c = answer_as _ _ _ _ _ _ _ _ _ _ _ c.in-Ok.ensures.ok c.chill_alone.ensures.answer
+returns-in-Ok-clause-answer g c = answer_as _ _ _ _ _ _ _ _ _ _ c.in-Ok.ensures.ok c.chill_alone.ensures.answer
 
 pub returns-in-Ok-clause-journal : goal.returns-in-Ok-clause-journal
-returns-in-Ok-clause-journal g c = journal_of _ _ _ _ _ _ _ _ _ _ (returns-in-Ok-clause-answer g c)
+returns-in-Ok-clause-journal g c = journal_of _ _ _ _ _ _ _ _ _ (returns-in-Ok-clause-answer g c)
 
 pub returns-in-Ok-clause-refused : goal.returns-in-Ok-clause-refused
-returns-in-Ok-clause-refused g c = refused_of _ _ _ _ _ _ _ _ _ _ (returns-in-Ok-clause-answer g c)
+returns-in-Ok-clause-refused g c = refused_of _ _ _ _ _ _ _ _ _ (returns-in-Ok-clause-answer g c)
 
 -- the words are no command
 pub returns-in-Err-Usage-clause-answer : goal.returns-in-Err-Usage-clause-answer
 returns-in-Err-Usage-clause-answer g c =
     let none : said (map string_bytes c.args.words.now) ≡ None = search rules in
-    answer_usage _ _ _ _ _ _ _ _ _ none c.answer-in-Err-Usage.ensures.answered
+    answer_usage _ _ _ _ _ _ _ _ none c.answer-in-Err-Usage.ensures.answered
 
 pub returns-in-Err-Usage-clause-journal : goal.returns-in-Err-Usage-clause-journal
-returns-in-Err-Usage-clause-journal g c = journal_of _ _ _ _ _ _ _ _ _ _ (returns-in-Err-Usage-clause-answer g c)
+returns-in-Err-Usage-clause-journal g c = journal_of _ _ _ _ _ _ _ _ _ (returns-in-Err-Usage-clause-answer g c)
 
 pub returns-in-Err-Usage-clause-refused : goal.returns-in-Err-Usage-clause-refused
-returns-in-Err-Usage-clause-refused g c = refused_of _ _ _ _ _ _ _ _ _ _ (returns-in-Err-Usage-clause-answer g c)
+returns-in-Err-Usage-clause-refused g c = refused_of _ _ _ _ _ _ _ _ _ (returns-in-Err-Usage-clause-answer g c)
 
 -- no memory was to be had
 pub returns-clause-answer : goal.returns-clause-answer
-returns-clause-answer g c = answer_no_memory _ _ _ _ _ _ _ _ _ (record { out = keeps_same _; err = keeps_same _ }) c.without_run.ensures
+returns-clause-answer g c = answer_no_memory _ _ _ _ _ _ _ _ (record { out = keeps_same _; err = keeps_same _ }) c.without_run.ensures

@@ -1,0 +1,15 @@
+pub mod SameRuns
+pub mod Held
+pub mod Values
+pub mod SoundFacts
+pub mod Powersets
+pub mod Operations
+pub mod Taking
+pub mod Stages
+pub mod Stores
+pub mod ExprAsks
+pub mod Combining
+pub mod StatementAsks
+pub mod TalkAsks
+pub mod InRange
+pub mod AsksFit

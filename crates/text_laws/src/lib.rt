@@ -1,0 +1,9 @@
+//! Laws of the runs of a text: its facts are sound, what its processes ask and get has the modes that the text gives it, and
+//! the runs of a code with the text's talk are those of the text.
+//!
+//! The crate has definitions and laws. It stands on `source_meaning` and `run_laws`.
+#![tactic(auto)]
+
+mod laws;
+
+pub use laws::{asks_fit_law, facts_are_sound_law, same_talk_law};
