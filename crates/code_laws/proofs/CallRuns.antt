@@ -134,7 +134,7 @@ ticked w (Last t) lo hi rows to give Q at stack locals store within next h keeps
 
 -- there is room for a frame, or SPACEFAIL
 by_room : {A : Type 0} (w : Around) (room : Bool) (lo hi : ℕ) (rows : List Handler) (to : A → ℕ) (give : A → List ℤ) (Q : A → Store → List ℤ → Type 0) (at : ℕ) (base xs locals : List ℤ) (store : Store) (s : Session) (within : Session → Bool) (next : Session → Flow A)
-    → lo ≤ at → at < hi → Untaken rows at → Holds w store locals → within_behind (tick s) within ≡ true
+    → lo ≤ at → at < hi → Untaken rows at → Holds w store locals → (if room then within_behind (tick s) within else true) ≡ true
     → ((s1 : Session) → within s1 ≡ true → Follows w (At (state_at w Called at (base ++ xs) locals) s1) lo hi rows to give Q (next s1))
     → Follows w (run_by w at (base ++ xs) base locals s (if room then Calls else Throws Spacefail)) lo hi rows to give Q (if room then after_tick (tick s) store next else Raised Spacefail store s)
 by_room w true lo hi rows to give Q at base xs locals store s within next l u none h keeps f = ticked w (tick s) lo hi rows to give Q at (base ++ xs) locals store within next h keeps f

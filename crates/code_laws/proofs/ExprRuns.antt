@@ -6,40 +6,45 @@ use Rattle.world_model.specs.Session.{Session}
 use Rattle.world_model.specs.Lists.{scalars_at}
 use Rattle.modes.specs.declared.mode.Bounds.{Bounds}
 use Rattle.modes.specs.Bounds.{count_between}
-use Rattle.modes.specs.Scalars.{repeated}
+use Rattle.modes.specs.Scalars.{repeated, lowest_of}
+use Rattle.checked_program.specs.declared.program.Parameter.{Parameter}
 use Rattle.checked_program.specs.declared.expr.Base.{Base}
 use Rattle.checked_program.specs.declared.expr.Binary.{Binary}
 use Rattle.checked_program.specs.declared.expr.Binary.TheVariants.{AndIf, OrIf}
-use Rattle.program_trees.specs.ExprTree.{ExprTree, expr, OperationTree, constant, own_instance, contents, part_of, receive, start, call, powerset, parts, uniform, routine, get_int, prefixed, binary, ReceivedTree, received, ReceivedNodes, no_received, more_received, PartNodes, no_parts, field, element, RangeNodes, no_ranges, one_member, members, LocationTree, location, StartTree, started, CallTree, called, count_of, received_count}
+use Rattle.program_trees.specs.ExprTree.{ExprTree, expr, OperationTree, constant, own_instance, contents, part_of, receive, start, call, powerset, parts, uniform, routine, get_int, prefixed, binary, ReceivedTree, received, ReceivedNodes, no_received, more_received, PartNodes, no_parts, field, element, RangeNodes, no_ranges, one_member, members, LocationTree, location, StartTree, started, CallTree, called, ArgumentNodes, no_arguments, in_argument, out_argument, inout_argument, count_of, received_count}
+use Rattle.program_trees.specs.ProgramTree.{LocalRowTree, BodyRowTree}
 use Rattle.scalar_operators.specs.Numbers.{int_result}
 use Rattle.scalar_operators.specs.Powersets.{union, span_of}
 use Rattle.scalar_operators.specs.Members.{no_members}
 use Rattle.code_types.specs.declared.instr.Instr.{Instr}
 use Rattle.code_types.specs.declared.instr.Instr.TheVariants as i
 use Rattle.code_types.specs.Actions.{result_or}
-use Rattle.source_meaning.specs.Store.{Store, address_of}
+use Rattle.source_meaning.specs.Store.{Store, brings, lowest, address_of}
 use Rattle.source_meaning.specs.Flow.{Flow, Goes, Meaning, then_do}
 use Rattle.source_meaning.specs.Operators.{sole_number, one, offset_within, with_span, empty_within, binary_value, takes_second}
-use Rattle.source_meaning.specs.ExprMeaning.{Setting, or_rangefail, read_at, as_computed, asked_value, tested, expr_mean, operation_mean, received_mean, all_received_mean, offset_mean, members_mean, start_mean}
-use Rattle.source_meaning.specs.BodyMeaning.{Bodies}
-use Rattle.code_scheme.specs.Pieces.{Layout, scalars_code, copies_code, check_code, bounds_to_test, bounds_of_value, between_code, between_size, behind_code, behind_size, prefix_code, routine_code, member_code, has_index, first_of_parts, needs_offset, contents_code, contents_at}
-use Rattle.code_scheme.specs.ExprSizes.{sum_size, expr_size, operation_size, place_size, indices_size, received_size, received_sizes, members_size, start_size}
-use Rattle.code_scheme.specs.ExprCode.{counts_of, sum_code, cut_code, member_offset, expr_code, operation_code, place_code, indices_code, received_code, received_codes, members_code, start_code}
-use Rattle.code_laws.specs.Follows.{HasAt, Around, free_in, here, Holds, GetsTo, Follows, always, HoldsWith, on_top, IsLong, Gives}
-use Rattle.code_laws.specs.Calls.{BodiesWithin}
-use Rattle.code_laws.specs.InRange.{IsOffset, AreMembers, OperandsFit, FitsExpr, FitsOperation, FitsReceived, FitsAll, FitsParts, FitsRanges, FitsLocation, FitsStart}
-use Rattle.code_laws.specs.OwnBounds.{CallsWithin, expr_within, operation_within, received_within, all_within, parts_within, members_within, start_within}
+use Rattle.source_meaning.specs.ExprMeaning.{Calls, Setting, CopyOut, Passed, takens, all_copied_out, call_with, call_mean, arguments_mean, place_mean, or_rangefail, read_at, as_computed, asked_value, tested, expr_mean, operation_mean, received_mean, all_received_mean, offset_mean, members_mean, start_mean}
+use Rattle.source_meaning.specs.BodyMeaning.{Bodies, calls_in}
+use Rattle.source_meaning.specs.Fitting.{has_instances}
+use Rattle.code_scheme.specs.Pieces.{Layout, scalars_code, copies_code, check_code, bounds_to_test, bounds_of_value, between_code, between_size, behind_code, behind_size, prefix_code, routine_code, member_code, has_index, first_of_parts, needs_offset, contents_code, contents_at, pushes, tested_in, offsets_kept, keep_code, kept_code, copies_out, kept_behind, lowest_in_row, rows_of}
+use Rattle.code_scheme.specs.ExprSizes.{sum_size, expr_size, operation_size, place_size, indices_size, received_size, received_sizes, members_size, start_size, copies_out_size, arguments_size}
+use Rattle.code_scheme.specs.ExprCode.{counts_of, sum_code, cut_code, member_offset, expr_code, operation_code, place_code, indices_code, received_code, received_codes, members_code, start_code, arguments_code}
+use Rattle.code_laws.specs.Follows.{HasAt, Around, scalars_in, free_in, keeping, here, Holds, GetsTo, Follows, always, HoldsWith, on_top, IsLong, Gives}
+use Rattle.code_laws.specs.Calls.{taken_scalars, parameters_back, results_back, result_scalars, open_in, BodiesWithin}
+use Rattle.code_laws.specs.InRange.{IsOffset, AreMembers, OperandsFit, FitsExpr, FitsOperation, FitsReceived, FitsAll, FitsParts, FitsRanges, FitsLocation, FitsStart, FitsArguments}
+use Rattle.code_laws.specs.OwnBounds.{CallsWithin, where_goes, copies_within, arguments_within, expr_within, operation_within, received_within, all_within, parts_within, members_within, start_within}
 use Rattle.code_laws.specs.Expressions.{Suited, NamesIn, calls_at, ExprLaw}
-use Rattle.code_laws.proofs.Running.{has_front, has_back, gets_then, after, follows_then, follows_then_is, comes}
+use Rattle.code_laws.proofs.Running.{has_front, has_back, gets_then, after, follows_then, follows_then_is, comes, forgetting}
 use Rattle.code_laws.proofs.Requesting.{none_takes, value_by}
 use Rattle.code_laws.proofs.Instructions.{pushes_by, puts_on, renamed, offset_on, index_by, sole}
-use Rattle.code_laws.proofs.Sizes.{copies_from_length, between_length, expr_length, received_length, all_length, place_length, indices_length}
-use Rattle.code_laws.proofs.Values.{both_true, IsWithin, offset_found, repeated_length, copies_of, scalars_run}
+use Rattle.code_laws.proofs.Sizes.{copies_from_length, between_length, expr_length, received_length, all_length, place_length, indices_length, arguments_length, AreFrom, all_from, first_from, others_from, place_by, where_length, pushes_length, contents_length}
+use Rattle.code_laws.proofs.Values.{both_true, IsWithin, offset_found, repeated_length, copies_of, scalars_run, pushes_run}
 use Rattle.code_laws.proofs.OperatorRuns.{held, behind_runs}
 use Rattle.code_laws.proofs.BetweenRuns.{result_int, between_runs, over_runs, prefix_runs, routine_runs}
 use Rattle.code_laws.proofs.PlaceRuns.{IsPlace, place_stack, contents_runs, offset_stack, stays_first, stays_later, LeadsTo, as_place}
 use Rattle.code_laws.proofs.ExprPieces.{reshaped, assoc, there, value_lies, tested_runs, cut_runs, small_int, IndicesFollow, place_runs, width_one, span_one, over_one}
 use Rattle.code_laws.proofs.ReceiveRuns.{receive_runs}
+use Rattle.code_laws.proofs.CallRuns.{call_runs}
+use Rattle.code_laws.proofs.CallPieces.{PassedFit, kept_offset, kept_of, takens_long, keep_none, keep_runs, found_runs, after_unit, as_lies, copies_runs, kept_suited, kept_free, kept_more, kept_end, forgetting_holds}
 
 -- fields alone lead inside
 fields_fit : (lay : Layout) (ps : PartNodes) (of n : ℕ) → FitsParts lay of ps n → first_of_parts ps + n ≤ of ⊎ (has_index ps ≡ true)
@@ -94,6 +99,34 @@ over_end : (o : Binary) (own : Option Bounds) (xs : List ℤ) (second at to : �
 over_end AndIf own xs second at to takes e = omega arith
 over_end OrIf own xs second at to takes e = omega arith
 over_end o own xs second at to takes e = absurd (let no : ⊥ = cc in no)
+
+-- the call of a body whose arguments are on the stack, and what is copied out behind it
+call_runs_on : (w : Around) (v : Setting) (lay : Layout) (bodies : Bodies) (inside : BodiesWithin) (lo hi free b : ℕ) (body : BodyRowTree) (as' : ArgumentNodes) (qs : List Passed) (at to : ℕ) (stack locals : List ℤ) (store : Store) (s : Session)
+    → Suited w v lay bodies inside → NamesIn w lo hi → free ≡ free_in w
+    → slice_get lay.program.bodies b ≡ Some body → has_instances body.sort ≡ false → FitsArguments lay as' body.parameters body.locals
+    → at + (1 + copies_out_size as') ≡ to → lo ≤ at → to ≤ hi
+    → slice_get w.code.instrs at ≡ Some (i.Call b) → HasAt w.code.instrs (at + 1) (copies_out lay as' free (kept_behind as' free))
+    → (calls_at inside w b (takens qs) s && where_goes (v.calls v.open_now b (takens qs) store s) (λ final store2 s2. copies_within as' final.locals)) ≡ true
+    → PassedFit lay as' body.locals qs → Holds (keeping w (kept_of as' qs)) store locals
+    → Gives w (here w at (stack ++ taken_scalars body.locals (takens qs)) locals s) lo hi to (on_top stack) (IsLong (result_scalars body.result)) (call_with v b qs store s)
+call_runs_on w v lay bodies inside lo hi free b body as' qs at to stack locals store s suited names free_is is_body procedure fits e low high has rest within passed h =
+    let w1 : Around = keeping w (kept_of as' qs) in
+    let frames : ℕ = suc (length w.below) in
+    let calls_is : v.calls v.open_now b (takens qs) store s ≡ calls_in lay.program bodies frames (open_in w.regions) b (takens qs) store s =
+    ap (λ (c : List ℕ → Calls). c v.open_now b (takens qs) store s) suited.calls ∙ ap (λ (rs : List ℕ). calls_in lay.program bodies frames rs b (takens qs) store s) suited.open_now in
+    let both = both_true _ _ within in
+    let goes_within = subst (λ (o : Flow Store). where_goes o (λ final store2 s2. copies_within as' final.locals) ≡ true) calls_is both.1 in
+    let free_end : kept_behind as' free ≡ free_in w1 = kept_end lay as' body.locals qs free passed ∙ (let z : free + length (kept_of as' qs) ≡ scalars_in w.rows + (w.results + length (w.kept ++ kept_of as' qs)) = omega (arith, free_is, length-append w.kept (kept_of as' qs)) in z) in
+    subst (λ (o : Flow Store). Gives w (here w at (stack ++ taken_scalars body.locals (takens qs)) locals s) lo hi to (on_top stack) (IsLong (result_scalars body.result)) (then_do o (λ final store1 s1. then_do (all_copied_out qs final.locals store1 s1) (λ x. Goes final.result)))) (sym calls_is)
+    (forgetting_holds w (kept_of as' qs)
+    (follows_then_is
+    (call_runs w1 lay.program bodies inside b body (takens qs) at lo hi [] stack locals store s suited.follow is_body procedure suited.entered (takens_long lay as' body.parameters body.locals qs fits passed) has low (omega arith) (none_takes at) h both.0)
+    (λ final store1 s1 locals1 q is.
+    after (renamed w1 (at + 1) (at + 1) (stack ++ results_back body final) ((stack ++ final.result) ++ parameters_back body.parameters final.locals) locals1 s1 refl (sym (append_assoc stack final.result (parameters_back body.parameters final.locals))))
+    (follows_then
+    (copies_runs w1 lay as' body.parameters body.locals qs final.locals 0 free (kept_behind as' free) (at + 1) to lo hi w.kept [] (stack ++ final.result) locals1 store1 s1 suited.rows fits passed q.0.fit (there (calls_in lay.program bodies frames (open_in w.regions) b (takens qs) store s) _ final store1 s1 goes_within is)
+    (ap (λ (ks : List ℤ). w.kept ++ ks) (sym (append-nil (kept_of as' qs)))) free_is free_end names rest (omega arith) (omega arith) high q.1)
+    (λ x store2 s2 locals2 q2. comes {v = final.result} refl refl (q.0.result, q2.1))))))
 
 mutual
   pub expr_runs : ExprLaw
@@ -154,7 +187,20 @@ mutual
       (all_runs w v lay bodies inside lo hi free rs at at1 stack locals store s suited names free_is fits.0 refl low (omega arith) (has_front w.code.instrs at first (i.Start p (counts_of rs) ∷ []) has) within h)
       (λ xs store1 s1 locals1 q.
       value_by w (i.Start p (counts_of rs)) lo hi to n [] at1 (Start p xs) stack xs locals1 store1 s1 has1.0 (sym q.0) refl (sym fits.1) (omega arith) (omega arith) (omega arith) (none_takes at1) q.1)
-  operation_runs w v lay bodies inside lo hi free n (call (called b as')) at to stack locals store s suited names free_is fits e low high has within h = absurd fits
+  operation_runs w v lay bodies inside lo hi free n (call (called b as')) at to stack locals store s suited names free_is fits e low high has within h =
+      let body : BodyRowTree = fits.0 in
+      let all : List LocalRowTree = rows_of (slice_get lay.program.bodies b) in
+      let at1 : ℕ = at + arguments_size as' in
+      let behind : ℕ = kept_behind as' free in
+      let first : List Instr = arguments_code lay all 0 free as' at in
+      let rest : List Instr = copies_out lay as' free behind in
+      let from : AreFrom all 0 body.locals = all_from (slice_get lay.program.bodies b) body fits.1 in
+      let has1 = has_back w.code.instrs at at1 first (i.Call b ∷ rest) (ap (λ (j : ℕ). at + j) (arguments_length lay as' all body.locals 0 free body.parameters at from fits.4)) has in
+      subst (λ (j : ℕ). Gives w (here w at stack locals s) lo hi to (on_top stack) (IsLong j) (call_mean v (called b as') store s)) fits.3
+      (follows_then_is
+      (arguments_run w v lay bodies inside lo hi free as' all body.locals 0 body.parameters at at1 stack locals store s suited names free_is from fits.4 refl low (omega arith) (has_front w.code.instrs at first (i.Call b ∷ rest) has) (both_true _ _ within).0 h)
+      (λ qs store1 s1 locals1 q is.
+      call_runs_on w v lay bodies inside lo hi free b body as' qs at1 to stack locals1 store1 s1 suited names free_is fits.1 fits.2 fits.4 (omega arith) (omega arith) high has1.0 has1.1 (there (arguments_mean v as' store s) _ qs store1 s1 (both_true _ _ within).1 is) q.0 q.1))
   operation_runs w v lay bodies inside lo hi free n (powerset b rs) at to stack locals store s suited names free_is fits e low high has within h =
       let none : empty_within b ≡ one (pos 0) = ap (λ (k : ℕ). no_members k) (width_one b fits.1) in
       subst (λ (j : ℕ). Gives w (here w at stack locals s) lo hi to (on_top stack) (IsLong j) (members_mean v b rs (empty_within b) store s)) (sym fits.2)
@@ -385,3 +431,127 @@ mutual
       (after (renamed w (at3 + 1 + 1 + 1) p (stack ++ one (union y (span_of j k))) (stack ++ one (union y (span_of j k))) locals4 s4 there3 refl)
       (members_runs w v lay bodies inside lo hi free b rs (union y (span_of j k)) p to stack locals4 store4 s4 suited names free_is fits.4 are (omega arith) (omega arith) high has3
       (there (or_rangefail (offset_within b 1 (sole_number ys)) store3 s3) _ k store4 s4 (there (expr_mean v f store2 s2) _ ys store3 s3 (both_true _ _ within2).1 is3) is4) q4.1))))))))))
+
+  pub arguments_run : (w : Around) (v : Setting) (lay : Layout) (bodies : Bodies) (inside : BodiesWithin) (lo hi free : ℕ) (as' : ArgumentNodes) (all rows : List LocalRowTree) (k : ℕ) (ps : List Parameter) (at to : ℕ) (base locals : List ℤ) (store : Store) (s : Session)
+      → Suited w v lay bodies inside → NamesIn w lo hi → free ≡ free_in w → AreFrom all k rows → FitsArguments lay as' ps rows
+      → at + arguments_size as' ≡ to → lo ≤ at → to ≤ hi
+      → HasAt w.code.instrs at (arguments_code lay all k free as' at)
+      → arguments_within v (calls_at inside w) as' store s ≡ true
+      → Holds w store locals
+      → Follows w (here w at base locals s) lo hi [] (always to) (λ qs. base ++ taken_scalars rows (takens qs)) (λ qs st ls. PassedFit lay as' rows qs × Holds (keeping w (kept_of as' qs)) st ls) (arguments_mean v as' store s)
+  arguments_run w v lay bodies inside lo hi free no_arguments all rows k ps at to base locals store s suited names free_is from fits len low high has within h =
+      comes {v = []} (let e : at ≡ to = omega arith in e) (sym (append-nil base)) (refl, keep_none w store locals h)
+  arguments_run w v lay bodies inside lo hi free (in_argument r as') all rows k ps at to base locals store s suited names free_is from fits len low high has within h =
+      let row : LocalRowTree = fits.0 in
+      let at1 : ℕ = at + received_size r in
+      let first : List Instr = received_code lay free r at in
+      let rest : List Instr = arguments_code lay all (k + 1) free as' at1 in
+      let has1 = has_back w.code.instrs at at1 first rest (ap (λ (j : ℕ). at + j) (received_length lay free r at fits.5)) has in
+      subst (λ (rs : List LocalRowTree). Follows w (here w at base locals s) lo hi [] (always to) (λ qs. base ++ taken_scalars rs (takens qs)) (λ qs st ls. PassedFit lay (in_argument r as') rs qs × Holds (keeping w (kept_of (in_argument r as') qs)) st ls) (arguments_mean v (in_argument r as') store s)) (sym fits.4)
+      (follows_then_is
+      (received_runs w v lay bodies inside lo hi free r at at1 base locals store s suited names free_is fits.5 refl low (omega arith) (has_front w.code.instrs at first rest has) (both_true _ _ within).0 h)
+      (λ xs store1 s1 locals1 q is.
+      follows_then
+      (arguments_run w v lay bodies inside lo hi free as' all fits.2 (k + 1) fits.1 at1 to (base ++ xs) locals1 store1 s1 suited names free_is (others_from all rows fits.2 k row from fits.4) fits.7 (omega arith) (omega arith) high has1 (there (received_mean v r store s) _ xs store1 s1 (both_true _ _ within).1 is) q.1)
+      (λ qs store2 s2 locals2 q2.
+      comes {v = record { begins = brings xs; copy_out = None } ∷ qs} refl (append_assoc base xs (taken_scalars fits.2 (takens qs))) ((q.0 ∙ fits.6, refl, q2.0), q2.1))))
+  arguments_run w v lay bodies inside lo hi free (out_argument (location b ls n) bounds as') all rows k ps at to base locals store s suited names free_is from fits len low high has within h =
+      let l : LocationTree = location b ls n in
+      let row : LocalRowTree = fits.0 in
+      let of : ℕ = fits.5.0.0 in
+      let at1 : ℕ = at + place_size l in
+      let at2 : ℕ = at1 + offsets_kept l in
+      let p : ℕ = at + (place_size l + (offsets_kept l + n)) in
+      let place : List Instr = place_code lay free l at in
+      let keep : List Instr = keep_code l free in
+      let values : List Instr = pushes (lowest_in_row (slice_get all k)) in
+      let rest : List Instr = arguments_code lay all (k + 1) (free + offsets_kept l) as' p in
+      let lows : List ℤ = lowest_of row.mode in
+      let lows_is : lowest_in_row (slice_get all k) ≡ lows = ap (λ (o : Option LocalRowTree). lowest_in_row o) (first_from all rows fits.2 k row from fits.4) in
+      let long : length lows ≡ n = fits.6.1 ∙ sym fits.6.0 in
+      let place_long : length place ≡ place_size l = place_by (has_index ls) (needs_offset b ls) (indices_code lay free true ls at) (indices_size true ls) (indices_length lay free true ls of n at fits.5.0.3) in
+      let keep_long : length keep ≡ offsets_kept l = where_length l (i.SetLocal free 1 ∷ []) 1 refl in
+      let values_long : length values ≡ n = pushes_length (lowest_in_row (slice_get all k)) ∙ (ap (λ (x : List ℤ). length x) lows_is ∙ long) in
+      let head = has_front w.code.instrs at (place ++ (keep ++ values)) rest has in
+      let has1 = has_back w.code.instrs at at1 place (keep ++ values) (ap (λ (j : ℕ). at + j) place_long) head in
+      let has2 = has_back w.code.instrs at1 at2 keep values (ap (λ (j : ℕ). at1 + j) keep_long) has1 in
+      let has3 = has_back w.code.instrs at p (place ++ (keep ++ values)) rest (omega (arith, length-append place (keep ++ values), length-append keep values, place_long, keep_long, values_long)) has in
+      subst (λ (rs : List LocalRowTree). Follows w (here w at base locals s) lo hi [] (always to) (λ qs. base ++ taken_scalars rs (takens qs)) (λ qs st ls2. PassedFit lay (out_argument l bounds as') rs qs × Holds (keeping w (kept_of (out_argument l bounds as') qs)) st ls2) (arguments_mean v (out_argument l bounds as') store s)) (sym fits.4)
+      (subst (λ (o : Flow (List Passed)). Follows w (here w at base locals s) lo hi [] (always to) (λ qs. base ++ taken_scalars (row ∷ fits.2) (takens qs)) (λ qs st ls2. PassedFit lay (out_argument l bounds as') (row ∷ fits.2) qs × Holds (keeping w (kept_of (out_argument l bounds as') qs)) st ls2) o)
+      (sym (assoc (offset_mean v ls 0 store s) (λ j. record { address = address_of b j; count = n; bounds = bounds }) (λ c store1 s1. then_do (arguments_mean v as' store1 s1) (λ qs. Goes (record { begins = lowest; copy_out = Some c } ∷ qs)))))
+      (follows_then_is
+      (place_runs w v lay free b ls of n at at1 lo hi base locals store s (fields_fit lay ls of n fits.5.0.3)
+      (λ t_is h2. indices_runs w v lay bodies inside lo hi free true ls of n 0 0 at base locals store s suited names free_is fits.5.0.3 (λ z. refl) (let small : 0 + of < 2147483648 = omega (arith, fits.5.0.2) in small) low (let room : at + indices_size true ls ≤ hi = omega (arith, len, high, ap (λ (t : Bool). if t then indices_size true ls else if needs_offset b ls then 1 else 0) t_is) in room) h2 (both_true _ _ within).0 h)
+      (has_front w.code.instrs at place (keep ++ values) head) refl h)
+      (λ j store1 s1 locals1 q is.
+      let ks : List ℤ = kept_offset l j in
+      let w1 : Around = keeping w ks in
+      let c : CopyOut = record { address = address_of b j; count = n; bounds = bounds } in
+      let within2 = there (place_mean v l bounds store s) _ c store1 s1 (both_true _ _ within).1 (ap (λ (o : Flow ℕ). then_do o (λ i2. Goes (record { address = address_of b i2; count = n; bounds = bounds }))) is) in
+      after_unit (keep_runs w b ls n j free at1 at2 lo hi base locals1 store1 s1 free_is names (has_front w.code.instrs at1 keep values has1) refl (omega arith) (omega arith) q.1)
+      (λ locals2 h2.
+      after (pushes_run w1 lows at2 base locals2 s1 (subst (λ (x : List ℤ). HasAt w.code.instrs at2 (pushes x)) lows_is has2))
+      (after (renamed w1 (at2 + length lows) p (base ++ lows) (base ++ lows) locals2 s1 (omega arith) refl)
+      (forgetting ks
+      (follows_then
+      (arguments_run w1 v lay bodies inside lo hi (free + offsets_kept l) as' all fits.2 (k + 1) fits.1 p to (base ++ lows) locals2 store1 s1 (kept_suited w v lay bodies inside ks suited) names (kept_free w b ls n j free free_is) (others_from all rows fits.2 k row from fits.4) fits.7 (omega arith) (omega arith) high has3 within2 h2)
+      (λ qs store2 s2 locals3 q2.
+      comes {v = record { begins = lowest; copy_out = Some c } ∷ qs} refl (append_assoc base lows (taken_scalars fits.2 (takens qs)))
+      ((fits.6.1, (of, j, fits.5.0.1, fits.5.0.2, q.0, refl), q2.0), kept_more w ls b n j (kept_of as' qs) store2 locals3 q2.1)))))))))
+  arguments_run w v lay bodies inside lo hi free (inout_argument (location b ls n) taken bounds as') all rows k ps at to base locals store s suited names free_is from fits len low high has within h =
+      let l : LocationTree = location b ls n in
+      let row : LocalRowTree = fits.0 in
+      let of : ℕ = fits.5.0.0 in
+      let t : Option Bounds = tested_in taken bounds in
+      let at1 : ℕ = at + place_size l in
+      let at2 : ℕ = at1 + offsets_kept l in
+      let at3 : ℕ = at2 + offsets_kept l in
+      let at4 : ℕ = at3 + 1 in
+      let check : List Instr = check_code t in
+      let p : ℕ = at + (place_size l + (offsets_kept l + (offsets_kept l + (1 + length check)))) in
+      let place : List Instr = place_code lay free l at in
+      let keep : List Instr = keep_code l free in
+      let found : List Instr = kept_code l free in
+      let read : List Instr = contents_code lay l in
+      let rest : List Instr = arguments_code lay all (k + 1) (free + offsets_kept l) as' p in
+      let place_long : length place ≡ place_size l = place_by (has_index ls) (needs_offset b ls) (indices_code lay free true ls at) (indices_size true ls) (indices_length lay free true ls of n at fits.5.0.3) in
+      let keep_long : length keep ≡ offsets_kept l = where_length l (i.SetLocal free 1 ∷ []) 1 refl in
+      let found_long : length found ≡ offsets_kept l = where_length l (i.Local free 1 ∷ []) 1 refl in
+      let read_long : length read ≡ 1 = contents_length lay l in
+      let head = has_front w.code.instrs at (place ++ (keep ++ (found ++ (read ++ check)))) rest has in
+      let has1 = has_back w.code.instrs at at1 place (keep ++ (found ++ (read ++ check))) (ap (λ (j : ℕ). at + j) place_long) head in
+      let has2 = has_back w.code.instrs at1 at2 keep (found ++ (read ++ check)) (ap (λ (j : ℕ). at1 + j) keep_long) has1 in
+      let has3 = has_back w.code.instrs at2 at3 found (read ++ check) (ap (λ (j : ℕ). at2 + j) found_long) has2 in
+      let has4 = has_back w.code.instrs at3 at4 read check (ap (λ (j : ℕ). at3 + j) read_long) has3 in
+      let has5 = has_back w.code.instrs at p (place ++ (keep ++ (found ++ (read ++ check)))) rest (omega (arith, length-append place (keep ++ (found ++ (read ++ check))), length-append keep (found ++ (read ++ check)), length-append found (read ++ check), length-append read check, place_long, keep_long, found_long, read_long)) has in
+      subst (λ (rs : List LocalRowTree). Follows w (here w at base locals s) lo hi [] (always to) (λ qs. base ++ taken_scalars rs (takens qs)) (λ qs st ls2. PassedFit lay (inout_argument l taken bounds as') rs qs × Holds (keeping w (kept_of (inout_argument l taken bounds as') qs)) st ls2) (arguments_mean v (inout_argument l taken bounds as') store s)) (sym fits.4)
+      (subst (λ (o : Flow (List Passed)). Follows w (here w at base locals s) lo hi [] (always to) (λ qs. base ++ taken_scalars (row ∷ fits.2) (takens qs)) (λ qs st ls2. PassedFit lay (inout_argument l taken bounds as') (row ∷ fits.2) qs × Holds (keeping w (kept_of (inout_argument l taken bounds as') qs)) st ls2) o)
+      (sym (assoc (offset_mean v ls 0 store s) (λ j. record { address = address_of b j; count = n; bounds = bounds }) (λ c store1 s1.
+      then_do (read_at c.count c.address store1 s1) (λ xs store2 s2.
+      then_do (tested taken xs store2 s2) (λ ys store3 s3.
+      then_do (arguments_mean v as' store3 s3) (λ qs. Goes (record { begins = brings ys; copy_out = Some c } ∷ qs)))))))
+      (follows_then_is
+      (place_runs w v lay free b ls of n at at1 lo hi base locals store s (fields_fit lay ls of n fits.5.0.3)
+      (λ t_is h2. indices_runs w v lay bodies inside lo hi free true ls of n 0 0 at base locals store s suited names free_is fits.5.0.3 (λ z. refl) (let small : 0 + of < 2147483648 = omega (arith, fits.5.0.2) in small) low (let room : at + indices_size true ls ≤ hi = omega (arith, len, high, ap (λ (u : Bool). if u then indices_size true ls else if needs_offset b ls then 1 else 0) t_is) in room) h2 (both_true _ _ within).0 h)
+      (has_front w.code.instrs at place (keep ++ (found ++ (read ++ check))) head) refl h)
+      (λ j store1 s1 locals1 q is.
+      let ks : List ℤ = kept_offset l j in
+      let w1 : Around = keeping w ks in
+      let c : CopyOut = record { address = address_of b j; count = n; bounds = bounds } in
+      let within2 = there (place_mean v l bounds store s) _ c store1 s1 (both_true _ _ within).1 (ap (λ (o : Flow ℕ). then_do o (λ i2. Goes (record { address = address_of b i2; count = n; bounds = bounds }))) is) in
+      after_unit (keep_runs w b ls n j free at1 at2 lo hi base locals1 store1 s1 free_is names (has_front w.code.instrs at1 keep (found ++ (read ++ check)) has1) refl (omega arith) (omega arith) q.1)
+      (λ locals2 h2.
+      after (found_runs w1 b ls n j free at2 at3 w.kept [] base locals2 store1 s1 (ap (λ (xs : List ℤ). w.kept ++ xs) (sym (append-nil ks))) free_is (has_front w.code.instrs at2 found (read ++ check) has2) refl h2)
+      (forgetting ks
+      (follows_then_is
+      (contents_runs w1 lay b ls of n j at3 at4 lo hi base locals2 store1 s1 suited.rows fits.5.0.1 fits.5.0.2 q.0 (has_front w.code.instrs at3 read check has3) refl (omega arith) (omega arith) h2)
+      (λ xs store2 s2 locals3 q3 is3.
+      let within3 = both_true _ _ (there (read_at n (address_of b j) store1 s1) _ xs store2 s2 within2 is3) in
+      follows_then_is
+      (tested_runs w1 taken bounds xs n at4 p lo hi base locals3 store2 s2 fits.5.1 q3.0 (as_lies taken bounds xs within3.0) has4 (omega arith) (omega arith) (omega arith) q3.1)
+      (λ ys store3 s3 locals4 q4 is4.
+      follows_then
+      (arguments_run w1 v lay bodies inside lo hi (free + offsets_kept l) as' all fits.2 (k + 1) fits.1 p to (base ++ ys) locals4 store3 s3 (kept_suited w v lay bodies inside ks suited) names (kept_free w b ls n j free free_is) (others_from all rows fits.2 k row from fits.4) fits.7 (omega arith) (omega arith) high has5 (there (tested taken xs store2 s2) _ ys store3 s3 within3.1 is4) q4.1)
+      (λ qs store4 s4 locals5 q5.
+      comes {v = record { begins = brings ys; copy_out = Some c } ∷ qs} refl (append_assoc base ys (taken_scalars fits.2 (takens qs)))
+      ((q4.0 ∙ fits.6, (of, j, fits.5.0.1, fits.5.0.2, q.0, refl), q5.0), kept_more w ls b n j (kept_of as' qs) store4 locals5 q5.1))))))))))

@@ -17,3 +17,4 @@ pub mod ExprPieces
 pub mod ReceiveRuns
 pub mod ExprRuns
 pub mod Gathered
+pub mod CallPieces

@@ -59,7 +59,7 @@ prefix_length Minus = refl
 prefix_length Not = refl
 prefix_length (Complement m) = refl
 
-contents_length : (lay : Layout) (l : LocationTree) → length (contents_code lay l) ≡ 1
+pub contents_length : (lay : Layout) (l : LocationTree) → length (contents_code lay l) ≡ 1
 contents_length lay (location (Shared k) ps n) = refl
 contents_length lay (location (Local k) ps n) = by_test_one (has_index ps) _ _ refl refl
   where
@@ -67,7 +67,7 @@ contents_length lay (location (Local k) ps n) = by_test_one (has_index ps) _ _ r
     by_test_one true xs ys e f = e
     by_test_one false xs ys e f = f
 
-store_length : (lay : Layout) (l : LocationTree) → length (store_code lay l) ≡ 1
+pub store_length : (lay : Layout) (l : LocationTree) → length (store_code lay l) ≡ 1
 store_length lay (location (Shared k) ps n) = refl
 store_length lay (location (Local k) ps n) = one_or_other (has_index ps) _ _ refl refl
   where
@@ -75,7 +75,7 @@ store_length lay (location (Local k) ps n) = one_or_other (has_index ps) _ _ ref
     one_or_other true xs ys e f = e
     one_or_other false xs ys e f = f
 
-where_length : (l : LocationTree) (is : List Instr) (n : ℕ) → length is ≡ n → length (where_offset l is) ≡ (if has_offset l then n else 0)
+pub where_length : (l : LocationTree) (is : List Instr) (n : ℕ) → length is ≡ n → length (where_offset l is) ≡ (if has_offset l then n else 0)
 where_length l is n e = by_test (has_offset l) is [] n 0 e refl
 
 cut_length : (ps : PartNodes) (n of : ℕ) (is : List Instr) (k : ℕ) → (has_index ps ≡ false → is ≡ []) → length is ≡ k → length (is ++ cut_code ps n of) ≡ (if has_index ps then k + length (member_code (pos (first_of_parts ps))) else 0) + 1
@@ -94,7 +94,7 @@ sum_length : (is_first : Bool) → length (sum_code is_first) ≡ sum_size is_fi
 sum_length true = refl
 sum_length false = refl
 
-copy_out_length : (lay : Layout) (l : LocationTree) (bounds : Option Bounds) (kept free : ℕ) → length (copy_out_code lay l bounds kept free) ≡ copy_out_size l bounds
+pub copy_out_length : (lay : Layout) (l : LocationTree) (bounds : Option Bounds) (kept free : ℕ) → length (copy_out_code lay l bounds kept free) ≡ copy_out_size l bounds
 copy_out_length lay l bounds kept free =
     omega (arith, length-append (check_code bounds) (under_code l kept free ++ store_code lay l), length-append (under_code l kept free) (store_code lay l), store_length lay l, where_length l (i.SetLocal free (location_count_of l) ∷ i.Local kept 1 ∷ i.Local free (location_count_of l) ∷ []) 3 refl)
   where
@@ -126,7 +126,7 @@ all_from o body is j = ap (λ (q : Option BodyRowTree). slice_get (rows_of q) (0
 
 -- ---- expressions
 
-place_by : (b c : Bool) (is : List Instr) (n : ℕ) → length is ≡ n → length (if b then is else if c then i.Push (pos 0) ∷ [] else []) ≡ (if b then n else if c then 1 else 0)
+pub place_by : (b c : Bool) (is : List Instr) (n : ℕ) → length is ≡ n → length (if b then is else if c then i.Push (pos 0) ∷ [] else []) ≡ (if b then n else if c then 1 else 0)
 place_by true c is n e = e
 place_by false true is n e = refl
 place_by false false is n e = refl
@@ -148,7 +148,7 @@ mutual
       omega (arith, length-append (expr_code lay free e at) (is ++ cut_code ps n (count_of e)), expr_length lay free e at fits.0, cut_length ps n (count_of e) is (indices_size true ps) (λ e2. no_indices lay free true ps (at + expr_size e) e2) (indices_length lay free true ps (count_of e) n (at + expr_size e) fits.1))
   operation_length lay free n (receive b) at fits = refl
   operation_length lay free n (start t) at fits = start_length lay free t at fits.0
-  operation_length lay free n (call c) at fits = absurd fits
+  operation_length lay free n (call c) at fits = call_length lay free c n at fits
   operation_length lay free n (powerset b rs) at fits = let rest = members_length lay free b rs (at + 1) fits.0 in omega arith
   operation_length lay free n (parts rs) at fits = all_length lay free rs at fits.0
   operation_length lay free n (uniform m r) at fits = omega (arith, length-append (received_code lay free r at) (copies_code m (received_count r)), received_length lay free r at fits.0, copies_from_length 32 1 m (received_count r) 0)

@@ -1,5 +1,5 @@
 -- What it is that the instructions of bodies follow their meaning on every caller, and the law of assembly.
-use Rattle.std.specs.Prelude.{◌≡◌, ℕ, zero, suc, ◌+◌, ◌<◌, ◌≤◌, ◌↔◌, Bool, true, false, List, [], ◌∷◌, ◌++◌, ℤ, pos, length, reverse, map, Option, Some, None, slice_get, IsTrue, IsFalse, MatchBool}
+use Rattle.std.specs.Prelude.{◌≡◌, ℕ, zero, suc, ◌+◌, ◌<◌, ◌≤◌, ◌↔◌, Bool, true, false, List, [], ◌∷◌, ◌++◌, ℤ, pos, length, reverse, map, Option, Some, None, slice_get, nat_lt, if◌then◌else◌, MatchBool}
 use Rattle.kernel_base.specs.declared.ends.Exc.{Exc}
 use Rattle.kernel_base.specs.declared.answer.Answer.{Answer}
 use Rattle.kernel_base.specs.declared.event.Event.{Event}
@@ -16,6 +16,7 @@ use Rattle.code_types.specs.declared.instr.Instr.TheVariants as i
 use Rattle.code_types.specs.declared.code.BodyRow.{BodyRow}
 use Rattle.code_types.specs.declared.code.Code.{Code}
 use Rattle.code_types.specs.declared.code.Handler.{Handler}
+use Rattle.code_types.specs.Actions.{most_frames}
 use Rattle.code_types.specs.Places.{taker}
 use Rattle.code_types.specs.State.{Frame, OpenRegion, State, Mode, Running, Raising}
 use Rattle.code_types.specs.Steps.{Run, At, Over, new_frame, moved, steps}
@@ -122,7 +123,7 @@ within_behind (GoesOn s) within = within s
 within_behind (Last t) within = true
 
 abbrev pub call_within : BodiesWithin → ℕ → ℕ → List ℕ → List Taken → Session → Bool
-call_within within b frames open_now ts s = within_behind (tick s) (λ s1. within b (frames + 1) open_now ts s1)
+call_within within b frames open_now ts s = if nat_lt frames most_frames then within_behind (tick s) (λ s1. within b (frames + 1) open_now ts s1) else true
 
 -- A call, once its arguments are on the stack, follows its meaning where the bodies do.
 abbrev pub CallLaw : Type 0

@@ -69,7 +69,7 @@ abbrev mutual
   FitsOperation lay n (part_of e ps) = FitsExpr lay e × FitsParts lay (count_of e) ps n × IsOffset (count_of e)
   FitsOperation lay n (receive b) = IsNumber32 b
   FitsOperation lay n (start t) = FitsStart lay t × (n ≡ 1)
-  FitsOperation lay n (call c) = ⊥
+  FitsOperation lay n (call c) = FitsCall lay c n
   FitsOperation lay n (powerset b rs) = FitsRanges lay b rs × AreMembers b × (n ≡ 1)
   FitsOperation lay n (parts rs) = FitsAll lay rs × (counts_of rs ≡ n)
   FitsOperation lay n (uniform m r) = FitsReceived lay r × (1 ≤ m) × IsNumber32 m × (m * received_count r ≡ n)
