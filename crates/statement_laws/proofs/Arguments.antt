@@ -1,16 +1,15 @@
 -- What is told of arguments one by one, and what is told whatever receives an expression.
-use Rattle.std.proofs.Common.{◌≡◌, ◌++◌, ℕ, List, [], ◌∷◌, Option, Some, None, Bool, false, true, not, refl, ap, ◌∙◌}
+use Rattle.std.proofs.Common.{◌≡◌, ◌++◌, Option, Some, None, Bool, false, true, not, refl, ap, ◌∙◌}
 use Rattle.std.specs.Prelude.{if◌then◌else◌}
 use Rattle.chill_tree.specs.declared.tree.name.Name.{Name}
-use Rattle.chill_tree.specs.ExprTree.{ExprTree, ExprNodes, no_exprs, more_exprs, whole, character, text, this_instance, paren, receive, start, tuple, uniform, name, apply, field, prefixed, binary}
+use Rattle.chill_tree.specs.ExprTree.{no_exprs, more_exprs, whole, character, text, this_instance, paren, receive, start, tuple, uniform, name, apply, field, prefixed, binary}
 use Rattle.modes.specs.ModeTree.{ModeTree}
 use Rattle.modes.specs.Form.{FormTree, form_of}
 use Rattle.diagnostics.specs.declared.rule.Rule.TheVariants as rules
-use Rattle.checks_model.specs.Ground.{Ground, a_synonym, a_mode, an_element, a_location, a_parameter, a_counter, a_received, a_procedure, a_process, a_signal, a_modulion, a_predefined}
+use Rattle.checks_model.specs.Ground.{a_synonym, a_mode, an_element, a_location, a_parameter, a_counter, a_received, a_procedure, a_process, a_signal, a_modulion, a_predefined}
 use Rattle.checks_model.specs.Told.{tell_at, told_if, then_told, holds_of}
 use Rattle.checks_model.specs.Classes.{tuple_mode, shape_fits, uniform_fits, mode_of_part}
-use Rattle.checks_model.specs.ValueRules.{Receiver, nothing_asked, of_mode, received_mode, may_have_mode, told_in, told_in_parts, told_value, value_told, shape_misfits}
-use Rattle.statement_laws.specs.Steps.{told_in_all}
+use Rattle.checks_model.specs.ValueRules.{Receiver, nothing_asked, of_mode, may_have_mode, told_in, told_in_parts, told_value, value_told, shape_misfits}
 use Rattle.statement_laws.specs.Laws.{SameReceiverLaw, NoReceiversLaw, AlikeLaw, MessagesLaw}
 
 pub args_same : SameReceiverLaw

@@ -1,5 +1,5 @@
 -- The laws, as statements.
-use Rattle.std.specs.Prelude.{◌≡◌, Bool, false, List, [], ◌∷◌, ◌++◌, replicate, Option, None}
+use Rattle.std.specs.Prelude.{◌≡◌, false, List, [], ◌∷◌, ◌++◌, replicate, Option, None}
 use Rattle.chill_tree.specs.declared.tree.name.Name.{Name}
 use Rattle.chill_tree.specs.ExprTree.{ExprTree, ExprNodes}
 use Rattle.chill_tree.specs.StatementTree.{BracketedTree, BodyTree, NamedNodes, body_nodes}
