@@ -152,6 +152,23 @@ broken_8-counted = record { names = refl; entries = refl }
 broken_8-statements : broken_statements (counted_ground_of broken_8) broken_8 ≡ (told rules.S3 1 73 ∷ told rules.S3 1 81 ∷ told rules.S3 1 89 ∷ told rules.S3 1 99 ∷ told rules.S3 1 110 ∷ [])
 broken_8-statements = refl
 
+-- an index of what is no location has no mode: a name with brackets calls nothing there
+--   m: MODULE SYNMODE a = ARRAY (1:3) INT; f: PROC () RETURNS (a); RETURN [1, 2, 3]; END f; f(1)(TRUE) := 2; END m;
+abbrev broken_9 : ProgramTree
+broken_9 = program ((modul (n 1 1 (codes "m")) modulions.Module ((local_item (syn_modes (at 1 11) ((modedef (n 1 19 (codes "a")) (w.base_mode (w.array (at 1 23) (w.index_bounded (whole (at 1 30) 1) (whole (at 1 32) 3)) (w.discrete (w.named (n 1 35 (codes "INT")))) None))) ∷ []))) ∷ (procedure (proc (n 1 40 (codes "f")) [] (Some (w.base_mode (w.discrete (w.named (n 1 60 (codes "a")))))) None ((action_part (simple (at 1 64) (return_with (at 1 64) (Some (tuple (at 1 71) None (at 1 71) (range_nodes ((alone (whole (at 1 72) 1)) ∷ (alone (whole (at 1 75) 2)) ∷ (alone (whole (at 1 78) 3)) ∷ []))))) (handler_node None))) ∷ []) None (Some (n 1 86 (codes "f"))))) ∷ (action (simple (at 1 89) (assign (at 1 89) (apply (at 1 89) (apply (at 1 89) (name (n 1 89 (codes "f"))) (expr_nodes ((whole (at 1 91) 1) ∷ []))) (expr_nodes ((name (n 1 94 (codes "TRUE"))) ∷ []))) (whole (at 1 103) 2)) (handler_node None))) ∷ []) None (Some (n 1 110 (codes "m")))) ∷ [])
+
+broken_9-ground : IsGroundOf broken_9 (ground_of broken_9)
+broken_9-ground = record { names = refl; entries = refl }
+
+broken_9-modes : broken_modes (ground_of broken_9) broken_9 ≡ []
+broken_9-modes = refl
+
+broken_9-counted : IsStatementGroundOf broken_9 (counted_ground_of broken_9)
+broken_9-counted = record { names = refl; entries = refl }
+
+broken_9-statements : broken_statements (counted_ground_of broken_9) broken_9 ≡ (told rules.S3 1 89 ∷ [])
+broken_9-statements = refl
+
 -- a location that has the name of a counter outside it
 --   m: MODULE DO FOR i := 1 TO 3; BEGIN DCL i INT; i := 2; END; OD; END m;
 abbrev near_1 : ProgramTree

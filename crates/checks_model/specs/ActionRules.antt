@@ -6,17 +6,17 @@ use Rattle.std.specs.Str.{bytes_eq}
 use Rattle.std.specs.Prelude.{codes}
 use Rattle.chill_base.specs.declared.pos.Pos.{Pos}
 use Rattle.chill_tree.specs.declared.tree.name.Name.{Name}
-use Rattle.chill_tree.specs.ExprTree.{ExprTree, ExprNodes, RangeTree, apply, field, no_exprs, alone, between, place_of, expr_nodes}
+use Rattle.chill_tree.specs.ExprTree.{ExprTree, ExprNodes, RangeTree, name, apply, field, no_exprs, alone, between, place_of, expr_nodes}
 use Rattle.chill_tree.specs.SimpleTree.{SimpleTree, assign, update, call_of, exit, return_with, result_of, assert_that, cause, stop, start_of, delay, continue_event, send, ControlTree, while_holds, for_ever, for_members, for_steps}
-use Rattle.modes.specs.ModeTree.{ModeTree, ClassTree, value, instance}
+use Rattle.modes.specs.ModeTree.{ModeTree, ClassTree, value, nothing, instance}
 use Rattle.modes.specs.Form.{FormTree, form_of, of_powerset}
 use Rattle.diagnostics.specs.declared.diagnostic.Diagnostic.{Diagnostic}
 use Rattle.diagnostics.specs.declared.rule.Rule.TheVariants as rules
 use Rattle.names_model.specs.NameRules.{tell}
 use Rattle.checks_model.specs.Alike.{is_int, is_discrete, class_is, mode_in, are_compatible}
 use Rattle.checks_model.specs.Ground.{Ground, Predefined, message_parts}
-use Rattle.checks_model.specs.Operations.{their_class, form_in}
-use Rattle.checks_model.specs.Classes.{class_of, Callee, calls, routine, no_callee, callee_named, callee_of, count_exprs}
+use Rattle.checks_model.specs.Operations.{their_class, form_in, part_of_class, element_of_form, field_of_form}
+use Rattle.checks_model.specs.Classes.{class_of, class_of_name, Callee, calls, routine, no_callee, callee_named, callee_of, count_exprs}
 use Rattle.checks_model.specs.Told.{tell_at, told_if, is_none_told, then_told, holds_of, holds_of_both}
 use Rattle.checks_model.specs.Operations.{is_measuring, arguments_of, operands_misfit}
 use Rattle.checks_model.specs.ValueRules.{Receiver, nothing_asked, of_mode, condition, bound, set_of_members, Located, place, is_free, told_in, told_in_args, told_inside_each, told_value, told_some_value, told_number, receivers_of, each_receiver, receivers_behind, call_misfits, index_receiver, index_mode, clean_class}
@@ -28,18 +28,22 @@ abbrev pub measures : Callee → Bool
 measures (routine p) = is_measuring p
 measures _ = false
 
--- in the brackets behind something of a class, in which something is told
-abbrev pub told_in_brackets : Ground → Callee → List Diagnostic → Option ClassTree → ExprNodes → List Diagnostic
-told_in_brackets g c inside base es =
-    if measures c then told_inside_each g es else told_in_args g (index_receiver (clean_class inside base) (count_exprs es) ∷ []) es
+-- the class of what stands where a location is needed: its beginning name calls nothing
+abbrev pub path_class : Ground → ExprTree → Option ClassTree
+path_class g (name n) = class_of_name g n
+path_class g (apply at e es) = if measures (callee_of g e) then Some nothing else option_map (part_of_class element_of_form) (path_class g e)
+path_class g (field at e n) = option_map (part_of_class (field_of_form n.text)) (path_class g e)
+path_class g _ = None
 
+-- at brackets behind something of a class, in which something is told
 abbrev pub told_at_index : Ground → ExprTree → ExprNodes → List Diagnostic → Option ClassTree → List Diagnostic
 told_at_index g e es inside base =
-    then_told (inside ++ told_in_brackets g (callee_of g e) inside base es) (told_if (is_some (index_mode base) && not (count_exprs es == 1)) (tell_at rules.S5 (place_of e)))
+    if measures (callee_of g e) then told_inside_each g es
+    else then_told (inside ++ told_in_args g (index_receiver (clean_class inside base) (count_exprs es) ∷ []) es) (told_if (is_some (index_mode base) && not (count_exprs es == 1)) (tell_at rules.S5 (place_of e)))
 
--- what is told in the indices of a location, whose beginning name calls nothing
+-- what is told in the indices of a location
 abbrev pub told_in_indices : Ground → ExprTree → List Diagnostic
-told_in_indices g (apply at e es) = told_at_index g e es (told_in_indices g e) (class_of g e)
+told_in_indices g (apply at e es) = told_at_index g e es (told_in_indices g e) (path_class g e)
 told_in_indices g (field at e n) = told_in_indices g e
 told_in_indices g _ = []
 

@@ -16,7 +16,7 @@ use Rattle.names_model.specs.NameRules.{tell}
 use Rattle.checks_model.specs.Ground.{Ground, entry_defined, mode_of_entry}
 use Rattle.checks_model.specs.Told.{told_if, then_told, holds_of}
 use Rattle.checks_model.specs.ConstantRules.{told_of_constants, told_of_some_constants, told_needed, told_some_needed}
-use Rattle.checks_model.specs.WrittenModes.{told_of_mode, told_of_some_mode, some_mode_of}
+use Rattle.checks_model.specs.WrittenModes.{told_of_mode, told_of_some_mode}
 use Rattle.checks_model.specs.Table.{told_of_synonym}
 use Rattle.checks_model.specs.ValueRules.{Receiver, nothing_asked, of_mode, condition, selector, told_value, told_some_value}
 use Rattle.checks_model.specs.ActionRules.{Returning, no_procedure, no_value, a_value, told_simple, told_labels, told_control, told_received_names, told_exceptions, told_in_indices}
@@ -150,17 +150,17 @@ abbrev pub returning_of : Ground → Around → Returning
 returning_of g in_no_procedure = no_procedure
 returning_of g (in_procedure p) = if is_some p.returns then a_value (mode_defined g p.name) else no_value
 
--- the expression of a synonym goes to its written mode
-abbrev pub synonym_receiver : Ground → SynonymTree → Receiver
-synonym_receiver g s = if is_some s.mode then of_mode (some_mode_of g s.mode) else nothing_asked
-
 abbrev pub told_alone : Ground → ExprTree → List Diagnostic
 told_alone g e = told_value g nothing_asked e
 
--- each name of a declaration has the mode that its value goes to
+-- each of the names that are defined together has the mode that their value goes to
 abbrev pub declared_mode : Ground → List Name → Option ModeTree
 declared_mode g [] = None
 declared_mode g (n ∷ ns) = mode_defined g n
+
+-- the expression of a synonym goes to its written mode
+abbrev pub synonym_receiver : Ground → SynonymTree → Receiver
+synonym_receiver g s = if is_some s.mode then of_mode (declared_mode g s.names) else nothing_asked
 
 abbrev pub statements_told_at : Ground → Site → List Diagnostic
 statements_told_at g (at_synonym s) = flat_map (told_alone g) (exprs_of_some_mode s.mode) ++ told_value g (synonym_receiver g s) s.value
