@@ -34,7 +34,7 @@ Appends-rest a b c text k n before piece = Appends-next a b c text k n before (r
 -- a front of a file goes on with the piece that stands there
 front_goes_on : (told : Contents) (read piece : List ℕ) (n : ℕ) → IsFront told read → Gives {E = PortFault} told (length read) (Ok n) piece → n ≤ length piece → IsFront told (read ++ take n piece)
 front_goes_on untold read piece n front gives le = tt
-front_goes_on missing read piece n front gives le = absurd gives
+front_goes_on missing read piece n front gives le = absurd (let no : ⊥ = cc in no)
 front_goes_on (held text) read piece n front gives le =
     ap (λ (m : ℕ). take m text) (length-append read (take n piece) ∙ ap (λ (m : ℕ). length read + m) (length-take-le n piece le))
     ∙ take-add (length read) n text
@@ -48,7 +48,7 @@ IsFront-next told told' read now piece at n same place front gives le is =
 -- where a read gave nothing, the front is the whole file
 pub ended : (told : Contents) (read piece : List ℕ) (at n : ℕ) → at ≡ length read → IsFront told read → Gives {E = PortFault} told at (Ok n) piece → n ≡ 0 → 0 < length piece → IsTextOf told read
 ended untold read piece at n place front gives none room = tt
-ended missing read piece at n place front gives none room = absurd gives
+ended missing read piece at n place front gives none room = absurd (let no : ⊥ = cc in no)
 ended (held text) read piece at n place front gives none room =
     sym (take_all (length read) text (omega (arith, gives.end none room, place))) ∙ front
 

@@ -152,10 +152,10 @@ unfounded_for units text program code feed left input told accepted reads none i
     inr (record { program = program; code = code; accepted = accepted; input = input; reads = reads; cause = unfounded none; is = is })
 
 -- the facts aren't sound, or there are none
-pub unsound_facts : (program other : Checked) (input : List ℕ) (units : ℕ) (facts : Facts) (yes : Bool) → other ≡ program → facts ≡ facts_of other input units → IsTrue yes ↔ IsSound facts → yes ≡ false
+pub unsound_facts : (program other : Checked) (input : List ℕ) (units : ℕ) (facts : Facts) (said : Bool) → other ≡ program → facts ≡ facts_of other input units → IsTrue said ↔ IsSound facts → said ≡ false
     → HasNoFacts program input units
-unsound_facts program other input units facts yes same are exact no = inr (λ sound.
-    let told : IsTrue yes = exact.1 (subst IsSound (sym (are ∙ ap (λ (p : Checked). facts_of p input units) same)) sound) in
+unsound_facts program other input units facts said same are exact unsound = inr (λ sound.
+    let told : IsTrue said = exact.1 (subst IsSound (sym (are ∙ ap (λ (p : Checked). facts_of p input units) same)) sound) in
     let never : ⊥ = cc in never)
 
 pub no_layouts : {T : Type 0} (program other : Checked) (input : List ℕ) (units : ℕ) (refusal : PartRefusal) → other ≡ program → refusal ≡ Unsound

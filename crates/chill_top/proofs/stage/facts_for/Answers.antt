@@ -5,7 +5,7 @@ use Rattle.chill_top.proofs.stage.facts_for.Goals as goal
 -- the facts aren't sound
 pub returns-else-branch : goal.returns-else-branch
 returns-else-branch c =
-    unsound_facts c.args.built.now.program.checked.value c.checked.result.now c.args.input c.args.units c.in-Ok.facts _ c.checked.ensures c.in-Ok.ensures.facts c.in_ok-are_sound.ensures c.if-branch.false
+    unsound_facts c.args.built.now.program.checked.value c.checked.result.now c.args.input c.args.units c.in-Ok.facts _ c.checked.ensures c.in-Ok.ensures.facts c.in_ok-are_sound-in-Ok.ensures c.if-branch.false
 
 -- a location has no layout
 pub returns-in-Err-Unsound : goal.returns-in-Err-Unsound
