@@ -17,7 +17,7 @@ pub fn check_processes(evaluation: &Evaluation<'_>, tree: &Tree) -> Result<(), R
 {
     let checks = Checks {
         evaluation,
-        locations: Walk::new(evaluation)?,
+        locations: Walk { evaluation },
     };
     let mut told = Told::new(evaluation.alloc);
     for modulion in tree.modulions.as_slice() {

@@ -6,7 +6,7 @@ use crate::walk::Checks;
 use chill_base::Memory;
 use chill_tree::tree::{Base, Discrete, Expr, Field, Index, Mode, Name, Place, Spread, ValueRange};
 use diagnostics::Rule;
-use mode_rules::Told;
+use mode_rules::{Told, known};
 
 impl<'a, 'b> Checks<'a, 'b> {
     /// Rule P3 of a name that stands in an action of a purpose.
@@ -40,7 +40,7 @@ impl<'a, 'b> Checks<'a, 'b> {
         }
         // The phase of modes and constants told what is told here, which is nothing.
         let mut told_before = Told::new(self.evaluation.alloc);
-        let known = self.evaluation.known(priority, &mut told_before)?;
+        let known = known(self.evaluation, priority, &mut told_before)?;
         if is_priority_out_of_limits(&known, &self.evaluation.plain.int) {
             return told.tell(Rule::P6, priority.at());
         }

@@ -5,34 +5,12 @@ use crate::numbers::{
     Logic, SetOperator, arithmetic, complement, first, has_member, is_included, of_int, order,
     sets, single, truth,
 };
-use crate::told::Told;
-use chill_base::{Memory, Pos, Scalars};
+use chill_base::{Memory, Scalars};
 use chill_tree::tree::{Operator, Prefix};
-use diagnostics::Rule;
 use modes::{Bounds, Class, Form, Mode, bounds, compatible, goes_with, root};
 use std::alloc::Global;
 use std::cmp::Ordering;
 use std::rc::Rc;
-
-/// What is known of two operands, and whether no rule is broken in them.
-pub struct Operands {
-    pub left: Known,
-    pub right: Known,
-    pub is_whole: bool,
-}
-
-// Dropped by hand, so that whoever drops one makes one call.
-impl Drop for Operands {
-    fn drop(self) {
-        let Operands {
-            left,
-            right,
-            is_whole: _,
-        } = self;
-        drop(left);
-        drop(right);
-    }
-}
 
 /// What comes of an operator or a routine on constants.
 #[derive(Drop)]
@@ -45,45 +23,7 @@ pub enum Computed {
     OutOfRange(Class),
 }
 
-/// What is known of a result; at an operator or routine that is told what came of it.
-pub fn told_of_computed(computed: Computed, at: Pos, told: &mut Told) -> Result<Known, Memory> {
-    match computed {
-        Computed::Known(known) => Ok(known),
-        Computed::Misfit => {
-            told.tell(Rule::M10, at)?;
-            Ok(Known::broken())
-        }
-        Computed::OutOfRange(_) => {
-            told.tell(Rule::M11, at)?;
-            Ok(Known::broken())
-        }
-    }
-}
-
 impl<'a> Evaluation<'a> {
-    /// What is known of two operands with an operator between them.
-    pub fn binary(
-        &self,
-        operator: Operator,
-        sign: Pos,
-        operands: &Operands,
-        told: &mut Told,
-    ) -> Result<Known, Memory> {
-        let Operands {
-            left,
-            right,
-            is_whole,
-        } = operands;
-        if !left.is_constant || !right.is_constant {
-            return Ok(Known::varying());
-        }
-        if !*is_whole {
-            return Ok(Known::broken());
-        }
-        let computed = self.computed_binary(operator, left, right)?;
-        told_of_computed(computed, sign, told)
-    }
-
     /// What comes of an operator between two constants.
     pub fn computed_binary(
         &self,
@@ -92,7 +32,7 @@ impl<'a> Evaluation<'a> {
         right: &Known,
     ) -> Result<Computed, Memory> {
         let (Some(one), Some(other)) = (&left.class, &right.class) else {
-            return Ok(Computed::Known(Known::broken()));
+            return Ok(Computed::Known(Known::unknown_constant()));
         };
         let Some(class) = self.class_of_binary(operator, one, other)? else {
             return Ok(Computed::Misfit);
@@ -104,25 +44,10 @@ impl<'a> Evaluation<'a> {
         Ok(with_value(class, value))
     }
 
-    /// What is known of an operand with an operator before it.
-    pub fn unary(
-        &self,
-        operator: Prefix,
-        at: Pos,
-        operand: &Known,
-        told: &mut Told,
-    ) -> Result<Known, Memory> {
-        if !operand.is_constant {
-            return Ok(Known::varying());
-        }
-        let computed = self.computed_unary(operator, operand)?;
-        told_of_computed(computed, at, told)
-    }
-
     /// What comes of an operator before a constant.
     pub fn computed_unary(&self, operator: Prefix, operand: &Known) -> Result<Computed, Memory> {
         let Some(own) = &operand.class else {
-            return Ok(Computed::Known(Known::broken()));
+            return Ok(Computed::Known(Known::unknown_constant()));
         };
         let Some(class) = self.class_of_unary(operator, own)? else {
             return Ok(Computed::Misfit);
@@ -370,7 +295,16 @@ fn are_ordered(left: &Class, right: &Class) -> bool {
 fn can_be_member(left: &Class, right: &Class) -> bool {
     match form_in(right) {
         Some(Form::Powerset(member)) => goes_with(left, member),
-        _ => false,
+        Some(Form::Int)
+        | Some(Form::Bool)
+        | Some(Form::Char)
+        | Some(Form::Instance)
+        | Some(Form::Set { .. })
+        | Some(Form::Chars(_))
+        | Some(Form::Array { .. })
+        | Some(Form::Struct { .. })
+        | Some(Form::Meeting)
+        | None => false,
     }
 }
 
@@ -383,6 +317,17 @@ fn holds_between(operator: Operator, order: Ordering) -> bool {
         Operator::LessOrEqual => order != Ordering::Greater,
         Operator::Greater => order == Ordering::Greater,
         Operator::GreaterOrEqual => order != Ordering::Less,
-        _ => false,
+        Operator::Plus
+        | Operator::Minus
+        | Operator::Times
+        | Operator::Divide
+        | Operator::Mod
+        | Operator::Rem
+        | Operator::Or
+        | Operator::And
+        | Operator::Xor
+        | Operator::OrIf
+        | Operator::AndIf
+        | Operator::In => false,
     }
 }

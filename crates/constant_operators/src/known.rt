@@ -3,13 +3,15 @@ use chill_base::Scalars;
 use modes::{Bounds, Class, Form, Mode, bounds, form_of, goes_with, is_discrete, number_of_values};
 use std::rc::Rc;
 
-/// What is known of an expression: its class and, where it is a constant, its value. Each is none where there is none, or
-/// where something in the expression or in what it uses is broken.
+/// What is known of an expression of the phase of modes and constants: its class and, where it is a constant, its value.
+/// Each is none where there is none, or where something that the expression uses is broken.
 pub struct Known {
     pub class: Option<Class>,
     pub value: Option<Scalars>,
     /// Whether it has the form of a constant.
     pub is_constant: bool,
+    /// Whether nothing is told in it or at it.
+    pub is_clean: bool,
 }
 
 // Dropped by hand, so that whoever drops one makes one call.
@@ -19,6 +21,7 @@ impl Drop for Known {
             class,
             value,
             is_constant: _,
+            is_clean: _,
         } = self;
         drop(class);
         drop(value);
@@ -32,24 +35,37 @@ impl Known {
             class: Some(class),
             value: None,
             is_constant: false,
-        }
-    }
-
-    /// What has the form of a constant, but nothing else.
-    pub fn broken() -> Known {
-        Known {
-            class: None,
-            value: None,
-            is_constant: true,
+            is_clean: true,
         }
     }
 
     /// What doesn't have the form of a constant, and isn't asked for its class.
-    pub fn varying() -> Known {
+    pub fn varying(is_clean: bool) -> Known {
         Known {
             class: None,
             value: None,
             is_constant: false,
+            is_clean,
+        }
+    }
+
+    /// That at which or in which something is told.
+    pub fn told(is_constant: bool) -> Known {
+        Known {
+            class: None,
+            value: None,
+            is_constant,
+            is_clean: false,
+        }
+    }
+
+    /// What has the form of a constant, and uses what isn't known.
+    pub fn unknown_constant() -> Known {
+        Known {
+            class: None,
+            value: None,
+            is_constant: true,
+            is_clean: true,
         }
     }
 
@@ -59,6 +75,7 @@ impl Known {
             class: None,
             value: None,
             is_constant: false,
+            is_clean: true,
         }
     }
 
@@ -73,6 +90,7 @@ impl Known {
             class: Some(class),
             value: None,
             is_constant: true,
+            is_clean: true,
         }
     }
 
@@ -82,15 +100,7 @@ impl Known {
             class: Some(class),
             value: Some(value),
             is_constant: true,
-        }
-    }
-
-    /// What is left to say of an expression in which something is broken: whether it has the form of a constant.
-    pub fn without_value(&self) -> Known {
-        Known {
-            class: None,
-            value: None,
-            is_constant: self.is_constant,
+            is_clean: true,
         }
     }
 
@@ -100,6 +110,7 @@ impl Known {
             class,
             value,
             is_constant: _,
+            is_clean: _,
         } = self;
         (class, value)
     }
@@ -123,7 +134,7 @@ impl Known {
     pub fn lies_outside(&self, mode: &Mode) -> bool {
         match (self.number(), bounds(mode)) {
             (Some(number), Some(Bounds { low, high })) => number < low || number > high,
-            _ => false,
+            (None, _) | (_, None) => false,
         }
     }
 }

@@ -1,7 +1,6 @@
 // The value of a tuple, as its parts are added (Z.200, chapter on values).
-use crate::known::{Known, member_count};
-use crate::numbers::{add_members, empty_set};
 use chill_base::{Memory, Scalars};
+use constant_operators::{Known, add_members, empty_set, member_count};
 use modes::{Bounds, Mode, bounds};
 use std::alloc::Global;
 

@@ -3,25 +3,24 @@ use crate::predefined::{PREDEFINED, Predefined};
 use chill_base::{List, Memory};
 use chill_tree::tree::{
     Base, BodyPart, Bracketed, Control, Declaration, Discrete, Field, Handler, Item, Local, Mode,
-    ModeDefinition, Modulion, Passing, Procedure, Process, ReceiveAlternative, Signal, Statement,
-    Synonym, Tree,
+    ModeDefinition, Modulion, Name, Passing, Procedure, Process, ReceiveAlternative, Signal,
+    Statement, Synonym, Tree,
 };
 use std::alloc::Global;
 
-/// The mode that a SET is the whole of, READ aside: its elements carry the mode's name.
+/// The name of the mode that a SET is the whole of, READ aside, and whether that is a NEWMODE.
 #[derive(Clone, Copy)]
-pub struct Owner {
-    pub definition: u32,
+pub struct Owner<'a> {
+    pub name: &'a Name,
     pub novel: bool,
 }
 
-/// An element of a SET: the SET's first element, how many it has, and which of them this is.
+/// An element of a SET: the elements of the SET, and which of them this is.
 #[derive(Clone, Copy)]
-pub struct Element {
-    pub first: u32,
-    pub count: u32,
-    pub number: u32,
-    pub owner: Option<Owner>,
+pub struct Element<'a> {
+    pub names: &'a [Name],
+    pub part: u32,
+    pub owner: Option<Owner<'a>>,
 }
 
 /// What a definition is defined by: a part of the program's tree, or nothing where it is predefined.
@@ -34,7 +33,7 @@ pub enum Origin<'a> {
     },
     SynMode(&'a ModeDefinition),
     NewMode(&'a ModeDefinition),
-    Element(Element),
+    Element(Element<'a>),
     /// A location, and the first of those that its declaration defines.
     Location {
         declaration: &'a Declaration,
@@ -182,16 +181,23 @@ fn add_modes<'a>(
     found: &mut Origins<'a>,
 ) -> Result<(), Memory> {
     for own in modes {
-        let definition = next(found);
         let origin = if novel {
             Origin::NewMode(own)
         } else {
             Origin::SynMode(own)
         };
         found.push(origin)?;
-        add_elements(&own.mode, Some(Owner { definition, novel }), found)?;
+        add_elements(&own.mode, owner_of(own, novel), found)?;
     }
     Ok(())
+}
+
+// The name of a mode, for the elements of the SET that is the whole of it.
+fn owner_of<'a>(own: &'a ModeDefinition, novel: bool) -> Option<Owner<'a>> {
+    Some(Owner {
+        name: &own.name,
+        novel,
+    })
 }
 
 fn add_locations<'a>(
@@ -211,7 +217,7 @@ fn add_locations<'a>(
 // The elements of the SETs in a mode, which is the whole mode of a name or of none.
 fn add_elements<'a>(
     mode: &'a Mode,
-    owner: Option<Owner>,
+    owner: Option<Owner<'a>>,
     found: &mut Origins<'a>,
 ) -> Result<(), Memory> {
     match mode {
@@ -224,7 +230,7 @@ fn add_elements<'a>(
 
 fn add_base_elements<'a>(
     base: &'a Base,
-    owner: Option<Owner>,
+    owner: Option<Owner<'a>>,
     found: &mut Origins<'a>,
 ) -> Result<(), Memory> {
     match base {
@@ -243,21 +249,16 @@ fn add_base_elements<'a>(
 
 fn add_set_elements<'a>(
     own: &'a Discrete,
-    owner: Option<Owner>,
+    owner: Option<Owner<'a>>,
     found: &mut Origins<'a>,
 ) -> Result<(), Memory> {
     let Discrete::Set { elements, .. } = own else {
         return Ok(());
     };
-    let first = next(found);
-    let count = u32::try_from(elements.len()).unwrap_or(u32::MAX);
-    for number in 0..count {
-        let element = Element {
-            first,
-            count,
-            number,
-            owner,
-        };
+    let names = elements.as_slice();
+    let count = u32::try_from(names.len()).unwrap_or(u32::MAX);
+    for part in 0..count {
+        let element = Element { names, part, owner };
         found.push(Origin::Element(element))?;
     }
     Ok(())
