@@ -6,7 +6,7 @@ use crate::tuples::{named_parts, named_uniform};
 use chill_base::{Memory, Pos};
 use chill_tree::tree::{Expr, Name, Prefix, ValueRange};
 use constant_operators::{Evaluation, GREATEST, Known};
-use definition_origins::{Told, CheckRule};
+use definition_origins::{CheckRule, Told};
 
 /// What is known of an expression where a constant is needed, or none where something is told in it or at it.
 pub fn needed(

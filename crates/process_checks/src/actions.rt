@@ -6,7 +6,7 @@ use chill_base::Memory;
 use chill_tree::tree::{
     Bracketed, CaseAlternative, Control, ElsIf, Name, NamedAlternative, ReceiveAlternative, Simple,
 };
-use mode_rules::{Told, CheckRule};
+use mode_rules::{CheckRule, Told};
 
 impl<'a, 'b> Checks<'a, 'b> {
     /// What is told in an action that holds no others.

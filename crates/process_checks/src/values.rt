@@ -5,7 +5,7 @@ use crate::rules::{
 use crate::walk::Checks;
 use chill_base::Memory;
 use chill_tree::tree::{Base, Discrete, Expr, Field, Index, Mode, Name, Place, Spread, ValueRange};
-use mode_rules::{Told, known, CheckRule};
+use mode_rules::{CheckRule, Told, known};
 
 impl<'a, 'b> Checks<'a, 'b> {
     /// Rule P3 of a name that stands in an action of a purpose.

@@ -8,7 +8,7 @@ use chill_tree::tree::{
     Declaration, Item, Local, ModeDefinition, Modulion, ModulionKind, Name, Passed, Procedure,
     Process, Signal, Statement, Synonym,
 };
-use mode_rules::{Evaluation, Told, CheckRule};
+use mode_rules::{CheckRule, Evaluation, Told};
 use std::collections::HashSet;
 
 /// What the rules are asked against: the evaluated definitions of a program, and what stands at its locations.
