@@ -18,3 +18,7 @@ pub mod WorldSteps
 pub mod Journals
 pub mod JournalLaws
 pub mod NextFits
+pub mod Growing
+pub mod GrowingExpressions
+pub mod GrowingStatements
+pub mod GrowingTalks

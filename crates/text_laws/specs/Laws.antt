@@ -1,5 +1,5 @@
 -- The laws of the runs of a text.
-use Rattle.std.specs.Prelude.{◌≡◌, ◌↔◌, ℕ, ◌≤◌, true, List, ℤ, length, Some, slice_get, IsSomeAnd}
+use Rattle.std.specs.Prelude.{◌≡◌, ◌↔◌, ℕ, ◌≤◌, true, List, ◌++◌, ℤ, length, Some, slice_get, IsSomeAnd}
 use Rattle.kernel_base.specs.declared.facts.Facts.{Facts}
 use Rattle.kernel_base.specs.declared.answer.Answer.{Answer}
 use Rattle.kernel_base.specs.declared.event.Event.{Event}
@@ -10,7 +10,7 @@ use Rattle.world_model.specs.Allowed.{IsRun}
 use Rattle.program_trees.specs.ProgramTree.{BodyRowTree, CheckedTree}
 use Rattle.code_types.specs.declared.code.Code.{Code}
 use Rattle.code_types.specs.Talk.{CodeTalk}
-use Rattle.code_types.specs.Runs.{IsCodeRun, RequestsFit, BirthsFit}
+use Rattle.code_types.specs.Runs.{Begins, IsCodeRun, RequestsFit, BirthsFit}
 use Rattle.source_meaning.specs.Talk.{talk, parameter_scalars}
 use Rattle.source_meaning.specs.Fitting.{has_instances, HasFittingAnswers, FitsBody, AreOfTypes, IsFitting}
 use Rattle.source_meaning.specs.Runs.{IsSourceRun, talk_in_journal}
@@ -39,6 +39,12 @@ pub record AsksFitLaw : Type 0 where
   pub in_range : (p : CheckedTree) (input : List ℕ) (units : ℕ) (facts : Facts) (request : Request)
       → IsTyped p → AreFactsOf p input units facts → FitsText p request
       → FitsRequest facts request
+
+-- ---- talks
+
+-- With more answers behind and with more ticks a talk goes on where it stopped, and takes nothing back.
+abbrev pub TalkGrowsLaw : Type 0
+TalkGrowsLaw = (p : CheckedTree) (instance process : ℕ) (zs : List ℤ) (answers behind : List Answer) (n m : ℕ) → 1 ≤ m → n ≤ m → Begins (talk p instance process zs answers n).trace (talk p instance process zs (answers ++ behind) m).trace
 
 -- ---- journals
 

@@ -1,5 +1,5 @@
 // Laws of the runs of a text. Each is a fact about the definitions, which a caller learns by calling the function.
-ghost use Rattle.text_laws.specs.Laws.{AsksFitLaw, FactsAreSoundLaw, NextFitsLaw, RunFitsLaw, SameRunsLaw, SameTalkLaw, WorldKeepsLaw};
+ghost use Rattle.text_laws.specs.Laws.{AsksFitLaw, FactsAreSoundLaw, NextFitsLaw, RunFitsLaw, SameRunsLaw, SameTalkLaw, TalkGrowsLaw, WorldKeepsLaw};
 
 /// The facts of a typed program are sound.
 pub fn facts_are_sound_law()
@@ -9,6 +9,11 @@ pub fn facts_are_sound_law()
 /// What a process of a typed program asks fits the text, and the facts of the program, as far as its answers fit.
 pub fn asks_fit_law()
     ensures { AsksFitLaw }
+{}
+
+/// With more answers behind and with more ticks a talk goes on where it stopped.
+pub fn talk_grows_law()
+    ensures { TalkGrowsLaw }
 {}
 
 /// Of journals whose births fit the runs of a code with the text's talk are those of the text.
