@@ -22,3 +22,4 @@ pub mod Growing
 pub mod GrowingExpressions
 pub mod GrowingStatements
 pub mod GrowingTalks
+pub mod FewerAnswers
