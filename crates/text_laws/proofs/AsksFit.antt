@@ -28,5 +28,5 @@ asks_fit = record {
   all = λ p instance process zs answers n typed f.
       all_fit p (talk p instance process zs answers n).trace answers
       (talk_asks p instance process zs answers n f.body typed f.in_range f.is_body f.fits) (f.answered n);
-  in_range = fits_facts;
+  in_range = λ p facts request t. fits_facts p t.input t.units facts request t.typed t.are;
 }

@@ -18,11 +18,12 @@ use Rattle.code_types.specs.Places.{listed_of, names_exception, taker, finds}
 use Rattle.code_types.specs.Operands.{topmost, below_topmost}
 use Rattle.code_types.specs.Actions.{Action, Pushes, Sets, GoesTo, TicksTo, Calls, Returns, Throws, Requests, Halts, action_of}
 use Rattle.code_types.specs.Answers.{fits_request, goes_on, answered}
-use Rattle.code_types.specs.Runs.{ticks_in}
+use Rattle.code_types.specs.Runs.{Begins, ticks_in}
 use Rattle.code_types.specs.State.{Frame, Slot, State, Mode, Running, Called, Asking, Raising, Ended}
 use Rattle.code_types.specs.Steps.{Move, Goes, Makes, Asks, Awaits, Stays, left_with, made, executed, entered, called, unhandled, caught, move_in, Run, At, Over, run_behind, run_with, run_after, step, steps, new_frame}
 use Rattle.code_types.specs.Talk.{Reaches, Comes, TalkFrom, CodeTalk, start_in, start_of}
 use Rattle.code_types.proofs.ManySteps.{steps-over, one_talk}
+use Rattle.run_laws.proofs.Retiming.{reached_law}
 use Rattle.run_laws.proofs.OpenRegions.{asks_in, asks_in-append}
 
 -- ---- who waits for an answer
@@ -294,3 +295,45 @@ fewer_answers code instance process arguments answers behind n trace whole some 
           low = w.low;
         })
     ]
+
+-- ---- fronts
+
+tail_same : {x y : Item} {xs ys : List Item} → x ∷ xs ≡ y ∷ ys → xs ≡ ys
+tail_same e = cc
+
+-- of two that begin a trace the one begins the other, or stops short of its last item
+fronts : (base : List Item) (item : Item) (other t : List Item) → Begins (base ++ item ∷ []) t → Begins other t → Begins (base ++ item ∷ []) other ⊎ Begins other base
+fronts base item [] t front back = inr (base, refl)
+fronts [] item (x ∷ other) t (rest, e) (more, f) =
+    let both : item ∷ rest ≡ x ∷ (other ++ more) = sym e ∙ f in
+    let same : x ≡ item = cc in
+    inl (other, ap (λ (y : Item). y ∷ other) same)
+fronts (b ∷ base) item (x ∷ other) t (rest, e) (more, f) =
+    let both : b ∷ ((base ++ item ∷ []) ++ rest) ≡ x ∷ (other ++ more) = sym e ∙ f in
+    let same : x ≡ b = cc in
+    elim (fronts base item other ((base ++ item ∷ []) ++ rest) (rest, refl) (more, tail_same both)) [
+      | inl (left, is) ↦ inl (left, ap (λ (y : Item). y ∷ other) same ∙ ap (λ (ys : List Item). b ∷ ys) is)
+      | inr (left, is) ↦ inr (left, ap (λ (y : Item). y ∷ base) (sym same) ∙ ap (λ (ys : List Item). x ∷ ys) is)
+    ]
+
+-- What begins the talk with more answers, and has no more requests before its last item than there are answers, begins the
+-- talk with these.
+pub front_begins : (code : Code) (instance process : ℕ) (arguments : List ℤ) (answers behind : List Answer) (n : ℕ) (base : List Item) (item : Item) (trace whole : List Item) → 1 ≤ n
+    → CodeTalk code instance process arguments answers n trace
+    → CodeTalk code instance process arguments (answers ++ behind) n whole
+    → length (asks_in base) ≡ length answers
+    → Begins (base ++ item ∷ []) whole
+    → Begins (base ++ item ∷ []) trace
+front_begins code instance process arguments answers behind n base item trace whole some few more counted begins = elim (fewer_answers code instance process arguments answers behind n trace whole some few more) [
+  | inl same ↦ subst (Begins (base ++ item ∷ [])) same begins
+  | inr wants ↦ elim (fronts base item trace whole begins (reached_law code instance process arguments answers behind n trace whole wants.state wants.reaches more wants.low)) [
+    | inl is ↦ is
+    | inr (rest, short) ↦ absurd (
+        let asked = wants.counted in
+        let parts = ap (λ (l : List Item). length (asks_in l)) short in
+        let split = ap length (asks_in-append trace rest) in
+        let sum = length-append (asks_in trace) (asks_in rest) in
+        let f : ⊥ = omega (arith, asked, counted, parts, split, sum) in
+        f)
+  ]
+]

@@ -100,10 +100,10 @@ pub record KeptSome (p : CheckedTree) (w : World) (before : List Event) : Type 0
   pub opens : ℕ → Option Request
   pub kept : Kept p w before opens
 
-line_on : (i : ℕ) (before : List Event) (event : Event) (items : List Item) → items_by i event ≡ items → line_of i (before ++ event ∷ []) ≡ line_of i before ++ items
+pub line_on : (i : ℕ) (before : List Event) (event : Event) (items : List Item) → items_by i event ≡ items → line_of i (before ++ event ∷ []) ≡ line_of i before ++ items
 line_on i before event items e = flat_map-append (items_by i) before (event ∷ []) ∙ ap (λ (l : List Item). line_of i before ++ l) (append-nil (items_by i event) ∙ e)
 
-answers_on : (i : ℕ) (before : List Event) (event : Event) (bs : List Answer) → answers_by i event ≡ bs → answers_of i (before ++ event ∷ []) ≡ answers_of i before ++ bs
+pub answers_on : (i : ℕ) (before : List Event) (event : Event) (bs : List Answer) → answers_by i event ≡ bs → answers_of i (before ++ event ∷ []) ≡ answers_of i before ++ bs
 answers_on i before event bs e = flat_map-append (answers_by i) before (event ∷ []) ∙ ap (λ (l : List Answer). answers_of i before ++ l) (append-nil (answers_by i event) ∙ e)
 
 opened_on : (p : CheckedTree) (i : ℕ) (before : List Event) (event : Event) (items : List Item) (bs : List Answer) (o : Option Request) → items_by i event ≡ items → answers_by i event ≡ bs → IsOpenWith p (line_of i before ++ items) (answers_of i before ++ bs) o → IsOpenWith p (line_of i (before ++ event ∷ [])) (answers_of i (before ++ event ∷ [])) o
@@ -120,7 +120,7 @@ quiet_on p i before event o e f h =
 pub if_true : {A : Type 0} (t : Bool) (x y : A) → t ≡ true → (if t then x else y) ≡ x
 if_true t x y e = rw e refl
 
-if_false : {A : Type 0} (t : Bool) (x y : A) → t ≡ false → (if t then x else y) ≡ y
+pub if_false : {A : Type 0} (t : Bool) (x y : A) → t ≡ false → (if t then x else y) ≡ y
 if_false t x y e = rw e refl
 
 -- one phase is set

@@ -1,4 +1,3 @@
-pub mod SameRuns
 pub mod Held
 pub mod Values
 pub mod SoundFacts
@@ -17,9 +16,10 @@ pub mod WorldValues
 pub mod WorldSteps
 pub mod Journals
 pub mod JournalLaws
-pub mod NextFits
+pub mod Suits
 pub mod Growing
 pub mod GrowingExpressions
 pub mod GrowingStatements
 pub mod GrowingTalks
 pub mod FewerAnswers
+pub mod CodeJournals

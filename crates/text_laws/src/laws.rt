@@ -1,5 +1,5 @@
 // Laws of the runs of a text. Each is a fact about the definitions, which a caller learns by calling the function.
-ghost use Rattle.text_laws.specs.Laws.{AsksFitLaw, FactsAreSoundLaw, NextFitsLaw, RunFitsLaw, SameRunsLaw, SameTalkLaw, TalkGrowsLaw, WorldKeepsLaw};
+ghost use Rattle.text_laws.specs.Laws.{AsksFitLaw, FactsAreSoundLaw, RunFitsLaw, SameRunsLaw, TalkGrowsLaw, WorldKeepsLaw};
 
 /// The facts of a typed program are sound.
 pub fn facts_are_sound_law()
@@ -16,11 +16,6 @@ pub fn talk_grows_law()
     ensures { TalkGrowsLaw }
 {}
 
-/// Of journals whose births fit the runs of a code with the text's talk are those of the text.
-pub fn same_talk_law()
-    ensures { SameTalkLaw }
-{}
-
 /// In an allowed journal whose requests fit the text, values stay of their modes.
 pub fn world_keeps_law()
     ensures { WorldKeepsLaw }
@@ -34,9 +29,4 @@ pub fn run_fits_law()
 /// The runs of a code with the text's talk are those of the text.
 pub fn same_runs_law()
     ensures { SameRunsLaw }
-{}
-
-/// In a run of a code with the text's talk each next request fits the facts, and each instance names a body.
-pub fn next_fits_law()
-    ensures { NextFitsLaw }
 {}
