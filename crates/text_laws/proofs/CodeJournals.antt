@@ -31,7 +31,7 @@ use Rattle.text_laws.specs.Journals.{AsksText, IsOpenWith, PhaseFits, IsBirth}
 use Rattle.text_laws.specs.Laws.{AreTypedFacts, HasFittingTalks, SameRunsLaw}
 use Rattle.text_laws.proofs.SoundFacts.{facts_are_sound}
 use Rattle.text_laws.proofs.TalkAsks.{talk_asks}
-use Rattle.text_laws.proofs.Growing.{begins_on}
+use Rattle.text_laws.proofs.Traces.{begins_on}
 use Rattle.text_laws.proofs.GrowingTalks.{talk_grows}
 use Rattle.text_laws.proofs.FewerAnswers.{front_begins}
 use Rattle.text_laws.proofs.WorldSteps.{differs}

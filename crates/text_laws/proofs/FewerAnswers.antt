@@ -23,8 +23,9 @@ use Rattle.code_types.specs.State.{Frame, Slot, State, Mode, Running, Called, As
 use Rattle.code_types.specs.Steps.{Move, Goes, Makes, Asks, Awaits, Stays, left_with, made, executed, entered, called, unhandled, caught, move_in, Run, At, Over, run_behind, run_with, run_after, step, steps, new_frame}
 use Rattle.code_types.specs.Talk.{Reaches, Comes, TalkFrom, CodeTalk, start_in, start_of}
 use Rattle.code_types.proofs.ManySteps.{steps-over, one_talk}
-use Rattle.run_laws.proofs.Retiming.{reached_law}
+use Rattle.run_laws.proofs.Retiming.{timed, retimed, reached_law}
 use Rattle.run_laws.proofs.OpenRegions.{asks_in, asks_in-append}
+use Rattle.text_laws.proofs.Traces.{ticks_tick, ticks_ask, asks_tick, asks_ask}
 
 -- ---- who waits for an answer
 
@@ -126,16 +127,6 @@ answered_owing s request slots answer framed = by_frames s.frames framed
     by_frames [] none = absurd none
     by_frames (frame ∷ below) some = refl
 
-pub ticks_tick : (trace : List Item) → ticks_in (trace ++ Tick ∷ []) ≡ suc (ticks_in trace)
-ticks_tick [] = refl
-ticks_tick (Tick ∷ items) = ap suc (ticks_tick items)
-ticks_tick (Ask request ∷ items) = ticks_tick items
-
-ticks_ask : (trace : List Item) (request : Request) → ticks_in (trace ++ Ask request ∷ []) ≡ ticks_in trace
-ticks_ask [] request = refl
-ticks_ask (Tick ∷ items) request = ap suc (ticks_ask items request)
-ticks_ask (Ask other ∷ items) request = ticks_ask items request
-
 -- ---- with more answers behind
 
 abbrev longer : List Answer → Session → Session
@@ -167,16 +158,15 @@ answer_on behind total n s request slots trace (answer ∷ answers) ticks framed
 going_on : (behind : List Answer) (total n : ℕ) (s : State) (session : Session) (mode : Mode) (m : Move) → Owes m → length (asks_in session.trace) + length session.answers ≡ total → ticks_in session.trace + session.ticks ≡ n → 1 ≤ session.ticks → StepsOn behind total n session mode (run_after s session m) (run_after s (longer behind session) m)
 going_on behind total n s session mode (Goes next) owing counted ticked some = (refl, record { counted = omega (arith, counted, owing); framed = none_owed next.mode next.frames owing; ticked = ticked; some = some })
 going_on behind total n s session mode (Makes next) owing counted ticked some =
-    let same : length (asks_in (session.trace ++ Tick ∷ [])) ≡ length (asks_in session.trace) = ap length (asks_in-append session.trace (Tick ∷ []) ∙ append-nil (asks_in session.trace)) in
+    let same = asks_tick session.trace in
     let more = ticks_tick session.trace in
     tick_on behind total n next session mode (session.trace ++ Tick ∷ []) session.answers session.ticks owing (omega (arith, counted, same)) (omega (arith, ticked, more))
 going_on behind total n s session mode (Asks request next) owing counted ticked some =
-    let more = ap length (asks_in-append session.trace (Ask request ∷ [])) in
-    let one = length-append (asks_in session.trace) (request ∷ []) in
+    let more = asks_ask session.trace request in
     let waits : owed next.mode ≡ 1 = ap owed owing.mode in
     let same = ticks_ask session.trace request in
     (refl, record {
-      counted = omega (arith, counted, more, one, waits);
+      counted = omega (arith, counted, more, waits);
       framed = subst (λ (k : Mode). FramedIn k next.frames) (sym owing.mode) owing.framed;
       ticked = omega (arith, ticked, same);
       some = some;
@@ -255,6 +245,18 @@ stops code behind total n (suc count) s from q trace counts e = by_next (run_aft
         ap (λ (as' : List Answer). record { trace = from.trace; answers = as'; ticks = from.ticks }) none ∙ ap (λ (l : List Item). record { trace = l; answers = []; ticks = from.ticks }) (sym at) in
         inr (record { count = zero; state = s; ticks = from.ticks; by = ap (At s) stands; counted = omega (arith, counted, asks, left, one); low = omega (arith, ticked, some, ticks) })
 
+-- so many steps keep the counts
+steps_count : (code : Code) (total n count : ℕ) (s : State) (from : Session) (q : State) (to : Session) → Counts total n s from → steps code count (At s from) ≡ At q to → Counts total n q to
+steps_count code total n zero s from q to counts e =
+    let s_is : s ≡ q = cc in
+    let from_is : from ≡ to = cc in
+    subst (λ (t : Session). Counts total n q t) from_is (subst (λ (t : State). Counts total n t from) s_is counts)
+steps_count code total n (suc count) s from q to counts e = by_next (run_after s from (move_in code s s.mode s.frames)) (mode_on code [] total n s from s.mode refl counts) e (λ next there counts' k. steps_count code total n count next there q to counts' k)
+  where
+    by_next : (r : Run) → StepsOn [] total n from s.mode r (run_after s (longer [] from) (move_in code s s.mode s.frames)) → steps code count r ≡ At q to → ((next : State) (there : Session) → Counts total n next there → steps code count (At next there) ≡ At q to → Counts total n q to) → Counts total n q to
+    by_next (At next there) on k rest = rest next there on.1 k
+    by_next (Over t u) on k rest = absurd (let no : Over t u ≡ At q to = sym (steps-over code count t u) ∙ k in let f : ⊥ = cc in f)
+
 -- ---- talks
 
 -- a process at its start owes nothing
@@ -269,6 +271,19 @@ start_counts instance process arguments (Some row) start answers n some is = eli
       subst (λ (s : State). Counts (length answers) n s (session_of answers n)) e
       (record { counted = omega arith; framed = tt; ticked = omega arith; some = some }))
 ]
+
+-- who asks has one request more than answers
+pub asking_counts : (code : Code) (instance process : ℕ) (arguments : List ℤ) (answers : List Answer) (trace : List Item) (state : State) (request : Request) (slots : List Slot) → Reaches code instance process arguments answers trace state → state.mode ≡ Asking request slots → length (asks_in trace) ≡ length answers + 1
+asking_counts code instance process arguments answers trace state request slots reaches asking =
+    let leads = reaches.leads in
+    let t = retimed code leads.count reaches.start (session_of answers leads.ticks) state (record { trace = trace; answers = []; ticks = leads.left }) leads.by in
+    let n : ℕ = 1 + t.made in
+    let counts = steps_count code (length (answers ++ [])) n leads.count reaches.start (session_of (answers ++ []) n) state (timed [] 1 (record { trace = trace; answers = []; ticks = leads.left }))
+    (start_counts instance process arguments (slice_get code.bodies process) reaches.start (answers ++ []) n (omega arith) reaches.starts) (t.again [] 1 (omega arith)) in
+    let counted = counts.counted in
+    let one = ap owed asking in
+    let same = ap length (append-nil answers) in
+    omega (arith, counted, one, same)
 
 -- The talk with more answers is the same, or the talk waits with all its answers given.
 pub record Wants (code : Code) (instance process : ℕ) (arguments : List ℤ) (answers : List Answer) (n : ℕ) (trace : List Item) : Type 0 where

@@ -13,17 +13,7 @@ use Rattle.source_meaning.specs.Store.{Store, OpenCall}
 use Rattle.source_meaning.specs.Flow.{Flow, Goes, Raised, Exits, Returned, Stops, Gone, Bound, Meaning, then_do, takes_answer, Given, Halts, reply_in, asked_in, asked, done, finish, finished, after_tick}
 use Rattle.source_meaning.specs.ExprMeaning.{Setting}
 use Rattle.source_meaning.specs.StatementMeaning.{is_open, opened, at_region, then_leave, ends_exit, labelled_as, caught, turns, turn_or_end}
-
--- ---- traces
-
-pub begins_same : (t : List Item) → Begins t t
-begins_same t = ([], sym (append-nil t))
-
-pub begins_on : (a b c : List Item) → Begins a b → Begins b c → Begins a c
-begins_on a b c (xs, e) (ys, f) = (xs ++ ys, f ∙ (ap (λ (t : List Item). t ++ ys) e ∙ append_assoc a xs ys))
-
-pub begins_more : (a b : List Item) (item : Item) → Begins a b → Begins a (b ++ item ∷ [])
-begins_more a b item is = begins_on a b (b ++ item ∷ []) is (item ∷ [], refl)
+use Rattle.text_laws.proofs.Traces.{begins_same, begins_on, begins_more}
 
 -- ---- outcomes
 

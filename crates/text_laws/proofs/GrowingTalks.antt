@@ -18,7 +18,8 @@ use Rattle.source_meaning.specs.BodyMeaning.{Ending, Through, Out, Halted, Ended
 use Rattle.source_meaning.specs.Talk.{process_end, talk_at, split_over, parameter_scalars, no_talk, talk_in, talk}
 use Rattle.source_meaning.proofs.EnoughBodies.{enough_law}
 use Rattle.text_laws.specs.Laws.{TalkGrowsLaw}
-use Rattle.text_laws.proofs.Growing.{More, extended, TellsOn, GrowsBy, Grows, begins_same, raises, then_grows, if_grows, done_grows, finish_grows, tick_grows, caught_grows}
+use Rattle.text_laws.proofs.Traces.{begins_same}
+use Rattle.text_laws.proofs.Growing.{More, extended, TellsOn, GrowsBy, Grows, raises, then_grows, if_grows, done_grows, finish_grows, tick_grows, caught_grows}
 use Rattle.text_laws.proofs.GrowingExpressions.{CallsGrow, Sides}
 use Rattle.text_laws.proofs.GrowingStatements.{statements_grow, handler_grows}
 

@@ -49,7 +49,7 @@ use Rattle.text_laws.proofs.ExprAsks.{rows_typed}
 use Rattle.text_laws.proofs.TalkAsks.{talk_asks}
 use Rattle.text_laws.proofs.WorldValues.{StoreIsOfModes}
 use Rattle.text_laws.proofs.Journals.{births_first, first_in, KeptSome, if_true, step_kept}
-use Rattle.text_laws.proofs.Growing.{begins_on}
+use Rattle.text_laws.proofs.Traces.{begins_on}
 use Rattle.text_laws.proofs.GrowingTalks.{talk_grows}
 
 -- ---- the opening

@@ -16,7 +16,7 @@ pub mod WorldValues
 pub mod WorldSteps
 pub mod Journals
 pub mod JournalLaws
-pub mod Suits
+pub mod Traces
 pub mod Growing
 pub mod GrowingExpressions
 pub mod GrowingStatements
