@@ -180,7 +180,7 @@ first_keeps : (xs ys : List Birth) (birth : Birth) → first_birth xs ≡ Some b
 first_keeps [] ys birth e = absurd (let f : ⊥ = cc in f)
 first_keeps (x ∷ xs) ys birth e = e
 
-born_more : (before more : List Event) (who : ℕ) (birth : Birth) → born_of who before ≡ Some birth → born_of who (before ++ more) ≡ Some birth
+pub born_more : (before more : List Event) (who : ℕ) (birth : Birth) → born_of who before ≡ Some birth → born_of who (before ++ more) ≡ Some birth
 born_more before more zero birth e = ap first_birth (flat_map-append (births_by 0) before more) ∙ first_keeps (flat_map (births_by 0) before) (flat_map (births_by 0) more) birth e
 born_more before more (suc zero) birth e = e
 born_more before more (suc (suc i)) birth e = ap first_birth (flat_map-append (births_by (suc (suc i))) before more) ∙ first_keeps (flat_map (births_by (suc (suc i))) before) (flat_map (births_by (suc (suc i))) more) birth e

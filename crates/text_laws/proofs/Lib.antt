@@ -23,3 +23,4 @@ pub mod GrowingStatements
 pub mod GrowingTalks
 pub mod FewerAnswers
 pub mod CodeJournals
+pub mod Suits

@@ -1,5 +1,5 @@
 -- The laws of the runs of a text.
-use Rattle.std.specs.Prelude.{◌≡◌, ◌↔◌, ℕ, ◌≤◌, true, List, ◌++◌, ℤ, length, Some, slice_get, IsSomeAnd}
+use Rattle.std.specs.Prelude.{◌≡◌, ◌↔◌, ℕ, ◌≤◌, List, ◌++◌, ℤ, Some, slice_get}
 use Rattle.kernel_base.specs.declared.facts.Facts.{Facts}
 use Rattle.kernel_base.specs.declared.answer.Answer.{Answer}
 use Rattle.kernel_base.specs.declared.event.Event.{Event}
@@ -10,10 +10,10 @@ use Rattle.world_model.specs.Allowed.{IsRun}
 use Rattle.program_trees.specs.ProgramTree.{BodyRowTree, CheckedTree}
 use Rattle.code_types.specs.declared.code.Code.{Code}
 use Rattle.code_types.specs.Talk.{CodeTalk}
-use Rattle.code_types.specs.Runs.{Begins, IsCodeRun, RequestsFit, BirthsFit}
-use Rattle.source_meaning.specs.Talk.{talk, parameter_scalars}
-use Rattle.source_meaning.specs.Fitting.{has_instances, HasFittingAnswers, FitsBody, AreOfTypes, IsFitting}
-use Rattle.source_meaning.specs.Runs.{IsSourceRun, talk_in_journal}
+use Rattle.code_types.specs.Runs.{Begins, IsCodeRun, Suits}
+use Rattle.source_meaning.specs.Talk.{talk}
+use Rattle.source_meaning.specs.Fitting.{FitsBody, AreOfTypes, IsFitting}
+use Rattle.source_meaning.specs.Runs.{IsSourceRun}
 use Rattle.source_meaning.specs.Facts.{AreFactsOf}
 use Rattle.source_meaning.specs.Typed.{IsTyped}
 use Rattle.text_laws.specs.Journals.{AllAskText, KeepsValues}
@@ -81,3 +81,8 @@ pub record RunFitsLaw : Type 0 where
 -- From the facts of a typed program the runs of a code that has the text's talks wherever answers fit are those of the text.
 abbrev pub SameRunsLaw : Type 0
 SameRunsLaw = (p : CheckedTree) (code : Code) (facts : Facts) (events : List Event) → AreTypedFacts p facts → HasFittingTalks p code → IsCodeRun code facts events ↔ IsSourceRun p facts events
+
+-- Such a code suits the facts: each next request fits them, each instance names a body with as many parameters as it has arguments,
+-- and each answer has as many scalars as the waiting instruction takes.
+abbrev pub SuitsLaw : Type 0
+SuitsLaw = (p : CheckedTree) (code : Code) (facts : Facts) → AreTypedFacts p facts → HasFittingTalks p code → Suits code facts

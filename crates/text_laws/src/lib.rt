@@ -7,6 +7,6 @@
 mod laws;
 
 pub use laws::{
-    asks_fit_law, facts_are_sound_law, run_fits_law, same_runs_law, talk_grows_law,
+    asks_fit_law, facts_are_sound_law, run_fits_law, same_runs_law, suits_law, talk_grows_law,
     world_keeps_law,
 };
