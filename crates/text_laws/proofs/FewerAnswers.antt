@@ -105,7 +105,7 @@ caught_owing code s exception f below (Some handler) is = refl
 
 -- Each answer but those that are left was given to a request, and at most one request is without its answer; there are ticks
 -- left, of so many.
-record Counts (total n : ℕ) (s : State) (session : Session) : Type 0 where
+record CountsAnswers (total n : ℕ) (s : State) (session : Session) : Type 0 where
   pub counted : length (asks_in session.trace) + length session.answers ≡ total + owed s.mode
   pub framed : FramedIn s.mode s.frames
   pub ticked : ticks_in session.trace + session.ticks ≡ n
@@ -129,39 +129,39 @@ answered_owing s request slots answer framed = by_frames s.frames framed
 
 -- ---- with more answers behind
 
-abbrev longer : List Answer → Session → Session
-longer behind session = record { trace = session.trace; answers = session.answers ++ behind; ticks = session.ticks }
+abbrev with_behind : List Answer → Session → Session
+with_behind behind session = record { trace = session.trace; answers = session.answers ++ behind; ticks = session.ticks }
 
 -- what one step comes to with more answers behind: the same, unless an answer is wanting
 abbrev StepsOn : List Answer → ℕ → ℕ → Session → Mode → Run → Run → Type 0
-StepsOn behind total n session mode (At next to) other = (other ≡ At next (longer behind to)) × Counts total n next to
+StepsOn behind total n session mode (At next to) other = (other ≡ At next (with_behind behind to)) × CountsAnswers total n next to
 StepsOn behind total n session mode (Over q trace) other = (other ≡ Over q trace) ⊎ ((session.answers ≡ []) × (trace ≡ session.trace) × (owed mode ≡ 1))
 
-tick_on : (behind : List Answer) (total n : ℕ) (next : State) (session : Session) (mode : Mode) (trace : List Item) (answers : List Answer) (ticks : ℕ) → owed next.mode ≡ 0 → length (asks_in trace) + length answers ≡ total → ticks_in trace + ticks ≡ suc n → StepsOn behind total n session mode (run_behind next (tick_of trace answers ticks)) (run_behind next (tick_of trace (answers ++ behind) ticks))
-tick_on behind total n next session mode trace answers zero none counted ticked = inl refl
-tick_on behind total n next session mode trace answers (suc zero) none counted ticked = inl refl
-tick_on behind total n next session mode trace answers (suc (suc k)) none counted ticked = (refl, record { counted = omega (arith, counted, none); framed = none_owed next.mode next.frames none; ticked = omega (arith, ticked); some = omega arith })
+tick_steps : (behind : List Answer) (total n : ℕ) (next : State) (session : Session) (mode : Mode) (trace : List Item) (answers : List Answer) (ticks : ℕ) → owed next.mode ≡ 0 → length (asks_in trace) + length answers ≡ total → ticks_in trace + ticks ≡ suc n → StepsOn behind total n session mode (run_behind next (tick_of trace answers ticks)) (run_behind next (tick_of trace (answers ++ behind) ticks))
+tick_steps behind total n next session mode trace answers zero none counted ticked = inl refl
+tick_steps behind total n next session mode trace answers (suc zero) none counted ticked = inl refl
+tick_steps behind total n next session mode trace answers (suc (suc k)) none counted ticked = (refl, record { counted = omega (arith, counted, none); framed = none_owed next.mode next.frames none; ticked = omega (arith, ticked); some = omega arith })
 
-fit_on : (behind : List Answer) (total n : ℕ) (s next : State) (session to : Session) (mode : Mode) (fits : Bool) → Counts total n next to → StepsOn behind total n session mode (if fits then At next to else Over s to.trace) (if fits then At next (longer behind to) else Over s to.trace)
-fit_on behind total n s next session to mode true counts = (refl, counts)
-fit_on behind total n s next session to mode false counts = inl refl
+fit_steps : (behind : List Answer) (total n : ℕ) (s next : State) (session to : Session) (mode : Mode) (fits : Bool) → CountsAnswers total n next to → StepsOn behind total n session mode (if fits then At next to else Over s to.trace) (if fits then At next (with_behind behind to) else Over s to.trace)
+fit_steps behind total n s next session to mode true counts = (refl, counts)
+fit_steps behind total n s next session to mode false counts = inl refl
 
-answer_on : (behind : List Answer) (total n : ℕ) (s : State) (request : Request) (slots : List Slot) (trace : List Item) (answers : List Answer) (ticks : ℕ) → IsFramed s.frames request → length (asks_in trace) + length answers ≡ total + 1 → ticks_in trace + ticks ≡ n → 1 ≤ ticks
+answer_steps : (behind : List Answer) (total n : ℕ) (s : State) (request : Request) (slots : List Slot) (trace : List Item) (answers : List Answer) (ticks : ℕ) → IsFramed s.frames request → length (asks_in trace) + length answers ≡ total + 1 → ticks_in trace + ticks ≡ n → 1 ≤ ticks
     → StepsOn behind total n (record { trace = trace; answers = answers; ticks = ticks }) (Asking request slots) (run_with s request slots (first_answer trace answers ticks) trace) (run_with s request slots (first_answer trace (answers ++ behind) ticks) trace)
-answer_on behind total n s request slots trace [] ticks framed counted ticked some = inr (refl, refl, refl)
-answer_on behind total n s request slots trace (answer ∷ answers) ticks framed counted ticked some =
+answer_steps behind total n s request slots trace [] ticks framed counted ticked some = inr (refl, refl, refl)
+answer_steps behind total n s request slots trace (answer ∷ answers) ticks framed counted ticked some =
     let next : State = answered s request slots answer in
     let none : owed next.mode ≡ 0 = answered_owing s request slots answer framed in
-    fit_on behind total n s next (record { trace = trace; answers = answer ∷ answers; ticks = ticks }) (record { trace = trace; answers = answers; ticks = ticks }) (Asking request slots) (fits_request request slots answer)
+    fit_steps behind total n s next (record { trace = trace; answers = answer ∷ answers; ticks = ticks }) (record { trace = trace; answers = answers; ticks = ticks }) (Asking request slots) (fits_request request slots answer)
     (record { counted = omega (arith, counted, none); framed = none_owed next.mode next.frames none; ticked = ticked; some = some })
 
-going_on : (behind : List Answer) (total n : ℕ) (s : State) (session : Session) (mode : Mode) (m : Move) → Owes m → length (asks_in session.trace) + length session.answers ≡ total → ticks_in session.trace + session.ticks ≡ n → 1 ≤ session.ticks → StepsOn behind total n session mode (run_after s session m) (run_after s (longer behind session) m)
-going_on behind total n s session mode (Goes next) owing counted ticked some = (refl, record { counted = omega (arith, counted, owing); framed = none_owed next.mode next.frames owing; ticked = ticked; some = some })
-going_on behind total n s session mode (Makes next) owing counted ticked some =
+going_steps : (behind : List Answer) (total n : ℕ) (s : State) (session : Session) (mode : Mode) (m : Move) → Owes m → length (asks_in session.trace) + length session.answers ≡ total → ticks_in session.trace + session.ticks ≡ n → 1 ≤ session.ticks → StepsOn behind total n session mode (run_after s session m) (run_after s (with_behind behind session) m)
+going_steps behind total n s session mode (Goes next) owing counted ticked some = (refl, record { counted = omega (arith, counted, owing); framed = none_owed next.mode next.frames owing; ticked = ticked; some = some })
+going_steps behind total n s session mode (Makes next) owing counted ticked some =
     let same = asks_tick session.trace in
     let more = ticks_tick session.trace in
-    tick_on behind total n next session mode (session.trace ++ Tick ∷ []) session.answers session.ticks owing (omega (arith, counted, same)) (omega (arith, ticked, more))
-going_on behind total n s session mode (Asks request next) owing counted ticked some =
+    tick_steps behind total n next session mode (session.trace ++ Tick ∷ []) session.answers session.ticks owing (omega (arith, counted, same)) (omega (arith, ticked, more))
+going_steps behind total n s session mode (Asks request next) owing counted ticked some =
     let more = asks_ask session.trace request in
     let waits : owed next.mode ≡ 1 = ap owed owing.mode in
     let same = ticks_ask session.trace request in
@@ -171,15 +171,15 @@ going_on behind total n s session mode (Asks request next) owing counted ticked 
       ticked = omega (arith, ticked, same);
       some = some;
     })
-going_on behind total n s session mode (Awaits request slots) owing counted ticked some = absurd owing
-going_on behind total n s session mode Stays owing counted ticked some = inl refl
+going_steps behind total n s session mode (Awaits request slots) owing counted ticked some = absurd owing
+going_steps behind total n s session mode Stays owing counted ticked some = inl refl
 
 -- a going mode, in which none waits
-goes_on_by : (code : Code) (behind : List Answer) (total n : ℕ) (s : State) (session : Session) (mode : Mode) → owed mode ≡ 0 → Owes (move_in code s mode s.frames) → s.mode ≡ mode → Counts total n s session → StepsOn behind total n session mode (run_after s session (move_in code s mode s.frames)) (run_after s (longer behind session) (move_in code s mode s.frames))
-goes_on_by code behind total n s session mode none owing is counts =
+going_mode : (code : Code) (behind : List Answer) (total n : ℕ) (s : State) (session : Session) (mode : Mode) → owed mode ≡ 0 → Owes (move_in code s mode s.frames) → s.mode ≡ mode → CountsAnswers total n s session → StepsOn behind total n session mode (run_after s session (move_in code s mode s.frames)) (run_after s (with_behind behind session) (move_in code s mode s.frames))
+going_mode code behind total n s session mode none owing is counts =
     let counted = counts.counted in
     let zero' = ap owed is ∙ none in
-    going_on behind total n s session mode (move_in code s mode s.frames) owing (omega (arith, counted, zero')) counts.ticked counts.some
+    going_steps behind total n s session mode (move_in code s mode s.frames) owing (omega (arith, counted, zero')) counts.ticked counts.some
 
 running_owing : (code : Code) (s : State) (frames : List Frame) → s.frames ≡ frames → Owes (move_in code s Running frames)
 running_owing code s [] is = tt
@@ -193,20 +193,20 @@ raising_owing : (code : Code) (s : State) (exception : Exc) (frames : List Frame
 raising_owing code s exception [] is = tt
 raising_owing code s exception (f ∷ below) is = caught_owing code s exception f below (taker code.handlers f.place exception) is
 
-mode_on : (code : Code) (behind : List Answer) (total n : ℕ) (s : State) (session : Session) (mode : Mode) → s.mode ≡ mode → Counts total n s session → StepsOn behind total n session mode (run_after s session (move_in code s mode s.frames)) (run_after s (longer behind session) (move_in code s mode s.frames))
-mode_on code behind total n s session Ended is counts = inl refl
-mode_on code behind total n s session (Asking request slots) is counts =
+mode_steps : (code : Code) (behind : List Answer) (total n : ℕ) (s : State) (session : Session) (mode : Mode) → s.mode ≡ mode → CountsAnswers total n s session → StepsOn behind total n session mode (run_after s session (move_in code s mode s.frames)) (run_after s (with_behind behind session) (move_in code s mode s.frames))
+mode_steps code behind total n s session Ended is counts = inl refl
+mode_steps code behind total n s session (Asking request slots) is counts =
     let counted = counts.counted in
     let one = ap owed is in
-    answer_on behind total n s request slots session.trace session.answers session.ticks (subst (λ (m : Mode). FramedIn m s.frames) is counts.framed) (omega (arith, counted, one)) counts.ticked counts.some
-mode_on code behind total n s session Running is counts = goes_on_by code behind total n s session Running refl (running_owing code s s.frames refl) is counts
-mode_on code behind total n s session Called is counts = goes_on_by code behind total n s session Called refl (calling_owing code s s.frames) is counts
-mode_on code behind total n s session (Raising exception) is counts = goes_on_by code behind total n s session (Raising exception) refl (raising_owing code s exception s.frames refl) is counts
+    answer_steps behind total n s request slots session.trace session.answers session.ticks (subst (λ (m : Mode). FramedIn m s.frames) is counts.framed) (omega (arith, counted, one)) counts.ticked counts.some
+mode_steps code behind total n s session Running is counts = going_mode code behind total n s session Running refl (running_owing code s s.frames refl) is counts
+mode_steps code behind total n s session Called is counts = going_mode code behind total n s session Called refl (calling_owing code s s.frames) is counts
+mode_steps code behind total n s session (Raising exception) is counts = going_mode code behind total n s session (Raising exception) refl (raising_owing code s exception s.frames refl) is counts
 
 -- ---- runs
 
 -- a state that waits where no answer is left
-record Waits (code : Code) (total n : ℕ) (s : State) (from : Session) (trace : List Item) : Type 0 where
+record WaitsAt (code : Code) (total n : ℕ) (s : State) (from : Session) (trace : List Item) : Type 0 where
   pub count : ℕ
   pub state : State
   pub ticks : ℕ
@@ -218,15 +218,15 @@ over_over : {q t : State} {a b : List Item} → Over q a ≡ Over t b → (q ≡
 over_over e = (cc, cc)
 
 -- a run that is over is so with more answers behind, unless an answer is wanting
-stops : (code : Code) (behind : List Answer) (total n count : ℕ) (s : State) (from : Session) (q : State) (trace : List Item) → Counts total n s from → steps code count (At s from) ≡ Over q trace
-    → (steps code count (At s (longer behind from)) ≡ Over q trace) ⊎ Waits code total n s from trace
-stops code behind total n zero s from q trace counts e = absurd (let f : ⊥ = cc in f)
-stops code behind total n (suc count) s from q trace counts e = by_next (run_after s from (move_in code s s.mode s.frames)) refl (mode_on code behind total n s from s.mode refl counts) e
-    (λ next to counts' k. stops code behind total n count next to q trace counts' k)
+stops_alike : (code : Code) (behind : List Answer) (total n count : ℕ) (s : State) (from : Session) (q : State) (trace : List Item) → CountsAnswers total n s from → steps code count (At s from) ≡ Over q trace
+    → (steps code count (At s (with_behind behind from)) ≡ Over q trace) ⊎ WaitsAt code total n s from trace
+stops_alike code behind total n zero s from q trace counts e = absurd (let f : ⊥ = cc in f)
+stops_alike code behind total n (suc count) s from q trace counts e = by_next (run_after s from (move_in code s s.mode s.frames)) refl (mode_steps code behind total n s from s.mode refl counts) e
+    (λ next to counts' k. stops_alike code behind total n count next to q trace counts' k)
   where
-    by_next : (r : Run) → run_after s from (move_in code s s.mode s.frames) ≡ r → StepsOn behind total n from s.mode r (run_after s (longer behind from) (move_in code s s.mode s.frames)) → steps code count r ≡ Over q trace
-        → ((next : State) (to : Session) → Counts total n next to → steps code count (At next to) ≡ Over q trace → (steps code count (At next (longer behind to)) ≡ Over q trace) ⊎ Waits code total n next to trace)
-        → (steps code (suc count) (At s (longer behind from)) ≡ Over q trace) ⊎ Waits code total n s from trace
+    by_next : (r : Run) → run_after s from (move_in code s s.mode s.frames) ≡ r → StepsOn behind total n from s.mode r (run_after s (with_behind behind from) (move_in code s s.mode s.frames)) → steps code count r ≡ Over q trace
+        → ((next : State) (to : Session) → CountsAnswers total n next to → steps code count (At next to) ≡ Over q trace → (steps code count (At next (with_behind behind to)) ≡ Over q trace) ⊎ WaitsAt code total n next to trace)
+        → (steps code (suc count) (At s (with_behind behind from)) ≡ Over q trace) ⊎ WaitsAt code total n s from trace
     by_next (At next to) is on k rest = elim (rest next to on.1 k) [
       | inl same ↦ inl (ap (steps code count) on.0 ∙ same)
       | inr w ↦ inr (record { count = suc w.count; state = w.state; ticks = w.ticks; by = ap (steps code w.count) is ∙ w.by; counted = w.counted; low = w.low })
@@ -246,21 +246,21 @@ stops code behind total n (suc count) s from q trace counts e = by_next (run_aft
         inr (record { count = zero; state = s; ticks = from.ticks; by = ap (At s) stands; counted = omega (arith, counted, asks, left, one); low = omega (arith, ticked, some, ticks) })
 
 -- so many steps keep the counts
-steps_count : (code : Code) (total n count : ℕ) (s : State) (from : Session) (q : State) (to : Session) → Counts total n s from → steps code count (At s from) ≡ At q to → Counts total n q to
+steps_count : (code : Code) (total n count : ℕ) (s : State) (from : Session) (q : State) (to : Session) → CountsAnswers total n s from → steps code count (At s from) ≡ At q to → CountsAnswers total n q to
 steps_count code total n zero s from q to counts e =
     let s_is : s ≡ q = cc in
     let from_is : from ≡ to = cc in
-    subst (λ (t : Session). Counts total n q t) from_is (subst (λ (t : State). Counts total n t from) s_is counts)
-steps_count code total n (suc count) s from q to counts e = by_next (run_after s from (move_in code s s.mode s.frames)) (mode_on code [] total n s from s.mode refl counts) e (λ next there counts' k. steps_count code total n count next there q to counts' k)
+    subst (λ (t : Session). CountsAnswers total n q t) from_is (subst (λ (t : State). CountsAnswers total n t from) s_is counts)
+steps_count code total n (suc count) s from q to counts e = by_next (run_after s from (move_in code s s.mode s.frames)) (mode_steps code [] total n s from s.mode refl counts) e (λ next there counts' k. steps_count code total n count next there q to counts' k)
   where
-    by_next : (r : Run) → StepsOn [] total n from s.mode r (run_after s (longer [] from) (move_in code s s.mode s.frames)) → steps code count r ≡ At q to → ((next : State) (there : Session) → Counts total n next there → steps code count (At next there) ≡ At q to → Counts total n q to) → Counts total n q to
+    by_next : (r : Run) → StepsOn [] total n from s.mode r (run_after s (with_behind [] from) (move_in code s s.mode s.frames)) → steps code count r ≡ At q to → ((next : State) (there : Session) → CountsAnswers total n next there → steps code count (At next there) ≡ At q to → CountsAnswers total n q to) → CountsAnswers total n q to
     by_next (At next there) on k rest = rest next there on.1 k
     by_next (Over t u) on k rest = absurd (let no : Over t u ≡ At q to = sym (steps-over code count t u) ∙ k in let f : ⊥ = cc in f)
 
 -- ---- talks
 
 -- a process at its start owes nothing
-start_counts : (instance process : ℕ) (arguments : List ℤ) (row : Option BodyRow) (start : State) (answers : List Answer) (n : ℕ) → 1 ≤ n → start_in instance process arguments row ≡ Some start → Counts (length answers) n start (session_of answers n)
+start_counts : (instance process : ℕ) (arguments : List ℤ) (row : Option BodyRow) (start : State) (answers : List Answer) (n : ℕ) → 1 ≤ n → start_in instance process arguments row ≡ Some start → CountsAnswers (length answers) n start (session_of answers n)
 start_counts instance process arguments None start answers n some is = absurd (let f : ⊥ = cc in f)
 start_counts instance process arguments (Some row) start answers n some is = elim (cases_Bool (row.params == length arguments)) [
   | inr other ↦ absurd (let none : start_in instance process arguments (Some row) ≡ None = rw other refl in let f : ⊥ = cc in f)
@@ -268,7 +268,7 @@ start_counts instance process arguments (Some row) start answers n some is = eli
       let first : State = record { instance = instance; frames = new_frame process row arguments ∷ []; regions = []; mode = Running } in
       let made : start_in instance process arguments (Some row) ≡ Some first = rw same refl in
       let e : first ≡ start = let both : Some first ≡ Some start = sym made ∙ is in cc in
-      subst (λ (s : State). Counts (length answers) n s (session_of answers n)) e
+      subst (λ (s : State). CountsAnswers (length answers) n s (session_of answers n)) e
       (record { counted = omega arith; framed = tt; ticked = omega arith; some = some }))
 ]
 
@@ -300,7 +300,7 @@ fewer_answers code instance process arguments answers behind n trace whole some 
   where
     by_start : (o : Option State) → start_of code instance process arguments ≡ o → TalkFrom code o answers n trace → (whole ≡ trace) ⊎ Wants code instance process arguments answers n trace
     by_start None is none = inl (subst (λ (o : Option State). TalkFrom code o (answers ++ behind) n whole) is more ∙ sym none)
-    by_start (Some start) is comes = elim (stops code behind (length answers) n comes.count start (session_of answers n) comes.stands trace (start_counts instance process arguments (slice_get code.bodies process) start answers n some is) comes.by) [
+    by_start (Some start) is comes = elim (stops_alike code behind (length answers) n comes.count start (session_of answers n) comes.stands trace (start_counts instance process arguments (slice_get code.bodies process) start answers n some is) comes.by) [
       | inl same ↦ inl (one_talk code instance process arguments (answers ++ behind) n whole trace more
           (subst (λ (o : Option State). TalkFrom code o (answers ++ behind) n trace) (sym is) (record { count = comes.count; stands = comes.stands; by = same })))
       | inr w ↦ inr (record {
@@ -317,16 +317,16 @@ tail_same : {x y : Item} {xs ys : List Item} → x ∷ xs ≡ y ∷ ys → xs �
 tail_same e = cc
 
 -- of two that begin a trace the one begins the other, or stops short of its last item
-fronts : (base : List Item) (item : Item) (other t : List Item) → Begins (base ++ item ∷ []) t → Begins other t → Begins (base ++ item ∷ []) other ⊎ Begins other base
-fronts base item [] t front back = inr (base, refl)
-fronts [] item (x ∷ other) t (rest, e) (more, f) =
+either_front : (base : List Item) (item : Item) (other t : List Item) → Begins (base ++ item ∷ []) t → Begins other t → Begins (base ++ item ∷ []) other ⊎ Begins other base
+either_front base item [] t front back = inr (base, refl)
+either_front [] item (x ∷ other) t (rest, e) (more, f) =
     let both : item ∷ rest ≡ x ∷ (other ++ more) = sym e ∙ f in
     let same : x ≡ item = cc in
     inl (other, ap (λ (y : Item). y ∷ other) same)
-fronts (b ∷ base) item (x ∷ other) t (rest, e) (more, f) =
+either_front (b ∷ base) item (x ∷ other) t (rest, e) (more, f) =
     let both : b ∷ ((base ++ item ∷ []) ++ rest) ≡ x ∷ (other ++ more) = sym e ∙ f in
     let same : x ≡ b = cc in
-    elim (fronts base item other ((base ++ item ∷ []) ++ rest) (rest, refl) (more, tail_same both)) [
+    elim (either_front base item other ((base ++ item ∷ []) ++ rest) (rest, refl) (more, tail_same both)) [
       | inl (left, is) ↦ inl (left, ap (λ (y : Item). y ∷ other) same ∙ ap (λ (ys : List Item). b ∷ ys) is)
       | inr (left, is) ↦ inr (left, ap (λ (y : Item). y ∷ base) (sym same) ∙ ap (λ (ys : List Item). x ∷ ys) is)
     ]
@@ -341,7 +341,7 @@ pub front_begins : (code : Code) (instance process : ℕ) (arguments : List ℤ)
     → Begins (base ++ item ∷ []) trace
 front_begins code instance process arguments answers behind n base item trace whole some few more counted begins = elim (fewer_answers code instance process arguments answers behind n trace whole some few more) [
   | inl same ↦ subst (Begins (base ++ item ∷ [])) same begins
-  | inr wants ↦ elim (fronts base item trace whole begins (reached_law code instance process arguments answers behind n trace whole wants.state wants.reaches more wants.low)) [
+  | inr wants ↦ elim (either_front base item trace whole begins (reached_law code instance process arguments answers behind n trace whole wants.state wants.reaches more wants.low)) [
     | inl is ↦ is
     | inr (rest, short) ↦ absurd (
         let asked = wants.counted in

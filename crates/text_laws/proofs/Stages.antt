@@ -21,7 +21,6 @@ use Rattle.code_types.specs.Runs.{ticks_in}
 use Rattle.code_types.proofs.AnswerTest.{gives_tells}
 use Rattle.run_laws.proofs.OpenRegions.{asks_in}
 use Rattle.text_laws.specs.Requests.{FitsText, AskWell}
-use Rattle.text_laws.proofs.Held.{untrue}
 use Rattle.text_laws.proofs.Traces.{ticks_tick, ticks_ask, asks_ask}
 
 -- the trace has a request for each answer that isn't left
@@ -89,15 +88,15 @@ pub record Whole : Type 0 where
   pub ticks : ℕ
 
 -- why a talk stops: its last request has no answer, no ticks are left, or the process has ended
-pub data Rests (answers : List Answer) (n : ℕ) (t : List Item) : Type 0 where
-  waits_on : length (asks_in t) ≡ length answers + 1 → Rests answers n t
-  is_out : n ≤ ticks_in t → Rests answers n t
-  has_ended : (front : List Item) (how : How) → t ≡ front ++ Ask (End how) ∷ [] → Rests answers n t
+pub data StopsFor (answers : List Answer) (n : ℕ) (t : List Item) : Type 0 where
+  want_of_answer : length (asks_in t) ≡ length answers + 1 → StopsFor answers n t
+  want_of_ticks : n ≤ ticks_in t → StopsFor answers n t
+  its_end : (front : List Item) (how : How) → t ≡ front ++ Ask (End how) ∷ [] → StopsFor answers n t
 
 -- a trace that is over: what it asks fits, as far as the answers do, and where they do it has a reason to stop
 pub record Halting (g : Whole) (t : List Item) : Type 0 where
   pub asks : AskWell g.program t g.answers
-  pub rests : HasFittingAnswers g.program t g.answers → Rests g.answers g.ticks t
+  pub rests : HasFittingAnswers g.program t g.answers → StopsFor g.answers g.ticks t
 
 -- the answers so far fit
 abbrev pub Fits : Whole → Session → Type 0
@@ -228,20 +227,14 @@ no_got g Get counts plain k send by xs f = absurd f.gives
 no_got g (End how) counts plain k send by xs f = absurd (let e : Got k send xs by ≡ Done = f.gives in let no : ⊥ = cc in no)
 
 -- so each answer that fits is taken
-filled : (g : Whole) (request : Request) (counts : List ℕ) (a : Answer) → Fills g request counts → FitsAnswer g.program request a → fills counts a ≡ true
-filled g request counts (Got k send xs by) all f = eq-eqb (length xs) (slice_index_or counts k 0) (all k send by xs f)
-filled g request counts a all f = refl
+fills_fitting : (g : Whole) (request : Request) (counts : List ℕ) (a : Answer) → Fills g request counts → FitsAnswer g.program request a → fills counts a ≡ true
+fills_fitting g request counts (Got k send xs by) all f = eq-eqb (length xs) (slice_index_or counts k 0) (all k send by xs f)
+fills_fitting g request counts a all f = refl
 
 takes : (g : Whole) (request : Request) (counts : List ℕ) (a : Answer) → Fills g request counts → FitsAnswer g.program request a → takes_answer request counts a ≡ true
 takes g request counts a all f =
-    let given : gives request a ≡ true = is_true (gives request a) ((gives_tells request a).1 f.gives) in
-    let whole : fills counts a ≡ true = filled g request counts a all f in
-    both (gives request a) (fills counts a) given whole
+    both (gives request a) (fills counts a) ((gives_tells request a).1 f.gives) (fills_fitting g request counts a all f)
   where
-    is_true : (b : Bool) → IsTrue b → b ≡ true
-    is_true true t = refl
-    is_true false t = untrue t
-
     both : (b c : Bool) → b ≡ true → c ≡ true → (b && c) ≡ true
     both b c e f = rw (e, f) refl
 
@@ -260,7 +253,7 @@ module _ (g : Whole) (S : Store → Type 0) where
   reply_by : (request : Request) (counts : List ℕ) (store : Store) (t : List Item) (left : List Answer) (ticks : ℕ) → Here g S store (record { trace = t; answers = left; ticks = ticks }) → (Fits g (record { trace = t; answers = left; ticks = ticks }) → FitsText g.program request) → Fills g request counts → RepliesBy g S store (record { trace = t; answers = left; ticks = ticks }) request (reply_in request counts (first_answer (t ++ Ask request ∷ []) left ticks) (t ++ Ask request ∷ []))
   reply_by request counts store t [] ticks h f all = record {
     asks = ask_on g.program t g.answers request h.stage.asks f;
-    rests = λ fit. waits_on (let n = asks_ask t request in let c = linked_count t g.answers [] h.stage.linked in omega (arith, n, c));
+    rests = λ fit. want_of_answer (let n = asks_ask t request in let c = linked_count t g.answers [] h.stage.linked in omega (arith, n, c));
   }
   reply_by request counts store t (a ∷ left) ticks h f all = given_by (takes_answer request counts a) refl
     where
@@ -299,7 +292,7 @@ module _ (g : Whole) (S : Store → Type 0) where
   does request store s h f plain = bind g S (Answers g request) (asks request [] store s h f (no_got g request [] plain)) (λ v store1 s1 h1 k. goes g S h1 (λ f. tt))
 
   pub finished_halts : (how : How) (store : Store) (from : Session) (a : Answer) (s : Session) → RepliesBy g S store from (End how) (Given a s) → Halting g s.trace
-  finished_halts how store from a s c = record { asks = c.0.stage.asks; rests = λ fit. has_ended from.trace how c.2 }
+  finished_halts how store from a s c = record { asks = c.0.stage.asks; rests = λ fit. its_end from.trace how c.2 }
 
   finished_by : {A : Type 0} (P : A → Type 0) (how : How) (inner : List OpenCall) (store : Store) (from : Session) (r : Reply) → RepliesBy g S store from (End how) r → ComesBy {A = A} g S from P (finished r inner store)
   finished_by P how inner store from (Given a s) c = finished_halts how store from a s c
@@ -315,7 +308,7 @@ module _ (g : Whole) (S : Store → Type 0) where
   last_halts : (t : List Item) (left : List Answer) (ticks : ℕ) → Stage g (record { trace = t; answers = left; ticks = ticks }) → ticks ≤ 1 → Halting g (t ++ Tick ∷ [])
   last_halts t left ticks h low = record {
     asks = tick_on g.program t g.answers h.asks;
-    rests = λ fit. is_out (let n = ticks_tick t in let c = h.ticked in omega (arith, n, c, low));
+    rests = λ fit. want_of_ticks (let n = ticks_tick t in let c = h.ticked in omega (arith, n, c, low));
   }
 
   ticked_by : {A : Type 0} (P : A → Type 0) (store : Store) (t : List Item) (left : List Answer) (ticks : ℕ) (next : Session → Flow A) → Here g S store (record { trace = t; answers = left; ticks = ticks }) → ((s : Session) → Here g S store s → (Fits g s → Fits g (record { trace = t; answers = left; ticks = ticks })) → Comes g S s P (next s)) → ComesBy g S (record { trace = t; answers = left; ticks = ticks }) P (after_tick (tick_of (t ++ Tick ∷ []) left ticks) store next)

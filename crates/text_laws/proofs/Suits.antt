@@ -31,7 +31,7 @@ use Rattle.text_laws.specs.Journals.{IsOpenWith, PhaseFits}
 use Rattle.text_laws.specs.Laws.{AreTypedFacts, IsTextRun, HasFittingTalks, SuitsLaw}
 use Rattle.text_laws.proofs.Traces.{asks_ask}
 use Rattle.text_laws.proofs.InRange.{fits_facts}
-use Rattle.text_laws.proofs.Stages.{Rests, waits_on, is_out, has_ended}
+use Rattle.text_laws.proofs.Stages.{StopsFor, want_of_answer, want_of_ticks, its_end}
 use Rattle.text_laws.proofs.TalkAsks.{talk_asks, talk_rests}
 use Rattle.text_laws.proofs.FewerAnswers.{asking_counts}
 use Rattle.text_laws.proofs.Journals.{answers_on}
@@ -41,15 +41,15 @@ use Rattle.text_laws.proofs.CodeJournals.{code_source}
 -- ---- bodies
 
 -- a talk that stops for a reason tells something
-tells_some : (answers : List Answer) (n : ℕ) → 1 ≤ n → Rests answers n [] → ⊥
-tells_some answers n some (waits_on e) = let f : ⊥ = omega (arith, e) in f
-tells_some answers n some (is_out low) = let f : ⊥ = omega (arith, some, low) in f
-tells_some answers n some (has_ended [] how e) = let f : ⊥ = cc in f
-tells_some answers n some (has_ended (x ∷ front) how e) = let f : ⊥ = cc in f
+tells_some : (answers : List Answer) (n : ℕ) → 1 ≤ n → StopsFor answers n [] → ⊥
+tells_some answers n some (want_of_answer e) = let f : ⊥ = omega (arith, e) in f
+tells_some answers n some (want_of_ticks low) = let f : ⊥ = omega (arith, some, low) in f
+tells_some answers n some (its_end [] how e) = let f : ⊥ = cc in f
+tells_some answers n some (its_end (x ∷ front) how e) = let f : ⊥ = cc in f
 
--- where something is told, an instance has started
-started : (code : Code) (o : Option State) (answers : List Answer) (n : ℕ) (trace : List Item) → 1 ≤ n → Rests answers n trace → TalkFrom code o answers n trace → o ≡ None → ⊥
-started code o answers n trace some rests talks none = tells_some answers n some (subst (Rests answers n) (subst (λ (s : Option State). TalkFrom code s answers n trace) none talks) rests)
+-- where something is told, an instance has has_started
+has_started : (code : Code) (o : Option State) (answers : List Answer) (n : ℕ) (trace : List Item) → 1 ≤ n → StopsFor answers n trace → TalkFrom code o answers n trace → o ≡ None → ⊥
+has_started code o answers n trace some rests talks none = tells_some answers n some (subst (StopsFor answers n) (subst (λ (s : Option State). TalkFrom code s answers n trace) none talks) rests)
 
 body_is : (instance process : ℕ) (zs : List ℤ) (o : Option BodyRow) → (start_in instance process zs o ≡ None → ⊥) → IsSomeAnd o (λ row. row.params ≡ length zs)
 body_is instance process zs None some = absurd (some refl)
@@ -71,11 +71,11 @@ last_fits p (Ask other ∷ front) request (b ∷ answers) a counted h = last_fit
 stops_there : (code : Code) (state : State) (request : Request) (slots : List Slot) (answer : Answer) (trace : List Item) (ticks : ℕ) → state.mode ≡ Asking request slots → fills_slot slots answer ≡ false → step code (At state (record { trace = trace; answers = answer ∷ []; ticks = ticks })) ≡ Over state trace
 stops_there code state request slots answer trace ticks asking empty =
     ap (λ (m : Mode). run_after state (record { trace = trace; answers = answer ∷ []; ticks = ticks }) (move_in code state m state.frames)) asking
-    ∙ misfit (gives request answer) (fills_slot slots answer) empty
+    ∙ unfilled (gives request answer) (fills_slot slots answer) empty
   where
-    misfit : (given filled : Bool) → filled ≡ false → (if given && filled then At (answered state request slots answer) (record { trace = trace; answers = []; ticks = ticks }) else Over state trace) ≡ Over state trace
-    misfit true filled e = rw e refl
-    misfit false filled e = refl
+    unfilled : (given full : Bool) → full ≡ false → (if given && full then At (answered state request slots answer) (record { trace = trace; answers = []; ticks = ticks }) else Over state trace) ≡ Over state trace
+    unfilled true full e = rw e refl
+    unfilled false full e = refl
 
 -- so the talk with it is what was done so far
 talk_stops : (code : Code) (instance process : ℕ) (zs : List ℤ) (answers : List Answer) (trace : List Item) (state : State) (request : Request) (slots : List Slot) (answer : Answer) → Reaches code instance process zs answers trace state → state.mode ≡ Asking request slots → fills_slot slots answer ≡ false
@@ -91,13 +91,13 @@ talk_stops code instance process zs answers trace state request slots answer rea
     (subst (λ (o : Option State). TalkFrom code o (answers ++ answer ∷ []) (1 + t.made) trace) (sym reaches.starts) (record { count = leads.count + 1; stands = state; by = by }))
 
 -- but a talk whose answers fit doesn't stop there
-goes_behind : (p : CheckedTree) (answers : List Answer) (answer : Answer) (slots : List Slot) (trace : List Item) → length (asks_in trace) ≡ length answers + 1 → fills_slot slots answer ≡ false → HasFittingAnswers p trace (answers ++ answer ∷ []) → Rests (answers ++ answer ∷ []) (suc (ticks_in trace)) trace → ⊥
-goes_behind p answers answer slots trace counted empty fits (waits_on e) =
+never_stops_there : (p : CheckedTree) (answers : List Answer) (answer : Answer) (slots : List Slot) (trace : List Item) → length (asks_in trace) ≡ length answers + 1 → fills_slot slots answer ≡ false → HasFittingAnswers p trace (answers ++ answer ∷ []) → StopsFor (answers ++ answer ∷ []) (suc (ticks_in trace)) trace → ⊥
+never_stops_there p answers answer slots trace counted empty fits (want_of_answer e) =
     let n = length-append answers (answer ∷ []) in
     let f : ⊥ = omega (arith, e, counted, n) in
     f
-goes_behind p answers answer slots trace counted empty fits (is_out low) = let f : ⊥ = omega (arith, low) in f
-goes_behind p answers answer slots trace counted empty fits (has_ended front how e) =
+never_stops_there p answers answer slots trace counted empty fits (want_of_ticks low) = let f : ⊥ = omega (arith, low) in f
+never_stops_there p answers answer slots trace counted empty fits (its_end front how e) =
     let more = asks_ask front (End how) in
     let whole = ap (λ (l : List Item). length (asks_in l)) e in
     let last : FitsAnswer p (End how) answer = last_fits p front (End how) answers answer (omega (arith, counted, more, whole)) (subst (λ (l : List Item). HasFittingAnswers p l (answers ++ answer ∷ [])) e fits) in
@@ -136,7 +136,7 @@ module _ (p : CheckedTree) (code : Code) (facts : Facts) (typed : AreTypedFacts 
       let rests = talk_rests p who birth.process birth.arguments answers 1 typed.typed (omega arith) fits in
       let talks = has who birth.process birth.arguments answers 1 (omega arith) fits in
       body_is who birth.process birth.arguments (slice_get code.bodies birth.process)
-      (started code (start_of code who birth.process birth.arguments) answers 1 (talk p who birth.process birth.arguments answers 1).trace (omega arith) rests talks)
+      (has_started code (start_of code who birth.process birth.arguments) answers 1 (talk p who birth.process birth.arguments answers 1).trace (omega arith) rests talks)
 
   -- an answer that doesn't fill its slot comes in no run
   none_empty : (events : List Event) (event : Event) (who : ℕ) (birth : Birth) (answer : Answer) (request : Request) (slots : List Slot) (state : State) → IsCodeRun code facts (events ++ event ∷ []) → born_of who events ≡ Some birth → answers_by who event ≡ answer ∷ []
@@ -151,16 +151,16 @@ module _ (p : CheckedTree) (code : Code) (facts : Facts) (typed : AreTypedFacts 
       let told : List Item = (talk p who birth.process birth.arguments answers n).trace in
       let same : told ≡ line = one_talk code who birth.process birth.arguments answers n told line (has who birth.process birth.arguments answers n (omega arith) fits)
       (talk_stops code who birth.process birth.arguments (answers_of who events) line state request slots answer reaches asking empty) in
-      goes_behind p (answers_of who events) answer slots line (asking_counts code who birth.process birth.arguments (answers_of who events) line state request slots reaches asking) empty
+      never_stops_there p (answers_of who events) answer slots line (asking_counts code who birth.process birth.arguments (answers_of who events) line state request slots reaches asking) empty
       (subst (λ (l : List Item). HasFittingAnswers p l answers) same (fits.answered n))
-      (subst (λ (l : List Item). Rests answers n l) same (talk_rests p who birth.process birth.arguments answers n typed.typed (omega arith) fits))
+      (subst (λ (l : List Item). StopsFor answers n l) same (talk_rests p who birth.process birth.arguments answers n typed.typed (omega arith) fits))
 
   answers_fit : AnswersFit code facts
-  answers_fit events event who birth answer request slots state r born given reaches asking = filled (fills_slot slots answer) (none_empty events event who birth answer request slots state r born given reaches asking)
+  answers_fit events event who birth answer request slots state r born given reaches asking = is_filled (fills_slot slots answer) (none_empty events event who birth answer request slots state r born given reaches asking)
     where
-      filled : (b : Bool) → (b ≡ false → ⊥) → IsTrue b
-      filled true some = tt
-      filled false some = absurd (some refl)
+      is_filled : (b : Bool) → (b ≡ false → ⊥) → IsTrue b
+      is_filled true some = refl
+      is_filled false some = absurd (some refl)
 
 pub suits : SuitsLaw
 suits p code facts typed has = record {

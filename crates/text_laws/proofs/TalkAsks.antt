@@ -31,7 +31,7 @@ use Rattle.text_laws.specs.Requests.{AskWell}
 use Rattle.source_meaning.proofs.EnoughBodies.{enough_law}
 use Rattle.text_laws.proofs.Values.{lowest_within, within_take, within_drop, within_length, count_domains}
 use Rattle.text_laws.proofs.Stores.{StoreFits, ResultFits, RowsFit, TakensFit, first_fits}
-use Rattle.text_laws.proofs.Stages.{Whole, Fits, Rests, Halting, Stage, Here, Comes, ComesBy, Any, earlier, raises, bind, RepliesBy, does, finished_halts, ends, finishes, ticked}
+use Rattle.text_laws.proofs.Stages.{Whole, Fits, StopsFor, Halting, Stage, Here, Comes, ComesBy, Any, earlier, raises, bind, RepliesBy, does, finished_halts, ends, finishes, ticked}
 use Rattle.text_laws.proofs.ExprAsks.{CallsFit, Stands, rows_typed}
 use Rattle.text_laws.proofs.Combining.{catches}
 use Rattle.text_laws.proofs.StatementAsks.{statements_ask, handler_asks}
@@ -206,7 +206,7 @@ split_fits (row ∷ rows) (q ∷ ps) xs r w =
 -- how a talk is over: what it asks fits, and it stops for a reason, unless more turns or calls were looked at than there are
 record TalkHalts (g : Whole) (o : Flow (Unit {0})) (t : List Item) : Type 0 where
   pub asks : AskWell g.program t g.answers
-  pub rests : (o ≡ Bound → ⊥) → HasFittingAnswers g.program t g.answers → Rests g.answers g.ticks t
+  pub rests : (o ≡ Bound → ⊥) → HasFittingAnswers g.program t g.answers → StopsFor g.answers g.ticks t
 
 halts : (g : Whole) (o : Flow (Unit {0})) (t : List Item) → Halting g t → TalkHalts g o t
 halts g o t h = record { asks = h.asks; rests = λ some fit. h.rests fit }
@@ -239,7 +239,7 @@ counted_arguments p process zs body typed at fits = sym (count_parameters body.l
 -- the talk of an instance that was born as it should
 record TalkIs (p : CheckedTree) (answers : List Answer) (n : ℕ) (t : List Item) : Type 0 where
   pub asks : AskWell p t answers
-  pub rests : 1 ≤ n → HasFittingAnswers p t answers → Rests answers n t
+  pub rests : 1 ≤ n → HasFittingAnswers p t answers → StopsFor answers n t
 
 abbrev one_talk_of : Bool → Talk → Talk
 one_talk_of t talked = if t then talked else no_talk
@@ -263,5 +263,5 @@ pub talk_asks : (p : CheckedTree) (instance process : ℕ) (zs : List ℤ) (answ
 talk_asks p instance process zs answers n body typed types at fits = (talk_is p instance process zs answers n body typed types at fits).asks
 
 -- where arguments and answers fit, a talk stops for a reason
-pub talk_rests : (p : CheckedTree) (instance process : ℕ) (zs : List ℤ) (answers : List Answer) (n : ℕ) → IsTyped p → 1 ≤ n → IsFitting p instance process zs answers → Rests answers n (talk p instance process zs answers n).trace
+pub talk_rests : (p : CheckedTree) (instance process : ℕ) (zs : List ℤ) (answers : List Answer) (n : ℕ) → IsTyped p → 1 ≤ n → IsFitting p instance process zs answers → StopsFor answers n (talk p instance process zs answers n).trace
 talk_rests p instance process zs answers n typed some f = (talk_is p instance process zs answers n f.body typed f.in_range f.is_body f.fits).rests some (f.answered n)

@@ -79,8 +79,8 @@ pub record RunFitsLaw : Type 0 where
 -- ---- a code with the talks of a text
 
 -- From the facts of a typed program the runs of a code that has the text's talks wherever answers fit are those of the text.
-abbrev pub SameRunsLaw : Type 0
-SameRunsLaw = (p : CheckedTree) (code : Code) (facts : Facts) (events : List Event) → AreTypedFacts p facts → HasFittingTalks p code → IsCodeRun code facts events ↔ IsSourceRun p facts events
+abbrev pub TextRunsLaw : Type 0
+TextRunsLaw = (p : CheckedTree) (code : Code) (facts : Facts) (events : List Event) → AreTypedFacts p facts → HasFittingTalks p code → IsCodeRun code facts events ↔ IsSourceRun p facts events
 
 -- Such a code suits the facts: each next request fits them, each instance names a body with as many parameters as it has arguments,
 -- and each answer has as many scalars as the waiting instruction takes.

@@ -1,5 +1,5 @@
 // Laws of the runs of a text. Each is a fact about the definitions, which a caller learns by calling the function.
-ghost use Rattle.text_laws.specs.Laws.{AsksFitLaw, FactsAreSoundLaw, RunFitsLaw, SameRunsLaw, SuitsLaw, TalkGrowsLaw, WorldKeepsLaw};
+ghost use Rattle.text_laws.specs.Laws.{AsksFitLaw, FactsAreSoundLaw, RunFitsLaw, TextRunsLaw, SuitsLaw, TalkGrowsLaw, WorldKeepsLaw};
 
 /// The facts of a typed program are sound.
 pub fn facts_are_sound_law()
@@ -28,7 +28,7 @@ pub fn run_fits_law()
 
 /// The runs of a code with the text's talk are those of the text.
 pub fn same_runs_law()
-    ensures { SameRunsLaw }
+    ensures { TextRunsLaw }
 {}
 
 /// A code with the text's talks where answers fit suits the facts of the text.
