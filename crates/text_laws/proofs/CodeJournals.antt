@@ -199,10 +199,10 @@ source_code : (p : CheckedTree) (code : Code) (facts : Facts) (events : List Eve
 source_code p code facts events typed has r = record {
   run = r.run;
   follows = λ who birth born. record {
-      trace = (talk p who birth.process birth.arguments (answers_of who events) (suc (ticks_in (line_of who events)))).trace;
-      talks = has who birth.process birth.arguments (answers_of who events) (suc (ticks_in (line_of who events))) (omega arith) (source_fits p facts events who birth (record { typed = typed; run = r }) born);
-      begins = r.follows who birth born;
-    };
+    trace = (talk p who birth.process birth.arguments (answers_of who events) (suc (ticks_in (line_of who events)))).trace;
+    talks = has who birth.process birth.arguments (answers_of who events) (suc (ticks_in (line_of who events))) (omega arith) (source_fits p facts events who birth (record { typed = typed; run = r }) born);
+    begins = r.follows who birth born;
+  };
 }
 
 pub same_runs : TextRunsLaw

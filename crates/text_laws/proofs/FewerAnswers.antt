@@ -164,13 +164,15 @@ going_steps behind total n s session mode (Makes next) owing counted ticked some
 going_steps behind total n s session mode (Asks request next) owing counted ticked some =
     let more = asks_ask session.trace request in
     let waits : owed next.mode ≡ 1 = ap owed owing.mode in
-    let same = ticks_ask session.trace request in
-    (refl, record {
-      counted = omega (arith, counted, more, waits);
-      framed = subst (λ (k : Mode). FramedIn k next.frames) (sym owing.mode) owing.framed;
-      ticked = omega (arith, ticked, same);
-      some = some;
-    })
+    let same = ticks_ask session.trace request in (
+      refl,
+      record {
+        counted = omega (arith, counted, more, waits);
+        framed = subst (λ (k : Mode). FramedIn k next.frames) (sym owing.mode) owing.framed;
+        ticked = omega (arith, ticked, same);
+        some = some;
+      },
+    )
 going_steps behind total n s session mode (Awaits request slots) owing counted ticked some = absurd owing
 going_steps behind total n s session mode Stays owing counted ticked some = inl refl
 
@@ -304,11 +306,11 @@ fewer_answers code instance process arguments answers behind n trace whole some 
       | inl same ↦ inl (one_talk code instance process arguments (answers ++ behind) n whole trace more
           (subst (λ (o : Option State). TalkFrom code o (answers ++ behind) n trace) (sym is) (record { count = comes.count; stands = comes.stands; by = same })))
       | inr w ↦ inr (record {
-          state = w.state;
-          reaches = record { start = start; starts = is; leads = record { count = w.count; ticks = n; left = w.ticks; by = w.by } };
-          counted = w.counted;
-          low = w.low;
-        })
+        state = w.state;
+        reaches = record { start = start; starts = is; leads = record { count = w.count; ticks = n; left = w.ticks; by = w.by } };
+        counted = w.counted;
+        low = w.low;
+      })
     ]
 
 -- ---- fronts

@@ -295,5 +295,5 @@ pub region_grows : {g : More} (o : Option ℕ) (w v : Setting) (inside inside' :
 region_grows None w v inside inside' same is all = is
 region_grows {g = g} (Some r) w v inside inside' same is all =
     subst (λ (now : List ℕ). Extends g (λ store s. if is_open r w.open_now then inside w store s else then_do (done (Enter r) store s) (λ _ store1 s1. then_leave r (inside (opened w r) store1 s1)))
-      (λ store s. if is_open r now then inside' v store s else then_do (done (Enter r) store s) (λ _ store1 s1. then_leave r (inside' (opened v r) store1 s1)))) (sym same)
+    (λ store s. if is_open r now then inside' v store s else then_do (done (Enter r) store s) (λ _ store1 s1. then_leave r (inside' (opened v r) store1 s1)))) (sym same)
     (if_grows (is_open r w.open_now) is (then_grows (done_grows (Enter r)) (λ _. leave_grows r (all r))))

@@ -47,6 +47,7 @@ use Rattle.text_laws.proofs.SoundFacts.{all_at, facts_are_sound}
 use Rattle.text_laws.proofs.Stores.{RowsFit}
 use Rattle.text_laws.proofs.ExprAsks.{rows_typed}
 use Rattle.text_laws.proofs.TalkAsks.{talk_asks}
+use Rattle.text_laws.proofs.AsksFit.{asks_fit}
 use Rattle.text_laws.proofs.WorldValues.{StoreIsOfModes}
 use Rattle.text_laws.proofs.Journals.{births_first, first_in, KeptSome, if_true, step_kept}
 use Rattle.text_laws.proofs.Traces.{begins_on}
@@ -343,4 +344,5 @@ pub run_fits : RunFitsLaw
 run_fits = record {
   keeps = λ p facts events r. keeps_values p facts events (source_kept p facts events r);
   fits = source_fits;
+  asks = λ p facts events who birth n r born. asks_fit.all p who birth.process birth.arguments (answers_of who events) n r.typed.typed (source_fits p facts events who birth r born);
 }

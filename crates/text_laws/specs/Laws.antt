@@ -35,9 +35,13 @@ pub record IsTextRun (p : CheckedTree) (facts : Facts) (events : List Event) : T
   pub typed : AreTypedFacts p facts
   pub run : IsSourceRun p facts events
 
--- Wherever arguments and answers fit, the code has the text's talk.
+-- Wherever arguments and answers fit, the code has the text's talk. Of others nothing is said: compiled code leaves out tests that
+-- no fitting answer fails.
 abbrev pub HasFittingTalks : CheckedTree → Code → Type 0
-HasFittingTalks p code = (instance process : ℕ) (zs : List ℤ) (answers : List Answer) (n : ℕ) → 1 ≤ n → IsFitting p instance process zs answers → CodeTalk code instance process zs answers n (talk p instance process zs answers n).trace
+HasFittingTalks p code = (instance process : ℕ) (zs : List ℤ) (answers : List Answer) (n : ℕ)
+    → 1 ≤ n
+    → IsFitting p instance process zs answers
+    → CodeTalk code instance process zs answers n (talk p instance process zs answers n).trace
 
 -- ---- facts
 
@@ -51,36 +55,60 @@ FactsAreSoundLaw = (p : CheckedTree) (facts : Facts) → AreTypedFacts p facts �
 -- and its answers fit. And what fits the text fits the facts of the program.
 pub record AsksFitLaw : Type 0 where
   pub far : (p : CheckedTree) (instance process : ℕ) (zs : List ℤ) (answers : List Answer) (n : ℕ) (body : BodyRowTree)
-      → IsTyped p → AreOfTypes instance zs answers → slice_get p.bodies process ≡ Some body → FitsBody body zs
+      → IsTyped p
+      → AreOfTypes instance zs answers
+      → slice_get p.bodies process ≡ Some body
+      → FitsBody body zs
       → AskWell p (talk p instance process zs answers n).trace answers
   pub all : (p : CheckedTree) (instance process : ℕ) (zs : List ℤ) (answers : List Answer) (n : ℕ)
-      → IsTyped p → IsFitting p instance process zs answers
+      → IsTyped p
+      → IsFitting p instance process zs answers
       → AllFitText p (talk p instance process zs answers n).trace
-  pub in_range : (p : CheckedTree) (facts : Facts) (request : Request) → AreTypedFacts p facts → FitsText p request → FitsRequest facts request
+  pub in_range : (p : CheckedTree) (facts : Facts) (request : Request)
+      → AreTypedFacts p facts
+      → FitsText p request
+      → FitsRequest facts request
 
 -- ---- talks
 
 -- With more answers behind and with more ticks a talk goes on where it stopped, and takes nothing back.
 abbrev pub TalkGrowsLaw : Type 0
-TalkGrowsLaw = (p : CheckedTree) (instance process : ℕ) (zs : List ℤ) (answers behind : List Answer) (n m : ℕ) → 1 ≤ m → n ≤ m → Begins (talk p instance process zs answers n).trace (talk p instance process zs (answers ++ behind) m).trace
+TalkGrowsLaw = (p : CheckedTree) (instance process : ℕ) (zs : List ℤ) (answers behind : List Answer) (n m : ℕ)
+    → 1 ≤ m
+    → n ≤ m
+    → Begins (talk p instance process zs answers n).trace (talk p instance process zs (answers ++ behind) m).trace
 
 -- ---- journals
 
 -- In an allowed journal from the facts of a typed program whose requests fit the text, values stay of their modes.
 abbrev pub WorldKeepsLaw : Type 0
-WorldKeepsLaw = (p : CheckedTree) (facts : Facts) (events : List Event) → AreTypedFacts p facts → IsRun facts events → AllAskText p events → KeepsValues p facts events
+WorldKeepsLaw = (p : CheckedTree) (facts : Facts) (events : List Event)
+    → AreTypedFacts p facts
+    → IsRun facts events
+    → AllAskText p events
+    → KeepsValues p facts events
 
--- So it is in each run of a typed program, and the arguments and answers of each instance fit, whatever ticks are left.
+-- So it is in each run of a typed program; the arguments and answers of each instance fit, and all that it asks in its talk fits
+-- the text, however many ticks it may make.
 pub record RunFitsLaw : Type 0 where
   pub keeps : (p : CheckedTree) (facts : Facts) (events : List Event) → IsTextRun p facts events → KeepsValues p facts events
-  pub fits : (p : CheckedTree) (facts : Facts) (events : List Event) (who : ℕ) (birth : Birth) → IsTextRun p facts events → born_of who events ≡ Some birth
+  pub fits : (p : CheckedTree) (facts : Facts) (events : List Event) (who : ℕ) (birth : Birth)
+      → IsTextRun p facts events
+      → born_of who events ≡ Some birth
       → IsFitting p who birth.process birth.arguments (answers_of who events)
+  pub asks : (p : CheckedTree) (facts : Facts) (events : List Event) (who : ℕ) (birth : Birth) (n : ℕ)
+      → IsTextRun p facts events
+      → born_of who events ≡ Some birth
+      → AllFitText p (talk p who birth.process birth.arguments (answers_of who events) n).trace
 
 -- ---- a code with the talks of a text
 
--- From the facts of a typed program the runs of a code that has the text's talks wherever answers fit are those of the text.
+-- From the facts of a typed program the runs of a code that has the text's talks wherever answers fit are exactly those of the text.
 abbrev pub TextRunsLaw : Type 0
-TextRunsLaw = (p : CheckedTree) (code : Code) (facts : Facts) (events : List Event) → AreTypedFacts p facts → HasFittingTalks p code → IsCodeRun code facts events ↔ IsSourceRun p facts events
+TextRunsLaw = (p : CheckedTree) (code : Code) (facts : Facts) (events : List Event)
+    → AreTypedFacts p facts
+    → HasFittingTalks p code
+    → IsCodeRun code facts events ↔ IsSourceRun p facts events
 
 -- Such a code suits the facts: each next request fits them, each instance names a body with as many parameters as it has arguments,
 -- and each answer has as many scalars as the waiting instruction takes.

@@ -1,5 +1,5 @@
 // Laws of the runs of a text. Each is a fact about the definitions, which a caller learns by calling the function.
-ghost use Rattle.text_laws.specs.Laws.{AsksFitLaw, FactsAreSoundLaw, RunFitsLaw, TextRunsLaw, SuitsLaw, TalkGrowsLaw, WorldKeepsLaw};
+ghost use Rattle.text_laws.specs.Laws.{AsksFitLaw, FactsAreSoundLaw, RunFitsLaw, SuitsLaw, TalkGrowsLaw, TextRunsLaw, WorldKeepsLaw};
 
 /// The facts of a typed program are sound.
 pub fn facts_are_sound_law()
@@ -21,12 +21,12 @@ pub fn world_keeps_law()
     ensures { WorldKeepsLaw }
 {}
 
-/// In a run of the text values stay of their modes, and answers and births fit.
+/// In a run of a typed program values stay of their modes, and the arguments and answers of each instance fit.
 pub fn run_fits_law()
     ensures { RunFitsLaw }
 {}
 
-/// The runs of a code with the text's talk are those of the text.
+/// The runs of a code with the text's talks where answers fit are those of the text.
 pub fn same_runs_law()
     ensures { TextRunsLaw }
 {}
