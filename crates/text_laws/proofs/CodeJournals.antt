@@ -1,6 +1,6 @@
 -- Runs of a code that has the text's talks where answers fit: event by event their answers fit, so they are runs of the text.
-use Rattle.std.proofs.Common.{◌≡◌, ◌≤◌, ◌<◌, ℕ, zero, suc, Bool, true, false, List, [], ◌∷◌, ◌++◌, ℤ, length, refl, sym, ap, ◌∙◌, subst, inl, inr, arith, append-nil, append_assoc, length-append, eq-eqb, Option, Some, None}
-use Rattle.std.specs.Prelude.{if◌then◌else◌, ◌==◌}
+use Rattle.std.proofs.Common.{◌≡◌, ℕ, zero, suc, List, [], ◌∷◌, ◌++◌, length, refl, sym, ap, ◌∙◌, subst, inl, inr, arith, append-nil, append_assoc, eq-eqb, Option, Some, None}
+use Rattle.std.specs.Prelude.{◌==◌}
 use Rattle.std.proofs.lemmas.Bool.{cases_eq}
 use Rattle.std.proofs.lemmas.List.Concat.{flat_map-append}
 use Rattle.kernel_base.specs.declared.facts.Facts.{Facts}
@@ -21,10 +21,9 @@ use Rattle.program_trees.specs.ProgramTree.{CheckedTree}
 use Rattle.code_types.specs.declared.code.Code.{Code}
 use Rattle.code_types.specs.Talk.{CodeTalk}
 use Rattle.code_types.specs.Runs.{Begins, FollowsCode, IsCodeRun, ticks_in}
-use Rattle.code_types.proofs.ManySteps.{one_talk}
 use Rattle.run_laws.proofs.OpenRegions.{asks_in, asks_in-append}
 use Rattle.source_meaning.specs.Talk.{talk}
-use Rattle.source_meaning.specs.Runs.{FollowsText, IsSourceRun}
+use Rattle.source_meaning.specs.Runs.{IsSourceRun}
 use Rattle.source_meaning.specs.Fitting.{AreOfTypes, IsFitting}
 use Rattle.text_laws.specs.Requests.{FitsText, AskWell}
 use Rattle.text_laws.specs.Journals.{AsksText, IsOpenWith, PhaseFits, IsBirth}

@@ -8,7 +8,7 @@ use Rattle.kernel_base.specs.declared.request.Request.{Request}
 use Rattle.kernel_base.specs.declared.request.Request.TheVariants.{End}
 use Rattle.kernel_base.specs.declared.answer.Answer.{Answer}
 use Rattle.kernel_base.specs.declared.answer.Answer.TheVariants.{Fail}
-use Rattle.world_model.specs.Session.{Item, Tick, Ask, Session, first_answer, session_of, tick_of}
+use Rattle.world_model.specs.Session.{Item, Tick, Session, first_answer, session_of, tick_of}
 use Rattle.code_types.specs.declared.instr.Instr.{Instr}
 use Rattle.code_types.specs.declared.instr.Instr.TheVariants.{Call}
 use Rattle.code_types.specs.declared.code.Handler.{Handler}
@@ -20,8 +20,8 @@ use Rattle.code_types.specs.Actions.{Action, Pushes, Sets, GoesTo, TicksTo, Call
 use Rattle.code_types.specs.Answers.{fits_request, goes_on, answered}
 use Rattle.code_types.specs.Runs.{Begins, ticks_in}
 use Rattle.code_types.specs.State.{Frame, Slot, State, Mode, Running, Called, Asking, Raising, Ended}
-use Rattle.code_types.specs.Steps.{Move, Goes, Makes, Asks, Awaits, Stays, left_with, made, executed, entered, called, unhandled, caught, move_in, Run, At, Over, run_behind, run_with, run_after, step, steps, new_frame}
-use Rattle.code_types.specs.Talk.{Reaches, Comes, TalkFrom, CodeTalk, start_in, start_of}
+use Rattle.code_types.specs.Steps.{Move, Goes, Makes, Asks, Awaits, Stays, left_with, made, executed, entered, called, unhandled, caught, move_in, Run, At, Over, run_behind, run_with, run_after, steps, new_frame}
+use Rattle.code_types.specs.Talk.{Reaches, TalkFrom, CodeTalk, start_in, start_of}
 use Rattle.code_types.proofs.ManySteps.{steps-over, one_talk}
 use Rattle.run_laws.proofs.Retiming.{timed, retimed, reached_law}
 use Rattle.run_laws.proofs.OpenRegions.{asks_in, asks_in-append}

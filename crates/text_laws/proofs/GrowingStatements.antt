@@ -2,7 +2,6 @@
 use Rattle.std.proofs.Common.{ℕ, zero, suc, Bool, List, [], ◌∷◌, ℤ, pos, length, refl, Option, Some, None}
 use Rattle.std.specs.Prelude.{int_le}
 use Rattle.kernel_base.specs.declared.ends.Exc.{Exc}
-use Rattle.kernel_base.specs.declared.ends.Exc.TheVariants.{Rangefail}
 use Rattle.kernel_base.specs.declared.ends.How.TheVariants.{Stopped}
 use Rattle.kernel_base.specs.declared.request.Request.{Request}
 use Rattle.kernel_base.specs.declared.request.Request.TheVariants.{Delay, Continue, SendBuffer, ReceiveBuffer, SendSignal, ReceiveSignal, Put}
@@ -17,11 +16,10 @@ use Rattle.code_types.specs.Places.{names_exception}
 use Rattle.program_trees.specs.ExprTree.{ExprTree, ReceivedTree, LocationTree, location_count}
 use Rattle.program_trees.specs.ProgramTree.{LocalRowTree}
 use Rattle.program_trees.specs.StatementTree.{SentTree, to_buffer, signal, ControlTree, while_true, for_ever, for_members, for_steps, StatementTree, statement, ActionTree, do_nothing, declare, set_lowest, module_at, region_at, assign, update, perform, drop_routine, evaluate, put_int, put_text, put_line, exit_from, return_with, set_result, assert_that, cause, stop, start_of, delay, continue_at, send, if_then, case_of, do_loop, begin_end, delay_case, receive_buffers, receive_signals, StatementNodes, no_statements, more_statements, ChoiceNodes, no_choices, more_choices, CaseNodes, no_cases, more_cases, DelayNodes, no_delays, more_delays, ReceiveNodes, no_receives, more_receives, OtherwiseNode, no_otherwise, otherwise, HandledNodes, no_handled, more_handled, HandlerNode, no_handler, handler}
-use Rattle.source_meaning.specs.Store.{Store, Address, address_of, with_local}
-use Rattle.source_meaning.specs.Flow.{Raised, Meaning}
+use Rattle.source_meaning.specs.Store.{Address, address_of, with_local}
+use Rattle.source_meaning.specs.Flow.{Meaning}
 use Rattle.source_meaning.specs.Operators.{sole_number, one, is_true, member_at, routine_value, without_offset}
-use Rattle.source_meaning.specs.ExprMeaning.{expr_mean}
-use Rattle.source_meaning.specs.StatementMeaning.{skip, no_state, set_names, set_to, set_address, put_bytes, send_to, sent_signal, sent_mean, result_mean, return_mean, holds_one, delay_pairs, receive_list, receive_counts, is_written, Come, comes_to, nothing_came, take_in, woken_as, where_holds, next_member, passes_end, next_value, next_step, bound_mean, step_mean, loop_mean, is_label, opened, region_in, caught, behind_wait, delay_with, receive_with, statement_mean, handler_mean, alternatives_mean, otherwise_mean, statements_mean, action_mean, choices_mean, cases_mean, delay_mean, receive_mean}
+use Rattle.source_meaning.specs.StatementMeaning.{no_state, set_names, set_to, set_address, put_bytes, send_to, sent_signal, sent_mean, result_mean, return_mean, holds_one, delay_pairs, receive_list, receive_counts, is_written, Come, comes_to, nothing_came, take_in, woken_as, where_holds, next_member, passes_end, next_value, next_step, bound_mean, step_mean, loop_mean, is_label, opened, region_in, behind_wait, delay_with, receive_with, statement_mean, handler_mean, alternatives_mean, otherwise_mean, statements_mean, action_mean, choices_mean, cases_mean, delay_mean, receive_mean}
 use Rattle.text_laws.proofs.Growing.{More, Extends, same_goes, same_raises, same_exits, same_returns, in_store, then_grows, if_grows, asked_grows, done_grows, finish_grows, turns_grow, region_grows, caught_grows, labelled_grows}
 use Rattle.text_laws.proofs.GrowingExpressions.{Sides, there, computed_grows, rangefail_grows, tested_grows, read_grows, assign_grows, binary_grows, expr_grows, received_grows, all_received_grow, location_grows, start_grows, call_tree_grows}
 

@@ -1,7 +1,6 @@
 -- Bodies grow where those that they call do, and so does each talk.
 use Rattle.std.proofs.Common.{◌≡◌, ◌≤◌, ◌+◌, ◌-◌, ℕ, zero, suc, Bool, true, false, List, [], ◌∷◌, ◌++◌, ℤ, length, refl, sym, ap, subst, arith, Option, Some, None, slice_get}
 use Rattle.std.specs.Prelude.{nat_lt, ◌==◌, if◌then◌else◌}
-use Rattle.kernel_base.specs.declared.ends.Exc.TheVariants.{Spacefail}
 use Rattle.kernel_base.specs.declared.ends.How.TheVariants.{Normal, Raised as RaisedHow}
 use Rattle.kernel_base.specs.declared.request.Request.TheVariants.{Enter, Leave}
 use Rattle.kernel_base.specs.declared.answer.Answer.{Answer}
@@ -11,8 +10,8 @@ use Rattle.code_types.specs.Actions.{most_frames}
 use Rattle.code_types.specs.Runs.{Begins}
 use Rattle.program_trees.specs.ProgramTree.{BodyRowTree, CheckedTree}
 use Rattle.source_meaning.specs.Store.{Store, Taken, first_store}
-use Rattle.source_meaning.specs.Flow.{Flow, Goes, Raised, Exits, Returned, Stops, Gone, Bound, Meaning, then_do, done, finish}
-use Rattle.source_meaning.specs.ExprMeaning.{Calls, Setting}
+use Rattle.source_meaning.specs.Flow.{Flow, Goes, Raised, Exits, Returned, Stops, Gone, Bound, Meaning}
+use Rattle.source_meaning.specs.ExprMeaning.{Calls}
 use Rattle.source_meaning.specs.StatementMeaning.{is_open}
 use Rattle.source_meaning.specs.BodyMeaning.{Ending, Through, Out, Halted, Ended, Unknown, close, Bodies, listed_by, at_call, calls_in, leaving, behind_enter, in_region, critical_region, setting_of, inside_of, body_of, body_mean}
 use Rattle.source_meaning.specs.Talk.{process_end, talk_at, split_over, parameter_scalars, no_talk, talk_in, talk}

@@ -1,5 +1,5 @@
 -- Runs of the text: their requests fit it, and so do all that its processes get.
-use Rattle.std.proofs.Common.{◌≡◌, ◌≤◌, ◌<◌, ℕ, zero, suc, Bool, true, false, List, [], ◌∷◌, ◌++◌, ℤ, length, map, get_or, refl, sym, ap, ◌∙◌, subst, inl, inr, arith, Option, Some, None, slice_get, append-nil, append_assoc, eq-eqb, length-append}
+use Rattle.std.proofs.Common.{◌≡◌, ◌≤◌, ◌<◌, ℕ, zero, suc, Bool, true, false, List, [], ◌∷◌, ◌++◌, ℤ, length, map, get_or, refl, sym, ap, ◌∙◌, subst, inl, inr, arith, Option, Some, None, slice_get, append-nil, append_assoc, eq-eqb}
 use Rattle.std.specs.Prelude.{if◌then◌else◌, ◌==◌, slice_index_or, replicate, All, IfSome}
 use Rattle.std.specs.List.{flat_map}
 use Rattle.std.proofs.lemmas.Bool.{eqb-true, cases_lt}
@@ -30,22 +30,19 @@ use Rattle.run_laws.specs.Laws.{birth_in, Births}
 use Rattle.run_laws.proofs.Births.{births_law}
 use Rattle.modes.specs.Scalars.{lowest_of}
 use Rattle.modes.specs.Language.{IsOfLanguage}
-use Rattle.checked_program.specs.declared.program.Parameter.{Parameter}
-use Rattle.program_trees.specs.ProgramTree.{LocationRowTree, LocalRowTree, CheckedTree}
+use Rattle.program_trees.specs.ProgramTree.{LocationRowTree, CheckedTree}
 use Rattle.code_types.specs.Runs.{Begins, ticks_in}
 use Rattle.source_meaning.specs.Talk.{talk}
 use Rattle.source_meaning.specs.Runs.{talk_in_journal, FollowsText}
-use Rattle.source_meaning.specs.Values.{domains_of, IsValueOf}
+use Rattle.source_meaning.specs.Values.{IsValueOf}
 use Rattle.source_meaning.specs.Fitting.{AreOfTypes, HasFittingAnswers, IsFitting}
 use Rattle.source_meaning.specs.Facts.{AreFactsOf}
 use Rattle.source_meaning.specs.Typed.{IsTyped}
 use Rattle.text_laws.specs.Requests.{FitsText, AskWell}
 use Rattle.text_laws.specs.Journals.{AsksText, AllAskText, IsOpenWith, PhaseFits, IsBirth, KeepsValues}
 use Rattle.text_laws.specs.Laws.{AreTypedFacts, IsTextRun, WorldKeepsLaw, RunFitsLaw}
-use Rattle.text_laws.proofs.Values.{within_length, lowest_within, count_domains}
+use Rattle.text_laws.proofs.Values.{lowest_within}
 use Rattle.text_laws.proofs.SoundFacts.{all_at, facts_are_sound}
-use Rattle.text_laws.proofs.Stores.{RowsFit}
-use Rattle.text_laws.proofs.ExprAsks.{rows_typed}
 use Rattle.text_laws.proofs.TalkAsks.{talk_asks}
 use Rattle.text_laws.proofs.AsksFit.{asks_fit}
 use Rattle.text_laws.proofs.WorldValues.{StoreIsOfModes}

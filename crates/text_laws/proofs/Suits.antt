@@ -1,28 +1,25 @@
 -- A code that has the text's talks where answers fit suits the facts of the text.
-use Rattle.std.proofs.Common.{◌≡◌, ◌≤◌, ◌+◌, ℕ, zero, suc, Bool, true, false, List, [], ◌∷◌, ◌++◌, ℤ, length, refl, sym, ap, ◌∙◌, subst, inl, inr, arith, append-nil, append_assoc, length-append, Option, Some, None, slice_get}
+use Rattle.std.proofs.Common.{◌≡◌, ◌≤◌, ◌+◌, ℕ, suc, Bool, true, false, List, [], ◌∷◌, ◌++◌, ℤ, length, refl, sym, ap, ◌∙◌, subst, inl, inr, arith, append-nil, append_assoc, length-append, Option, Some, None, slice_get}
 use Rattle.std.specs.Prelude.{if◌then◌else◌, ◌==◌, ◌&&◌, IsTrue, IsSomeAnd}
 use Rattle.std.proofs.lemmas.Bool.{cases_Bool, eqb-true}
 use Rattle.kernel_base.specs.declared.facts.Facts.{Facts}
-use Rattle.kernel_base.specs.declared.ends.How.{How}
 use Rattle.kernel_base.specs.declared.request.Request.{Request}
 use Rattle.kernel_base.specs.declared.request.Request.TheVariants.{End}
 use Rattle.kernel_base.specs.declared.answer.Answer.{Answer}
 use Rattle.kernel_base.specs.declared.answer.Answer.TheVariants.{Done}
 use Rattle.kernel_base.specs.declared.event.Event.{Event}
-use Rattle.world_model.specs.Session.{Item, Tick, Ask, Session, session_of, first_answer}
-use Rattle.world_model.specs.Waiting.{IsActive}
-use Rattle.world_model.specs.World.{world_of}
+use Rattle.world_model.specs.Session.{Item, Tick, Ask, session_of}
 use Rattle.world_model.specs.Journal.{ticks_of, line_of, answers_by, answers_of, Birth, born_of}
 use Rattle.program_trees.specs.ProgramTree.{CheckedTree}
 use Rattle.code_types.specs.declared.code.BodyRow.{BodyRow}
 use Rattle.code_types.specs.declared.code.Code.{Code}
-use Rattle.code_types.specs.Answers.{gives, fills_slot, fits_request, answered}
+use Rattle.code_types.specs.Answers.{gives, fills_slot, answered}
 use Rattle.code_types.specs.State.{Slot, State, Mode, Asking}
-use Rattle.code_types.specs.Steps.{Run, At, Over, move_in, run_with, run_after, step, steps}
+use Rattle.code_types.specs.Steps.{At, Over, move_in, run_after, step, steps}
 use Rattle.code_types.specs.Talk.{Reaches, TalkFrom, CodeTalk, start_in, start_of}
 use Rattle.code_types.specs.Runs.{Begins, IsCodeRun, ticks_in, RequestsFit, BirthsFit, AnswersFit}
 use Rattle.code_types.proofs.ManySteps.{steps-+, one_talk}
-use Rattle.run_laws.proofs.Retiming.{timed, retimed, reached_law}
+use Rattle.run_laws.proofs.Retiming.{retimed, reached_law}
 use Rattle.run_laws.proofs.OpenRegions.{asks_in}
 use Rattle.source_meaning.specs.Talk.{talk}
 use Rattle.source_meaning.specs.Fitting.{FitsAnswer, HasFittingAnswers, IsFitting}

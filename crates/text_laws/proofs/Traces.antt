@@ -1,5 +1,5 @@
 -- Traces that begin others, and what an item adds to one.
-use Rattle.std.proofs.Common.{◌≡◌, ◌+◌, ℕ, zero, suc, List, [], ◌∷◌, ◌++◌, length, refl, sym, ap, ◌∙◌, arith, append_assoc, append-nil, length-append}
+use Rattle.std.proofs.Common.{◌≡◌, ◌+◌, suc, List, [], ◌∷◌, ◌++◌, length, refl, sym, ap, ◌∙◌, append_assoc, append-nil, length-append}
 use Rattle.kernel_base.specs.declared.request.Request.{Request}
 use Rattle.world_model.specs.Session.{Item, Tick, Ask}
 use Rattle.code_types.specs.Runs.{Begins, ticks_in}
