@@ -333,8 +333,8 @@ either_front (b ∷ base) item (x ∷ other) t (rest, e) (more, f) =
       | inr (left, is) ↦ inr (left, ap (λ (y : Item). y ∷ base) (sym same) ∙ ap (λ (ys : List Item). x ∷ ys) is)
     ]
 
--- What begins the talk with more answers, and has no more requests before its last item than there are answers, begins the
--- talk with these.
+-- What begins the talk with more answers, and has as many requests before its last item as there are answers, begins the talk
+-- with these.
 pub front_begins : (code : Code) (instance process : ℕ) (arguments : List ℤ) (answers behind : List Answer) (n : ℕ) (base : List Item) (item : Item) (trace whole : List Item) → 1 ≤ n
     → CodeTalk code instance process arguments answers n trace
     → CodeTalk code instance process arguments (answers ++ behind) n whole

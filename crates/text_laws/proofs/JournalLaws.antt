@@ -44,7 +44,7 @@ use Rattle.text_laws.specs.Laws.{AreTypedFacts, IsTextRun, WorldKeepsLaw, RunFit
 use Rattle.text_laws.proofs.Values.{lowest_within}
 use Rattle.text_laws.proofs.SoundFacts.{all_at, facts_are_sound}
 use Rattle.text_laws.proofs.TalkAsks.{talk_asks}
-use Rattle.text_laws.proofs.AsksFit.{asks_fit}
+use Rattle.text_laws.proofs.AsksFit.{no_answers_fit, asks_fit}
 use Rattle.text_laws.proofs.WorldValues.{StoreIsOfModes}
 use Rattle.text_laws.proofs.Journals.{births_first, first_in, KeptSome, if_true, step_kept}
 use Rattle.text_laws.proofs.Traces.{begins_on}
@@ -293,12 +293,7 @@ fits_front p (Ask q ∷ front) rest [] h = tt
 fits_front p (Ask q ∷ front) rest (a ∷ as') h = (h.0, fits_front p front rest as' h.1)
 
 open_fits : (p : CheckedTree) (line rest : List Item) (as' : List Answer) (o : Option Request) → IsOpenWith p line as' o → HasFittingAnswers p (line ++ rest) as'
-open_fits p [] rest as' o h = subst (HasFittingAnswers p rest) (sym h.0) (none_left rest)
-  where
-    none_left : (items : List Item) → HasFittingAnswers p items []
-    none_left [] = tt
-    none_left (Tick ∷ items) = none_left items
-    none_left (Ask request ∷ items) = tt
+open_fits p [] rest as' o h = subst (HasFittingAnswers p rest) (sym h.0) (no_answers_fit p rest)
 open_fits p (Tick ∷ line) rest as' o h = open_fits p line rest as' o h
 open_fits p (Ask q ∷ line) rest [] o h = tt
 open_fits p (Ask q ∷ line) rest (a ∷ as') o h = (h.0, open_fits p line rest as' o h.1)

@@ -44,7 +44,7 @@ tells_some answers n some (want_of_ticks low) = let f : ⊥ = omega (arith, some
 tells_some answers n some (its_end [] how e) = let f : ⊥ = cc in f
 tells_some answers n some (its_end (x ∷ front) how e) = let f : ⊥ = cc in f
 
--- where something is told, an instance has has_started
+-- where something is told, an instance has started
 has_started : (code : Code) (o : Option State) (answers : List Answer) (n : ℕ) (trace : List Item) → 1 ≤ n → StopsFor answers n trace → TalkFrom code o answers n trace → o ≡ None → ⊥
 has_started code o answers n trace some rests talks none = tells_some answers n some (subst (StopsFor answers n) (subst (λ (s : Option State). TalkFrom code s answers n trace) none talks) rests)
 
