@@ -4,3 +4,4 @@ pub mod Operators
 pub mod Locations
 pub mod Expressions
 pub mod Conditions
+pub mod Closing

@@ -1,3 +1,5 @@
 pub mod Stretches
+pub mod Closed
 pub mod Counts
+pub mod StatementCounts
 pub mod Laws
