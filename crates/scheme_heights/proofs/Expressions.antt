@@ -127,7 +127,7 @@ mutual
       join (heads_of lay.program) body at (height + 1) (expr_code lay free e at) _ (expr_size e) (1 + (1 + indices_size false ps)) (height + 1 + 1) (height + 1) (at + expr_size e) _ refl refl (ends (ap (λ (k : ℕ). height + 1 + k) one') (expr_stretch lay body free e fits.0 at (height + 1)))
       (sized (1 + (1 + indices_size false ps)) (let c = rest.count in omega (arith, c)) (cons (omega arith) tt tt refl refl (cons (omega arith) tt tt refl refl (moved (omega arith) (omega arith) rest))))
 
-  place_of_stretch : (lay : Layout) (body free : ℕ) (l : LocationTree) → PlaceFits lay.program l → (at height : ℕ) → IsStretch (heads_of lay.program) body no_outlets at height (place_code lay free l at) (place_size l) (height + offsets_kept l)
+  pub place_of_stretch : (lay : Layout) (body free : ℕ) (l : LocationTree) → PlaceFits lay.program l → (at height : ℕ) → IsStretch (heads_of lay.program) body no_outlets at height (place_code lay free l at) (place_size l) (height + offsets_kept l)
   place_of_stretch lay body free (location b ps n) fits at height =
       place_stretch (heads_of lay.program) body at height lay free b ps n (has_index ps) refl (λ some. first_indices lay body free ps fits some at height)
 

@@ -5,3 +5,6 @@ pub mod Locations
 pub mod Expressions
 pub mod Conditions
 pub mod Closing
+pub mod PlainActions
+pub mod Waits
+pub mod Loops
