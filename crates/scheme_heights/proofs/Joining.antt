@@ -21,7 +21,7 @@ take_rest n [] b = ap (λ (k : ℕ). take k b) (let e : 0 + n ≡ n = omega arit
 take_rest n (x ∷ a) b = ap (λ (k : ℕ). take k (x ∷ (a ++ b))) (let e : suc (length a) + n ≡ suc (length a + n) = omega arith in e) ∙ ap (λ (l : List Instr). x ∷ l) (take_rest n a b)
 
 -- a place among the first instructions is one among all
-lands_front : (heads : Code) (at height : ℕ) (a b : List Instr) (to k : ℕ) → Lands heads at height a to k → Lands heads at height (a ++ b) to k
+pub lands_front : (heads : Code) (at height : ℕ) (a b : List Instr) (to k : ℕ) → Lands heads at height a to k → Lands heads at height (a ++ b) to k
 lands_front heads at height a b to k lands = record {
   from = lands.from;
   until = let u = lands.until in let l = length-append a b in omega (arith, u, l);

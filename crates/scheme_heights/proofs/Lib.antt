@@ -8,3 +8,4 @@ pub mod Closing
 pub mod PlainActions
 pub mod Waits
 pub mod Loops
+pub mod Blocks

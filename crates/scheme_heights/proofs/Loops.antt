@@ -1,5 +1,5 @@
 -- The control of a DO is a stretch before the turns, and one before each turn.
-use Rattle.std.proofs.Common.{◌≡◌, ◌⊎◌, ◌+◌, ◌-◌, ◌*◌, ◌≤◌, ℕ, suc, Bool, true, false, List, [], ◌∷◌, ◌++◌, ℤ, pos, length, take, refl, sym, ap, ◌∙◌, subst, inl, inr, arith, Option, Some, None, slice_get}
+use Rattle.std.proofs.Common.{◌≡◌, ◌⊎◌, ◌+◌, ◌-◌, ◌*◌, ◌≤◌, ◌<◌, ℕ, suc, Bool, true, false, List, [], ◌∷◌, ◌++◌, ℤ, pos, length, length-append, take, refl, sym, ap, ◌∙◌, subst, inl, inr, arith, Option, Some, None, slice_get}
 use Rattle.std.specs.Prelude.{if◌then◌else◌, ◌-ℤ◌}
 use Rattle.std.proofs.lemmas.List.{append_assoc}
 use Rattle.modes.specs.declared.mode.Bounds.{Bounds}
@@ -231,3 +231,83 @@ next_stretch heads body at height c place low =
 -- behind the loop, or past the test of the next value
 abbrev pub first_outlets : ℕ → ℕ → ℕ → Outlets
 first_outlets place past height to k = to_place place height to k ⊎ to_place past height to k
+
+-- a jump out, with nothing on the stack
+pub jump_stretch : (heads : Code) (body at target : ℕ) (outlets : Outlets) → at < target → outlets target 0 → IsStretch heads body outlets at 0 (i.Jump target ∷ []) 1 0
+jump_stretch heads body at target outlets forward out = record {
+  steps = (record { operands = omega arith; named = tt; forward = forward; jumps = inr (subst (outlets target) (let e : 0 ≡ 0 - 0 + 0 = omega arith in e) out); ended = λ last. inr (omega arith) }, tt);
+  count = refl;
+  leaves = omega arith;
+}
+
+first_value_stretch : (heads : Code) (body at : ℕ) (c : Steps) (size place : ℕ) → size ≡ limit_size c.step → at + (5 + (size + 3)) ≤ place → IsStretch heads body (first_outlets place (at + (5 + (size + 3)) + 8) 0) at 0 (first_value_code c place at) (5 + (size + 3)) 0
+first_value_stretch heads body at c size place same low =
+    join_outlets heads body (to_place place 0) out out at 0 (first_test_code c place at) _ 5 (size + 3) 0 0 (at + 5) _ refl refl (λ to k to_behind. inr (inl to_behind)) (λ to k go. go) (first_test_stretch heads body at 0 c place (omega (arith, low)))
+    (before_outlets heads body out (at + 5) 0 (limit_code c (at + 5)) _ size 3 0 0 (at + 5 + size) _ refl refl (subst (λ (n : ℕ). IsStretch heads body no_outlets (at + 5) 0 (limit_code c (at + 5)) n 0) (sym same) (limit_stretch heads body (at + 5) 0 c))
+    (before_outlets heads body out (at + 5 + size) 0 (i.Local c.start 1 ∷ i.SetLocal c.counter 1 ∷ []) _ 2 1 0 0 (at + 5 + size + 2) 3 refl refl (sized 2 refl (cons (omega arith) tt tt refl refl (cons (omega arith) tt tt refl refl (end (omega arith)))))
+    (jump_stretch heads body (at + 5 + size + 2) (at + (5 + (length (limit_code c 0) + 11))) out (omega (arith, same, count)) (inr (omega (arith, same, count), refl)))))
+  where
+    out : Outlets
+    out = first_outlets place (at + (5 + (size + 3)) + 8) 0
+
+    count : length (limit_code c 0) ≡ limit_size c.step
+    count = let s = limit_stretch heads body 0 0 c in s.count
+
+-- ---- controls
+
+-- out of what stands before the turns
+abbrev pub before_outlets_of : ControlTree → ℕ → ℕ → Outlets
+before_outlets_of (while_true e) place turns = no_outlets
+before_outlets_of for_ever place turns = no_outlets
+before_outlets_of (for_members counter e low condition) place turns = no_outlets
+before_outlets_of (for_steps counter from step to down condition) place turns = first_outlets place (turns + 8) 0
+
+pub before_turns_stretch : (w : Standing) (body at : ℕ) (c : ControlTree) (place : ℕ) → ControlFits w.site.program c → at + before_turns_size c ≤ place → IsStretch (heads_of w.site.program) body (before_outlets_of c place (at + before_turns_size c)) at 0 (before_turns w c place at) (before_turns_size c) 0
+before_turns_stretch w body at (while_true e) place fits low = sized 0 refl (end refl)
+before_turns_stretch w body at for_ever place fits low = sized 0 refl (end refl)
+before_turns_stretch w body at (for_members counter e low condition) place fits below =
+    let heads = heads_of w.site.program in
+    join heads body at 0 (expr_code (layout w.site) w.free e at) (i.SetLocal w.free 1 ∷ []) (expr_size e) 1 (0 + 1) 0 (at + expr_size e) _ refl refl (ends (ap (λ (k : ℕ). 0 + k) fits.0.1) (expr_stretch (layout w.site) body w.free e fits.0.0 at 0))
+    (sized 1 refl (cons (omega arith) tt tt refl refl (end (omega arith))))
+before_turns_stretch w body at (for_steps counter from step to down condition) place fits below =
+    let heads = heads_of w.site.program in
+    let c : Steps = steps_with (first_in (slice_get w.site.body.locals counter)) (constant_step step) down w.free in
+    let n = bounds_size from step to in
+    let size = length (limit_code (steps_with 0 (constant_step step) false 0) 0) in
+    let count = limit_stretch heads body 0 0 (steps_with 0 (constant_step step) false 0) in
+    let same : size ≡ limit_size c.step = count.count ∙ same_size (constant_step step) 0 w.free in
+    let last = first_value_stretch heads body (at + n) c size place same (omega (arith, below)) in
+    let further : at + n + (5 + (size + 3)) ≡ at + (n + (5 + (size + 3))) = omega arith in
+    before_outlets heads body (first_outlets place (at + (n + (5 + (size + 3))) + 8) 0) at 0 (bounds_code w from step to at) _ n (5 + (size + 3)) 0 0 (at + n) _ refl refl (bounds_stretch w body at 0 from step to fits.0 fits.1 fits.2)
+    (subst (λ (x : ℕ). IsStretch heads body (first_outlets place (x + 8) 0) (at + n) 0 (first_value_code c place (at + n)) (5 + (size + 3)) 0) further last)
+
+-- out of the test before a turn
+abbrev pub test_outlets : ControlTree → ℕ → Outlets
+test_outlets (while_true e) place = to_place place 0
+test_outlets for_ever place = no_outlets
+test_outlets (for_members counter e low condition) place = to_place place 0
+test_outlets (for_steps counter from step to down condition) place = to_place place 0
+
+pub turn_test_stretch : (w : Standing) (body at : ℕ) (c : ControlTree) (place : ℕ) → ControlFits w.site.program c → at + turn_test_size c ≤ place → IsStretch (heads_of w.site.program) body (test_outlets c place) at 0 (turn_test w c place at) (turn_test_size c) 0
+turn_test_stretch w body at (while_true e) place fits low = while_stretch w body at 0 e place fits low
+turn_test_stretch w body at for_ever place fits low = sized 0 refl (end refl)
+turn_test_stretch w body at (for_members counter e low condition) place fits below =
+    let heads = heads_of w.site.program in
+    let n = members_test_size low in
+    join_outlets heads body (to_place place 0) (to_place place 0) (to_place place 0) at 0 (members_test w.free (first_in (slice_get w.site.body.locals counter)) low place) _ n (some_while_size condition) 0 0 (at + n) _ refl refl (λ to k go. inr go) (λ to k go. go)
+    (members_test_stretch heads body at 0 w.free (first_in (slice_get w.site.body.locals counter)) low place (omega (arith, below)))
+    (some_while_stretch (taking w 1) body (at + n) 0 condition place fits.1 (omega (arith, below)))
+turn_test_stretch w body at (for_steps counter from step to down condition) place fits below =
+    let heads = heads_of w.site.program in
+    let c : Steps = steps_with (first_in (slice_get w.site.body.locals counter)) (constant_step step) down w.free in
+    join_outlets heads body (to_place place 0) (to_place place 0) (to_place place 0) at 0 (next_code c place) _ 8 (some_while_size condition) 0 0 (at + 8) _ refl refl (λ to k go. inr go) (λ to k go. go) (next_stretch heads body at 0 c place (omega (arith, below)))
+    (some_while_stretch (taking w (steps_kept step)) body (at + 8) 0 condition place fits.3 (omega (arith, below)))
+
+-- past the test of the next value stands what stands behind it
+pub past_lands : (heads : Code) (body at : ℕ) (c : Steps) (place : ℕ) (is : List Instr) → at + 8 ≤ place → Lands heads at 0 (next_code c place ++ is) (at + 8) 0
+past_lands heads body at c place is low =
+    let next = next_stretch heads body at 0 c place low in
+    let count = next.count in
+    let joined = length-append (next_code c place) is in
+    lands_over heads at 0 (next_code c place ++ is) (at + 8) 8 0 refl (omega (arith, count, joined))
+    (ap (behind heads 0) (take_front 8 (next_code c place) is (omega (arith, count))) ∙ (ap (λ (n : ℕ). behind heads 0 (take n (next_code c place))) (sym count) ∙ (ap (behind heads 0) (take_all (next_code c place)) ∙ next.leaves)))

@@ -1,0 +1,168 @@
+-- Blocks of statements: one behind the other, and parts of which one is done.
+use Rattle.std.proofs.Common.{◌≡◌, ◌⊎◌, ◌+◌, ◌-◌, ◌≤◌, ◌<◌, ℕ, zero, suc, Bool, true, false, List, [], ◌∷◌, ◌++◌, length, length-append, take, refl, sym, ap, ◌∙◌, subst, inl, inr, arith, append-nil, Option, Some, None}
+use Rattle.std.specs.Prelude.{if◌then◌else◌, ◌&&◌, ◌||◌}
+use Rattle.std.proofs.lemmas.List.{append_assoc}
+use Rattle.code_types.specs.declared.instr.Instr.{Instr}
+use Rattle.code_types.specs.declared.instr.Instr.TheVariants as i
+use Rattle.code_types.specs.declared.code.Code.{Code}
+use Rattle.code_types.specs.declared.code.Handler.{Handler}
+use Rattle.code_scheme.specs.StatementGoing.{leave_size, leave_code}
+use Rattle.code_scheme.specs.StatementCode.{joining}
+use Rattle.scheme_heights.specs.Stretches.{behind, Outlets, no_outlets, Lands, IsStretch}
+use Rattle.scheme_heights.specs.Laws.{to_place}
+use Rattle.scheme_heights.specs.Closed.{Meets, inside_or, IsClosed, AreRowsIn, IsBlock, IsOneOf, leads_out}
+use Rattle.scheme_heights.proofs.Closing.{meets_front, inside_front, inside_rest, LeadInto, join_closed, rows_more, rows_both, join_blocks, wider, or_behind, stretch_closed}
+use Rattle.scheme_heights.proofs.Joining.{lands_front}
+use Rattle.scheme_heights.proofs.Loops.{jump_stretch}
+
+-- ---- outlets
+
+-- where control goes that comes out of statements
+pub out_into : (goes : Bool) (place : ℕ) (exits : List ℕ) (comes : Outlets) → (goes ≡ true → comes place 0) → ((to : ℕ) → IsOneOf exits to → comes to 0) → LeadInto (leads_out goes place exits) comes
+out_into goes place exits comes on leave to k out = from k to out.0 out.1
+  where
+    here : (to : ℕ) → ((goes ≡ true) × (to ≡ place)) ⊎ IsOneOf exits to → comes to 0
+    here to (inl ends) = subst (λ (p : ℕ). comes p 0) (sym ends.1) (on ends.0)
+    here to (inr exit) = leave to exit
+
+    from : (k to : ℕ) → k ≡ 0 → ((goes ≡ true) × (to ≡ place)) ⊎ IsOneOf exits to → comes to k
+    from k to level out = subst (λ (h : ℕ). comes to h) (sym level) (here to out)
+
+pub goes_out : (goes : Bool) (place : ℕ) (exits : List ℕ) → goes ≡ true → leads_out goes place exits place 0
+goes_out goes place exits on = (refl, inl (on, refl))
+
+pub exits_out : (goes : Bool) (place : ℕ) (exits : List ℕ) (to : ℕ) → IsOneOf exits to → leads_out goes place exits to 0
+exits_out goes place exits to exit = (refl, inr exit)
+
+-- out of a stretch, of which some jumps go out
+pub behind_into : (outlets : Outlets) (place : ℕ) (comes : Outlets) → comes place 0 → LeadInto outlets comes → LeadInto (or_behind outlets place 0) comes
+behind_into outlets place comes on out to k (inl go) = out to k go
+behind_into outlets place comes on out to k (inr ends) = subst (λ (p : ℕ). comes p k) (sym ends.0) (subst (λ (h : ℕ). comes place h) (sym ends.1) on)
+
+pub place_into : (target : ℕ) (comes : Outlets) → comes target 0 → LeadInto (to_place target 0) comes
+place_into target comes on to k go = subst (λ (p : ℕ). comes p k) (sym go.0) (subst (λ (h : ℕ). comes target h) (sym go.1) on)
+
+-- control comes to the first of some instructions
+pub meets_first : (heads : Code) (at : ℕ) (is : List Instr) → 0 < length is → Meets heads at 0 is at 0
+meets_first heads at [] some = absurd (let f : ⊥ = omega (arith, some) in f)
+meets_first heads at (instr ∷ is) some = record { from = omega arith; until = omega arith; same = first (at - at) (omega arith) }
+  where
+    first : (n : ℕ) → n ≡ 0 → behind heads 0 (take n (instr ∷ is)) ≡ 0
+    first zero none = refl
+    first (suc n) none = absurd (let f : ⊥ = omega (arith, none) in f)
+
+pub lands_meet : (heads : Code) (at height : ℕ) (a b : List Instr) (to k : ℕ) → 0 < length b → Lands heads at height a to k → Meets heads at height (a ++ b) to k
+lands_meet heads at height a b to k some lands =
+    let all = lands_front heads at height a b to k lands in
+    record { from = all.from; until = let u = lands.until in let l = length-append a b in omega (arith, u, l, some); same = all.same }
+
+-- ---- blocks
+
+-- a stretch as a block, of which control comes out behind it
+pub stretch_block : {heads : Code} {body : ℕ} {outlets : Outlets} {at : ℕ} {is : List Instr} {n : ℕ} (more : Outlets) → LeadInto outlets more → more (at + n) 0 → IsStretch heads body outlets at 0 is n 0 → IsBlock heads body more at is [] n
+stretch_block {outlets = outlets} {at = at} {n = n} more leads on stretch = wider more (behind_into outlets (at + n) more on leads) (record { closed = stretch_closed stretch; handled = tt })
+
+pub plain_block : {heads : Code} {body at : ℕ} {is : List Instr} {n : ℕ} (exits : List ℕ) → IsStretch heads body no_outlets at 0 is n 0 → IsBlock heads body (leads_out true (at + n) exits) at is [] n
+plain_block {at = at} {n = n} exits stretch = stretch_block (leads_out true (at + n) exits) (λ to k none. absurd none) (goes_out true (at + n) exits refl) stretch
+
+pub resized_block : {heads : Code} {body : ℕ} {outlets : Outlets} {at : ℕ} {is : List Instr} {rows : List Handler} {n : ℕ} (m : ℕ) → n ≡ m → IsBlock heads body outlets at is rows n → IsBlock heads body outlets at is rows m
+resized_block {heads = heads} {body = body} {outlets = outlets} {at = at} {is = is} {rows = rows} m same block = subst (λ (k : ℕ). IsBlock heads body outlets at is rows k) same block
+
+-- one behind the other, where control comes behind the first
+pub follow_block : (heads : Code) (body : ℕ) (exits : List ℕ) (goes on : Bool) (at n m : ℕ) (a b : List Instr) (some rows : List Handler) → IsBlock heads body (leads_out goes (at + n) exits) at a some n → IsBlock heads body (leads_out on (at + n + m) exits) (at + n) b rows m
+    → IsBlock heads body (leads_out (goes && on) (at + (n + (if goes then m else 0))) exits) at (a ++ (if goes then b else [])) (some ++ (if goes then rows else [])) (n + (if goes then m else 0))
+follow_block heads body exits false on at n m a b some rows first second =
+    subst (λ (is : List Instr). IsBlock heads body (leads_out false (at + (n + 0)) exits) at is (some ++ []) (n + 0)) (sym (append-nil a))
+    (subst (λ (rs : List Handler). IsBlock heads body (leads_out false (at + (n + 0)) exits) at a rs (n + 0)) (sym (append-nil some))
+    (resized_block (n + 0) (omega arith) (wider (leads_out false (at + (n + 0)) exits) (out_into false (at + n) exits _ (λ on. absurd (let f : ⊥ = cc in f)) (exits_out false (at + (n + 0)) exits)) first)))
+follow_block heads body exits true on at n m a b some rows first second =
+    join_blocks (leads_out on (at + (n + m)) exits) refl refl
+    (out_into true (at + n) exits _ (λ on'. entry) (λ to exit. inr (exits_out on (at + (n + m)) exits to exit)))
+    (out_into on (at + n + m) exits _ (λ on'. inr (subst (λ (p : ℕ). leads_out on (at + (n + m)) exits p 0) (let e : at + (n + m) ≡ at + n + m = omega arith in e) (goes_out on (at + (n + m)) exits on'))) (λ to exit. inr (exits_out on (at + (n + m)) exits to exit)))
+    first second
+  where
+    entry : inside_or heads (at + n) 0 b (leads_out on (at + (n + m)) exits) (at + n) 0
+    entry = elim second.closed.entry [
+      | inl meets ↦ inl meets
+      | inr out ↦ inr (subst (λ (p : ℕ). leads_out on p exits (at + n) 0) (let e : at + n + m ≡ at + (n + m) = omega arith in e) out)
+    ]
+
+-- ---- parts of which one is done
+
+-- a part, and the jump over so many instructions behind it
+pub joining_block : (heads : Code) (body : ℕ) (exits : List ℕ) (goes : Bool) (at n rest place : ℕ) (a : List Instr) (rows : List Handler) → place ≡ at + (n + (leave_size goes rest + rest)) → IsBlock heads body (leads_out goes (at + n) exits) at a rows n
+    → IsBlock heads body (leads_out goes place exits) at (joining a goes rest place) rows (n + leave_size goes rest)
+joining_block heads body exits goes at n rest place a rows there block = go goes rest there block
+  where
+    same_rows : (more : Outlets) (is : List Instr) (size : ℕ) → IsBlock heads body more at is (rows ++ []) size → IsBlock heads body more at is rows size
+    same_rows more is size known = subst (λ (rs : List Handler). IsBlock heads body more at is rs size) (append-nil rows) known
+
+    bare : (goes : Bool) → (goes ≡ true → at + n ≡ place) → IsBlock heads body (leads_out goes (at + n) exits) at a rows n → IsBlock heads body (leads_out goes place exits) at (a ++ []) rows (n + 0)
+    bare goes here known =
+        subst (λ (is : List Instr). IsBlock heads body (leads_out goes place exits) at is rows (n + 0)) (sym (append-nil a))
+        (resized_block (n + 0) (omega arith) (wider (leads_out goes place exits) (out_into goes (at + n) exits _ (λ on. subst (λ (p : ℕ). leads_out goes place exits p 0) (sym (here on)) (goes_out goes place exits on)) (exits_out goes place exits)) known))
+
+    go : (goes : Bool) (rest : ℕ) → place ≡ at + (n + (leave_size goes rest + rest)) → IsBlock heads body (leads_out goes (at + n) exits) at a rows n → IsBlock heads body (leads_out goes place exits) at (a ++ leave_code goes rest place) rows (n + leave_size goes rest)
+    go false rest there known = bare false (λ on. absurd (let f : ⊥ = cc in f)) known
+    go true zero there known = bare true (λ on. omega (arith, there)) known
+    go true (suc rest) there known =
+        let jump : IsBlock heads body (leads_out true place exits) (at + n) (i.Jump place ∷ []) [] 1 = record {
+          closed = record {
+            moves = (record { operands = omega arith; named = tt; forward = omega (arith, there); goes = λ on. absurd (let f : ⊥ = cc in f); jumps = λ to jump. inr (jumps to jump); ended = λ last. inr (omega arith) }, tt);
+            entry = inl (meets_first heads (at + n) (i.Jump place ∷ []) (omega arith));
+            count = refl;
+            leaves = omega arith;
+          };
+          handled = tt;
+        } in
+        same_rows (leads_out true place exits) (a ++ i.Jump place ∷ []) (n + 1)
+        (join_blocks (leads_out true place exits) refl refl (out_into true (at + n) exits _ (λ on. inl (meets_first heads (at + n) (i.Jump place ∷ []) (omega arith))) (λ to exit. inr (exits_out true place exits to exit))) (λ to k out. inr out) known jump)
+      where
+        jumps : (to : ℕ) → Some place ≡ Some to → leads_out true place exits to (0 - 0 + 0)
+        jumps to same = (omega arith, inl (refl, let e : to ≡ place = cc in e))
+
+-- two parts of which one is done: both lead to one place
+pub either_block : (heads : Code) (body : ℕ) (exits : List ℕ) (goes on : Bool) (at p n m place : ℕ) (a b : List Instr) (some rows : List Handler) → p ≡ at + n → IsBlock heads body (leads_out goes place exits) at a some n → IsBlock heads body (leads_out on place exits) p b rows m
+    → IsBlock heads body (leads_out (on || goes) place exits) at (a ++ b) (some ++ rows) (n + m)
+either_block heads body exits goes on at p n m place a b some rows there first second =
+    join_blocks (leads_out (on || goes) place exits) there refl
+    (out_into goes place exits _ (λ is. inr (goes_out (on || goes) place exits (second_true on goes is))) (λ to exit. inr (exits_out (on || goes) place exits to exit)))
+    (out_into on place exits _ (λ is. inr (goes_out (on || goes) place exits (first_true on goes is))) (λ to exit. inr (exits_out (on || goes) place exits to exit)))
+    first second
+  where
+    second_true : (x y : Bool) → y ≡ true → (x || y) ≡ true
+    second_true true y is = refl
+    second_true false y is = is
+
+    first_true : (x y : Bool) → x ≡ true → (x || y) ≡ true
+    first_true true y is = refl
+    first_true false y is = absurd (let f : ⊥ = cc in f)
+
+-- a test that leads on or to the second of two parts
+pub tested_block : (heads : Code) (body : ℕ) (exits : List ℕ) (goes on : Bool) (at q p c n m place : ℕ) (test a b : List Instr) (some rows : List Handler) → q ≡ at + c → p ≡ q + n → IsStretch heads body (to_place p 0) at 0 test c 0 → IsBlock heads body (leads_out goes place exits) q a some n → IsBlock heads body (leads_out on place exits) p b rows m
+    → IsBlock heads body (leads_out (on || goes) place exits) at (test ++ (a ++ b)) (some ++ rows) (c + (n + m))
+tested_block heads body exits goes on at q p c n m place test a b some rows here there tests first second =
+    let both = either_block heads body exits goes on q p n m place a b some rows there first second in
+    join_blocks all {some = []} here refl (behind_into (to_place p 0) (at + c) inner first_entry (place_into p inner second_entry)) (λ to k out. inr out) block both
+  where
+    all : Outlets
+    all = leads_out (on || goes) place exits
+
+    inner : Outlets
+    inner = inside_or heads q 0 (a ++ b) all
+
+    block : IsBlock heads body (or_behind (to_place p 0) (at + c) 0) at test [] c
+    block = record { closed = stretch_closed tests; handled = tt }
+
+    first_true : (x y : Bool) → x ≡ true → (x || y) ≡ true
+    first_true true y is = refl
+    first_true false y is = absurd (let f : ⊥ = cc in f)
+
+    first_entry : inner (at + c) 0
+    first_entry = let both = either_block heads body exits goes on q p n m place a b some rows there first second in subst (λ (x : ℕ). inner x 0) here both.closed.entry
+
+    second_entry : inner p 0
+    second_entry =
+        let count = first.closed.count in
+        inside_rest heads q 0 p 0 a b (leads_out on place exits) all p 0 (omega (arith, there, count)) first.closed.leaves
+        (λ out. inr (out_into on place exits all (λ is. goes_out (on || goes) place exits (first_true on goes is)) (exits_out (on || goes) place exits) p 0 out)) second.closed.entry
