@@ -9,3 +9,4 @@ pub mod PlainActions
 pub mod Waits
 pub mod Loops
 pub mod Blocks
+pub mod WayOut
