@@ -10,3 +10,4 @@ pub mod Waits
 pub mod Loops
 pub mod Blocks
 pub mod WayOut
+pub mod Statements
