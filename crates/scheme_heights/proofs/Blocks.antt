@@ -75,7 +75,7 @@ pub resized_block : {heads : Code} {body : ℕ} {outlets : Outlets} {at : ℕ} {
 resized_block {heads = heads} {body = body} {outlets = outlets} {at = at} {is = is} {rows = rows} m same block = subst (λ (k : ℕ). IsBlock heads body outlets at is rows k) same block
 
 -- one behind the other, where control comes behind the first
-pub follow_block : (heads : Code) (body : ℕ) (exits : List ℕ) (goes on : Bool) (at n m : ℕ) (a b : List Instr) (some rows : List Handler) → IsBlock heads body (leads_out goes (at + n) exits) at a some n → IsBlock heads body (leads_out on (at + n + m) exits) (at + n) b rows m
+pub follow_block : (heads : Code) (body : ℕ) (exits : List ℕ) (goes on : Bool) (at n m : ℕ) (a b : List Instr) (some rows : List Handler) → IsBlock heads body (leads_out goes (at + n) exits) at a some n → (goes ≡ true → IsBlock heads body (leads_out on (at + n + m) exits) (at + n) b rows m)
     → IsBlock heads body (leads_out (goes && on) (at + (n + (if goes then m else 0))) exits) at (a ++ (if goes then b else [])) (some ++ (if goes then rows else [])) (n + (if goes then m else 0))
 follow_block heads body exits false on at n m a b some rows first second =
     subst (λ (is : List Instr). IsBlock heads body (leads_out false (at + (n + 0)) exits) at is (some ++ []) (n + 0)) (sym (append-nil a))
@@ -85,10 +85,13 @@ follow_block heads body exits true on at n m a b some rows first second =
     join_blocks (leads_out on (at + (n + m)) exits) refl refl
     (out_into true (at + n) exits _ (λ on'. entry) (λ to exit. inr (exits_out on (at + (n + m)) exits to exit)))
     (out_into on (at + n + m) exits _ (λ on'. inr (subst (λ (p : ℕ). leads_out on (at + (n + m)) exits p 0) (let e : at + (n + m) ≡ at + n + m = omega arith in e) (goes_out on (at + (n + m)) exits on'))) (λ to exit. inr (exits_out on (at + (n + m)) exits to exit)))
-    first second
+    first block
   where
+    block : IsBlock heads body (leads_out on (at + n + m) exits) (at + n) b rows m
+    block = second refl
+
     entry : inside_or heads (at + n) 0 b (leads_out on (at + (n + m)) exits) (at + n) 0
-    entry = elim second.closed.entry [
+    entry = elim block.closed.entry [
       | inl meets ↦ inl meets
       | inr out ↦ inr (subst (λ (p : ℕ). leads_out on p exits (at + n) 0) (let e : at + n + m ≡ at + (n + m) = omega arith in e) out)
     ]

@@ -10,4 +10,13 @@ pub mod Waits
 pub mod Loops
 pub mod Blocks
 pub mod WayOut
+pub mod Choosing
+pub mod Holding
+pub mod Handling
+pub mod Compound
+pub mod Simple
 pub mod Statements
+pub mod Items
+pub mod Bodies
+pub mod Located
+pub mod Agreeing

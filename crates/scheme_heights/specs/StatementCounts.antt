@@ -1,6 +1,6 @@
 -- The numbers of scalars in statements and bodies fit each other: what an assignment takes, what tests a condition, what a RETURN
 -- gives; and modules and regions stand among the items of a body alone.
-use Rattle.std.specs.Prelude.{◌≡◌, ℕ, suc, ◌≤◌, ◌<◌, Bool, true, false, List, length, drop, Option, Some, None, slice_get}
+use Rattle.std.specs.Prelude.{◌≡◌, ℕ, suc, ◌≤◌, ◌<◌, Bool, true, false, List, [], ◌∷◌, length, Option, Some, None, slice_get}
 use Rattle.modes.specs.ModeTree.{ModeTree}
 use Rattle.modes.specs.Scalars.{lowest_of}
 use Rattle.program_trees.specs.ExprTree.{ExprTree, ReceivedTree, LocationTree, count_of, received_count, location_count}
@@ -137,14 +137,16 @@ abbrev mutual
 
 -- ---- bodies
 
+-- a value of each local, and of the result, has no more scalars than 32 bits number
 abbrev pub AreFew : List LocalRowTree → Type 0
-AreFew rows = (k : ℕ) (row : LocalRowTree) → slice_get rows k ≡ Some row → length (lowest_of row.mode) ≤ 4294967295
+AreFew [] = Unit {0}
+AreFew (row ∷ rows) = (length (lowest_of row.mode) ≤ 4294967295) × AreFew rows
 
 abbrev pub IsFew : Option ModeTree → Type 0
 IsFew None = Unit {0}
 IsFew (Some m) = length (lowest_of m) ≤ 4294967295
 
--- a body of a program: what it begins with has no more scalars than 32 bits number, a process gives nothing back
+-- a body of a program: its statements and its handler fit, and a process gives nothing back
 pub record BodyFits (p : CheckedTree) (b : BodyRowTree) : Type 0 where
   pub items : ItemsFit (site_in p b) b.statements
   pub handled : HandlerFits (site_in p b) 0 b.handler
