@@ -1,4 +1,4 @@
--- The code of a program whose numbers of scalars fit agrees.
+-- What the places of a program's code have that its guard asks for.
 use Rattle.std.proofs.Common.{◌≡◌, ◌≢◌, ◌⊎◌, ◌+◌, ◌-◌, ◌≤◌, ◌<◌, max, ℕ, zero, suc, Bool, true, false, List, [], ◌∷◌, ◌++◌, length, take, drop, refl, sym, ap, ◌∙◌, subst, inl, inr, arith, Option, Some, None, slice_get, All}
 use Rattle.std.specs.Prelude.{IsTrue, IsFalse, IsSomeAnd}
 use Rattle.std.proofs.lemmas.Option.{slice_get-get_or}
@@ -20,63 +20,63 @@ use Rattle.scheme_heights.specs.StatementCounts.{BodyFits, ProgramFits}
 use Rattle.scheme_heights.proofs.Bodies.{body_block}
 use Rattle.scheme_heights.proofs.Located.{item_there, item_below, bodies_heights, Located, locate, Owned, own, OwnedRow, own_row, rows_length, all_heights_length}
 
-each : {A : Type 0} (P : A → Type 0) (xs : List A) → ((k : ℕ) (x : A) → slice_get xs k ≡ Some x → P x) → All P xs
+pub each : {A : Type 0} (P : A → Type 0) (xs : List A) → ((k : ℕ) (x : A) → slice_get xs k ≡ Some x → P x) → All P xs
 each P xs known = λ k d low. known k (get_or xs k d) (slice_get-get_or xs k d low)
 
 -- ---- rows of bodies as calls ask for them
 
-same_params : (p : CheckedTree) (bs : List BodyRowTree) (at k : ℕ) → params_of (slice_get (body_rows p bs at) k) ≡ params_of (slice_get (map head_of bs) k)
+pub same_params : (p : CheckedTree) (bs : List BodyRowTree) (at k : ℕ) → params_of (slice_get (body_rows p bs at) k) ≡ params_of (slice_get (map head_of bs) k)
 same_params p [] at k = refl
 same_params p (b ∷ bs) at zero = refl
 same_params p (b ∷ bs) at (suc k) = same_params p bs (at + length (body_code (site_in p b) at)) k
 
-same_results : (p : CheckedTree) (bs : List BodyRowTree) (at k : ℕ) → ((j : ℕ) (b : BodyRowTree) → slice_get bs j ≡ Some b → results_by b.sort b ≡ call_results b) → results_of (slice_get (body_rows p bs at) k) ≡ results_of (slice_get (map head_of bs) k)
+pub same_results : (p : CheckedTree) (bs : List BodyRowTree) (at k : ℕ) → ((j : ℕ) (b : BodyRowTree) → slice_get bs j ≡ Some b → results_by b.sort b ≡ call_results b) → results_of (slice_get (body_rows p bs at) k) ≡ results_of (slice_get (map head_of bs) k)
 same_results p [] at k known = refl
 same_results p (b ∷ bs) at zero known = known 0 b refl
 same_results p (b ∷ bs) at (suc k) known = same_results p bs (at + length (body_code (site_in p b) at)) k (λ j c is. known (suc j) c is)
 
 -- codes of which calls ask the same
-record AlikeAtCalls (code heads : Code) : Type 0 where
-  params : (k : ℕ) → params_of (slice_get code.bodies k) ≡ params_of (slice_get heads.bodies k)
-  results : (k : ℕ) → results_of (slice_get code.bodies k) ≡ results_of (slice_get heads.bodies k)
-  many : length code.bodies ≡ length heads.bodies
+pub record AlikeAtCalls (code heads : Code) : Type 0 where
+  pub params : (k : ℕ) → params_of (slice_get code.bodies k) ≡ params_of (slice_get heads.bodies k)
+  pub results : (k : ℕ) → results_of (slice_get code.bodies k) ≡ results_of (slice_get heads.bodies k)
+  pub many : length code.bodies ≡ length heads.bodies
 
-same_pops : (code heads : Code) (body : ℕ) (instr : Instr) → AlikeAtCalls code heads → pops code body instr ≡ pops heads body instr
+pub same_pops : (code heads : Code) (body : ℕ) (instr : Instr) → AlikeAtCalls code heads → pops code body instr ≡ pops heads body instr
 same_pops code heads body (i.Call k) alike = alike.params k
 same_pops code heads body i.Return alike = alike.results body
 same_pops code heads body instr alike = refl
 
-same_finds : (code heads : Code) (body : ℕ) (instr : Instr) → AlikeAtCalls code heads → finds code body instr ≡ finds heads body instr
+pub same_finds : (code heads : Code) (body : ℕ) (instr : Instr) → AlikeAtCalls code heads → finds code body instr ≡ finds heads body instr
 same_finds code heads body (i.Call k) alike = alike.params k
 same_finds code heads body i.Return alike = alike.results body
 same_finds code heads body instr alike = refl
 
-pops_found : (code : Code) (body : ℕ) (instr : Instr) → pops code body instr ≤ finds code body instr
+pub pops_found : (code : Code) (body : ℕ) (instr : Instr) → pops code body instr ≤ finds code body instr
 pops_found code body (i.Copy n) = omega arith
 pops_found code body (i.Check low high) = omega arith
 pops_found code body instr = omega arith
 
 -- an instruction but Return
-abbrev GoesFurther : Instr → Type 0
+abbrev pub GoesFurther : Instr → Type 0
 GoesFurther i.Return = ⊥
 GoesFurther instr = Unit {0}
 
-same_height : (code heads : Code) (body height : ℕ) (instr : Instr) → AlikeAtCalls code heads → GoesFurther instr → height_after code body instr height ≡ height_behind heads instr height
+pub same_height : (code heads : Code) (body height : ℕ) (instr : Instr) → AlikeAtCalls code heads → GoesFurther instr → height_after code body instr height ≡ height_behind heads instr height
 same_height code heads body height (i.Call k) alike goes = let a = alike.params k in let b = alike.results k in omega (arith, a, b)
 same_height code heads body height i.Return alike goes = absurd goes
 same_height code heads body height instr alike goes = refl
 
-jumps_further : (instr : Instr) (to : ℕ) → jump_of instr ≡ Some to → GoesFurther instr
+pub jumps_further : (instr : Instr) (to : ℕ) → jump_of instr ≡ Some to → GoesFurther instr
 jumps_further i.Return to jump = absurd (let f : ⊥ = cc in f)
 jumps_further instr to jump = tt
 
-goes_further : (instr : Instr) → IsFalse (is_last instr) → GoesFurther instr
+pub goes_further : (instr : Instr) → IsFalse (is_last instr) → GoesFurther instr
 goes_further i.Return on = absurd (let f : ⊥ = cc in f)
 goes_further instr on = tt
 
 -- ---- what is named
 
-names_known : (code heads : Code) (row : BodyRow) (instr : Instr) → AlikeAtCalls code heads → locals_named instr ≤ row.locals → IsNamedIn heads instr → IsNamed code row instr
+pub names_known : (code heads : Code) (row : BodyRow) (instr : Instr) → AlikeAtCalls code heads → locals_named instr ≤ row.locals → IsNamedIn heads instr → IsNamed code row instr
 names_known code heads row (i.Local first count) alike low named = low
 names_known code heads row (i.SetLocal first count) alike low named = low
 names_known code heads row (i.LocalAt first count) alike low named = low
@@ -86,11 +86,11 @@ names_known code heads row (i.Call callee) alike low named = let m = alike.many 
 names_known code heads row (i.Start process count) alike low named = let m = alike.many in omega (arith, m, named)
 names_known code heads row instr alike low named = tt
 
-locals_more : (n : ℕ) (is : List Instr) → n ≤ most_locals n is
+pub locals_more : (n : ℕ) (is : List Instr) → n ≤ most_locals n is
 locals_more n [] = omega arith
 locals_more n (instr ∷ is) = let m = locals_more (max n (locals_named instr)) is in omega (arith, m)
 
-locals_there : (n : ℕ) (is : List Instr) (k : ℕ) (instr : Instr) → slice_get is k ≡ Some instr → locals_named instr ≤ most_locals n is
+pub locals_there : (n : ℕ) (is : List Instr) (k : ℕ) (instr : Instr) → slice_get is k ≡ Some instr → locals_named instr ≤ most_locals n is
 locals_there n [] k instr is_instr = absurd (let f : ⊥ = cc in f)
 locals_there n (x ∷ is) zero instr is_instr =
     let same : x ≡ instr = cc in
@@ -98,18 +98,18 @@ locals_there n (x ∷ is) zero instr is_instr =
     subst (λ (y : Instr). locals_named y ≤ most_locals (max n (locals_named x)) is) same (omega (arith, m))
 locals_there n (x ∷ is) (suc k) instr is_instr = locals_there (max n (locals_named x)) is k instr is_instr
 
-taken_scalars : (n : ℕ) (rows : List LocalRowTree) → scalars_in (take n rows) ≤ scalars_in rows
+pub taken_scalars : (n : ℕ) (rows : List LocalRowTree) → scalars_in (take n rows) ≤ scalars_in rows
 taken_scalars zero rows = omega arith
 taken_scalars (suc n) [] = omega arith
 taken_scalars (suc n) (row ∷ rows) = let rest = taken_scalars n rows in omega (arith, rest)
 
 -- ---- heights
 
-greatest_more : (heads : Code) (height greatest : ℕ) (is : List Instr) → greatest ≤ greatest_height heads height greatest is
+pub greatest_more : (heads : Code) (height greatest : ℕ) (is : List Instr) → greatest ≤ greatest_height heads height greatest is
 greatest_more heads height greatest [] = omega arith
 greatest_more heads height greatest (instr ∷ is) = let m = greatest_more heads (height_behind heads instr height) (max greatest (height_behind heads instr height)) is in omega (arith, m)
 
-greatest_there : (heads : Code) (height greatest : ℕ) (is : List Instr) (k : ℕ) → height ≤ greatest → behind heads height (take k is) ≤ greatest_height heads height greatest is
+pub greatest_there : (heads : Code) (height greatest : ℕ) (is : List Instr) (k : ℕ) → height ≤ greatest → behind heads height (take k is) ≤ greatest_height heads height greatest is
 greatest_there heads height greatest is zero low = let m = greatest_more heads height greatest is in omega (arith, m, low)
 greatest_there heads height greatest [] (suc k) low = low
 greatest_there heads height greatest (instr ∷ is) (suc k) low =
@@ -118,12 +118,12 @@ greatest_there heads height greatest (instr ∷ is) (suc k) low =
 -- ---- instructions of closed code
 
 -- where jumps before an instruction lead
-abbrev led_before : Led → List Instr → ℕ → Led
+abbrev pub led_before : Led → List Instr → ℕ → Led
 led_before led [] k = led
 led_before led (instr ∷ is) zero = led
 led_before led (instr ∷ is) (suc k) = led_before (led_behind led instr) is k
 
-move_at : (heads : Code) (body : ℕ) (comes : Outlets) (led : Led) (at height : ℕ) (is : List Instr) (k : ℕ) (instr : Instr) → AreMoves heads body comes led at height is → slice_get is k ≡ Some instr → IsMove heads body comes (led_before led is k) (at + k) (behind heads height (take k is)) instr
+pub move_at : (heads : Code) (body : ℕ) (comes : Outlets) (led : Led) (at height : ℕ) (is : List Instr) (k : ℕ) (instr : Instr) → AreMoves heads body comes led at height is → slice_get is k ≡ Some instr → IsMove heads body comes (led_before led is k) (at + k) (behind heads height (take k is)) instr
 move_at heads body comes led at height [] k instr moves is_instr = absurd (let f : ⊥ = cc in f)
 move_at heads body comes led at height (x ∷ is) zero instr moves is_instr =
     let same : x ≡ instr = cc in
@@ -133,14 +133,14 @@ move_at heads body comes led at height (x ∷ is) (suc k) instr moves is_instr =
     (move_at heads body comes (led_behind led x) (at + 1) (height_behind heads x height) is k instr moves.1 is_instr)
 
 -- an earlier instruction jumps to the place
-record JumpsThere (is : List Instr) (below to : ℕ) : Type 0 where
-  number : ℕ
-  instr : Instr
-  early : number < below
-  is_instr : slice_get is number ≡ Some instr
-  jumps : jump_of instr ≡ Some to
+pub record JumpsThere (is : List Instr) (below to : ℕ) : Type 0 where
+  pub number : ℕ
+  pub instr : Instr
+  pub early : number < below
+  pub is_instr : slice_get is number ≡ Some instr
+  pub jumps : jump_of instr ≡ Some to
 
-led_there : (led : Led) (is : List Instr) (k to : ℕ) → led_before led is k to → led to ⊎ JumpsThere is k to
+pub led_there : (led : Led) (is : List Instr) (k to : ℕ) → led_before led is k to → led to ⊎ JumpsThere is k to
 led_there led [] k to known = inl known
 led_there led (instr ∷ is) zero to known = inl known
 led_there led (instr ∷ is) (suc k) to known = elim (led_there (led_behind led instr) is k to known) [
@@ -149,13 +149,13 @@ led_there led (instr ∷ is) (suc k) to known = elim (led_there (led_behind led 
   | inr later ↦ inr (record { number = suc later.number; instr = later.instr; early = let e = later.early in omega (arith, e); is_instr = later.is_instr; jumps = later.jumps })
 ]
 
-row_at : (heads : Code) (low : ℕ) (outlets : Outlets) (at : ℕ) (is : List Instr) (rows : List Handler) (k : ℕ) (row : Handler) → AreRowsIn heads low outlets at is rows → slice_get rows k ≡ Some row → IsRowIn heads low outlets at is row
+pub row_at : (heads : Code) (low : ℕ) (outlets : Outlets) (at : ℕ) (is : List Instr) (rows : List Handler) (k : ℕ) (row : Handler) → AreRowsIn heads low outlets at is rows → slice_get rows k ≡ Some row → IsRowIn heads low outlets at is row
 row_at heads low outlets at is [] k row known is_row = absurd (let f : ⊥ = cc in f)
 row_at heads low outlets at is (x ∷ rows) zero row known is_row = let same : x ≡ row = cc in subst (IsRowIn heads low outlets at is) same known.0
 row_at heads low outlets at is (x ∷ rows) (suc k) row known is_row = row_at heads low outlets at is rows k row known.1 is_row
 
 -- nothing leads out of a body
-stays : (heads : Code) (at : ℕ) (is : List Instr) (to k : ℕ) → inside_or heads at 0 is (leads_out false 0 []) to k → Meets heads at 0 is to k
+pub stays : (heads : Code) (at : ℕ) (is : List Instr) (to k : ℕ) → inside_or heads at 0 is (leads_out false 0 []) to k → Meets heads at 0 is to k
 stays heads at is to k (inl meets) = meets
 stays heads at is to k (inr out) = elim out.1 [
   | inl on ↦ absurd (let e : false ≡ true = on.0 in let f : ⊥ = cc in f)
@@ -164,24 +164,24 @@ stays heads at is to k (inr out) = elim out.1 [
 
 -- ---- the code of a program
 
-alike : (p : CheckedTree) → ProgramFits p → AlikeAtCalls (code_of p) (heads_of p)
+pub alike : (p : CheckedTree) → ProgramFits p → AlikeAtCalls (code_of p) (heads_of p)
 alike p fits = record {
   params = same_params p p.bodies 0;
   results = λ k. same_results p p.bodies 0 k (λ j b is. let body = fits.bodies j b is in body.results);
   many = let a = rows_length p p.bodies 0 in let b = length-map p.bodies head_of in omega (arith, a, b);
 }
 
-abbrev heights_of : CheckedTree → List ℕ
+abbrev pub heights_of : CheckedTree → List ℕ
 heights_of p = bodies_heights p p.bodies 0
 
-abbrev code_at : (p : CheckedTree) (body : ℕ) (b : BodyRowTree) → Located p p.bodies 0 body b → List Instr
+abbrev pub code_at : (p : CheckedTree) (body : ℕ) (b : BodyRowTree) → Located p p.bodies 0 body b → List Instr
 code_at p body b located = body_code (site_in p b) located.first
 
-block_at : (p : CheckedTree) (body : ℕ) (b : BodyRowTree) → ProgramFits p → (located : Located p p.bodies 0 body b) → IsBlock (heads_of p) body (leads_out false 0 []) located.first (code_at p body b located) (body_handlers (site_in p b) located.first) (length (code_at p body b located))
+pub block_at : (p : CheckedTree) (body : ℕ) (b : BodyRowTree) → ProgramFits p → (located : Located p p.bodies 0 body b) → IsBlock (heads_of p) body (leads_out false 0 []) located.first (code_at p body b located) (body_handlers (site_in p b) located.first) (length (code_at p body b located))
 block_at p body b fits located = body_block p b body located.first 0 located.is_body (fits.bodies body b located.is_body)
 
 -- a place that control comes to in a body has its height
-has_height : (p : CheckedTree) (body : ℕ) (b : BodyRowTree) (located : Located p p.bodies 0 body b) (to k : ℕ) → Meets (heads_of p) located.first 0 (code_at p body b located) to k → HasHeight (heights_of p) to k
+pub has_height : (p : CheckedTree) (body : ℕ) (b : BodyRowTree) (located : Located p p.bodies 0 body b) (to k : ℕ) → Meets (heads_of p) located.first 0 (code_at p body b located) to k → HasHeight (heights_of p) to k
 has_height p body b located to k meets =
     let from = meets.from in
     let until = meets.until in
@@ -189,20 +189,20 @@ has_height p body b located to k meets =
     ap (slice_get (heights_of p)) (let e : to ≡ located.skip + (to - located.first) = omega (arith, from, begins) in e) ∙ (located.heights (to - located.first) (omega (arith, from, until)) ∙ ap Some meets.same)
 
 -- An instruction that stands in a body.
-record Inside (p : CheckedTree) (body : ℕ) (row : BodyRow) (place : ℕ) (instr : Instr) : Type 0 where
-  b : BodyRowTree
-  located : Located p p.bodies 0 body b
-  number : ℕ
-  row_is : body_row (site_in p b) located.first ≡ row
-  here : place ≡ located.first + number
-  below : number < length (body_code (site_in p b) located.first)
-  is_instr : slice_get (body_code (site_in p b) located.first) number ≡ Some instr
-  end_is : end_of (code_of p) body ≡ located.first + length (body_code (site_in p b) located.first)
+pub record Inside (p : CheckedTree) (body : ℕ) (row : BodyRow) (place : ℕ) (instr : Instr) : Type 0 where
+  pub b : BodyRowTree
+  pub located : Located p p.bodies 0 body b
+  pub number : ℕ
+  pub row_is : body_row (site_in p b) located.first ≡ row
+  pub here : place ≡ located.first + number
+  pub below : number < length (body_code (site_in p b) located.first)
+  pub is_instr : slice_get (body_code (site_in p b) located.first) number ≡ Some instr
+  pub end_is : end_of (code_of p) body ≡ located.first + length (body_code (site_in p b) located.first)
 
-end_known : (p : CheckedTree) (body : ℕ) (b : BodyRowTree) (located : Located p p.bodies 0 body b) → end_of (code_of p) body ≡ located.first + length (code_at p body b located)
+pub end_known : (p : CheckedTree) (body : ℕ) (b : BodyRowTree) (located : Located p p.bodies 0 body b) → end_of (code_of p) body ≡ located.first + length (code_at p body b located)
 end_known p body b located = ap (first_of (slice_get (body_rows p p.bodies 0) (body + 1))) (let e : length (bodies_code p p.bodies 0) ≡ 0 + length (bodies_code p p.bodies 0) = omega arith in e) ∙ located.ends
 
-inside : (p : CheckedTree) (body : ℕ) (row : BodyRow) (place : ℕ) (instr : Instr) → StandsIn (code_of p) body row place instr → Inside p body row place instr
+pub inside : (p : CheckedTree) (body : ℕ) (row : BodyRow) (place : ℕ) (instr : Instr) → StandsIn (code_of p) body row place instr → Inside p body row place instr
 inside p body row place instr stands =
     let low = item_below (body_rows p p.bodies 0) body row stands.is_body in
     let many = rows_length p p.bodies 0 in
@@ -228,17 +228,17 @@ inside p body row place instr stands =
     }
 
 -- what is known of it
-abbrev MoveOf : (p : CheckedTree) (body : ℕ) (row : BodyRow) (place : ℕ) (instr : Instr) → Inside p body row place instr → Type 0
+abbrev pub MoveOf : (p : CheckedTree) (body : ℕ) (row : BodyRow) (place : ℕ) (instr : Instr) → Inside p body row place instr → Type 0
 MoveOf p body row place instr it =
     IsMove (heads_of p) body (inside_or (heads_of p) it.located.first 0 (body_code (site_in p it.b) it.located.first) (leads_out false 0 [])) (led_before none_led (body_code (site_in p it.b) it.located.first) it.number) (it.located.first + it.number)
     (behind (heads_of p) 0 (take it.number (body_code (site_in p it.b) it.located.first))) instr
 
-move_of : (p : CheckedTree) (body : ℕ) (row : BodyRow) (place : ℕ) (instr : Instr) → ProgramFits p → (it : Inside p body row place instr) → MoveOf p body row place instr it
+pub move_of : (p : CheckedTree) (body : ℕ) (row : BodyRow) (place : ℕ) (instr : Instr) → ProgramFits p → (it : Inside p body row place instr) → MoveOf p body row place instr it
 move_of p body row place instr fits it =
     let block = block_at p body it.b fits it.located in
     move_at (heads_of p) body _ none_led it.located.first 0 (body_code (site_in p it.b) it.located.first) it.number instr block.closed.moves it.is_instr
 
-height_of : (p : CheckedTree) (body : ℕ) (row : BodyRow) (place : ℕ) (instr : Instr) (it : Inside p body row place instr) (height : ℕ) → HasHeight (heights_of p) place height → behind (heads_of p) 0 (take it.number (body_code (site_in p it.b) it.located.first)) ≡ height
+pub height_of : (p : CheckedTree) (body : ℕ) (row : BodyRow) (place : ℕ) (instr : Instr) (it : Inside p body row place instr) (height : ℕ) → HasHeight (heights_of p) place height → behind (heads_of p) 0 (take it.number (body_code (site_in p it.b) it.located.first)) ≡ height
 height_of p body row place instr it height has =
     let located = it.located in
     let here = it.here in
@@ -246,3 +246,12 @@ height_of p body row place instr it height has =
     let same : located.skip + it.number ≡ place = omega (arith, here, begins) in
     let a : Some (behind (heads_of p) 0 (take it.number (body_code (site_in p it.b) it.located.first))) ≡ Some height = sym (located.heights it.number it.below) ∙ (ap (slice_get (heights_of p)) same ∙ has) in
     cc
+
+pub bool_cases : (b : Bool) → IsTrue b ⊎ IsFalse b
+bool_cases true = inl refl
+bool_cases false = inr refl
+
+pub behind_next : (heads : Code) (height : ℕ) (is : List Instr) (k : ℕ) (instr : Instr) → slice_get is k ≡ Some instr → behind heads height (take (suc k) is) ≡ height_behind heads instr (behind heads height (take k is))
+behind_next heads height [] k instr is_instr = absurd (let f : ⊥ = cc in f)
+behind_next heads height (x ∷ is) zero instr is_instr = let same : x ≡ instr = cc in ap (λ (y : Instr). height_behind heads y height) same
+behind_next heads height (x ∷ is) (suc k) instr is_instr = behind_next heads (height_behind heads x height) is k instr is_instr

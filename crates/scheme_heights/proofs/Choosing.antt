@@ -23,7 +23,7 @@ use Rattle.code_scheme.specs.StatementRows.{row_for}
 use Rattle.code_scheme.specs.BodyCode.{heads_of}
 use Rattle.scheme_heights.specs.Stretches.{behind, Outlets, no_outlets, Lands, IsStretch}
 use Rattle.scheme_heights.specs.Closed.{inside_or, AreRowsIn, IsBlock, IsOneOf, leads_out}
-use Rattle.scheme_heights.specs.StatementCounts.{NumberFits, SetFits, ActionFits}
+use Rattle.scheme_heights.specs.StatementCounts.{NumberFits, SetPlaceFits, ActionFits}
 use Rattle.scheme_heights.specs.Laws.{to_place}
 use Rattle.scheme_heights.proofs.Joining.{join}
 use Rattle.scheme_heights.proofs.Parts.{Stretch, end, cons, if_stretch}
@@ -279,7 +279,7 @@ nothing_into false place comes on to k go = absurd go
 nothing_into true place comes on to k go = place_into place comes on to k go
 
 -- a wait before its alternatives
-pub receive_block : (w : Standing) (body : ℕ) (receives : Receives) (set : Option LocationTree) (rs : ReceiveNodes) (some : Bool) (at size last place : ℕ) (alternatives : CodeAt) (rows : List Handler) → SetFits w.site.program set → last ≤ size → place ≡ at + (receive_wait_size set rs some + size)
+pub receive_block : (w : Standing) (body : ℕ) (receives : Receives) (set : Option LocationTree) (rs : ReceiveNodes) (some : Bool) (at size last place : ℕ) (alternatives : CodeAt) (rows : List Handler) → SetPlaceFits w.site.program set → last ≤ size → place ≡ at + (receive_wait_size set rs some + size)
     → IsBlock (heads_of w.site.program) body (leads_out true place w.exits) (at + receive_wait_size set rs some) (alternatives (at + receive_wait_size set rs some)) rows size
     → inside_or (heads_of w.site.program) (at + receive_wait_size set rs some) 0 (alternatives (at + receive_wait_size set rs some)) (leads_out true place w.exits) (place - last) 0
     → IsBlock (heads_of w.site.program) body (leads_out true place w.exits) at (receive_case_code w receives set rs some size last alternatives at) rows (receive_wait_size set rs some + size)

@@ -20,3 +20,4 @@ pub mod Items
 pub mod Bodies
 pub mod Located
 pub mod Agreeing
+pub mod Programs

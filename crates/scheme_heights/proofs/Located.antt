@@ -135,6 +135,7 @@ pub record Owned (p : CheckedTree) (bs : List BodyRowTree) (at place : ℕ) : Ty
   pub here : place ≡ located.skip + number
 
 pub own : (p : CheckedTree) (bs : List BodyRowTree) (at place : ℕ) → place < length (bodies_code p bs at) → Owned p bs at place
+unfolding here further
 own p [] at place low = absurd (let f : ⊥ = omega (arith, low) in f)
 own p (b ∷ bs) at place low = elim (cases_lt place (length (body_code (site_in p b) at))) [
   | inl less ↦ record { body = 0; b = b; located = here p b bs at; number = place; below = less; here = omega arith }
@@ -155,6 +156,7 @@ pub record OwnedRow (p : CheckedTree) (bs : List BodyRowTree) (at : ℕ) (row : 
   pub is_row : slice_get (body_handlers (site_in p b) located.first) number ≡ Some row
 
 pub own_row : (p : CheckedTree) (bs : List BodyRowTree) (at k : ℕ) (row : Handler) → slice_get (bodies_handlers p bs at) k ≡ Some row → OwnedRow p bs at row
+unfolding here further
 own_row p [] at k row is = absurd (let f : ⊥ = cc in f)
 own_row p (b ∷ bs) at k row is = elim (cases_lt k (length (body_handlers (site_in p b) at))) [
   | inl less ↦ record { body = 0; b = b; located = here p b bs at; number = k; is_row = sym (front_item (body_handlers (site_in p b) at) (bodies_handlers p bs (at + length (body_code (site_in p b) at))) k less) ∙ is }

@@ -23,7 +23,7 @@ use Rattle.code_scheme.specs.StatementPlain.{offset_of_name, name_code, names_co
 use Rattle.code_scheme.specs.BodyCode.{heads_of}
 use Rattle.scheme_heights.specs.Stretches.{IsNamedIn, no_outlets, IsStretch}
 use Rattle.scheme_heights.specs.Counts.{TakesCounts, CountsFit, ReceivedFits, PlaceFits, StartFits, CallFits}
-use Rattle.scheme_heights.specs.StatementCounts.{NumberFits, SomeNumberFits, SentFits, ResultFits}
+use Rattle.scheme_heights.specs.StatementCounts.{NumberFits, SomeNumberFits, SentFits, GivenFits}
 use Rattle.scheme_heights.proofs.Joining.{join}
 use Rattle.scheme_heights.proofs.Parts.{Stretch, sized, end, cons, scalars_stretch, check_stretch, routine_stretch}
 use Rattle.scheme_heights.proofs.Operators.{ends, operand_stretch}
@@ -216,7 +216,7 @@ send_stretch w body at height (signal n rs to) priority fits =
 
 -- ---- RESULT
 
-pub result_stretch : (w : Standing) (body at height : ℕ) (r : ReceivedTree) → ResultFits w.site r → IsStretch (heads_of w.site.program) body no_outlets at height (set_result_code w r at) (set_result_size r) height
+pub result_stretch : (w : Standing) (body at height : ℕ) (r : ReceivedTree) → GivenFits w.site r → IsStretch (heads_of w.site.program) body no_outlets at height (set_result_code w r at) (set_result_size r) height
 result_stretch w body at height r fits =
     let p = at + received_size r in
     let same = fits.1 in

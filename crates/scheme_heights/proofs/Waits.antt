@@ -13,7 +13,7 @@ use Rattle.code_scheme.specs.StatementSite.{layout, Standing}
 use Rattle.code_scheme.specs.StatementWaits.{set_place_code, set_place_size, set_kept, chosen_in, set_code, set_size, events_code, all_events_code, count_of_events, delay_wait_code, delay_wait_size, first_received, scalars_received, sources_code, count_of_sources, Receives, from_buffers, of_signals, receive_instr, nothing_code, receive_wait_code, receive_wait_size, is_chosen_code}
 use Rattle.code_scheme.specs.BodyCode.{heads_of}
 use Rattle.scheme_heights.specs.Stretches.{Outlets, no_outlets, IsStretch}
-use Rattle.scheme_heights.specs.StatementCounts.{SetFits}
+use Rattle.scheme_heights.specs.StatementCounts.{SetPlaceFits}
 use Rattle.scheme_heights.specs.Laws.{to_place}
 use Rattle.scheme_heights.proofs.Joining.{join, nothing}
 use Rattle.scheme_heights.proofs.Parts.{Stretch, sized, end, cons}
@@ -28,14 +28,14 @@ after_outlets heads body outlets at height a b n m h next p size place sum first
 
 -- ---- SET
 
-pub set_place_stretch : (w : Standing) (body at height : ℕ) (set : Option LocationTree) → SetFits w.site.program set → IsStretch (heads_of w.site.program) body no_outlets at height (set_place_code w set at) (set_place_size set) height
+pub set_place_stretch : (w : Standing) (body at height : ℕ) (set : Option LocationTree) → SetPlaceFits w.site.program set → IsStretch (heads_of w.site.program) body no_outlets at height (set_place_code w set at) (set_place_size set) height
 set_place_stretch w body at height None fits = sized 0 refl (end refl)
 set_place_stretch w body at height (Some l) fits =
     let heads = heads_of w.site.program in
     let p = at + place_size l in
     join heads body at height (place_code (layout w.site) w.free l at) (keep_code l w.free) (place_size l) (offsets_kept l) (height + offsets_kept l) height p _ refl refl (place_of_stretch (layout w.site) body w.free l fits.0 at height) (keep_stretch heads body p height l w.free)
 
-pub set_stretch : (w : Standing) (body at height : ℕ) (set : Option LocationTree) → SetFits w.site.program set → IsStretch (heads_of w.site.program) body no_outlets at height (set_code w set) (set_size set) height
+pub set_stretch : (w : Standing) (body at height : ℕ) (set : Option LocationTree) → SetPlaceFits w.site.program set → IsStretch (heads_of w.site.program) body no_outlets at height (set_code w set) (set_size set) height
 set_stretch w body at height None fits = sized 0 refl (end refl)
 set_stretch w body at height (Some l) fits =
     let heads = heads_of w.site.program in
@@ -60,7 +60,7 @@ all_events_stretch heads body at height k (more_delays es ss ds) =
     join heads body at height (events_code k es) (all_events_code (suc k) ds) (2 * length es) (2 * count_of_events ds) (height + 2 * length es) (height + 2 * (length es + count_of_events ds)) (at + 2 * length es) _ refl (omega arith) (events_stretch heads body at height k es)
     (ends (omega arith) (all_events_stretch heads body (at + 2 * length es) (height + 2 * length es) (suc k) ds))
 
-pub delay_wait_stretch : (w : Standing) (body at height : ℕ) (set : Option LocationTree) (priority : ℕ) (ds : DelayNodes) → SetFits w.site.program set → IsStretch (heads_of w.site.program) body no_outlets at height (delay_wait_code w set priority ds at) (delay_wait_size set ds) height
+pub delay_wait_stretch : (w : Standing) (body at height : ℕ) (set : Option LocationTree) (priority : ℕ) (ds : DelayNodes) → SetPlaceFits w.site.program set → IsStretch (heads_of w.site.program) body no_outlets at height (delay_wait_code w set priority ds at) (delay_wait_size set ds) height
 delay_wait_stretch w body at height set priority ds fits =
     let heads = heads_of w.site.program in
     let n = count_of_events ds in
@@ -100,7 +100,7 @@ nothing_stretch heads body at height chosen n place true low =
 before_nothing : (heads : Code) (body : ℕ) (has_else : Bool) (place at height : ℕ) (a b : List Instr) (n m h next p size : ℕ) → p ≡ at + n → size ≡ n + m → IsStretch heads body no_outlets at height a n h → IsStretch heads body (nothing_outlet has_else place next) p h b m next → IsStretch heads body (nothing_outlet has_else place next) at height (a ++ b) size next
 before_nothing heads body has_else place at height a b n m h next p size = before_outlets heads body (nothing_outlet has_else place next) at height a b n m h next p size
 
-pub receive_wait_stretch : (w : Standing) (body at height : ℕ) (receives : Receives) (set : Option LocationTree) (rs : ReceiveNodes) (has_else : Bool) (place : ℕ) → SetFits w.site.program set → at + receive_wait_size set rs has_else ≤ place
+pub receive_wait_stretch : (w : Standing) (body at height : ℕ) (receives : Receives) (set : Option LocationTree) (rs : ReceiveNodes) (has_else : Bool) (place : ℕ) → SetPlaceFits w.site.program set → at + receive_wait_size set rs has_else ≤ place
     → IsStretch (heads_of w.site.program) body (nothing_outlet has_else place height) at height (receive_wait_code w receives set rs has_else place at) (receive_wait_size set rs has_else) height
 receive_wait_stretch w body at height receives set rs has_else place fits low =
     let heads = heads_of w.site.program in

@@ -1,12 +1,15 @@
 -- The laws of the heights in compiled code.
 use Rattle.std.specs.Prelude.{◌≡◌, ℕ, ◌+◌, ◌≤◌, Bool}
+use Rattle.code_types.specs.Agreement.{Agrees}
+use Rattle.program_trees.specs.ProgramTree.{CheckedTree}
 use Rattle.program_trees.specs.ExprTree.{ExprTree, count_of}
 use Rattle.code_scheme.specs.Pieces.{Layout}
 use Rattle.code_scheme.specs.ExprSizes.{expr_size, condition_size}
 use Rattle.code_scheme.specs.ExprCode.{expr_code, condition_code}
-use Rattle.code_scheme.specs.BodyCode.{heads_of}
+use Rattle.code_scheme.specs.BodyCode.{heads_of, code_of}
 use Rattle.scheme_heights.specs.Stretches.{Outlets, no_outlets, IsStretch}
 use Rattle.scheme_heights.specs.Counts.{CountsFit}
+use Rattle.scheme_heights.specs.StatementCounts.{ProgramFits}
 
 -- The code of an expression, wherever it stands: it is a stretch out of which no jump leads, has as many instructions as its size
 -- says, and leaves the scalars of its value above what was on the stack.
@@ -27,3 +30,7 @@ ConditionHeightsLaw = (lay : Layout) (body free : ℕ) (e : ExprTree) (when : Bo
     → count_of e ≡ 1
     → at + condition_size e when ≤ target
     → IsStretch (heads_of lay.program) body (to_place target height) at height (condition_code lay free e when target at) (condition_size e when) height
+
+-- The code of a program whose numbers of scalars fit each other agrees.
+abbrev pub ProgramAgreesLaw : Type 0
+ProgramAgreesLaw = (p : CheckedTree) → ProgramFits p → Agrees (code_of p)

@@ -22,21 +22,21 @@ SomeNumberFits p None = Unit {0}
 SomeNumberFits p (Some e) = NumberFits p e
 
 -- a location of one scalar, which gets an instance
-abbrev pub SetFits : CheckedTree → Option LocationTree → Type 0
-SetFits p None = Unit {0}
-SetFits p (Some l) = PlaceFits p l × (location_count l ≡ 1)
+abbrev pub SetPlaceFits : CheckedTree → Option LocationTree → Type 0
+SetPlaceFits p None = Unit {0}
+SetPlaceFits p (Some l) = PlaceFits p l × (location_count l ≡ 1)
 
 abbrev pub SentFits : CheckedTree → SentTree → Type 0
 SentFits p (to_buffer b r) = ReceivedFits p r
 SentFits p (signal n rs to) = AllFit p rs × SomeNumberFits p to
 
 -- a value with as many scalars as the result of the body
-abbrev pub ResultFits : Site → ReceivedTree → Type 0
-ResultFits site r = ReceivedFits site.program r × (received_count r ≡ result_scalars site.body)
+abbrev pub GivenFits : Site → ReceivedTree → Type 0
+GivenFits site r = ReceivedFits site.program r × (received_count r ≡ result_scalars site.body)
 
 abbrev pub ReturnFits : Site → Option ReceivedTree → Type 0
 ReturnFits site None = Unit {0}
-ReturnFits site (Some r) = ResultFits site r
+ReturnFits site (Some r) = GivenFits site r
 
 abbrev pub ControlFits : CheckedTree → ControlTree → Type 0
 ControlFits p (while_true e) = NumberFits p e
@@ -47,9 +47,9 @@ ControlFits p (for_steps counter from step to down condition) = NumberFits p fro
 -- ---- statements, with so many labelled statements around them
 
 -- how many are around what a statement holds
-abbrev pub labels_in : Bool → ℕ → ℕ
-labels_in false n = n
-labels_in true n = suc n
+abbrev pub labels_within : Bool → ℕ → ℕ
+labels_within false n = n
+labels_within true n = suc n
 
 abbrev mutual
   pub StatementsFit : Site → ℕ → StatementNodes → Type 0
@@ -57,7 +57,7 @@ abbrev mutual
   StatementsFit site labels (more_statements s ss) = StatementFits site labels s × StatementsFit site labels ss
 
   pub StatementFits : Site → ℕ → StatementTree → Type 0
-  StatementFits site labels (statement labelled a h) = ActionFits site (labels_in labelled labels) a × HandlerFits site (labels_in labelled labels) h
+  StatementFits site labels (statement labelled a h) = ActionFits site (labels_within labelled labels) a × HandlerFits site (labels_within labelled labels) h
 
   pub HandlerFits : Site → ℕ → HandlerNode → Type 0
   HandlerFits site labels no_handler = Unit {0}
@@ -88,7 +88,7 @@ abbrev mutual
   ActionFits site labels put_line = Unit {0}
   ActionFits site labels (exit_from k) = k < labels
   ActionFits site labels (return_with r) = ReturnFits site r
-  ActionFits site labels (set_result r) = ResultFits site r
+  ActionFits site labels (set_result r) = GivenFits site r
   ActionFits site labels (assert_that e) = NumberFits site.program e
   ActionFits site labels (cause x) = Unit {0}
   ActionFits site labels stop = Unit {0}
@@ -100,9 +100,9 @@ abbrev mutual
   ActionFits site labels (case_of e cs o) = NumberFits site.program e × CasesFit site labels cs × OtherwiseFits site labels o
   ActionFits site labels (do_loop c ss) = ControlFits site.program c × StatementsFit site labels ss
   ActionFits site labels (begin_end ss) = StatementsFit site labels ss
-  ActionFits site labels (delay_case set priority ds) = SetFits site.program set × DelaysFit site labels ds
-  ActionFits site labels (receive_buffers set rs o) = SetFits site.program set × ReceivesFit site labels rs × OtherwiseFits site labels o
-  ActionFits site labels (receive_signals set rs o) = SetFits site.program set × ReceivesFit site labels rs × OtherwiseFits site labels o
+  ActionFits site labels (delay_case set priority ds) = SetPlaceFits site.program set × DelaysFit site labels ds
+  ActionFits site labels (receive_buffers set rs o) = SetPlaceFits site.program set × ReceivesFit site labels rs × OtherwiseFits site labels o
+  ActionFits site labels (receive_signals set rs o) = SetPlaceFits site.program set × ReceivesFit site labels rs × OtherwiseFits site labels o
 
   pub ChoicesFit : Site → ℕ → ChoiceNodes → Type 0
   ChoicesFit site labels no_choices = Unit {0}

@@ -5,4 +5,4 @@
 
 mod laws;
 
-pub use laws::{condition_heights_law, expression_heights_law};
+pub use laws::{condition_heights_law, expression_heights_law, program_agrees_law};
