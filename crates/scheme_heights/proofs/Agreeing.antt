@@ -1,6 +1,6 @@
 -- What the places of a program's code have that its guard asks for.
-use Rattle.std.proofs.Common.{◌≡◌, ◌≢◌, ◌⊎◌, ◌+◌, ◌-◌, ◌≤◌, ◌<◌, max, ℕ, zero, suc, Bool, true, false, List, [], ◌∷◌, ◌++◌, length, take, drop, refl, sym, ap, ◌∙◌, subst, inl, inr, arith, Option, Some, None, slice_get, All}
-use Rattle.std.specs.Prelude.{IsTrue, IsFalse, IsSomeAnd}
+use Rattle.std.proofs.Common.{◌≡◌, ◌⊎◌, ◌+◌, ◌-◌, ◌≤◌, ◌<◌, max, ℕ, zero, suc, Bool, true, false, List, [], ◌∷◌, length, take, refl, sym, ap, ◌∙◌, subst, inl, inr, arith, Some, slice_get, All}
+use Rattle.std.specs.Prelude.{IsTrue, IsFalse}
 use Rattle.std.proofs.lemmas.Option.{slice_get-get_or}
 use Rattle.std.proofs.lemmas.List.{length-map}
 use Rattle.std.proofs.Common.{get_or, map}
@@ -9,16 +9,16 @@ use Rattle.code_types.specs.declared.instr.Instr.TheVariants as i
 use Rattle.code_types.specs.declared.code.Code.{Code}
 use Rattle.code_types.specs.declared.code.Handler.{Handler}
 use Rattle.code_types.specs.declared.code.BodyRow.{BodyRow}
-use Rattle.code_types.specs.Places.{first_of, params_of, results_of, end_of, pops, finds, pushes, height_after, is_last, jump_of}
-use Rattle.code_types.specs.Agreement.{StandsIn, BodiesRise, HoldsParams, IsNamed, StaysInBody, LeadsForward, HandlesIn, HandlesInOneBody, HasHeight, LeadsTo, IsUnled, IsNoBeginning, IsNoTarget, AreHeights, EndsThere, Agrees}
+use Rattle.code_types.specs.Places.{first_of, params_of, results_of, end_of, pops, finds, height_after, is_last, jump_of}
+use Rattle.code_types.specs.Agreement.{StandsIn, IsNamed, HasHeight}
 use Rattle.program_trees.specs.ProgramTree.{LocalRowTree, BodyRowTree, CheckedTree}
-use Rattle.code_scheme.specs.StatementSite.{scalars_in, parameter_scalars, declared_scalars, first_free, call_results}
-use Rattle.code_scheme.specs.BodyCode.{height_behind, head_of, heads_of, greatest_height, locals_named, most_locals, results_by, site_in, body_code, body_handlers, body_row, bodies_code, bodies_handlers, body_rows, code_of}
+use Rattle.code_scheme.specs.StatementSite.{scalars_in, call_results}
+use Rattle.code_scheme.specs.BodyCode.{height_behind, head_of, heads_of, greatest_height, locals_named, most_locals, results_by, site_in, body_code, body_handlers, body_row, bodies_code, body_rows, code_of}
 use Rattle.scheme_heights.specs.Stretches.{behind, IsNamedIn, Outlets, Led, none_led, led_behind}
 use Rattle.scheme_heights.specs.Closed.{Meets, inside_or, IsMove, AreMoves, IsRowIn, AreRowsIn, IsBlock, leads_out}
-use Rattle.scheme_heights.specs.StatementCounts.{BodyFits, ProgramFits}
+use Rattle.scheme_heights.specs.StatementCounts.{ProgramFits}
 use Rattle.scheme_heights.proofs.Bodies.{body_block}
-use Rattle.scheme_heights.proofs.Located.{item_there, item_below, bodies_heights, Located, locate, Owned, own, OwnedRow, own_row, rows_length, all_heights_length}
+use Rattle.scheme_heights.proofs.Located.{item_below, bodies_heights, Located, locate, rows_length}
 
 pub each : {A : Type 0} (P : A → Type 0) (xs : List A) → ((k : ℕ) (x : A) → slice_get xs k ≡ Some x → P x) → All P xs
 each P xs known = λ k d low. known k (get_or xs k d) (slice_get-get_or xs k d low)

@@ -1,5 +1,5 @@
 -- Blocks of statements: one behind the other, and parts of which one is done.
-use Rattle.std.proofs.Common.{◌≡◌, ◌⊎◌, ◌+◌, ◌-◌, ◌≤◌, ◌<◌, ℕ, zero, suc, Bool, true, false, List, [], ◌∷◌, ◌++◌, length, length-append, take, refl, sym, ap, ◌∙◌, subst, inl, inr, arith, append-nil, Option, Some, None}
+use Rattle.std.proofs.Common.{◌≡◌, ◌⊎◌, ◌+◌, ◌-◌, ◌<◌, ℕ, zero, suc, Bool, true, false, List, [], ◌∷◌, ◌++◌, length, length-append, take, refl, sym, ap, ◌∙◌, subst, inl, inr, arith, append-nil, Some, None}
 use Rattle.std.specs.Prelude.{if◌then◌else◌, ◌&&◌, ◌||◌}
 use Rattle.std.proofs.lemmas.List.{append_assoc}
 use Rattle.std.proofs.lemmas.Bool.{cases_lt}
@@ -15,8 +15,8 @@ use Rattle.code_scheme.specs.StatementSize.{turn_back_size}
 use Rattle.code_scheme.specs.BodyCode.{height_behind}
 use Rattle.scheme_heights.specs.Stretches.{behind, IsNamedIn, Outlets, no_outlets, Lands, IsStretch}
 use Rattle.scheme_heights.specs.Laws.{to_place}
-use Rattle.scheme_heights.specs.Closed.{Meets, inside_or, IsClosed, AreRowsIn, IsBlock, IsOneOf, leads_out}
-use Rattle.scheme_heights.proofs.Closing.{meets_front, inside_front, inside_rest, LeadInto, join_closed, rows_more, rows_both, join_blocks, wider, or_behind, stretch_closed}
+use Rattle.scheme_heights.specs.Closed.{Meets, inside_or, AreRowsIn, IsBlock, IsOneOf, leads_out}
+use Rattle.scheme_heights.proofs.Closing.{meets_front, inside_rest, LeadInto, rows_both, join_blocks, wider, or_behind, stretch_closed}
 use Rattle.scheme_heights.proofs.Joining.{lands_front}
 use Rattle.scheme_heights.proofs.Parts.{lands_over}
 use Rattle.scheme_heights.proofs.Operators.{take_all}

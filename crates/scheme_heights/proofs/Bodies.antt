@@ -1,6 +1,6 @@
 -- The code of a body with its rows is a block out of which nothing leads.
-use Rattle.std.proofs.Common.{◌≡◌, ◌⊎◌, ◌+◌, ◌-◌, ◌*◌, ◌≤◌, ◌<◌, ℕ, zero, suc, Bool, true, false, List, [], ◌∷◌, ◌++◌, ℤ, length, length-append, refl, sym, ap, ◌∙◌, subst, inl, inr, arith, append-nil, Option, Some, None, slice_get}
-use Rattle.std.specs.Prelude.{if◌then◌else◌, ◌&&◌, ◌||◌, drop}
+use Rattle.std.proofs.Common.{◌≡◌, ◌+◌, ◌-◌, ◌*◌, ◌≤◌, ℕ, zero, suc, Bool, true, false, List, [], ◌∷◌, ◌++◌, ℤ, length, length-append, refl, sym, ap, ◌∙◌, subst, inr, arith, append-nil, Option, Some, None, slice_get}
+use Rattle.std.specs.Prelude.{if◌then◌else◌, ◌&&◌, drop}
 use Rattle.std.proofs.lemmas.List.{append_assoc}
 use Rattle.modes.specs.ModeTree.{ModeTree}
 use Rattle.modes.specs.Scalars.{lowest_of}
@@ -11,25 +11,22 @@ use Rattle.code_types.specs.declared.code.Handler.{Handler}
 use Rattle.program_trees.specs.ProgramTree.{LocalRowTree, BodyRowTree, CheckedTree}
 use Rattle.program_trees.specs.StatementTree.{StatementTree, statement, ActionTree, set_lowest, StatementNodes, no_statements, more_statements, HandlerNode}
 use Rattle.code_scheme.specs.Pieces.{scalars_code}
-use Rattle.code_scheme.specs.StatementSite.{Site, Standing, declared_scalars}
-use Rattle.code_scheme.specs.StatementGoing.{go_on, goes_on, handler_goes_on, joined}
+use Rattle.code_scheme.specs.StatementSite.{Site, declared_scalars}
+use Rattle.code_scheme.specs.StatementGoing.{go_on, goes_on, joined}
 use Rattle.code_scheme.specs.StatementPlain.{entered_by, way_out_code}
 use Rattle.code_scheme.specs.StatementSize.{handler_size}
-use Rattle.code_scheme.specs.StatementCode.{handler_code}
-use Rattle.code_scheme.specs.StatementRows.{handler_rows}
-use Rattle.code_scheme.specs.BodyItems.{raise_again_code, raise_again_rows, items_code, items_rows}
+use Rattle.code_scheme.specs.BodyItems.{raise_again_code, raise_again_rows, items_rows}
 use Rattle.code_scheme.specs.BodyCode.{lowest_value_code, locals_code, lowest_result_code, lowest_code, is_set_lowest, sets_lowest, behind_lowest, standing_in, items_of, guarded_code, guarded_rows, comes_to_end, end_code, raised_again, doing_code, doing_rows, body_code, body_handlers, heads_of, site_in}
-use Rattle.scheme_heights.specs.Stretches.{behind, Outlets, no_outlets, IsStretch}
+use Rattle.scheme_heights.specs.Stretches.{behind}
 use Rattle.scheme_heights.specs.Closed.{AreRowsIn, IsBlock, leads_out}
 use Rattle.scheme_heights.specs.StatementCounts.{ItemsFit, AreFew, IsFew, BodyFits}
-use Rattle.scheme_heights.proofs.Joining.{join, behind-append}
+use Rattle.scheme_heights.proofs.Joining.{join}
 use Rattle.scheme_heights.proofs.Parts.{Stretch, resized, sized, end, cons, scalars_stretch}
 use Rattle.scheme_heights.proofs.Closing.{inside_rest, rows_more, wider}
 use Rattle.scheme_heights.proofs.Blocks.{out_into, exits_out, plain_block, resized_block, either_block, lead_block}
-use Rattle.scheme_heights.proofs.Choosing.{StandsBefore, goes_same, place_same}
-use Rattle.scheme_heights.proofs.Holding.{HandlerHolds}
+use Rattle.scheme_heights.proofs.Choosing.{StandsBefore, goes_same}
 use Rattle.scheme_heights.proofs.Statements.{handler_node_holds}
-use Rattle.scheme_heights.proofs.Items.{by_length, add_rows, raise_again_block, raise_rows_in, ItemsHold, items_hold}
+use Rattle.scheme_heights.proofs.Items.{by_length, add_rows, raise_again_block, raise_rows_in, items_hold}
 use Rattle.scheme_heights.proofs.WayOut.{way_out_block}
 
 -- ---- lowest values

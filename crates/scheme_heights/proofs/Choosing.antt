@@ -8,7 +8,7 @@ use Rattle.code_types.specs.declared.instr.Instr.TheVariants as i
 use Rattle.code_types.specs.declared.code.Code.{Code}
 use Rattle.code_types.specs.declared.code.Handler.{Handler}
 use Rattle.program_trees.specs.ExprTree.{ExprTree, LocationTree}
-use Rattle.program_trees.specs.StatementTree.{ControlTree, while_true, for_ever, for_members, for_steps, statement, ActionTree, module_at, region_at, ReceiveNodes, no_receives, more_receives, handler}
+use Rattle.program_trees.specs.StatementTree.{ControlTree, while_true, for_ever, for_members, for_steps, ActionTree, module_at, region_at, ReceiveNodes, no_receives, more_receives}
 use Rattle.code_scheme.specs.Pieces.{are_same, first_in}
 use Rattle.code_scheme.specs.ExprSizes.{condition_size}
 use Rattle.code_scheme.specs.ExprCode.{condition_code}
@@ -16,7 +16,7 @@ use Rattle.code_scheme.specs.StatementSite.{Site, layout, Standing, taking}
 use Rattle.code_scheme.specs.StatementGoing.{has_end, has_label, go_on, leave_size, joined}
 use Rattle.code_scheme.specs.StatementPlain.{assert_size}
 use Rattle.code_scheme.specs.StatementLoops.{constant_step, steps_with, some_while_code, next_size, steps_kept, turn_test, turn_test_size}
-use Rattle.code_scheme.specs.StatementWaits.{Receives, has_else, receive_wait_size}
+use Rattle.code_scheme.specs.StatementWaits.{Receives, receive_wait_size}
 use Rattle.code_scheme.specs.StatementSize.{label_code, more_labels_code, labels_code, labels_size, receives_size}
 use Rattle.code_scheme.specs.StatementCode.{CodeAt, next_place, joining, chosen, receive_case_code}
 use Rattle.code_scheme.specs.StatementRows.{row_for}
@@ -171,7 +171,7 @@ chosen_block heads body exits goes on at c n m place test actions b some rows th
     let target : next_place (at + c) (suc n) goes m ≡ p = omega arith in
     let part = joining_block heads body exits goes (at + c + 1) n m place (actions (at + c + 1)) some (omega (arith, there)) first in
     let whole = tested_block heads body exits goes on at (at + (c + 1)) p (c + 1) (n + l) m place (test ++ i.Unless p ∷ []) (joining (actions (at + c + 1)) goes m place) b some rows refl (omega arith) (chosen_stretch heads body at c p test (omega arith) tests)
-        (subst (λ (x : ℕ). IsBlock heads body (leads_out goes place exits) x (joining (actions (at + c + 1)) goes m place) some (n + l)) (let e : at + c + 1 ≡ at + (c + 1) = omega arith in e) part) second in
+    (subst (λ (x : ℕ). IsBlock heads body (leads_out goes place exits) x (joining (actions (at + c + 1)) goes m place) some (n + l)) (let e : at + c + 1 ≡ at + (c + 1) = omega arith in e) part) second in
     let grouped = subst (λ (is : List Instr). IsBlock heads body (leads_out (on || goes) place exits) at is (some ++ rows) (c + 1 + (n + l + m))) (append_assoc test (i.Unless p ∷ []) (joining (actions (at + c + 1)) goes m place ++ b)) whole in
     subst (λ (x : ℕ). IsBlock heads body (leads_out (on || goes) place exits) at (test ++ (i.Unless x ∷ (joining (actions (at + c + 1)) goes m place ++ b))) (some ++ rows) (joined (c + suc n) goes m)) (sym target)
     (resized_block (joined (c + suc n) goes m) (omega arith) grouped)

@@ -1,14 +1,12 @@
 -- Closed code, one behind the other.
-use Rattle.std.proofs.Common.{◌≡◌, ◌⊎◌, ◌+◌, ◌-◌, ◌≤◌, ◌<◌, ℕ, zero, suc, Bool, true, false, List, [], ◌∷◌, ◌++◌, length, take, length-append, refl, sym, ap, ◌∙◌, subst, inl, inr, arith, Option, Some, None}
+use Rattle.std.proofs.Common.{◌≡◌, ◌⊎◌, ◌+◌, ◌-◌, ◌≤◌, ℕ, List, [], ◌∷◌, ◌++◌, length, take, length-append, refl, sym, ap, ◌∙◌, subst, inl, inr, arith, Some}
 use Rattle.std.proofs.lemmas.Bool.{cases_lt}
 use Rattle.code_types.specs.declared.instr.Instr.{Instr}
 use Rattle.code_types.specs.declared.code.Code.{Code}
 use Rattle.code_types.specs.declared.code.Handler.{Handler}
-use Rattle.code_types.specs.Places.{finds, is_last, jump_of}
-use Rattle.code_types.specs.Agreement.{LeadsForward}
 use Rattle.code_scheme.specs.BodyCode.{height_behind}
-use Rattle.scheme_heights.specs.Stretches.{behind, IsNamedIn, Outlets, no_outlets, Led, none_led, Lands, JumpsOn, led_behind, IsStep, AreSteps, IsStretch}
-use Rattle.scheme_heights.specs.Closed.{Meets, inside_or, IsMove, AreMoves, IsClosed, IsRowIn, AreRowsIn, IsBlock, IsOneOf, leads_out}
+use Rattle.scheme_heights.specs.Stretches.{behind, Outlets, Led, none_led, Lands, JumpsOn, led_behind, AreSteps, IsStretch}
+use Rattle.scheme_heights.specs.Closed.{Meets, inside_or, AreMoves, IsClosed, AreRowsIn, IsBlock}
 use Rattle.scheme_heights.proofs.Joining.{behind-append, take_front, take_rest, lands_rest, MoreOutlets, MoreLed, led_more, ended_more}
 use Rattle.scheme_heights.proofs.Parts.{lands_over}
 use Rattle.scheme_heights.proofs.Operators.{take_all}

@@ -1,6 +1,6 @@
 -- The code of statements one behind the other, of handlers, and of parts of which one is done.
 use Rattle.std.proofs.Common.{◌≡◌, ◌+◌, ◌-◌, ℕ, suc, Bool, true, false, List, [], ◌++◌, length, refl, sym, ap, ◌∙◌, subst, arith, append-nil}
-use Rattle.std.specs.Prelude.{if◌then◌else◌, ◌&&◌, ◌||◌}
+use Rattle.std.specs.Prelude.{◌||◌}
 use Rattle.std.proofs.lemmas.List.{append_assoc}
 use Rattle.modes.specs.declared.mode.Bounds.{Bounds}
 use Rattle.code_types.specs.declared.instr.Instr.{Instr}
@@ -93,12 +93,11 @@ handler_holds hs o alternatives else_known = record {
 pub no_otherwise_holds : OtherwiseHolds no_otherwise
 no_otherwise_holds = record {
   handled =
-      λ w body from at until place bound x some n goes stands there first last place_is low hfits fits block.
-      (
-      subst (λ (is : List Instr). IsBlock (heads_of w.site.program) body (leads_out (goes || false) place w.exits) from is (some ++ []) (n + 0)) (sym (append-nil x))
-      (subst (λ (rs : List Handler). IsBlock (heads_of w.site.program) body (leads_out (goes || false) place w.exits) from x rs (n + 0)) (sym (append-nil some))
-      (resized_block (n + 0) (omega arith) (goes_same (heads_of w.site.program) body w.exits place from n x some goes (goes || false) (sym (or_none goes)) block))),
-      tt,
+      λ w body from at until place bound x some n goes stands there first last place_is low hfits fits block. (
+        subst (λ (is : List Instr). IsBlock (heads_of w.site.program) body (leads_out (goes || false) place w.exits) from is (some ++ []) (n + 0)) (sym (append-nil x))
+            (subst (λ (rs : List Handler). IsBlock (heads_of w.site.program) body (leads_out (goes || false) place w.exits) from x rs (n + 0)) (sym (append-nil some))
+            (resized_block (n + 0) (omega arith) (goes_same (heads_of w.site.program) body w.exits place from n x some goes (goes || false) (sym (or_none goes)) block))),
+        tt,
       );
   labels =
       λ w body at place bound stands there low fits.
@@ -118,17 +117,19 @@ otherwise_holds ss known = record {
       let both = either_block heads body w.exits goes (go_on ss) from at n m place x _ some _ there block statements in
       let goes' = goes || (go_on ss || false) in
       let same : (go_on ss || goes) ≡ goes' = or_swap (go_on ss) goes ∙ ap (λ (g : Bool). goes || g) (sym (or_none (go_on ss))) in
-      let whole = goes_same heads body w.exits place from (n + m) _ _ (go_on ss || goes) goes' same both in
-      (whole, (
-      record {
-      from = omega arith;
-      ordered = first;
-      behind_range = last;
-      level = refl;
-      target = entry_rest heads w.exits (go_on ss) goes' place from at x (statements_code w ss at) n there (λ on. subst (λ (g : Bool). g ≡ true) same (or_left_true (go_on ss) goes on)) block.closed.count block.closed.leaves statements.closed.entry;
-      },
-      tt,
-      ));
+      let whole = goes_same heads body w.exits place from (n + m) _ _ (go_on ss || goes) goes' same both in (
+        whole,
+        (
+          record {
+            from = omega arith;
+            ordered = first;
+            behind_range = last;
+            level = refl;
+            target = entry_rest heads w.exits (go_on ss) goes' place from at x (statements_code w ss at) n there (λ on. subst (λ (g : Bool). g ≡ true) same (or_left_true (go_on ss) goes on)) block.closed.count block.closed.leaves statements.closed.entry;
+          },
+          tt,
+        ),
+      );
   labels =
       λ w body at place bound stands there low fits.
       place_same (heads_of w.site.program) body w.exits (go_on ss) at (statements_size w.site ss) _ _ (at + statements_size w.site ss) place there (known.holds w body at bound stands (omega (arith, there, low)) fits);
@@ -228,8 +229,8 @@ no_receives_hold = record {
   holds =
       λ w body kept k at place bound last rest rows stands there low fits rest_known.
       let block = rest_known at (sym there) in (
-      block,
-      subst (λ (x : ℕ). inside_or (heads_of w.site.program) at 0 (rest at) (leads_out true place w.exits) x 0) (let e : at ≡ place - last = omega (arith, there) in e) block.closed.entry,
+        block,
+        subst (λ (x : ℕ). inside_or (heads_of w.site.program) at 0 (rest at) (leads_out true place w.exits) x 0) (let e : at ≡ place - last = omega (arith, there) in e) block.closed.entry,
       );
 }
 
@@ -244,7 +245,7 @@ more_receives_hold source ks ss rs known parts_known = record {
       let first = known.holds w body (at + 3 + 1) bound stands (omega (arith, there, low)) fits.0 in
       let others = parts_known.holds w body kept (suc k) p place bound last rest rows stands (omega (arith, there)) low fits.1 rest_known in
       let tests = ends_at (is_chosen_stretch heads body at 0 kept k) in (
-      chosen_block heads body w.exits (go_on ss) true at 3 n m place (is_chosen_code kept k) (statements_code w ss) _ _ _ there tests first others.0,
-      chosen_into heads body w.exits (go_on ss) at 3 n m place (is_chosen_code kept k) (statements_code w ss) _ _ (leads_out true place w.exits) there tests first (place - last) 0 others.1,
+        chosen_block heads body w.exits (go_on ss) true at 3 n m place (is_chosen_code kept k) (statements_code w ss) _ _ _ there tests first others.0,
+        chosen_into heads body w.exits (go_on ss) at 3 n m place (is_chosen_code kept k) (statements_code w ss) _ _ (leads_out true place w.exits) there tests first (place - last) 0 others.1,
       );
 }

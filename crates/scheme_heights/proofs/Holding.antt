@@ -3,17 +3,17 @@ use Rattle.std.proofs.Common.{◌≡◌, ◌+◌, ◌-◌, ◌≤◌, ℕ, Bool,
 use Rattle.std.specs.Prelude.{◌||◌}
 use Rattle.code_types.specs.declared.instr.Instr.{Instr}
 use Rattle.code_types.specs.declared.code.Handler.{Handler}
-use Rattle.program_trees.specs.StatementTree.{StatementTree, ActionTree, StatementNodes, ChoiceNodes, CaseNodes, DelayNodes, ReceiveNodes, OtherwiseNode, HandledNodes, no_handled, HandlerNode, handler}
+use Rattle.program_trees.specs.StatementTree.{StatementTree, ActionTree, StatementNodes, ChoiceNodes, CaseNodes, DelayNodes, ReceiveNodes, OtherwiseNode, HandledNodes, no_handled, HandlerNode}
 use Rattle.code_scheme.specs.StatementSite.{Standing}
 use Rattle.code_scheme.specs.StatementGoing.{go_on, goes_on, handler_goes_on, otherwise_goes_on, some_handled_goes_on, action_goes_on, some_choice_goes_on, some_case_goes_on, joined}
 use Rattle.code_scheme.specs.StatementSize.{statements_size, statement_size, handler_size, handled_size, otherwise_size, choices_size, cases_size, delays_size, receives_size, action_size}
 use Rattle.code_scheme.specs.StatementCode.{CodeAt, no_code, no_label_code, statements_code, statement_code, handler_code, handled_code, otherwise_code, action_code, choices_code, cases_code, delays_code, receives_code}
 use Rattle.code_scheme.specs.StatementRows.{RowsAt, own_rows, statements_rows, statement_rows, handler_rows, handled_rows, otherwise_rows, action_rows, choices_rows, cases_rows, delays_rows, receives_rows}
 use Rattle.code_scheme.specs.BodyCode.{heads_of}
-use Rattle.scheme_heights.specs.Stretches.{behind}
 use Rattle.scheme_heights.specs.Closed.{inside_or, AreRowsIn, IsBlock, leads_out}
 use Rattle.scheme_heights.specs.StatementCounts.{StatementsFit, StatementFits, HandlerFits, HandledFit, OtherwiseFits, ActionFits, ChoicesFit, CasesFit, DelaysFit, ReceivesFit}
 use Rattle.scheme_heights.proofs.Choosing.{StandsBefore}
+
 -- ---- what is told of each kind of node: the code of it is a block, wherever it stands
 
 pub record StatementsHold (ss : StatementNodes) : Type 0 where

@@ -1,5 +1,5 @@
 -- The code of items with their rows is a block: statements, modules, and regions with their releases.
-use Rattle.std.proofs.Common.{◌≡◌, ◌⊎◌, ◌+◌, ◌-◌, ◌*◌, ◌≤◌, ◌<◌, ℕ, zero, suc, Bool, true, false, List, [], ◌∷◌, ◌++◌, length, length-append, refl, sym, ap, ◌∙◌, subst, inl, inr, arith, append-nil, Some, slice_get}
+use Rattle.std.proofs.Common.{◌≡◌, ◌+◌, ◌-◌, ◌*◌, ◌≤◌, ◌<◌, ℕ, suc, Bool, true, false, List, [], ◌∷◌, ◌++◌, length, length-append, refl, sym, ap, ◌∙◌, subst, inl, inr, arith, append-nil, Some, slice_get}
 use Rattle.std.specs.Prelude.{if◌then◌else◌, ◌&&◌, ◌||◌}
 use Rattle.std.proofs.lemmas.List.{append_assoc}
 use Rattle.code_types.specs.declared.instr.Instr.{Instr}
@@ -8,21 +8,20 @@ use Rattle.code_types.specs.declared.code.Code.{Code}
 use Rattle.code_types.specs.declared.code.Handler.{Handler}
 use Rattle.program_trees.specs.StatementTree.{StatementTree, statement, ActionTree, module_at, region_at, StatementNodes, no_statements, more_statements, HandlerNode}
 use Rattle.code_scheme.specs.StatementSite.{Site, Standing}
-use Rattle.code_scheme.specs.StatementGoing.{has_label, go_on, goes_on, handler_goes_on, action_goes_on, joined}
+use Rattle.code_scheme.specs.StatementGoing.{go_on, goes_on, handler_goes_on, joined}
 use Rattle.code_scheme.specs.StatementSize.{statements_size, statement_size, handler_size}
 use Rattle.code_scheme.specs.StatementCode.{statements_code, statement_code, handler_code}
-use Rattle.code_scheme.specs.StatementRows.{row_for, statements_rows, statement_rows, handler_rows}
+use Rattle.code_scheme.specs.StatementRows.{statements_rows, statement_rows, handler_rows}
 use Rattle.code_scheme.specs.BodyItems.{raised_in, raise_again_code, raise_again_rows, initialising_code, releasing_code, region_code, region_rows, items_code, item_code, item_action_code, items_rows, item_rows, item_action_rows}
 use Rattle.code_scheme.specs.BodyCode.{heads_of, standing_in}
 use Rattle.scheme_heights.specs.Stretches.{behind, Outlets}
-use Rattle.scheme_heights.specs.Closed.{Meets, inside_or, IsRowIn, AreRowsIn, IsBlock, leads_out}
+use Rattle.scheme_heights.specs.Closed.{AreRowsIn, IsBlock, leads_out}
 use Rattle.scheme_heights.specs.StatementCounts.{StatementsFit, StatementFits, HandlerFits, ItemsFit, ItemFits, ItemActionFits}
 use Rattle.scheme_heights.proofs.Parts.{sized, end, cons}
 use Rattle.scheme_heights.proofs.Joining.{behind-append}
 use Rattle.scheme_heights.proofs.Closing.{inside_rest, rows_more, rows_both, wider}
 use Rattle.scheme_heights.proofs.Blocks.{out_into, goes_out, exits_out, meets_first, plain_block, resized_block, follow_block, either_block, lead_block, last_block}
-use Rattle.scheme_heights.proofs.Choosing.{StandsBefore, goes_same, place_same}
-use Rattle.scheme_heights.proofs.Holding.{HandlerHolds, StatementHolds, StatementsHold}
+use Rattle.scheme_heights.proofs.Choosing.{StandsBefore, goes_same}
 use Rattle.scheme_heights.proofs.Statements.{statements_hold, statement_holds, handler_node_holds}
 
 -- ---- sizes that are counted
@@ -55,10 +54,10 @@ raise_again_length r (x ∷ xs) = let l = raise_again_length r xs in omega (arit
 pub raise_rows_in : (heads : Code) (outlets : Outlets) (r low from until : ℕ) (xs : List ℕ) (p : ℕ) → low ≤ from → from ≤ until → until ≤ p → AreRowsIn heads low outlets p (raise_again_code r xs) (raise_again_rows from until xs p)
 raise_rows_in heads outlets r low from until [] p first ordered last = tt
 raise_rows_in heads outlets r low from until (x ∷ xs) p first ordered last = (
-    record { from = first; ordered = ordered; behind_range = last; level = refl; target = inl (meets_first heads p (raise_again_code r (x ∷ xs)) (omega arith)) },
-    rows_more heads low low outlets outlets (p + 2) p (raise_again_code r xs) (raise_again_code r (x ∷ xs)) (raise_again_rows from until xs (p + 2)) (omega arith)
-    (λ to come. inside_rest heads p 0 (p + 2) 0 (i.Leave r ∷ i.Raise x ∷ []) (raise_again_code r xs) outlets outlets to 0 (omega arith) (omega arith) (λ out. inr out) come)
-    (raise_rows_in heads outlets r low from until xs (p + 2) first ordered (omega (arith, last))),
+  record { from = first; ordered = ordered; behind_range = last; level = refl; target = inl (meets_first heads p (raise_again_code r (x ∷ xs)) (omega arith)) },
+  rows_more heads low low outlets outlets (p + 2) p (raise_again_code r xs) (raise_again_code r (x ∷ xs)) (raise_again_rows from until xs (p + 2)) (omega arith)
+      (λ to come. inside_rest heads p 0 (p + 2) 0 (i.Leave r ∷ i.Raise x ∷ []) (raise_again_code r xs) outlets outlets to 0 (omega arith) (omega arith) (λ out. inr out) come)
+      (raise_rows_in heads outlets r low from until xs (p + 2) first ordered (omega (arith, last))),
 )
 
 -- ---- regions

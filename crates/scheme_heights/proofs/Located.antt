@@ -1,11 +1,9 @@
 -- Where the bodies of a program stand in its code.
-use Rattle.std.proofs.Common.{◌≡◌, ◌⊎◌, ◌+◌, ◌-◌, ◌≤◌, ◌<◌, ℕ, zero, suc, List, [], ◌∷◌, ◌++◌, length, length-append, take, refl, sym, ap, ◌∙◌, subst, inl, inr, arith, Option, Some, None, slice_get}
-use Rattle.std.proofs.lemmas.Option.{slice_get_cases}
+use Rattle.std.proofs.Common.{◌≡◌, ◌+◌, ◌-◌, ◌≤◌, ◌<◌, ℕ, zero, suc, List, [], ◌∷◌, ◌++◌, length, length-append, take, refl, sym, ap, ◌∙◌, inl, inr, arith, Some, slice_get}
 use Rattle.std.proofs.lemmas.Bool.{cases_lt}
 use Rattle.code_types.specs.declared.instr.Instr.{Instr}
 use Rattle.code_types.specs.declared.code.Code.{Code}
 use Rattle.code_types.specs.declared.code.Handler.{Handler}
-use Rattle.code_types.specs.declared.code.BodyRow.{BodyRow}
 use Rattle.code_types.specs.Places.{first_of}
 use Rattle.program_trees.specs.ProgramTree.{BodyRowTree, CheckedTree}
 use Rattle.code_scheme.specs.BodyCode.{height_behind, heads_of, site_in, body_code, body_handlers, body_row, bodies_code, bodies_handlers, body_rows}

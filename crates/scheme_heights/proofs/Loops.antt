@@ -1,6 +1,6 @@
 -- The control of a DO is a stretch before the turns, and one before each turn.
-use Rattle.std.proofs.Common.{◌≡◌, ◌⊎◌, ◌+◌, ◌-◌, ◌*◌, ◌≤◌, ◌<◌, ℕ, suc, Bool, true, false, List, [], ◌∷◌, ◌++◌, ℤ, pos, length, length-append, take, refl, sym, ap, ◌∙◌, subst, inl, inr, arith, Option, Some, None, slice_get}
-use Rattle.std.specs.Prelude.{if◌then◌else◌, ◌-ℤ◌}
+use Rattle.std.proofs.Common.{◌≡◌, ◌⊎◌, ◌+◌, ◌-◌, ◌*◌, ◌≤◌, ◌<◌, ℕ, Bool, true, false, List, [], ◌∷◌, ◌++◌, ℤ, length, length-append, take, refl, sym, ap, ◌∙◌, subst, inl, inr, arith, Option, Some, None, slice_get}
+use Rattle.std.specs.Prelude.{if◌then◌else◌}
 use Rattle.std.proofs.lemmas.List.{append_assoc}
 use Rattle.modes.specs.declared.mode.Bounds.{Bounds}
 use Rattle.modes.specs.ModeTree.{int}
@@ -10,18 +10,17 @@ use Rattle.code_types.specs.declared.instr.Instr.TheVariants as i
 use Rattle.code_types.specs.declared.code.Code.{Code}
 use Rattle.program_trees.specs.ExprTree.{ExprTree}
 use Rattle.program_trees.specs.StatementTree.{ControlTree, while_true, for_ever, for_members, for_steps}
-use Rattle.scalar_operators.specs.Numbers.{least_int, greatest_int}
-use Rattle.code_scheme.specs.Pieces.{first_in, check_code, branch_code, member_code, are_same, bounds_to_test, bounds_of_value}
+use Rattle.code_scheme.specs.Pieces.{first_in, check_code, branch_code, member_code, bounds_to_test, bounds_of_value}
 use Rattle.code_scheme.specs.ExprSizes.{expr_size, condition_size}
-use Rattle.code_scheme.specs.ExprCode.{expr_code, condition_code}
+use Rattle.code_scheme.specs.ExprCode.{expr_code}
 use Rattle.code_scheme.specs.StatementSite.{layout, Standing, taking}
-use Rattle.code_scheme.specs.StatementLoops.{while_code, some_while_code, some_while_size, next_member_code, members_test, members_test_size, step_bounds, Step, by_constant, by_kept, constant_step, step_from, kept_with, steps_kept, Steps, steps_with, within_code, within_size, step_code, step_size, bounds_code, bounds_size, order_code, before_code, forth, back, rest_code, nearest_code, nearer_code, near_end_code, moved_end_code, is_one, limit_code, first_test_code, by_step, next_code, first_value_code, first_value_size, next_size, before_turns, before_turns_size, turn_test, turn_test_size}
+use Rattle.code_scheme.specs.StatementLoops.{while_code, some_while_code, some_while_size, next_member_code, members_test, members_test_size, step_bounds, Step, by_constant, by_kept, constant_step, step_from, kept_with, steps_kept, Steps, steps_with, within_code, within_size, step_code, step_size, bounds_code, bounds_size, before_code, forth, back, rest_code, nearest_code, nearer_code, near_end_code, moved_end_code, is_one, limit_code, first_test_code, by_step, next_code, first_value_code, before_turns, before_turns_size, turn_test, turn_test_size}
 use Rattle.code_scheme.specs.BodyCode.{heads_of}
 use Rattle.scheme_heights.specs.Stretches.{behind, Outlets, no_outlets, Lands, IsStretch}
 use Rattle.scheme_heights.specs.StatementCounts.{NumberFits, SomeNumberFits, ControlFits}
 use Rattle.scheme_heights.specs.Laws.{to_place}
 use Rattle.scheme_heights.proofs.Joining.{join, take_front}
-use Rattle.scheme_heights.proofs.Parts.{Stretch, resized, sized, end, cons, cons_unless, lands_over, if_stretch, member_stretch}
+use Rattle.scheme_heights.proofs.Parts.{Stretch, sized, end, cons, cons_unless, lands_over, member_stretch}
 use Rattle.scheme_heights.proofs.Operators.{ends, take_all}
 use Rattle.scheme_heights.proofs.Expressions.{moved, expr_stretch}
 use Rattle.scheme_heights.proofs.Conditions.{join_outlets, before_outlets, branch_stretch, condition_stretch}

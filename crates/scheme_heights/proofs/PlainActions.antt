@@ -1,5 +1,5 @@
 -- The code of actions that hold no statements is a stretch.
-use Rattle.std.proofs.Common.{◌≡◌, ◌+◌, ◌*◌, ◌≤◌, ℕ, zero, suc, Bool, true, false, List, [], ◌∷◌, ◌++◌, ℤ, pos, length, refl, sym, ap, ◌∙◌, subst, arith, rules, Option, Some, None, slice_get}
+use Rattle.std.proofs.Common.{◌≡◌, ◌+◌, ◌≤◌, ℕ, zero, suc, Bool, true, false, List, [], ◌∷◌, ◌++◌, ℤ, length, refl, sym, ap, ◌∙◌, subst, arith, rules, Option, Some, None, slice_get}
 use Rattle.std.specs.Prelude.{if◌then◌else◌, nat_lt}
 use Rattle.std.proofs.lemmas.List.{append_assoc}
 use Rattle.modes.specs.declared.mode.Bounds.{Bounds}
@@ -10,22 +10,19 @@ use Rattle.checked_program.specs.declared.expr.Routine.{Routine}
 use Rattle.code_types.specs.declared.instr.Instr.{Instr}
 use Rattle.code_types.specs.declared.instr.Instr.TheVariants as i
 use Rattle.code_types.specs.declared.code.Code.{Code}
-use Rattle.code_types.specs.Places.{finds, is_last, jump_of}
-use Rattle.code_types.specs.Agreement.{LeadsForward}
-use Rattle.program_trees.specs.ExprTree.{ExprTree, ReceivedTree, LocationTree, location, StartTree, CallTree, count_of, received_count, location_count}
+use Rattle.program_trees.specs.ExprTree.{ExprTree, ReceivedTree, LocationTree, StartTree, CallTree, count_of, received_count, location_count}
 use Rattle.program_trees.specs.StatementTree.{SentTree, to_buffer, signal}
-use Rattle.program_trees.specs.ProgramTree.{LocalRowTree}
 use Rattle.code_scheme.specs.Pieces.{Layout, first_in, contents_code, store_code, again_code, has_offset, offsets_kept, check_code, between_code, between_size, behind_code, behind_size, routine_code, scalars_code, bounds_to_test, bounds_of_operator}
-use Rattle.code_scheme.specs.ExprSizes.{expr_size, place_size, received_size, received_sizes, start_size, call_size, condition_size}
-use Rattle.code_scheme.specs.ExprCode.{counts_of, expr_code, place_code, received_code, received_codes, start_code, call_code, condition_code}
-use Rattle.code_scheme.specs.StatementSite.{Site, layout, Standing, declared_scalars, result_scalars}
+use Rattle.code_scheme.specs.ExprSizes.{expr_size, place_size, received_size, received_sizes, start_size, call_size}
+use Rattle.code_scheme.specs.ExprCode.{counts_of, expr_code, place_code, received_code, received_codes, start_code, call_code}
+use Rattle.code_scheme.specs.StatementSite.{layout, Standing}
 use Rattle.code_scheme.specs.StatementPlain.{offset_of_name, name_code, names_code, keeping_code, declare_code, name_size, names_size, keeping_size, declare_size, set_lowest_code, set_lowest_size, assign_code, assign_size, read_code, read_size, update_test, update_code, update_size, set_result_code, set_result_size, drop_code, dropped_scalars, perform_code, perform_size, drop_routine_code, drop_routine_size, taken_by, start_of_code, delay_code, receiver_code, receiver_size, has_receiver, send_code, send_size}
 use Rattle.code_scheme.specs.BodyCode.{heads_of}
-use Rattle.scheme_heights.specs.Stretches.{IsNamedIn, no_outlets, IsStretch}
+use Rattle.scheme_heights.specs.Stretches.{no_outlets, IsStretch}
 use Rattle.scheme_heights.specs.Counts.{TakesCounts, CountsFit, ReceivedFits, PlaceFits, StartFits, CallFits}
 use Rattle.scheme_heights.specs.StatementCounts.{NumberFits, SomeNumberFits, SentFits, GivenFits}
 use Rattle.scheme_heights.proofs.Joining.{join}
-use Rattle.scheme_heights.proofs.Parts.{Stretch, sized, end, cons, scalars_stretch, check_stretch, routine_stretch}
+use Rattle.scheme_heights.proofs.Parts.{Stretch, sized, end, cons, scalars_stretch, routine_stretch}
 use Rattle.scheme_heights.proofs.Operators.{ends, operand_stretch}
 use Rattle.scheme_heights.proofs.Locations.{contents_stretch, store_stretch}
 use Rattle.scheme_heights.proofs.Expressions.{moved, expr_stretch, received_stretch, all_stretch, place_of_stretch, start_stretch, call_of_stretch}
@@ -138,7 +135,7 @@ update_stretch w body at height l o e bounds place fits takes one' =
     let operand = subst (λ (x : ℕ). IsStretch heads body no_outlets p (h + n) (between_code o bounds p (expr_size e) ++ (expr_code (layout w.site) w.free e x ++ behind_code o n)) (b + (expr_size e + behind_size o)) (h + 1)) here (operand_stretch heads body p h o bounds (expr_code (layout w.site) w.free e) (expr_size e) n (count_of e) takes (expr_stretch (layout w.site) body w.free e fits)) in
     let store = ends refl (store_stretch heads body (q + t) height (layout w.site) l) in
     let stored = join heads body q (h + 1) (update_test o bounds) (store_code (layout w.site) l) t 1 (h + 1) height (q + t) (t + 1) refl refl (tests_any heads body q h (bounds_to_test bounds (bounds_of_operator o)))
-        (subst (λ (k : ℕ). IsStretch heads body no_outlets (q + t) (h + k) (store_code (layout w.site) l) 1 height) one' store) in
+    (subst (λ (k : ℕ). IsStretch heads body no_outlets (q + t) (h + k) (store_code (layout w.site) l) 1 height) one' store) in
     let behind = join heads body p (h + n) _ _ (b + (expr_size e + behind_size o)) (t + 1) (h + 1) height q (b + (expr_size e + (behind_size o + (t + 1)))) refl (omega arith) operand stored in
     join heads body at height (read_code w l at) _ (read_size l) (b + (expr_size e + (behind_size o + (t + 1)))) (h + n) height p _ refl refl (read_stretch w body at height l place)
     (regrouped (between_code o bounds p (expr_size e)) (expr_code (layout w.site) w.free e (at + (read_size l + b))) (behind_code o n) _ behind)

@@ -1,21 +1,21 @@
 -- What stands before the alternatives of DELAY CASE and RECEIVE CASE is a stretch.
-use Rattle.std.proofs.Common.{◌≡◌, ◌+◌, ◌*◌, ◌≤◌, ℕ, zero, suc, Bool, true, false, List, [], ◌∷◌, ◌++◌, pos, length, refl, sym, ap, ◌∙◌, subst, inr, arith, Option, Some, None}
+use Rattle.std.proofs.Common.{◌≡◌, ◌+◌, ◌*◌, ◌≤◌, ℕ, suc, Bool, true, false, List, [], ◌∷◌, ◌++◌, pos, length, refl, inr, arith, Option, Some, None}
 use Rattle.code_types.specs.declared.instr.Instr.{Instr}
 use Rattle.code_types.specs.declared.instr.Instr.TheVariants as i
 use Rattle.code_types.specs.declared.code.Code.{Code}
-use Rattle.program_trees.specs.ExprTree.{LocationTree, location_count}
+use Rattle.program_trees.specs.ExprTree.{LocationTree}
 use Rattle.program_trees.specs.ProgramTree.{LocalRowTree}
 use Rattle.program_trees.specs.StatementTree.{DelayNodes, no_delays, more_delays, ReceiveNodes, no_receives, more_receives}
 use Rattle.code_scheme.specs.Pieces.{store_code, keep_code, kept_code, offsets_kept}
 use Rattle.code_scheme.specs.ExprSizes.{place_size}
 use Rattle.code_scheme.specs.ExprCode.{place_code}
 use Rattle.code_scheme.specs.StatementSite.{layout, Standing}
-use Rattle.code_scheme.specs.StatementWaits.{set_place_code, set_place_size, set_kept, chosen_in, set_code, set_size, events_code, all_events_code, count_of_events, delay_wait_code, delay_wait_size, first_received, scalars_received, sources_code, count_of_sources, Receives, from_buffers, of_signals, receive_instr, nothing_code, receive_wait_code, receive_wait_size, is_chosen_code}
+use Rattle.code_scheme.specs.StatementWaits.{set_place_code, set_place_size, chosen_in, set_code, set_size, events_code, all_events_code, count_of_events, delay_wait_code, delay_wait_size, sources_code, count_of_sources, Receives, from_buffers, of_signals, receive_instr, nothing_code, receive_wait_code, receive_wait_size, is_chosen_code}
 use Rattle.code_scheme.specs.BodyCode.{heads_of}
 use Rattle.scheme_heights.specs.Stretches.{Outlets, no_outlets, IsStretch}
 use Rattle.scheme_heights.specs.StatementCounts.{SetPlaceFits}
 use Rattle.scheme_heights.specs.Laws.{to_place}
-use Rattle.scheme_heights.proofs.Joining.{join, nothing}
+use Rattle.scheme_heights.proofs.Joining.{join}
 use Rattle.scheme_heights.proofs.Parts.{Stretch, sized, end, cons}
 use Rattle.scheme_heights.proofs.Operators.{ends}
 use Rattle.scheme_heights.proofs.Locations.{store_stretch, keep_stretch, kept_stretch}

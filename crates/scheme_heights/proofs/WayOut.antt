@@ -1,5 +1,5 @@
 -- The way out of a body is a block behind which control doesn't come.
-use Rattle.std.proofs.Common.{◌≡◌, ◌+◌, ◌≤◌, ◌<◌, ℕ, zero, suc, Bool, true, false, List, [], ◌∷◌, ◌++◌, ◌-◌, length, take, refl, sym, ap, ◌∙◌, subst, inl, inr, arith, rules, Option, Some, None, slice_get}
+use Rattle.std.proofs.Common.{◌≡◌, ◌+◌, ℕ, zero, suc, Bool, true, false, List, [], ◌∷◌, ◌++◌, ◌-◌, length, take, refl, sym, ap, ◌∙◌, subst, inl, inr, arith, rules, Option, Some, None, slice_get}
 use Rattle.std.specs.Prelude.{if◌then◌else◌, nat_lt}
 use Rattle.checked_program.specs.declared.program.Parameter.{Parameter}
 use Rattle.checked_program.specs.declared.program.Sort.{Sort}
@@ -10,7 +10,7 @@ use Rattle.code_types.specs.declared.code.Code.{Code}
 use Rattle.code_types.specs.Places.{results_of}
 use Rattle.program_trees.specs.ExprTree.{ReceivedTree}
 use Rattle.program_trees.specs.ProgramTree.{LocalRowTree, BodyRowTree, CheckedTree}
-use Rattle.code_scheme.specs.StatementSite.{Site, Standing, declared_scalars, result_scalars, is_given_back, back_scalars, call_results}
+use Rattle.code_scheme.specs.StatementSite.{Standing, declared_scalars, result_scalars, is_given_back, back_scalars}
 use Rattle.code_scheme.specs.StatementPlain.{entered_by, leave_region, result_code, parameters_code, end_of_call, way_out_of, way_out_code, set_result_size, return_code, return_size}
 use Rattle.code_scheme.specs.BodyCode.{heads_of}
 use Rattle.scheme_heights.specs.Stretches.{behind, Outlets, no_outlets, IsStretch}
