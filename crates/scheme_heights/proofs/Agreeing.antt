@@ -41,11 +41,6 @@ pub record AlikeAtCalls (code heads : Code) : Type 0 where
   pub results : (k : ℕ) → results_of (slice_get code.bodies k) ≡ results_of (slice_get heads.bodies k)
   pub many : length code.bodies ≡ length heads.bodies
 
-pub same_pops : (code heads : Code) (body : ℕ) (instr : Instr) → AlikeAtCalls code heads → pops code body instr ≡ pops heads body instr
-same_pops code heads body (i.Call k) alike = alike.params k
-same_pops code heads body i.Return alike = alike.results body
-same_pops code heads body instr alike = refl
-
 pub same_finds : (code heads : Code) (body : ℕ) (instr : Instr) → AlikeAtCalls code heads → finds code body instr ≡ finds heads body instr
 same_finds code heads body (i.Call k) alike = alike.params k
 same_finds code heads body i.Return alike = alike.results body

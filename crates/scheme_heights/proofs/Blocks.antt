@@ -1,5 +1,5 @@
 -- Blocks of statements: one behind the other, and parts of which one is done.
-use Rattle.std.proofs.Common.{◌≡◌, ◌⊎◌, ◌+◌, ◌-◌, ◌<◌, ℕ, zero, suc, Bool, true, false, List, [], ◌∷◌, ◌++◌, length, length-append, take, refl, sym, ap, ◌∙◌, subst, inl, inr, arith, append-nil, Some, None}
+use Rattle.std.proofs.Common.{◌≡◌, ◌⊎◌, ◌+◌, ◌-◌, ◌<◌, ℕ, zero, suc, Bool, true, false, List, [], ◌∷◌, ◌++◌, length, take, refl, sym, ap, ◌∙◌, subst, inl, inr, arith, append-nil, Some, None}
 use Rattle.std.specs.Prelude.{if◌then◌else◌, ◌&&◌, ◌||◌}
 use Rattle.std.proofs.lemmas.List.{append_assoc}
 use Rattle.std.proofs.lemmas.Bool.{cases_lt}
@@ -17,7 +17,6 @@ use Rattle.scheme_heights.specs.Stretches.{behind, IsNamedIn, Outlets, no_outlet
 use Rattle.scheme_heights.specs.Laws.{to_place}
 use Rattle.scheme_heights.specs.Closed.{Meets, inside_or, AreRowsIn, IsBlock, IsOneOf, leads_out}
 use Rattle.scheme_heights.proofs.Closing.{meets_front, inside_rest, LeadInto, rows_both, join_blocks, wider, or_behind, stretch_closed}
-use Rattle.scheme_heights.proofs.Joining.{lands_front}
 use Rattle.scheme_heights.proofs.Parts.{lands_over}
 use Rattle.scheme_heights.proofs.Operators.{take_all}
 
@@ -56,11 +55,6 @@ meets_first heads at (instr ∷ is) some = record { from = omega arith; until = 
     first : (n : ℕ) → n ≡ 0 → behind heads 0 (take n (instr ∷ is)) ≡ 0
     first zero none = refl
     first (suc n) none = absurd (let f : ⊥ = omega (arith, none) in f)
-
-pub lands_meet : (heads : Code) (at height : ℕ) (a b : List Instr) (to k : ℕ) → 0 < length b → Lands heads at height a to k → Meets heads at height (a ++ b) to k
-lands_meet heads at height a b to k some lands =
-    let all = lands_front heads at height a b to k lands in
-    record { from = all.from; until = let u = lands.until in let l = length-append a b in omega (arith, u, l, some); same = all.same }
 
 -- ---- blocks
 

@@ -229,10 +229,6 @@ pub or_left : (x y z : Bool) → x ≡ true → ((x || y) || z) ≡ true
 or_left true y z is = refl
 or_left false y z is = absurd (let f : ⊥ = cc in f)
 
--- from nothing on the stack to one scalar
-pub ends_at : {heads : Code} {body at n : ℕ} {is : List Instr} → IsStretch heads body no_outlets at 0 is n (0 + 1) → IsStretch heads body no_outlets at 0 is n 1
-ends_at stretch = stretch
-
 -- control comes to what stands behind other instructions
 pub entry_rest : (heads : Code) (exits : List ℕ) (goes on : Bool) (place from at : ℕ) (x b : List Instr) (n : ℕ) → at ≡ from + n → (goes ≡ true → on ≡ true) → length x ≡ n → behind heads 0 x ≡ 0 → inside_or heads at 0 b (leads_out goes place exits) at 0 → inside_or heads from 0 (x ++ b) (leads_out on place exits) at 0
 entry_rest heads exits goes on place from at x b n there same count leaves entry =

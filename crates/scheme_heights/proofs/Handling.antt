@@ -23,7 +23,7 @@ use Rattle.scheme_heights.proofs.Conditions.{condition_stretch}
 use Rattle.scheme_heights.proofs.Waits.{is_chosen_stretch}
 use Rattle.scheme_heights.proofs.Closing.{wider}
 use Rattle.scheme_heights.proofs.Blocks.{out_into, goes_out, exits_out, plain_block, resized_block, follow_block, joining_block, either_block, tested_block, insert_rows, last_block}
-use Rattle.scheme_heights.proofs.Choosing.{StandsBefore, behind_less, chosen_block, chosen_into, ends_at, entry_rest, goes_same, if_low, label_goes, label_is, labels_length, labels_stretch, or_left, or_left_true, or_none, or_past, or_swap, or_turn, place_same, regroup_handled, unhandled, unlabelled}
+use Rattle.scheme_heights.proofs.Choosing.{StandsBefore, behind_less, chosen_block, chosen_into, entry_rest, goes_same, if_low, label_goes, label_is, labels_length, labels_stretch, or_left, or_left_true, or_none, or_past, or_swap, or_turn, place_same, regroup_handled, unhandled, unlabelled}
 use Rattle.scheme_heights.proofs.Holding.{ActionHolds, CasesHold, ChoicesHold, DelaysHold, HandledHold, HandlerHolds, OtherwiseHolds, ReceivesHold, StatementHolds, StatementsHold}
 
 pub no_statements_hold : StatementsHold no_statements
@@ -198,7 +198,7 @@ more_cases_hold labels ss cs known parts_known = record {
       let n = statements_size w.site ss in
       let m = cases_size w.site cs last in
       let p = next_place at (c + suc n) (go_on ss) m in
-      let tests : IsStretch heads body no_outlets at 0 (labels_code w.free labels) c 1 = sized c (labels_length w.free labels) (ends_at (labels_stretch heads body at 0 w.free labels)) in
+      let tests : IsStretch heads body no_outlets at 0 (labels_code w.free labels) c 1 = sized c (labels_length w.free labels) ((labels_stretch heads body at 0 w.free labels)) in
       let first = known.holds w body (at + c + 1) bound stands (omega (arith, there, low)) fits.0 in
       let others = parts_known.holds w body p place bound last rest rows goes stands (omega (arith, there)) low fits.1 rest_known in
       goes_same heads body w.exits place at (joined (c + suc n) (go_on ss) m) _ _ ((goes || some_case_goes_on cs) || go_on ss) (goes || (go_on ss || some_case_goes_on cs)) (or_turn goes (some_case_goes_on cs) (go_on ss))
@@ -221,7 +221,7 @@ more_delays_hold es ss ds known parts_known = record {
       let m = delays_size w.site ds in
       let p = next_place at (3 + suc n) (go_on ss) m in
       let first = known.holds w body (at + 3 + 1) bound stands (omega (arith, there, low)) fits.0 in
-      chosen_block heads body w.exits (go_on ss) true at 3 n m place (is_chosen_code kept k) (statements_code w ss) _ _ _ there (ends_at (is_chosen_stretch heads body at 0 kept k)) first (parts_known.holds w body kept (suc k) p place bound stands (omega (arith, there)) low fits.1);
+      chosen_block heads body w.exits (go_on ss) true at 3 n m place (is_chosen_code kept k) (statements_code w ss) _ _ _ there ((is_chosen_stretch heads body at 0 kept k)) first (parts_known.holds w body kept (suc k) p place bound stands (omega (arith, there)) low fits.1);
 }
 
 pub no_receives_hold : ReceivesHold no_receives
@@ -244,7 +244,7 @@ more_receives_hold source ks ss rs known parts_known = record {
       let p = next_place at (3 + suc n) (go_on ss) m in
       let first = known.holds w body (at + 3 + 1) bound stands (omega (arith, there, low)) fits.0 in
       let others = parts_known.holds w body kept (suc k) p place bound last rest rows stands (omega (arith, there)) low fits.1 rest_known in
-      let tests = ends_at (is_chosen_stretch heads body at 0 kept k) in (
+      let tests = (is_chosen_stretch heads body at 0 kept k) in (
         chosen_block heads body w.exits (go_on ss) true at 3 n m place (is_chosen_code kept k) (statements_code w ss) _ _ _ there tests first others.0,
         chosen_into heads body w.exits (go_on ss) at 3 n m place (is_chosen_code kept k) (statements_code w ss) _ _ (leads_out true place w.exits) there tests first (place - last) 0 others.1,
       );

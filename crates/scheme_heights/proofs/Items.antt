@@ -238,7 +238,7 @@ statement_item labelled a h site body at is fits =
     by_length (heads_of site.program) body [] (goes_on s) at n (statement_code (standing_in site) s at) (statement_rows site s at) (known.holds (standing_in site) body at (at + n) stands (omega arith) fits)
 
 -- not a modulion
-abbrev IsPlain : ActionTree → Type 0
+abbrev pub IsPlain : ActionTree → Type 0
 IsPlain (module_at ss) = ⊥
 IsPlain (region_at r ss) = ⊥
 IsPlain a = Unit {0}

@@ -21,3 +21,7 @@ pub mod Bodies
 pub mod Located
 pub mod Agreeing
 pub mod Programs
+pub mod Things
+pub mod GivenActions
+pub mod GivenStatements
+pub mod TypedPrograms

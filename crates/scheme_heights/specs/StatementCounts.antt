@@ -158,3 +158,7 @@ pub record BodyFits (p : CheckedTree) (b : BodyRowTree) : Type 0 where
 pub record ProgramFits (p : CheckedTree) : Type 0 where
   pub some : 0 < length p.bodies
   pub bodies : (k : ℕ) (b : BodyRowTree) → slice_get p.bodies k ≡ Some b → BodyFits p b
+
+-- what is asked of a typed program besides: the statements and the handlers of its bodies fit
+abbrev pub TextFits : CheckedTree → Type 0
+TextFits p = (k : ℕ) (b : BodyRowTree) → slice_get p.bodies k ≡ Some b → ItemsFit (site_in p b) b.statements × HandlerFits (site_in p b) 0 b.handler
