@@ -22,7 +22,7 @@ use Rattle.scheme_heights.proofs.Operators.{ends, IsStrict, behind_stretch, betw
 use Rattle.scheme_heights.proofs.Expressions.{expr_stretch, operation_stretch}
 
 -- a stretch of whose outlets some lead into the one behind it
-join_outlets : (heads : Code) (body : ℕ) (outlets others more : Outlets) (at height : ℕ) (a b : List Instr) (n m h next p size : ℕ) → p ≡ at + n → size ≡ n + m → ComesOn heads outlets p h b more → MoreOutlets others more → IsStretch heads body outlets at height a n h → IsStretch heads body others p h b m next → IsStretch heads body more at height (a ++ b) size next
+pub join_outlets : (heads : Code) (body : ℕ) (outlets others more : Outlets) (at height : ℕ) (a b : List Instr) (n m h next p size : ℕ) → p ≡ at + n → size ≡ n + m → ComesOn heads outlets p h b more → MoreOutlets others more → IsStretch heads body outlets at height a n h → IsStretch heads body others p h b m next → IsStretch heads body more at height (a ++ b) size next
 join_outlets heads body outlets others more at height a b n m h next p size place sum comes all first second = record {
   steps =
       let c = first.count in
@@ -32,11 +32,11 @@ join_outlets heads body outlets others more at height a b n m h next p size plac
 }
 
 -- a stretch with no outlets, before one that has some
-before_outlets : (heads : Code) (body : ℕ) (outlets : Outlets) (at height : ℕ) (a b : List Instr) (n m h next p size : ℕ) → p ≡ at + n → size ≡ n + m → IsStretch heads body no_outlets at height a n h → IsStretch heads body outlets p h b m next → IsStretch heads body outlets at height (a ++ b) size next
+pub before_outlets : (heads : Code) (body : ℕ) (outlets : Outlets) (at height : ℕ) (a b : List Instr) (n m h next p size : ℕ) → p ≡ at + n → size ≡ n + m → IsStretch heads body no_outlets at height a n h → IsStretch heads body outlets p h b m next → IsStretch heads body outlets at height (a ++ b) size next
 before_outlets heads body outlets at height a b n m h next p size place sum first second = join_outlets heads body no_outlets outlets outlets at height a b n m h next p size place sum (λ to k out. absurd out) (λ to k out. out) first second
 
 -- the jump where the Boolean on top has a value
-branch_stretch : (heads : Code) (body at height target : ℕ) (when : Bool) → at + branch_size when ≤ target → IsStretch heads body (to_place target height) at (height + 1) (branch_code when target at) (branch_size when) height
+pub branch_stretch : (heads : Code) (body at height target : ℕ) (when : Bool) → at + branch_size when ≤ target → IsStretch heads body (to_place target height) at (height + 1) (branch_code when target at) (branch_size when) height
 branch_stretch heads body at height target false low = record { steps = (unless, tt); count = refl; leaves = omega arith }
   where
     unless : IsStep heads body (to_place target height) none_led at (height + 1) (i.Unless target) []

@@ -24,7 +24,7 @@ use Rattle.scheme_heights.proofs.Operators.{ends, binary_stretch}
 use Rattle.scheme_heights.proofs.Locations.{contents_stretch, keep_stretch, kept_stretch, copies_out_stretch, place_stretch, cut_stretch}
 
 -- the same stretch at a place and a height that are written otherwise
-moved : {heads : Code} {body at at' height height' : ℕ} {is : List Instr} {size next : ℕ} → at ≡ at' → height ≡ height' → IsStretch heads body no_outlets at height is size next → Stretch heads body at' height' is next
+pub moved : {heads : Code} {body at at' height height' : ℕ} {is : List Instr} {size next : ℕ} → at ≡ at' → height ≡ height' → IsStretch heads body no_outlets at height is size next → Stretch heads body at' height' is next
 moved {heads = heads} {body = body} {at = at} {at' = at'} {height = height} {height' = height'} {is = is} {size = size} {next = next} places heights stretch = resized (same_stretch heads body at at' height height' is size size next next places heights refl refl stretch)
 
 copies_length : (k there elements n m : ℕ) → length (copies_from k there elements n) ≡ length (copies_from k there elements m)
@@ -36,7 +36,7 @@ copies_length (suc k) there elements n m = if_length (nat_lt there elements) _ _
     if_length false x y same = refl
 
 -- the row of a body at calls of it
-head_at : (p : CheckedTree) (k : ℕ) (b : BodyRowTree) → slice_get p.bodies k ≡ Some b → slice_get (heads_of p).bodies k ≡ Some (head_of b)
+pub head_at : (p : CheckedTree) (k : ℕ) (b : BodyRowTree) → slice_get p.bodies k ≡ Some b → slice_get (heads_of p).bodies k ≡ Some (head_of b)
 head_at p k b is = slice_get-map head_of p.bodies k ∙ ap (option_map head_of) is
 
 -- a call, which takes its arguments and gives its results
@@ -109,7 +109,7 @@ mutual
       (ends (omega arith) (all_stretch lay body free rs fits.1 (at + received_size r) (height + received_count r)))
 
   -- the indices of a place: the first one is left as an offset, and each other is added
-  first_indices : (lay : Layout) (body free : ℕ) (ps : PartNodes) → PartsFit lay.program ps → has_index ps ≡ true → (at height : ℕ) → IsStretch (heads_of lay.program) body no_outlets at height (indices_code lay free true ps at) (indices_size true ps) (height + 1)
+  pub first_indices : (lay : Layout) (body free : ℕ) (ps : PartNodes) → PartsFit lay.program ps → has_index ps ≡ true → (at height : ℕ) → IsStretch (heads_of lay.program) body no_outlets at height (indices_code lay free true ps at) (indices_size true ps) (height + 1)
   first_indices lay body free no_parts fits some at height = absurd (let f : ⊥ = cc in f)
   first_indices lay body free (field k count ps) fits some at height = first_indices lay body free ps fits some at height
   first_indices lay body free (element e b count ps) fits some at height =
@@ -127,7 +127,7 @@ mutual
       join (heads_of lay.program) body at (height + 1) (expr_code lay free e at) _ (expr_size e) (1 + (1 + indices_size false ps)) (height + 1 + 1) (height + 1) (at + expr_size e) _ refl refl (ends (ap (λ (k : ℕ). height + 1 + k) one') (expr_stretch lay body free e fits.0 at (height + 1)))
       (sized (1 + (1 + indices_size false ps)) (let c = rest.count in omega (arith, c)) (cons (omega arith) tt tt refl refl (cons (omega arith) tt tt refl refl (moved (omega arith) (omega arith) rest))))
 
-  place_of_stretch : (lay : Layout) (body free : ℕ) (l : LocationTree) → PlaceFits lay.program l → (at height : ℕ) → IsStretch (heads_of lay.program) body no_outlets at height (place_code lay free l at) (place_size l) (height + offsets_kept l)
+  pub place_of_stretch : (lay : Layout) (body free : ℕ) (l : LocationTree) → PlaceFits lay.program l → (at height : ℕ) → IsStretch (heads_of lay.program) body no_outlets at height (place_code lay free l at) (place_size l) (height + offsets_kept l)
   place_of_stretch lay body free (location b ps n) fits at height =
       place_stretch (heads_of lay.program) body at height lay free b ps n (has_index ps) refl (λ some. first_indices lay body free ps fits some at height)
 

@@ -11,17 +11,17 @@ pub behind-append : (heads : Code) (height : ℕ) (a b : List Instr) → behind 
 behind-append heads height [] b = refl
 behind-append heads height (instr ∷ a) b = behind-append heads (height_behind heads instr height) a b
 
-take_front : (n : ℕ) (a b : List Instr) → n ≤ length a → take n (a ++ b) ≡ take n a
+pub take_front : (n : ℕ) (a b : List Instr) → n ≤ length a → take n (a ++ b) ≡ take n a
 take_front zero a b low = refl
 take_front (suc n) [] b low = absurd (let f : ⊥ = omega (arith, low) in f)
 take_front (suc n) (x ∷ a) b low = ap (λ (l : List Instr). x ∷ l) (take_front n a b (omega (arith, low)))
 
-take_rest : (n : ℕ) (a b : List Instr) → take (length a + n) (a ++ b) ≡ a ++ take n b
+pub take_rest : (n : ℕ) (a b : List Instr) → take (length a + n) (a ++ b) ≡ a ++ take n b
 take_rest n [] b = ap (λ (k : ℕ). take k b) (let e : 0 + n ≡ n = omega arith in e)
 take_rest n (x ∷ a) b = ap (λ (k : ℕ). take k (x ∷ (a ++ b))) (let e : suc (length a) + n ≡ suc (length a + n) = omega arith in e) ∙ ap (λ (l : List Instr). x ∷ l) (take_rest n a b)
 
 -- a place among the first instructions is one among all
-lands_front : (heads : Code) (at height : ℕ) (a b : List Instr) (to k : ℕ) → Lands heads at height a to k → Lands heads at height (a ++ b) to k
+pub lands_front : (heads : Code) (at height : ℕ) (a b : List Instr) (to k : ℕ) → Lands heads at height a to k → Lands heads at height (a ++ b) to k
 lands_front heads at height a b to k lands = record {
   from = lands.from;
   until = let u = lands.until in let l = length-append a b in omega (arith, u, l);
@@ -29,7 +29,7 @@ lands_front heads at height a b to k lands = record {
 }
 
 -- and so is one among those behind
-lands_rest : (heads : Code) (at height p h : ℕ) (a b : List Instr) (to k : ℕ) → p ≡ at + length a → behind heads height a ≡ h → Lands heads p h b to k → Lands heads at height (a ++ b) to k
+pub lands_rest : (heads : Code) (at height p h : ℕ) (a b : List Instr) (to k : ℕ) → p ≡ at + length a → behind heads height a ≡ h → Lands heads p h b to k → Lands heads at height (a ++ b) to k
 lands_rest heads at height p h a b to k place same lands = record {
   from = let f = lands.from in omega (arith, f, place);
   until = let u = lands.until in let l = length-append a b in omega (arith, u, l, place);
@@ -54,11 +54,11 @@ jumps_more heads outlets more at height is None all jumps = tt
 jumps_more heads outlets more at height is (Some to) all (inl lands) = inl lands
 jumps_more heads outlets more at height is (Some to) all (inr out) = inr (all to height out)
 
-led_more : (led more : Led) (instr : Instr) → MoreLed led more → MoreLed (led_behind led instr) (led_behind more instr)
+pub led_more : (led more : Led) (instr : Instr) → MoreLed led more → MoreLed (led_behind led instr) (led_behind more instr)
 led_more led more instr all to (inl is) = inl (all to is)
 led_more led more instr all to (inr jumps) = inr jumps
 
-ended_more : (led more : Led) (instr : Instr) (to : ℕ) (Z : Type 0) → MoreLed led more → led_behind led instr to ⊎ Z → led_behind more instr to ⊎ Z
+pub ended_more : (led more : Led) (instr : Instr) (to : ℕ) (Z : Type 0) → MoreLed led more → led_behind led instr to ⊎ Z → led_behind more instr to ⊎ Z
 ended_more led more instr to Z all (inl is) = inl (led_more led more instr all to is)
 ended_more led more instr to Z all (inr nothing) = inr nothing
 

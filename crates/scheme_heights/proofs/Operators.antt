@@ -164,35 +164,35 @@ or_stretch heads body at height second is stretch = record { steps = (copy, (unl
 pub ends : {heads : Code} {body at height : ℕ} {is : List Instr} {size next next' : ℕ} → next ≡ next' → IsStretch heads body no_outlets at height is size next → IsStretch heads body no_outlets at height is size next'
 ends same stretch = record { steps = stretch.steps; count = stretch.count; leaves = stretch.leaves ∙ same }
 
-strict_stretch : (heads : Code) (body at height : ℕ) (o : Binary) (own : Option Bounds) (a : List Instr) (b : ℕ → List Instr) (size second m n : ℕ) → IsStrict o → TakesCounts o m n
-    → IsStretch heads body no_outlets at height a size (height + m) → ((p h : ℕ) → IsStretch heads body no_outlets p h (b p) second (h + n))
-    → IsStretch heads body no_outlets at height (a ++ (between_code o own (at + size) second ++ (b (at + size + between_size o own) ++ behind_code o m))) (size + (between_size o own + (second + behind_size o))) (height + 1)
-strict_stretch heads body at height o own a b size second m n strict takes first others =
-    let p = at + size in
+strict_stretch : (heads : Code) (body p height : ℕ) (o : Binary) (own : Option Bounds) (b : ℕ → List Instr) (second m n : ℕ) → IsStrict o → TakesCounts o m n → ((q h : ℕ) → IsStretch heads body no_outlets q h (b q) second (h + n))
+    → IsStretch heads body no_outlets p (height + m) (between_code o own p second ++ (b (p + between_size o own) ++ behind_code o m)) (between_size o own + (second + behind_size o)) (height + 1)
+strict_stretch heads body p height o own b second m n strict takes others =
     let q = p + between_size o own in
-    join heads body at height a _ size (between_size o own + (second + behind_size o)) (height + m) (height + 1) p _ refl refl first
-    (join heads body p (height + m) (between_code o own p second) _ (between_size o own) (second + behind_size o) (height + m) (height + 1) q _ refl refl (between_stretch heads body p height o own second m n strict takes)
-    (join heads body q (height + m) (b q) (behind_code o m) second (behind_size o) (height + m + n) (height + 1) (q + second) _ refl refl (others q (height + m)) (behind_stretch heads body (q + second) height m n o strict takes)))
+    join heads body p (height + m) (between_code o own p second) _ (between_size o own) (second + behind_size o) (height + m) (height + 1) q _ refl refl (between_stretch heads body p height o own second m n strict takes)
+    (join heads body q (height + m) (b q) (behind_code o m) second (behind_size o) (height + m + n) (height + 1) (q + second) _ refl refl (others q (height + m)) (behind_stretch heads body (q + second) height m n o strict takes))
 
-pub binary_stretch : (heads : Code) (body at height : ℕ) (o : Binary) (own : Option Bounds) (a : List Instr) (b : ℕ → List Instr) (size second m n : ℕ) → TakesCounts o m n
-    → IsStretch heads body no_outlets at height a size (height + m) → ((p h : ℕ) → IsStretch heads body no_outlets p h (b p) second (h + n))
-    → IsStretch heads body no_outlets at height (a ++ (between_code o own (at + size) second ++ (b (at + size + between_size o own) ++ behind_code o m))) (size + (between_size o own + (second + behind_size o))) (height + 1)
-binary_stretch heads body at height AndIf own a b size second m n takes first others =
-    let p = at + size in
+-- what stands behind a first operand: the second one with its operator
+pub operand_stretch : (heads : Code) (body p height : ℕ) (o : Binary) (own : Option Bounds) (b : ℕ → List Instr) (second m n : ℕ) → TakesCounts o m n → ((q h : ℕ) → IsStretch heads body no_outlets q h (b q) second (h + n))
+    → IsStretch heads body no_outlets p (height + m) (between_code o own p second ++ (b (p + between_size o own) ++ behind_code o m)) (between_size o own + (second + behind_size o)) (height + 1)
+operand_stretch heads body p height AndIf own b second m n takes others =
     let one' = takes.0 in
     let two' = takes.1 in
     let other = ends (let e : height + n ≡ height + 1 = omega (arith, two') in e) (others (p + 3) height) in
     let all = and_stretch heads body p height second (b (p + 3)) other in
-    let rest : IsStretch heads body no_outlets p (height + 1) (i.Copy 1 ∷ i.Unless (p + (second + 3)) ∷ i.Pop 1 ∷ (b (p + 3) ++ [])) (3 + (second + 0)) (height + 1) =
-    subst (λ (is : List Instr). IsStretch heads body no_outlets p (height + 1) (i.Copy 1 ∷ i.Unless (p + (second + 3)) ∷ i.Pop 1 ∷ is) (3 + (second + 0)) (height + 1)) (sym (append-nil (b (p + 3)))) (sized (3 + (second + 0)) (let c = other.count in omega (arith, c)) all) in
-    join heads body at height a _ size (3 + (second + 0)) (height + 1) (height + 1) p _ refl refl (ends (let e : height + m ≡ height + 1 = omega (arith, one') in e) first) rest
-binary_stretch heads body at height OrIf own a b size second m n takes first others =
-    let p = at + size in
+    subst (λ (is : List Instr). IsStretch heads body no_outlets p (height + m) (i.Copy 1 ∷ i.Unless (p + (second + 3)) ∷ i.Pop 1 ∷ is) (3 + (second + 0)) (height + 1)) (sym (append-nil (b (p + 3))))
+    (subst (λ (h : ℕ). IsStretch heads body no_outlets p h (i.Copy 1 ∷ i.Unless (p + (second + 3)) ∷ i.Pop 1 ∷ b (p + 3)) (3 + (second + 0)) (height + 1)) (let e : height + 1 ≡ height + m = omega (arith, one') in e) (sized (3 + (second + 0)) (let c = other.count in omega (arith, c)) all))
+operand_stretch heads body p height OrIf own b second m n takes others =
     let one' = takes.0 in
     let two' = takes.1 in
     let other = ends (let e : height + n ≡ height + 1 = omega (arith, two') in e) (others (p + 4) height) in
     let all = or_stretch heads body p height second (b (p + 4)) other in
-    let rest : IsStretch heads body no_outlets p (height + 1) (i.Copy 1 ∷ i.Unless (p + 3) ∷ i.Jump (p + (second + 4)) ∷ i.Pop 1 ∷ (b (p + 4) ++ [])) (4 + (second + 0)) (height + 1) =
-    subst (λ (is : List Instr). IsStretch heads body no_outlets p (height + 1) (i.Copy 1 ∷ i.Unless (p + 3) ∷ i.Jump (p + (second + 4)) ∷ i.Pop 1 ∷ is) (4 + (second + 0)) (height + 1)) (sym (append-nil (b (p + 4)))) (sized (4 + (second + 0)) (let c = other.count in omega (arith, c)) all) in
-    join heads body at height a _ size (4 + (second + 0)) (height + 1) (height + 1) p _ refl refl (ends (let e : height + m ≡ height + 1 = omega (arith, one') in e) first) rest
-binary_stretch heads body at height o own a b size second m n takes first others = strict_stretch heads body at height o own a b size second m n tt takes first others
+    subst (λ (is : List Instr). IsStretch heads body no_outlets p (height + m) (i.Copy 1 ∷ i.Unless (p + 3) ∷ i.Jump (p + (second + 4)) ∷ i.Pop 1 ∷ is) (4 + (second + 0)) (height + 1)) (sym (append-nil (b (p + 4))))
+    (subst (λ (h : ℕ). IsStretch heads body no_outlets p h (i.Copy 1 ∷ i.Unless (p + 3) ∷ i.Jump (p + (second + 4)) ∷ i.Pop 1 ∷ b (p + 4)) (4 + (second + 0)) (height + 1)) (let e : height + 1 ≡ height + m = omega (arith, one') in e) (sized (4 + (second + 0)) (let c = other.count in omega (arith, c)) all))
+operand_stretch heads body p height o own b second m n takes others = strict_stretch heads body p height o own b second m n tt takes others
+
+pub binary_stretch : (heads : Code) (body at height : ℕ) (o : Binary) (own : Option Bounds) (a : List Instr) (b : ℕ → List Instr) (size second m n : ℕ) → TakesCounts o m n
+    → IsStretch heads body no_outlets at height a size (height + m) → ((p h : ℕ) → IsStretch heads body no_outlets p h (b p) second (h + n))
+    → IsStretch heads body no_outlets at height (a ++ (between_code o own (at + size) second ++ (b (at + size + between_size o own) ++ behind_code o m))) (size + (between_size o own + (second + behind_size o))) (height + 1)
+binary_stretch heads body at height o own a b size second m n takes first others =
+    let p = at + size in
+    join heads body at height a _ size (between_size o own + (second + behind_size o)) (height + m) (height + 1) p _ refl refl first (operand_stretch heads body p height o own b second m n takes others)

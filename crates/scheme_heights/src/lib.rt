@@ -1,8 +1,12 @@
-//! Heights of the stack in compiled code: each instruction finds its operands, and jumps lead on to places of the same height.
+//! Heights of the stack in compiled code: each instruction finds its operands, jumps lead on to places of the same height, and
+//! the code of a program agrees.
 //!
-//! The crate has definitions and laws. It stands on `code_scheme`, whose code it speaks of.
+//! The crate has definitions and laws. It stands on `code_scheme`, whose code it speaks of, and on `source_meaning` for what is
+//! typed.
 #![tactic(auto)]
 
 mod laws;
 
-pub use laws::{condition_heights_law, expression_heights_law};
+pub use laws::{
+    condition_heights_law, expression_heights_law, program_agrees_law, things_law, typed_agrees_law,
+};
