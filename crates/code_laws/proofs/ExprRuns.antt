@@ -47,7 +47,7 @@ use Rattle.code_laws.proofs.CallRuns.{call_runs}
 use Rattle.code_laws.proofs.CallPieces.{PassedFit, kept_offset, kept_of, takens_long, keep_none, keep_runs, found_runs, after_unit, as_lies, copies_runs, kept_suited, kept_free, kept_more, kept_end, forgetting_holds}
 
 -- fields alone lead inside
-fields_fit : (lay : Layout) (ps : PartNodes) (of n : ℕ) → FitsParts lay of ps n → first_of_parts ps + n ≤ of ⊎ (has_index ps ≡ true)
+pub fields_fit : (lay : Layout) (ps : PartNodes) (of n : ℕ) → FitsParts lay of ps n → first_of_parts ps + n ≤ of ⊎ (has_index ps ≡ true)
 fields_fit lay no_parts of n fits = inl (omega (arith, fits))
 fields_fit lay (field first count ps) of n fits = more (fields_fit lay ps count n fits.1)
   where
@@ -95,7 +95,7 @@ sum_end true at p e = e
 sum_end false at p e = e
 
 -- ANDIF and ORIF have nothing behind their second operand
-over_end : (o : Binary) (own : Option Bounds) (xs : List ℤ) (second at to : ℕ) → takes_second o xs ≡ false → at + (between_size o own + (second + behind_size o)) ≡ to → at + (between_size o own + second) ≡ to
+pub over_end : (o : Binary) (own : Option Bounds) (xs : List ℤ) (second at to : ℕ) → takes_second o xs ≡ false → at + (between_size o own + (second + behind_size o)) ≡ to → at + (between_size o own + second) ≡ to
 over_end AndIf own xs second at to takes e = omega arith
 over_end OrIf own xs second at to takes e = omega arith
 over_end o own xs second at to takes e = absurd (let no : ⊥ = cc in no)
@@ -133,7 +133,7 @@ mutual
   expr_runs w v lay bodies inside lo hi free (expr n own o) at to stack locals store s suited names free_is fits e low high has within h =
       operation_runs w v lay bodies inside lo hi free n o at to stack locals store s suited names free_is fits e low high has (both_true _ _ within).0 h
 
-  operation_runs : (w : Around) (v : Setting) (lay : Layout) (bodies : Bodies) (inside : BodiesWithin) (lo hi free n : ℕ) (o : OperationTree) (at to : ℕ) (stack locals : List ℤ) (store : Store) (s : Session)
+  pub operation_runs : (w : Around) (v : Setting) (lay : Layout) (bodies : Bodies) (inside : BodiesWithin) (lo hi free n : ℕ) (o : OperationTree) (at to : ℕ) (stack locals : List ℤ) (store : Store) (s : Session)
       → Suited w v lay bodies inside → NamesIn w lo hi → free ≡ free_in w → FitsOperation lay n o
       → at + operation_size o ≡ to → lo ≤ at → to ≤ hi
       → HasAt w.code.instrs at (operation_code lay free n o at)

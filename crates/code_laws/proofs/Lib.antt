@@ -18,3 +18,5 @@ pub mod ReceiveRuns
 pub mod ExprRuns
 pub mod Gathered
 pub mod CallPieces
+pub mod ConditionRuns
+pub mod AssignRuns

@@ -139,7 +139,7 @@ mutual
   pub expr_length : (lay : Layout) (free : ℕ) (e : ExprTree) (at : ℕ) → FitsExpr lay e → length (expr_code lay free e at) ≡ expr_size e
   expr_length lay free (expr n own o) at fits = operation_length lay free n o at fits
 
-  operation_length : (lay : Layout) (free n : ℕ) (o : OperationTree) (at : ℕ) → FitsOperation lay n o → length (operation_code lay free n o at) ≡ operation_size o
+  pub operation_length : (lay : Layout) (free n : ℕ) (o : OperationTree) (at : ℕ) → FitsOperation lay n o → length (operation_code lay free n o at) ≡ operation_size o
   operation_length lay free n (constant xs) at fits = refl
   operation_length lay free n own_instance at fits = refl
   operation_length lay free n (contents l) at fits = omega (arith, length-append (place_code lay free l at) (contents_code lay l), place_length lay free l at fits.0, contents_length lay l)

@@ -5,3 +5,4 @@ pub mod InRange
 pub mod OwnBounds
 pub mod Expressions
 pub mod Laws
+pub mod Assignments
