@@ -18,5 +18,3 @@ pub mod ReceiveRuns
 pub mod ExprRuns
 pub mod Gathered
 pub mod CallPieces
-pub mod ConditionRuns
-pub mod AssignRuns

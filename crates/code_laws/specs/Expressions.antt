@@ -1,17 +1,16 @@
 -- The law of expressions: the instructions of each expression follow its meaning, where those of the bodies that it calls do.
-use Rattle.std.specs.Prelude.{◌≡◌, ℕ, suc, ◌+◌, ◌<◌, ◌≤◌, Bool, true, List, [], ℤ, length, slice_get, if◌then◌else◌, Some}
+use Rattle.std.specs.Prelude.{◌≡◌, ℕ, suc, ◌+◌, ◌<◌, ◌≤◌, true, List, ℤ, length, slice_get, Some}
 use Rattle.world_model.specs.Session.{Session}
 use Rattle.program_trees.specs.ExprTree.{ExprTree, count_of}
 use Rattle.code_types.specs.declared.instr.Instr.{Instr}
 use Rattle.code_types.specs.Agreement.{IsNamed}
 use Rattle.source_meaning.specs.Store.{Store}
-use Rattle.source_meaning.specs.Operators.{is_true}
 use Rattle.source_meaning.specs.ExprMeaning.{Setting, expr_mean}
 use Rattle.source_meaning.specs.BodyMeaning.{Bodies, calls_in}
 use Rattle.code_scheme.specs.Pieces.{Layout}
-use Rattle.code_scheme.specs.ExprSizes.{expr_size, condition_size}
-use Rattle.code_scheme.specs.ExprCode.{expr_code, condition_code}
-use Rattle.code_laws.specs.Follows.{HasAt, Around, free_in, here, Holds, Follows, always, HoldsWith, on_top, IsLong, Gives}
+use Rattle.code_scheme.specs.ExprSizes.{expr_size}
+use Rattle.code_scheme.specs.ExprCode.{expr_code}
+use Rattle.code_laws.specs.Follows.{HasAt, Around, free_in, here, Holds, on_top, IsLong, Gives}
 use Rattle.code_laws.specs.Calls.{EnteredBelow, open_in, BodiesWithin, BodiesFollow, call_within}
 use Rattle.code_laws.specs.InRange.{FitsExpr}
 use Rattle.code_laws.specs.OwnBounds.{CallsWithin, expr_within}
@@ -44,17 +43,3 @@ ExprLaw = (w : Around) (v : Setting) (lay : Layout) (bodies : Bodies) (inside : 
     → expr_within v (calls_at inside w) e store s ≡ true
     → Holds w store locals
     → Gives w (here w at stack locals s) lo hi to (on_top stack) (IsLong (count_of e)) (expr_mean v e store s)
-
--- where control goes behind a condition that jumps to a target where it has a value
-abbrev pub goes_where : Bool → ℕ → ℕ → List ℤ → ℕ
-goes_where when target behind xs = if is_true xs then (if when then target else behind) else (if when then behind else target)
-
--- A condition, which leaves nothing on the stack: its instructions follow its meaning, and control goes where it has to.
-abbrev pub ConditionLaw : Type 0
-ConditionLaw = (w : Around) (v : Setting) (lay : Layout) (bodies : Bodies) (inside : BodiesWithin) (lo hi free : ℕ) (e : ExprTree) (when : Bool) (target at to : ℕ) (stack locals : List ℤ) (store : Store) (s : Session)
-    → Suited w v lay bodies inside → NamesIn w lo hi → free ≡ free_in w → FitsExpr lay e → count_of e ≡ 1
-    → at + condition_size e when ≡ to → lo ≤ at → to ≤ hi
-    → HasAt w.code.instrs at (condition_code lay free e when target at)
-    → expr_within v (calls_at inside w) e store s ≡ true
-    → Holds w store locals
-    → Follows w (here w at stack locals s) lo hi [] (goes_where when target to) (always stack) (HoldsWith w (IsLong 1)) (expr_mean v e store s)

@@ -5,4 +5,3 @@ pub mod InRange
 pub mod OwnBounds
 pub mod Expressions
 pub mod Laws
-pub mod Assignments

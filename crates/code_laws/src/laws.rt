@@ -1,7 +1,6 @@
 // Laws of compiled code. Each is a fact about the definitions, which a caller learns by calling the function.
 ghost use Rattle.code_laws.specs.Laws.{InstructionLaw, RequestLaw, ContentsLaw, AssignLaw, CheckLaw, IndexLaw, PrefixLaw, RoutineLaw};
-ghost use Rattle.code_laws.specs.Expressions.{ConditionLaw, ExprLaw};
-ghost use Rattle.code_laws.specs.Assignments.{AssignmentLaw, UpdateLaw};
+ghost use Rattle.code_laws.specs.Expressions.{ExprLaw};
 ghost use Rattle.code_laws.specs.Statements.{TurnsLaw, HandledLaw};
 ghost use Rattle.code_laws.specs.Calls.{CallLaw, LawOfAssembly, SameRunsLaw};
 
@@ -48,21 +47,6 @@ pub fn routine_law()
 /// The instructions of an expression follow its meaning.
 pub fn expr_law()
     ensures { ExprLaw }
-{}
-
-/// So do those of a condition, and control goes where it has to.
-pub fn condition_law()
-    ensures { ConditionLaw }
-{}
-
-/// So do those of an assignment.
-pub fn assignment_law()
-    ensures { AssignmentLaw }
-{}
-
-/// So do those of an assignment with an operator.
-pub fn update_law()
-    ensures { UpdateLaw }
 {}
 
 /// So do those of a loop.

@@ -6,5 +6,7 @@
 mod laws;
 
 pub use laws::{
-    assign_law, assignment_law, call_law, check_law, condition_law, contents_law, expr_law, handled_law, index_law, instruction_law, law_of_assembly, prefix_law, request_law, routine_law, same_runs_law, turns_law, update_law,
+    assign_law, call_law, check_law, contents_law, expr_law, handled_law, index_law,
+    instruction_law, law_of_assembly, prefix_law, request_law, routine_law, same_runs_law,
+    turns_law,
 };

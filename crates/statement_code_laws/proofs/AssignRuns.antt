@@ -20,6 +20,7 @@ use Rattle.source_meaning.specs.Store.{Store, Address, address_of}
 use Rattle.source_meaning.specs.Flow.{Flow, Goes, Meaning, then_do}
 use Rattle.source_meaning.specs.Operators.{sole_number, one, truth, Computed, Yields, Throws, yields_or, binary_value, takes_second}
 use Rattle.source_meaning.specs.ExprMeaning.{Setting, as_computed, tested, read_at, assign_at, binary_with, expr_mean, received_mean, offset_mean, location_mean}
+use Rattle.source_meaning.specs.StatementMeaning.{action_mean}
 use Rattle.source_meaning.specs.BodyMeaning.{Bodies}
 use Rattle.code_scheme.specs.Pieces.{Layout, first_of_parts, has_index, needs_offset, has_offset, offsets_kept, again_code, contents_code, store_code, between_code, between_size, behind_code, behind_size, check_code, bounds_to_test, bounds_of_operator}
 use Rattle.code_scheme.specs.ExprSizes.{expr_size, place_size, indices_size, received_size}
@@ -28,10 +29,13 @@ use Rattle.code_scheme.specs.StatementSite.{Standing, layout}
 use Rattle.code_scheme.specs.StatementPlain.{assign_code, assign_size, update_code, update_size, update_test, read_code, read_size}
 use Rattle.code_laws.specs.Follows.{HasAt, Around, free_in, here, Holds, GetsTo, Follows, always, HoldsWith, Nothing, on_top, IsLong, no_stack, Does}
 use Rattle.code_laws.specs.Calls.{BodiesWithin}
-use Rattle.code_laws.specs.InRange.{FitsExpr, FitsLocation, OperandsFit, BoundsFit}
+use Rattle.code_laws.specs.InRange.{FitsExpr, FitsReceived, FitsLocation, OperandsFit, BoundsFit}
 use Rattle.code_laws.specs.OwnBounds.{CallsWithin, where_goes, lies_in, expr_within, received_within, parts_within}
 use Rattle.code_laws.specs.Expressions.{Suited, NamesIn, calls_at}
-use Rattle.code_laws.specs.Assignments.{AssignmentLaw, UpdateLaw}
+use Rattle.statement_code_laws.specs.Parts.{Stands}
+use Rattle.statement_code_laws.specs.StatementsWithin.{assign_within, update_within}
+use Rattle.statement_code_laws.specs.Actions.{ActionActs, AssignmentLaw}
+use Rattle.statement_code_laws.proofs.PlainRuns.{plain_acts}
 use Rattle.code_laws.proofs.Running.{has_front, has_back, gets_then, after, follows_then, follows_then_is, comes}
 use Rattle.code_laws.proofs.Instructions.{pushes_by, renamed}
 use Rattle.code_laws.proofs.Sizes.{between_length, behind_length, expr_length, received_length, place_length, contents_length, where_length}
@@ -54,7 +58,14 @@ target_runs w v lay bodies inside lo hi free b ps n at stack locals store s suit
     (λ t_is h2. indices_runs w v lay bodies inside lo hi free true ps fits.0 n 0 0 at stack locals store s suited names free_is fits.3 (λ z. refl) (let small : 0 + fits.0 < 2147483648 = omega (arith, fits.2) in small) low (let room : at + indices_size true ps ≤ hi = omega (arith, high, ap (λ (t : Bool). if t then indices_size true ps else if needs_offset b ps then 1 else 0) t_is) in room) h2 within h)
     has refl h
 
-pub assignment_runs : AssignmentLaw
+assignment_runs : (w : Around) (v : Setting) (st : Standing) (bodies : Bodies) (inside : BodiesWithin) (lo hi n : ℕ) (l : LocationTree) (r : ReceivedTree) (at to : ℕ) (locals : List ℤ) (store : Store) (s : Session)
+    → Suited w v (layout st.site) bodies inside → NamesIn w lo hi → st.free ≡ free_in w
+    → FitsLocation (layout st.site) l → FitsReceived (layout st.site) r → received_count r ≡ location_count l
+    → at + assign_size l r ≡ to → lo ≤ at → to ≤ hi
+    → HasAt w.code.instrs at (assign_code st l r at)
+    → assign_within v (calls_at inside w) l r store s ≡ true
+    → Holds w store locals
+    → Does w (here w at [] locals s) lo hi [] to (action_mean v n (assign l r) store s)
 assignment_runs w v st bodies inside lo hi n (location b ps m) r at to locals store s suited names free_is fits_l fits_r counts len low high has within h =
     let lay : Layout = layout st.site in
     let l : LocationTree = location b ps m in
@@ -232,7 +243,14 @@ changed_runs w v lay bodies inside lo hi free b ps m o e bounds k at to xs local
         after (over_runs w o bounds (count_of e) xs (expr_size e) at at3 base locals s fit takes over (has_front all at between (second ++ (behind ++ rest)) has))
         (written_runs w lay b ps m bounds own k at3 to lo hi xs locals store s suited.rows fits one_m place (over_one o xs (count_of e) fit takes) unbound has3 (omega arith) (omega arith) high h)
 
-pub update_runs : UpdateLaw
+update_runs : (w : Around) (v : Setting) (st : Standing) (bodies : Bodies) (inside : BodiesWithin) (lo hi n : ℕ) (l : LocationTree) (o : Binary) (e : ExprTree) (bounds : Option Bounds) (at to : ℕ) (locals : List ℤ) (store : Store) (s : Session)
+    → Suited w v (layout st.site) bodies inside → NamesIn w lo hi → st.free ≡ free_in w
+    → FitsLocation (layout st.site) l → FitsExpr (layout st.site) e → OperandsFit o (location_count l) (count_of e) → location_count l ≡ 1
+    → at + update_size l o e bounds ≡ to → lo ≤ at → to ≤ hi
+    → HasAt w.code.instrs at (update_code st l o e bounds at)
+    → update_within v (calls_at inside w) l o e bounds store s ≡ true
+    → Holds w store locals
+    → Does w (here w at [] locals s) lo hi [] to (action_mean v n (update l o e bounds) store s)
 update_runs w v st bodies inside lo hi n (location b ps m) o e bounds at to locals store s suited names free_is fits_l fits_e operands one_m len low high has within h =
     let lay : Layout = layout st.site in
     let l : LocationTree = location b ps m in
@@ -264,3 +282,18 @@ update_runs w v st bodies inside lo hi n (location b ps m) o e bounds at to loca
     let within2 = there (location_mean v l store s) (λ address store3 s3. where_goes (read_at m address store3 s3) (λ ys store4 s4. lies_in bounds ys && (if takes_second o ys then expr_within v (calls_at inside w) e store4 s4 else true))) (address_of b k) store1 s1 (both_true _ _ within).1 (ap (λ (f : Flow ℕ). then_do f (λ j. Goes (address_of b j))) is) in
     let within3 = both_true _ _ (there (read_at m (address_of b k) store1 s1) (λ ys store4 s4. lies_in bounds ys && (if takes_second o ys then expr_within v (calls_at inside w) e store4 s4 else true)) xs store2 s2 within2 is2) in
     changed_runs w v lay bodies inside lo hi st.free b ps m o e bounds k at3 to xs locals2 store2 s2 suited names free_is fits_l fits_e operands one_m q.0 q2.0 (omega arith) (omega arith) high has4 within3.0 within3.1 q2.1))))
+
+-- ---- the law
+
+assigned : (l : LocationTree) (r : ReceivedTree) → ActionActs (assign l r)
+assigned l r w v st bodies inside n from stands names fits has =
+    plain_acts (λ store s locals within h.
+    assignment_runs w v st bodies inside from (from + assign_size l r) n l r from (from + assign_size l r) locals store s stands.suited names stands.free fits.0 fits.1 fits.2 refl (omega arith) (omega arith) has within h)
+
+updated : (l : LocationTree) (o : Binary) (e : ExprTree) (bounds : Option Bounds) → ActionActs (update l o e bounds)
+updated l o e bounds w v st bodies inside n from stands names fits has =
+    plain_acts (λ store s locals within h.
+    update_runs w v st bodies inside from (from + update_size l o e bounds) n l o e bounds from (from + update_size l o e bounds) locals store s stands.suited names stands.free fits.0 fits.1 fits.2 fits.3 refl (omega arith) (omega arith) has within h)
+
+pub assignment_law : AssignmentLaw
+assignment_law = record { assigned = assigned; updated = updated }

@@ -22,7 +22,8 @@ use Rattle.code_laws.specs.Follows.{HasAt, Around, free_in, here, Holds, GetsTo,
 use Rattle.code_laws.specs.Calls.{BodiesWithin}
 use Rattle.code_laws.specs.InRange.{FitsExpr, FitsOperation, OperandsFit}
 use Rattle.code_laws.specs.OwnBounds.{expr_within, operation_within}
-use Rattle.code_laws.specs.Expressions.{Suited, NamesIn, calls_at, goes_where, ConditionLaw}
+use Rattle.code_laws.specs.Expressions.{Suited, NamesIn, calls_at}
+use Rattle.statement_code_laws.specs.Conditions.{goes_where, ConditionLaw}
 use Rattle.code_laws.proofs.Running.{has_front, has_back, gets_then, after, follows_then, follows_then_is, comes}
 use Rattle.code_laws.proofs.Instructions.{jumps_by, renamed, sole}
 use Rattle.code_laws.proofs.Sizes.{between_length, behind_length, expr_length, operation_length}

@@ -1,5 +1,0 @@
-use Rattle.code_laws.proofs.laws.condition_law.Goals as goal
-use Rattle.code_laws.proofs.ConditionRuns.{condition_runs}
-
-pub returns : goal.returns
-returns c = condition_runs

@@ -1,0 +1,4 @@
+pub mod ConditionRuns
+pub mod PlainRuns
+pub mod AssignRuns
+pub mod LeavingRuns

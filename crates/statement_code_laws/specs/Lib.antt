@@ -1,0 +1,5 @@
+pub mod Parts
+pub mod StatementsInRange
+pub mod StatementsWithin
+pub mod Conditions
+pub mod Actions
