@@ -32,10 +32,9 @@ use Rattle.code_laws.specs.Calls.{BodiesWithin}
 use Rattle.code_laws.specs.InRange.{FitsExpr, FitsReceived, FitsLocation, OperandsFit, BoundsFit}
 use Rattle.code_laws.specs.OwnBounds.{CallsWithin, where_goes, lies_in, expr_within, received_within, parts_within}
 use Rattle.code_laws.specs.Expressions.{Suited, NamesIn, calls_at}
-use Rattle.statement_code_laws.specs.Parts.{Stands}
-use Rattle.statement_code_laws.specs.StatementsWithin.{assign_within, update_within}
+use Rattle.statement_code_laws.specs.StatementBounds.{assign_within, update_within}
 use Rattle.statement_code_laws.specs.Actions.{ActionActs, AssignmentLaw}
-use Rattle.statement_code_laws.proofs.PlainRuns.{plain_acts}
+use Rattle.statement_code_laws.proofs.PlainRuns.{plain_acts, open_here}
 use Rattle.code_laws.proofs.Running.{has_front, has_back, gets_then, after, follows_then, follows_then_is, comes}
 use Rattle.code_laws.proofs.Instructions.{pushes_by, renamed}
 use Rattle.code_laws.proofs.Sizes.{between_length, behind_length, expr_length, received_length, place_length, contents_length, where_length}
@@ -63,7 +62,7 @@ assignment_runs : (w : Around) (v : Setting) (st : Standing) (bodies : Bodies) (
     → FitsLocation (layout st.site) l → FitsReceived (layout st.site) r → received_count r ≡ location_count l
     → at + assign_size l r ≡ to → lo ≤ at → to ≤ hi
     → HasAt w.code.instrs at (assign_code st l r at)
-    → assign_within v (calls_at inside w) l r store s ≡ true
+    → assign_within v (λ (now : List ℕ). calls_at inside w) l r store s ≡ true
     → Holds w store locals
     → Does w (here w at [] locals s) lo hi [] to (action_mean v n (assign l r) store s)
 assignment_runs w v st bodies inside lo hi n (location b ps m) r at to locals store s suited names free_is fits_l fits_r counts len low high has within h =
@@ -248,7 +247,7 @@ update_runs : (w : Around) (v : Setting) (st : Standing) (bodies : Bodies) (insi
     → FitsLocation (layout st.site) l → FitsExpr (layout st.site) e → OperandsFit o (location_count l) (count_of e) → location_count l ≡ 1
     → at + update_size l o e bounds ≡ to → lo ≤ at → to ≤ hi
     → HasAt w.code.instrs at (update_code st l o e bounds at)
-    → update_within v (calls_at inside w) l o e bounds store s ≡ true
+    → update_within v (λ (now : List ℕ). calls_at inside w) l o e bounds store s ≡ true
     → Holds w store locals
     → Does w (here w at [] locals s) lo hi [] to (action_mean v n (update l o e bounds) store s)
 update_runs w v st bodies inside lo hi n (location b ps m) o e bounds at to locals store s suited names free_is fits_l fits_e operands one_m len low high has within h =
@@ -288,12 +287,12 @@ update_runs w v st bodies inside lo hi n (location b ps m) o e bounds at to loca
 assigned : (l : LocationTree) (r : ReceivedTree) → ActionActs (assign l r)
 assigned l r w v st bodies inside n from stands names fits has =
     plain_acts (λ store s locals within h.
-    assignment_runs w v st bodies inside from (from + assign_size l r) n l r from (from + assign_size l r) locals store s stands.suited names stands.free fits.0 fits.1 fits.2 refl (omega arith) (omega arith) has within h)
+    assignment_runs w v st bodies inside from (from + assign_size l r) n l r from (from + assign_size l r) locals store s stands.suited names stands.free fits.0 fits.1 fits.2 refl (omega arith) (omega arith) has (open_here w v inside (λ c. assign_within v (λ (now : List ℕ). c) l r store s) stands.suited.open_now within) h)
 
 updated : (l : LocationTree) (o : Binary) (e : ExprTree) (bounds : Option Bounds) → ActionActs (update l o e bounds)
 updated l o e bounds w v st bodies inside n from stands names fits has =
     plain_acts (λ store s locals within h.
-    update_runs w v st bodies inside from (from + update_size l o e bounds) n l o e bounds from (from + update_size l o e bounds) locals store s stands.suited names stands.free fits.0 fits.1 fits.2 fits.3 refl (omega arith) (omega arith) has within h)
+    update_runs w v st bodies inside from (from + update_size l o e bounds) n l o e bounds from (from + update_size l o e bounds) locals store s stands.suited names stands.free fits.0 fits.1 fits.2 fits.3 refl (omega arith) (omega arith) has (open_here w v inside (λ c. update_within v (λ (now : List ℕ). c) l o e bounds store s) stands.suited.open_now within) h)
 
 pub assignment_law : AssignmentLaw
 assignment_law = record { assigned = assigned; updated = updated }

@@ -1,5 +1,6 @@
 -- Declarations: names get a value, or the lowest value of their mode.
-use Rattle.std.proofs.Common.{◌≡◌, ℕ, zero, suc, ◌+◌, ◌<◌, ◌≤◌, if◌then◌else◌, Bool, true, false, List, [], ◌∷◌, ◌++◌, ℤ, pos, length, Option, Some, None, slice_get, nat_le, le-leb, refl, sym, ap, ◌∙◌, subst, arith, append_assoc, append-nil}
+use Rattle.std.proofs.Common.{◌≡◌, ℕ, zero, suc, ◌+◌, ◌<◌, ◌≤◌, if◌then◌else◌, Bool, true, false, List, [], ◌∷◌, ◌++◌, ℤ, pos, length, Option, Some, None, slice_get, nat_le, le-leb, All, refl, sym, ap, ◌∙◌, subst, arith, append_assoc, append-nil}
+use Rattle.std.proofs.lemmas.List.Elements.{All-head, All-tail}
 use Rattle.world_model.specs.Session.{Session}
 use Rattle.world_model.specs.Lists.{with_scalars}
 use Rattle.checked_program.specs.declared.expr.Base.{Base}
@@ -25,18 +26,31 @@ use Rattle.code_laws.specs.Follows.{HasAt, Around, free_in, keeping, here, Holds
 use Rattle.code_laws.specs.Calls.{BodiesWithin}
 use Rattle.code_laws.specs.InRange.{IsNumber32, BaseFits, FitsReceived}
 use Rattle.code_laws.specs.OwnBounds.{received_within}
-use Rattle.code_laws.specs.Expressions.{NamesIn, calls_at}
+use Rattle.code_laws.specs.Expressions.{NamesIn}
 use Rattle.code_laws.proofs.Running.{has_front, has_back, stays, after, follows_then, comes}
 use Rattle.code_laws.proofs.Requesting.{none_takes}
 use Rattle.code_laws.proofs.Holding.{HasPart, IsSet, scratch_set, scratch_read, whole_set}
 use Rattle.code_laws.proofs.Instructions.{puts_on, sets_by, renamed, set_by, write_by}
 use Rattle.code_laws.proofs.Values.{scalars_run}
 use Rattle.code_laws.proofs.CallPieces.{forgetting_holds}
-use Rattle.statement_code_laws.specs.Parts.{Stands}
-use Rattle.statement_code_laws.specs.StatementsInRange.{NamesFit, LocalsFit}
+use Rattle.statement_code_laws.specs.Statements.{StandsAs, calls_from}
+use Rattle.statement_code_laws.specs.StatementsInRange.{LocalFits}
 use Rattle.statement_code_laws.specs.Actions.{ActionActs, DeclarationLaw}
 use Rattle.statement_code_laws.proofs.PlainRuns.{plain_acts}
 use Rattle.statement_code_laws.proofs.LeavingRuns.{received_then}
+
+-- each name has so many scalars
+abbrev NamesFit : Layout → List Base → ℕ → Type 0
+NamesFit lay bs n = All (λ b. BaseFits lay b n) bs
+
+abbrev LocalsFit : Layout → List ℕ → ℕ → Type 0
+LocalsFit lay ks n = All (LocalFits lay n) ks
+
+name_fits : (lay : Layout) (b : Base) (bs : List Base) (n : ℕ) → NamesFit lay (b ∷ bs) n → BaseFits lay b n
+name_fits lay b bs n fits = All-head (λ c. BaseFits lay c n) b bs fits
+
+names_fit : (lay : Layout) (b : Base) (bs : List Base) (n : ℕ) → NamesFit lay (b ∷ bs) n → NamesFit lay bs n
+names_fit lay b bs n fits = All-tail (λ c. BaseFits lay c n) b bs fits
 
 -- the place of a name on the stack
 abbrev name_stack : Base → List ℤ → List ℤ
@@ -77,11 +91,11 @@ one_declared : (b : Base) (r : ReceivedTree) → ActionActs (declare (b ∷ []) 
 one_declared b r w v st bodies inside n from stands names fits has =
     plain_acts (λ store s locals within h.
     after (place_run w b from [] locals s (has_front w.code.instrs from (offset_of_name b) (value ++ set) has))
-    (received_then w v st bodies inside r set at from until until (set_names (b ∷ [])) (name_stack b []) locals store s stands names fits.1 (omega arith) (omega (arith, size_is b)) (has_back w.code.instrs from at (offset_of_name b) (value ++ set) refl has) within h
+    (received_then w v st bodies inside r set at from until until (set_names (b ∷ [])) (name_stack b []) locals store s stands names fits.0 (omega arith) (omega (arith, size_is b)) (has_back w.code.instrs from at (offset_of_name b) (value ++ set) refl has) within h
     (λ xs store1 s1 locals1 long has1 h1.
     follows_then
     (subst (λ (m : ℕ). Does w (here w (at + received_size r) (name_stack b [] ++ xs) locals1 s1) from until [] until (assign_at m (address_of b 0) xs store1 s1)) (sym long)
-    (name_runs w lay b count (at + received_size r) until from until [] xs locals1 store1 s1 stands.suited.rows fits.0.0 long has1 (omega (arith, size_is b)) (omega arith) (omega (arith, size_is b)) h1))
+    (name_runs w lay b count (at + received_size r) until from until [] xs locals1 store1 s1 stands.suited.rows (name_fits lay b [] count fits.1) long has1 (omega (arith, size_is b)) (omega arith) (omega (arith, size_is b)) h1))
     (λ u store2 s2 locals2 q. comes {v = tt} refl refl (tt, q.1)))))
   where
     lay : Layout
@@ -124,15 +138,15 @@ names_run w lay free n at to lo hi (b ∷ bs) xs locals store s rows free_is fit
     (after (puts_on w2 (i.Local free n) at1 (name_stack b []) locals s xs has1.0 refl (ap in_frame part.is))
     (follows_then
     (subst (λ (m : ℕ). Does w2 (here w at2 (name_stack b [] ++ xs) locals s) lo hi [] at3 (assign_at m (address_of b 0) xs store s)) (sym long)
-    (name_runs w2 lay b n at2 at3 lo hi [] xs locals store s rows fits.0 long (has_front all at2 set rest has1.1) refl (omega arith) (omega (arith, size_is b)) h))
+    (name_runs w2 lay b n at2 at3 lo hi [] xs locals store s rows (name_fits lay b bs n fits) long (has_front all at2 set rest has1.1) refl (omega arith) (omega (arith, size_is b)) h))
     (λ u store1 s1 locals1 q.
-    names_run w lay free n at3 to lo hi bs xs locals1 store1 s1 rows free_is fits.1 long has3 (omega (arith, size_is b)) (omega arith) high q.1)))
+    names_run w lay free n at3 to lo hi bs xs locals1 store1 s1 rows free_is (names_fit lay b bs n fits) long has3 (omega (arith, size_is b)) (omega arith) high q.1)))
 
 -- a value is kept, and each name gets it
 kept_runs : (w : Around) (v : Setting) (st : Standing) (bodies : Bodies) (inside : BodiesWithin) (bs : List Base) (r : ReceivedTree) (from until : ℕ) (locals : List ℤ) (store : Store) (s : Session)
-    → Stands w v st bodies inside → from + keeping_size bs r ≡ until → NamesIn w from until → NamesFit (layout st.site) bs (received_count r) → FitsReceived (layout st.site) r
+    → StandsAs w v st bodies inside → from + keeping_size bs r ≡ until → NamesIn w from until → NamesFit (layout st.site) bs (received_count r) → FitsReceived (layout st.site) r
     → HasAt w.code.instrs from (keeping_code st bs r from)
-    → received_within v (calls_at inside w) r store s ≡ true → Holds w store locals
+    → received_within v (calls_from inside w v.open_now) r store s ≡ true → Holds w store locals
     → Does w (here w from [] locals s) from until [] until (then_do (received_mean v r store s) (set_names bs))
 kept_runs w v st bodies inside bs r from until locals store s stands len names fit fits has within h =
     received_then w v st bodies inside r (i.SetLocal free count ∷ rest) from from until until (set_names bs) [] locals store s stands names fits (omega arith) (omega arith) has within h
@@ -161,10 +175,10 @@ kept_runs w v st bodies inside bs r from until locals store s stands len names f
 
 declared : (bs : List Base) (r : ReceivedTree) → ActionActs (declare bs r)
 declared [] r w v st bodies inside n from stands names fits has =
-    plain_acts (λ store s locals within h. kept_runs w v st bodies inside [] r from (from + keeping_size [] r) locals store s stands refl names fits.0 fits.1 has within h)
-declared (b ∷ []) r = one_declared b r
+    plain_acts (λ store s locals within h. kept_runs w v st bodies inside [] r from (from + keeping_size [] r) locals store s stands refl names fits.1 fits.0 has within h)
+declared (b ∷ []) r w v st bodies inside n from stands names fits has = one_declared b r w v st bodies inside n from stands names fits has
 declared (b ∷ c ∷ bs) r w v st bodies inside n from stands names fits has =
-    plain_acts (λ store s locals within h. kept_runs w v st bodies inside (b ∷ c ∷ bs) r from (from + keeping_size (b ∷ c ∷ bs) r) locals store s stands refl names fits.0 fits.1 has within h)
+    plain_acts (λ store s locals within h. kept_runs w v st bodies inside (b ∷ c ∷ bs) r from (from + keeping_size (b ∷ c ∷ bs) r) locals store s stands refl names fits.1 fits.0 has within h)
 
 -- ---- without a value
 
@@ -177,11 +191,12 @@ lowest_runs w lay (k ∷ ks) xs at to lo hi locals store s rows fits small has e
     let f : ℕ = first_in (slice_get lay.rows k) in
     let rest : List Instr = set_lowest_code lay ks xs in
     let has1 = has_back w.code.instrs at at1 (scalars_code xs) (i.SetLocal f (length xs) ∷ rest) refl has in
-    let set : IsSet w (with_local store k xs) locals f xs = whole_set w store locals k f fits.0.0 xs h (row_is w lay k (length xs) rows fits.0) (sym fits.0.2) (ap first_in fits.0.1) in
+    let fit : LocalFits lay (length xs) k = All-head (LocalFits lay (length xs)) k ks fits in
+    let set : IsSet w (with_local store k xs) locals f xs = whole_set w store locals k f fit.0 xs h (row_is w lay k (length xs) rows fit) (sym fit.2) (ap first_in fit.1) in
     let inside : nat_le (f + length xs) (length locals) ≡ true = le-leb (f + length xs) (length locals) set.inside in
     after (scalars_run w xs at [] locals s small (has_front w.code.instrs at (scalars_code xs) (i.SetLocal f (length xs) ∷ rest) has))
     (after (sets_by w (i.SetLocal f (length xs)) at1 [] xs locals s f xs has1.0 refl (ap (λ (t : Bool). if t then Sets f xs else Halts) inside))
-    (lowest_runs w lay ks xs (at1 + 1) to lo hi (with_scalars locals f xs) (with_local store k xs) s rows fits.1 small has1.1 (omega arith) set.holds))
+    (lowest_runs w lay ks xs (at1 + 1) to lo hi (with_scalars locals f xs) (with_local store k xs) s rows (All-tail (LocalFits lay (length xs)) k ks fits) small has1.1 (omega arith) set.holds))
 
 lowest : (ks : List ℕ) (xs : List ℤ) → ActionActs (set_lowest ks xs)
 lowest ks xs w v st bodies inside n from stands names fits has =

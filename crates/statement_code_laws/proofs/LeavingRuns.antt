@@ -22,22 +22,22 @@ use Rattle.code_laws.specs.Follows.{HasAt, scalars_in as scalars_held, Around, h
 use Rattle.code_laws.specs.Calls.{BodiesWithin}
 use Rattle.code_laws.specs.InRange.{FitsReceived}
 use Rattle.code_laws.specs.OwnBounds.{received_within}
-use Rattle.code_laws.specs.Expressions.{NamesIn, calls_at}
+use Rattle.code_laws.specs.Expressions.{NamesIn}
 use Rattle.code_laws.proofs.Running.{has_front, has_back, stays, gets_then, after, follows_then, comes}
 use Rattle.code_laws.proofs.Holding.{IsSet, result_set}
 use Rattle.code_laws.proofs.Instructions.{sets_by, jumps_by, renamed}
 use Rattle.code_laws.proofs.Sizes.{received_length}
 use Rattle.code_laws.proofs.ExprRuns.{received_runs}
-use Rattle.statement_code_laws.specs.Parts.{Stands}
+use Rattle.statement_code_laws.specs.Statements.{StandsAs, calls_from}
 use Rattle.statement_code_laws.specs.StatementsInRange.{FitsResult}
 use Rattle.statement_code_laws.specs.Actions.{ActionActs, LeavingLaw}
-use Rattle.statement_code_laws.proofs.PlainRuns.{plain_acts, leaving_acts}
+use Rattle.statement_code_laws.proofs.PlainRuns.{plain_acts, leaving_acts, open_here}
 
 -- a value that something takes, and an instruction that takes it
 pub received_then : (w : Around) (v : Setting) (st : Standing) (bodies : Bodies) (inside : BodiesWithin) (r : ReceivedTree) (instrs : List Instr) (at lo hi to : ℕ) (next : List ℤ → Meaning (Unit {0})) (base locals : List ℤ) (store : Store) (s : Session)
-    → Stands w v st bodies inside → NamesIn w lo hi → FitsReceived (layout st.site) r → lo ≤ at → at + received_size r ≤ hi
+    → StandsAs w v st bodies inside → NamesIn w lo hi → FitsReceived (layout st.site) r → lo ≤ at → at + received_size r ≤ hi
     → HasAt w.code.instrs at (received_code (layout st.site) st.free r at ++ instrs)
-    → received_within v (calls_at inside w) r store s ≡ true → Holds w store locals
+    → received_within v (calls_from inside w v.open_now) r store s ≡ true → Holds w store locals
     → ((xs : List ℤ) (store1 : Store) (s1 : Session) (locals1 : List ℤ) → length xs ≡ received_count r → HasAt w.code.instrs (at + received_size r) instrs → Holds w store1 locals1 → Does w (here w (at + received_size r) (base ++ xs) locals1 s1) lo hi [] to (next xs store1 s1))
     → Does w (here w at base locals s) lo hi [] to (then_do (received_mean v r store s) next)
 received_then w v st bodies inside r instrs at lo hi to next base locals store s stands names fits low high has within h rest =
@@ -45,7 +45,7 @@ received_then w v st bodies inside r instrs at lo hi to next base locals store s
     let first : List Instr = received_code lay st.free r at in
     let has1 = has_back w.code.instrs at (at + received_size r) first instrs (ap (λ (j : ℕ). at + j) (received_length lay st.free r at fits)) has in
     follows_then
-    (received_runs w v lay bodies inside lo hi st.free r at (at + received_size r) base locals store s stands.suited names stands.free fits refl low high (has_front w.code.instrs at first instrs has) within h)
+    (received_runs w v lay bodies inside lo hi st.free r at (at + received_size r) base locals store s stands.suited names stands.free fits refl low high (has_front w.code.instrs at first instrs has) (open_here w v inside (λ c. received_within v c r store s) stands.suited.open_now within) h)
     (λ xs store1 s1 locals1 q. rest xs store1 s1 locals1 q.0 has1 q.1)
 
 same_scalars : (rows : List LocalRowTree) → scalars_in rows ≡ scalars_held rows
@@ -54,9 +54,9 @@ same_scalars (row ∷ rows) = ap (λ (n : ℕ). row.count + n) (same_scalars row
 
 -- the result is set
 result_runs : (w : Around) (v : Setting) (st : Standing) (bodies : Bodies) (inside : BodiesWithin) (r : ReceivedTree) (at to lo hi : ℕ) (locals : List ℤ) (store : Store) (s : Session)
-    → Stands w v st bodies inside → NamesIn w lo hi → FitsResult st.site r → at + set_result_size r ≡ to → lo ≤ at → to ≤ hi
+    → StandsAs w v st bodies inside → NamesIn w lo hi → FitsResult st.site r → at + set_result_size r ≡ to → lo ≤ at → to ≤ hi
     → HasAt w.code.instrs at (set_result_code st r at)
-    → received_within v (calls_at inside w) r store s ≡ true → Holds w store locals
+    → received_within v (calls_from inside w v.open_now) r store s ≡ true → Holds w store locals
     → Does w (here w at [] locals s) lo hi [] to (result_mean v r store s)
 result_runs w v st bodies inside r at to lo hi locals store s stands names fits len low high has within h =
     received_then w v st bodies inside r (i.SetLocal f n ∷ []) at lo hi to (λ xs store1 s1. Goes tt (with_result store1 xs) s1) [] locals store s stands names fits.0 low (omega arith) has within h by_value
@@ -135,7 +135,7 @@ exited k w v st bodies inside n from stands names fits has =
       by = record {
         locals = locals;
         holds = h;
-        by = gets_then (jumps_by w (i.Jump to) from [] [] locals s to has.0 refl refl) (renamed w to (w.exits k) [] [] locals s (sym (stands.exits k)) refl);
+        by = gets_then (jumps_by w (i.Jump to) from [] [] locals s to has.0 refl refl) (renamed w to (w.exits k) [] [] locals s (sym (stands.exits k fits)) refl);
       };
     })
 

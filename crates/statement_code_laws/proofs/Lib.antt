@@ -1,4 +1,9 @@
 pub mod ConditionRuns
 pub mod PlainRuns
 pub mod AssignRuns
+pub mod Lengths
 pub mod LeavingRuns
+pub mod DeclarationRuns
+pub mod CallingRuns
+pub mod RequestRuns
+pub mod Joining

@@ -30,9 +30,9 @@ use Rattle.code_scheme.specs.ExprCode.{expr_code, condition_code}
 use Rattle.code_scheme.specs.StatementSite.{Standing, layout}
 use Rattle.code_scheme.specs.StatementPlain.{taken_by}
 use Rattle.code_laws.specs.Follows.{HasAt, Around, here, state_at, Holds, GetsTo, own_call, Follows, always, no_stack, HoldsWith, Nothing, Does}
-use Rattle.code_laws.specs.Calls.{BodiesWithin}
+use Rattle.code_laws.specs.Calls.{BodiesWithin, open_in}
 use Rattle.code_laws.specs.InRange.{FitsExpr}
-use Rattle.code_laws.specs.OwnBounds.{expr_within}
+use Rattle.code_laws.specs.OwnBounds.{CallsWithin, expr_within}
 use Rattle.code_laws.specs.Expressions.{NamesIn, calls_at}
 use Rattle.code_laws.proofs.Running.{has_front, has_back, stays, one_more, after, follows_then, makes, comes, raises, stops}
 use Rattle.code_laws.proofs.Requesting.{fits_alike, none_takes, done_by}
@@ -40,28 +40,34 @@ use Rattle.code_laws.proofs.Instructions.{sole}
 use Rattle.code_laws.proofs.Sizes.{expr_length}
 use Rattle.code_laws.proofs.BetweenRuns.{pop_run, routine_runs}
 use Rattle.code_laws.proofs.ExprRuns.{expr_runs}
-use Rattle.statement_code_laws.specs.Parts.{WithinBounds, Stands, Acts}
+use Rattle.statement_code_laws.specs.StatementBounds.{Along}
+use Rattle.statement_code_laws.specs.Statements.{StandsAs, calls_from}
+use Rattle.statement_code_laws.specs.Parts.{Acts}
 use Rattle.statement_code_laws.specs.Actions.{ActionActs, PlainLaw}
 use Rattle.statement_code_laws.proofs.ConditionRuns.{condition_length, condition_runs}
 
 -- a part without rows, behind which control may come
-pub plain_acts : {w : Around} {from until : ℕ} {within : WithinBounds} {mean : Meaning (Unit {0})}
+pub plain_acts : {w : Around} {from until : ℕ} {within : Along} {mean : Meaning (Unit {0})}
     → ((store : Store) (s : Session) (locals : List ℤ) → within store s ≡ true → Holds w store locals → Does w (here w from [] locals s) from until [] until (mean store s))
     → Acts w from until [] until true within mean
 plain_acts f = record { lie = tt; comes = λ store store1 s s1 e. refl; follows = λ covered store s locals within h. f store s locals within h }
 
 -- one behind which it never comes
-pub leaving_acts : {w : Around} {from until : ℕ} {within : WithinBounds} {mean : Meaning (Unit {0})}
+pub leaving_acts : {w : Around} {from until : ℕ} {within : Along} {mean : Meaning (Unit {0})}
     → ((store store1 : Store) (s s1 : Session) → mean store s ≡ Goes tt store1 s1 → ⊥)
     → ((store : Store) (s : Session) (locals : List ℤ) → within store s ≡ true → Holds w store locals → Does w (here w from [] locals s) from until [] until (mean store s))
     → Acts w from until [] until false within mean
 leaving_acts never f = record { lie = tt; comes = λ store store1 s s1 e. absurd (never store store1 s s1 e); follows = λ covered store s locals within h. f store s locals within h }
 
+-- what keeps within where these regions are open keeps within here
+pub open_here : (w : Around) (v : Setting) (inside : BodiesWithin) (along : CallsWithin → Bool) → v.open_now ≡ open_in w.regions → along (calls_from inside w v.open_now) ≡ true → along (calls_at inside w) ≡ true
+open_here w v inside along is within = subst (λ (now : List ℕ). along (calls_from inside w now) ≡ true) is within
+
 -- an expression, and an instruction that takes its value
 pub taken_runs : (w : Around) (v : Setting) (st : Standing) (bodies : Bodies) (inside : BodiesWithin) (e : ExprTree) (instr : Instr) (from until : ℕ) (next : List ℤ → Meaning (Unit {0})) (locals : List ℤ) (store : Store) (s : Session)
-    → Stands w v st bodies inside → from + (expr_size e + 1) ≡ until → NamesIn w from until → FitsExpr (layout st.site) e
+    → StandsAs w v st bodies inside → from + (expr_size e + 1) ≡ until → NamesIn w from until → FitsExpr (layout st.site) e
     → HasAt w.code.instrs from (taken_by st e instr from)
-    → expr_within v (calls_at inside w) e store s ≡ true → Holds w store locals
+    → expr_within v (calls_from inside w v.open_now) e store s ≡ true → Holds w store locals
     → ((xs : List ℤ) (store1 : Store) (s1 : Session) (locals1 : List ℤ) → length xs ≡ count_of e → slice_get w.code.instrs (from + expr_size e) ≡ Some instr → Holds w store1 locals1 → Does w (here w (from + expr_size e) xs locals1 s1) from until [] until (next xs store1 s1))
     → Does w (here w from [] locals s) from until [] until (then_do (expr_mean v e store s) next)
 taken_runs w v st bodies inside e instr from until next locals store s stands len names fits has within h rest =
@@ -70,7 +76,7 @@ taken_runs w v st bodies inside e instr from until next locals store s stands le
     let first : List Instr = expr_code lay st.free e from in
     let has1 = has_back w.code.instrs from at first (instr ∷ []) (ap (λ (j : ℕ). from + j) (expr_length lay st.free e from fits)) has in
     follows_then
-    (expr_runs w v lay bodies inside from until st.free e from at [] locals store s stands.suited names stands.free fits refl (omega arith) (omega arith) (has_front w.code.instrs from first (instr ∷ []) has) within h)
+    (expr_runs w v lay bodies inside from until st.free e from at [] locals store s stands.suited names stands.free fits refl (omega arith) (omega arith) (has_front w.code.instrs from first (instr ∷ []) has) (open_here w v inside (λ c. expr_within v c e store s) stands.suited.open_now within) h)
     (λ xs store1 s1 locals1 q. rest xs store1 s1 locals1 q.0 has1.0 q.1)
 
 evaluated : (e : ExprTree) → ActionActs (evaluate e)
@@ -92,7 +98,7 @@ dropped r e w v st bodies inside n from stands names fits has =
     let has1 = has_back w.code.instrs from at first (routine_code r ++ pop) (ap (λ (j : ℕ). from + j) (expr_length lay st.free e from fits.0)) has in
     let has2 = has_back w.code.instrs at at1 (routine_code r) pop refl has1 in
     follows_then
-    (expr_runs w v lay bodies inside from until st.free e from at [] locals store s stands.suited names stands.free fits.0 refl (omega arith) (omega arith) (has_front w.code.instrs from first (routine_code r ++ pop) has) within h)
+    (expr_runs w v lay bodies inside from until st.free e from at [] locals store s stands.suited names stands.free fits.0 refl (omega arith) (omega arith) (has_front w.code.instrs from first (routine_code r ++ pop) has) (open_here w v inside (λ c. expr_within v c e store s) stands.suited.open_now within) h)
     (λ xs store1 s1 locals1 q.
     follows_then
     (routine_runs w r xs at at1 from until [] locals1 store1 s1 (q.0 ∙ fits.1) (has_front w.code.instrs at (routine_code r) pop has1) refl (omega arith) (omega arith) q.1)
@@ -135,7 +141,7 @@ asserted : (e : ExprTree) → ActionActs (assert_that e)
 asserted e w v st bodies inside n from stands names fits has =
     plain_acts (λ store s locals within h.
     follows_then
-    (condition_runs w v lay bodies inside from until st.free e true until from at [] locals store s stands.suited names stands.free fits.0 fits.1 refl (omega arith) (omega arith) (has_front w.code.instrs from first (i.Raise 3 ∷ []) has) within h)
+    (condition_runs w v lay bodies inside from until st.free e true until from at [] locals store s stands.suited names stands.free fits.0 fits.1 refl (omega arith) (omega arith) (has_front w.code.instrs from first (i.Raise 3 ∷ []) has) (open_here w v inside (λ c. expr_within v c e store s) stands.suited.open_now within) h)
     (λ xs store1 s1 locals1 q. by_truth store1 s1 locals1 q.1 (is_true xs)))
   where
     lay : Layout

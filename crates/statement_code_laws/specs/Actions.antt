@@ -1,5 +1,5 @@
 -- The laws of actions that hold no statements, in the one form.
-use Rattle.std.specs.Prelude.{◌≡◌, ℕ, ◌+◌, List, ℤ, Option}
+use Rattle.std.specs.Prelude.{◌≡◌, ℕ, ◌+◌, List, ℤ, length, Option}
 use Rattle.modes.specs.declared.mode.Bounds.{Bounds}
 use Rattle.checked_program.specs.declared.expr.Base.{Base}
 use Rattle.checked_program.specs.declared.expr.Binary.{Binary}
@@ -16,17 +16,18 @@ use Rattle.code_scheme.specs.StatementCode.{action_code}
 use Rattle.code_scheme.specs.StatementRows.{action_rows}
 use Rattle.code_laws.specs.Follows.{HasAt, Around}
 use Rattle.code_laws.specs.Calls.{BodiesWithin}
-use Rattle.code_laws.specs.Expressions.{NamesIn, calls_at}
-use Rattle.statement_code_laws.specs.Parts.{Stands, Acts}
+use Rattle.code_laws.specs.Expressions.{NamesIn}
+use Rattle.statement_code_laws.specs.Parts.{Acts}
+use Rattle.statement_code_laws.specs.Statements.{StandsAs, calls_from}
 use Rattle.statement_code_laws.specs.StatementsInRange.{FitsAction}
-use Rattle.statement_code_laws.specs.StatementsWithin.{action_within}
+use Rattle.statement_code_laws.specs.StatementBounds.{action_within}
 
 -- the code of an action acts as the action means, wherever it stands
 abbrev pub ActionActs : ActionTree → Type 0
 ActionActs a = (w : Around) (v : Setting) (st : Standing) (bodies : Bodies) (inside : BodiesWithin) (n from : ℕ)
-    → Stands w v st bodies inside → NamesIn w from (from + action_size st.site a) → FitsAction st.site a
+    → StandsAs w v st bodies inside → NamesIn w from (from + action_size st.site a) → FitsAction st.site (length st.exits) a
     → HasAt w.code.instrs from (action_code st a from)
-    → Acts w from (from + action_size st.site a) (action_rows st.site a from) (from + action_size st.site a) (action_goes_on a) (action_within v (calls_at inside w) n a) (action_mean v n a)
+    → Acts w from (from + action_size st.site a) (action_rows st.site a from) (from + action_size st.site a) (action_goes_on a) (action_within v (calls_from inside w) n a) (action_mean v n a)
 
 -- Assignments to a location.
 pub record AssignmentLaw : Type 0 where

@@ -1,5 +1,7 @@
-pub mod Parts
+pub mod StatementBounds
 pub mod StatementsInRange
-pub mod StatementsWithin
+pub mod Statements
+pub mod Parts
 pub mod Conditions
 pub mod Actions
+pub mod StatementForms

@@ -1,6 +1,6 @@
 // Laws of the code of statements. Each is a fact about the definitions, which a caller learns by calling the function.
 ghost use Rattle.statement_code_laws.specs.Conditions.{ConditionLaw};
-ghost use Rattle.statement_code_laws.specs.Actions.{AssignmentLaw, LeavingLaw, PlainLaw};
+ghost use Rattle.statement_code_laws.specs.Actions.{AssignmentLaw, CallingLaw, DeclarationLaw, LeavingLaw, PlainLaw, RequestingLaw};
 
 /// The instructions of a condition follow its meaning, and control goes where it has to.
 pub fn condition_law()
@@ -20,4 +20,19 @@ pub fn assignment_law()
 /// So do RESULT, RETURN and EXIT.
 pub fn leaving_law()
     ensures { LeavingLaw }
+{}
+
+/// So do declarations, with a value and without.
+pub fn declaration_law()
+    ensures { DeclarationLaw }
+{}
+
+/// So do calls and starts whose values are dropped.
+pub fn calling_law()
+    ensures { CallingLaw }
+{}
+
+/// So do DELAY, CONTINUE and SEND.
+pub fn requesting_law()
+    ensures { RequestingLaw }
 {}
