@@ -46,7 +46,7 @@ use Rattle.code_laws.proofs.ExprPieces.{assoc, there, tested_runs, place_runs, o
 use Rattle.code_laws.proofs.ExprRuns.{fields_fit, over_end, expr_runs, received_runs, indices_runs}
 
 -- the place of a target
-target_runs : (w : Around) (v : Setting) (lay : Layout) (bodies : Bodies) (inside : BodiesWithin) (lo hi free : ℕ) (b : Base) (ps : PartNodes) (n at : ℕ) (stack locals : List ℤ) (store : Store) (s : Session)
+pub target_runs : (w : Around) (v : Setting) (lay : Layout) (bodies : Bodies) (inside : BodiesWithin) (lo hi free : ℕ) (b : Base) (ps : PartNodes) (n at : ℕ) (stack locals : List ℤ) (store : Store) (s : Session)
     → Suited w v lay bodies inside → NamesIn w lo hi → free ≡ free_in w → (fits : FitsLocation lay (location b ps n))
     → lo ≤ at → at + place_size (location b ps n) ≤ hi
     → HasAt w.code.instrs at (place_code lay free (location b ps n) at)

@@ -7,3 +7,8 @@ pub mod DeclarationRuns
 pub mod CallingRuns
 pub mod RequestRuns
 pub mod Joining
+pub mod ChoiceRuns
+pub mod SelectRuns
+pub mod CaseRuns
+pub mod SetRuns
+pub mod DelayRuns
