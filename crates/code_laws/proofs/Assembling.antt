@@ -15,7 +15,7 @@ use Rattle.source_meaning.specs.Flow.{Flow, Goes, Raised, Exits, Returned, Stops
 use Rattle.source_meaning.specs.BodyMeaning.{Ending, Unknown, Bodies, body_mean}
 use Rattle.source_meaning.specs.Talk.{Talk, talk_at, talk, talk_in, no_talk, process_end, split_over, parameter_scalars}
 use Rattle.source_meaning.specs.Fitting.{has_instances}
-use Rattle.code_laws.specs.Follows.{GetsTo, AreFramesOf}
+use Rattle.follow_laws.specs.Follows.{GetsTo, AreFramesOf}
 use Rattle.code_laws.specs.Calls.{taken_scalars, in_frame_of, Returns, EnteredBelow, open_in, NestedWithin, IsRowOf, BodiesFollow, CarriesProcedure, CarriesProcess, Carries, CarriesAll, Tells, FitsBirth, TalksAs, HasTalkOf, IsEnough, LawOfAssembly}
 
 by_false : (b : Bool) (P Q : Type 0) → b ≡ false → MatchBool b P Q → Q

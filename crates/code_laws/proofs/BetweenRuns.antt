@@ -25,11 +25,11 @@ use Rattle.source_meaning.specs.Flow.{Flow, Goes, Raised, Meaning, then_do}
 use Rattle.source_meaning.specs.Operators.{sole_number, is_true, one, truth, Computed, Yields, Throws as ThrowsIt, yields_or, in_int, takes_second, prefix_value, member_at, routine_value}
 use Rattle.source_meaning.specs.ExprMeaning.{as_computed}
 use Rattle.code_scheme.specs.Pieces.{bounds_to_test, are_same, member_code, offset_code, member_or_none, between_code, between_size, prefix_code, routine_code}
-use Rattle.code_laws.specs.Follows.{HasAt, Around, state_at, here, Holds, GetsTo, Follows, always, HoldsWith, on_top, IsLong, action_in, run_by}
+use Rattle.follow_laws.specs.Follows.{HasAt, Around, state_at, here, Holds, GetsTo, Follows, always, HoldsWith, on_top, IsLong, action_in, run_by}
 use Rattle.code_laws.specs.InRange.{AreInts, AreMembers, OperandsFit}
 use Rattle.code_laws.specs.OwnBounds.{lies_in}
-use Rattle.code_laws.proofs.Running.{has_front, has_back, stays, gets_then, after, comes, makes, raises}
-use Rattle.code_laws.proofs.Instructions.{pushes_by, jumps_by, puts_on, renamed, as_action, YieldsSuch, computed_by, sole}
+use Rattle.follow_laws.proofs.Running.{has_front, has_back, stays, gets_then, after, comes, makes, raises}
+use Rattle.follow_laws.proofs.Instructions.{pushes_by, jumps_by, puts_on, renamed, as_action, YieldsSuch, computed_by, sole}
 use Rattle.code_laws.proofs.Values.{both_true, same_int}
 use Rattle.code_laws.proofs.OperatorRuns.{result_action, result_yields, truth_back, not_run, offset_in, held}
 

@@ -23,15 +23,15 @@ use Rattle.source_meaning.specs.ExprMeaning.{Setting, CopyOut, Passed, takens, t
 use Rattle.source_meaning.specs.Talk.{parameter_scalars}
 use Rattle.code_scheme.specs.Pieces.{Layout, bounds_to_test, tested_out, tested_back, check_code, first_of_parts, needs_offset, has_offset, offsets_kept, keep_code, kept_code, under_code, store_code, copy_out_code, copies_out, kept_behind}
 use Rattle.code_scheme.specs.ExprSizes.{copy_out_size, copies_out_size}
-use Rattle.code_laws.specs.Follows.{HasAt, FitRows, Around, free_in, scalars_in, keeping, here, Holds, GetsTo, Follows, always, HoldsWith, Nothing, on_top, IsLong}
+use Rattle.follow_laws.specs.Follows.{HasAt, FitRows, Around, free_in, scalars_in, keeping, here, Holds, GetsTo, Follows, always, HoldsWith, Nothing, on_top, IsLong}
 use Rattle.source_meaning.specs.BodyMeaning.{Bodies}
 use Rattle.code_laws.specs.Calls.{BodiesWithin, taken_scalars, passed_back, parameters_back}
 use Rattle.code_laws.specs.InRange.{BoundsFit, IsOffset, BaseFits, FitsArguments}
 use Rattle.code_laws.specs.OwnBounds.{lies_in, lies_where, copies_within}
 use Rattle.code_laws.specs.Expressions.{Suited, NamesIn}
-use Rattle.code_laws.proofs.Running.{has_front, has_back, gets_then, after, follows_then, comes, forgotten, forgetting}
-use Rattle.code_laws.proofs.Holding.{HasPart, IsSet, kept_read, scratch_set, scratch_read}
-use Rattle.code_laws.proofs.Instructions.{puts_on, sets_by, renamed}
+use Rattle.follow_laws.proofs.Running.{has_front, has_back, gets_then, after, follows_then, comes, forgotten, forgetting}
+use Rattle.follow_laws.proofs.Holding.{HasPart, IsSet, kept_read, scratch_set, scratch_read}
+use Rattle.follow_laws.proofs.Instructions.{puts_on, sets_by, renamed}
 use Rattle.code_laws.proofs.Sizes.{copy_out_length, store_length, where_length}
 use Rattle.code_laws.proofs.Values.{both_true}
 use Rattle.code_laws.proofs.PlaceRuns.{IsPlace, place_stack, store_runs}

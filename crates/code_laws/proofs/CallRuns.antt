@@ -25,11 +25,11 @@ use Rattle.source_meaning.specs.Flow.{Flow, Raised, Stops, Gone, Meaning, takes_
 use Rattle.source_meaning.specs.BodyMeaning.{Ending, Through, Out, Halted, Ended, Unknown, Bodies, listed_by, at_call, calls_in}
 use Rattle.source_meaning.specs.Talk.{parameter_scalars}
 use Rattle.source_meaning.specs.Fitting.{has_instances}
-use Rattle.code_laws.specs.Follows.{Around, frame_at, state_at, here, Holds, GetsTo, IsFrameOf, AreFramesOf, own_call, StopsOpen, HasGone, always, HoldsWith, Follows, run_by}
+use Rattle.follow_laws.specs.Follows.{Around, frame_at, state_at, here, Holds, GetsTo, IsFrameOf, AreFramesOf, own_call, StopsOpen, HasGone, always, HoldsWith, Follows, run_by}
 use Rattle.code_laws.specs.Calls.{taken_scalars, results_back, in_frame_of, back_in, GoesOut, EndsFitting, Returns, EnteredBelow, open_in, BodiesWithin, IsRowOf, BodiesFollow, within_behind, call_within, CallLaw}
-use Rattle.code_laws.proofs.Running.{stays, is_there, one_more, gets_then, after, makes, comes, raises, stops, own_frame, on_top_of, below_of}
-use Rattle.code_laws.proofs.Requesting.{Untaken, fits_alike}
-use Rattle.code_laws.proofs.LoopRuns.{tick_follows}
+use Rattle.follow_laws.proofs.Running.{stays, is_there, one_more, gets_then, after, makes, comes, raises, stops, own_frame, on_top_of, below_of}
+use Rattle.follow_laws.proofs.Requesting.{Untaken, fits_alike}
+use Rattle.follow_laws.proofs.LoopRuns.{tick_follows}
 
 -- a frame below others is the first one of them, seen from the outermost
 pub frames_below : (front : List Frame) (f : Frame) (calls : List OpenCall) (c : OpenCall) → AreFramesOf (reverse front) calls → IsFrameOf f c → AreFramesOf (reverse (front ++ f ∷ [])) (c ∷ calls)

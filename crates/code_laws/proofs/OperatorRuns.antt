@@ -29,13 +29,13 @@ use Rattle.source_meaning.specs.Flow.{Flow, Goes, Meaning, then_do}
 use Rattle.source_meaning.specs.Operators.{sole_number, is_true, one, truth, Computed, Yields, Throws as ThrowsIt, yields_or, in_int, is_member, binary_value, takes_second, prefix_value, member_at, routine_value}
 use Rattle.source_meaning.specs.ExprMeaning.{as_computed}
 use Rattle.code_scheme.specs.Pieces.{bounds_to_test, are_same, member_code, offset_code, member_or_none, between_code, between_size, swap_code, properly_code, behind_code, behind_size, prefix_code, routine_code}
-use Rattle.code_laws.specs.Follows.{HasAt, Around, here, Holds, GetsTo, Follows, always, HoldsWith, on_top, IsLong, action_in}
+use Rattle.follow_laws.specs.Follows.{HasAt, Around, here, Holds, GetsTo, Follows, always, HoldsWith, on_top, IsLong, action_in}
 use Rattle.code_laws.specs.InRange.{AreInts, AreMembers, OperandsFit}
 use Rattle.code_laws.specs.OwnBounds.{lies_in}
-use Rattle.code_laws.proofs.Running.{has_front, has_back, stays, gets_then, after, comes, makes, raises}
-use Rattle.code_laws.proofs.Holding.{middle}
-use Rattle.code_laws.proofs.Requesting.{Untaken}
-use Rattle.code_laws.proofs.Instructions.{pushes_by, jumps_by, puts_on, renamed, as_action, YieldsSuch, computed_by, sole}
+use Rattle.follow_laws.proofs.Running.{has_front, has_back, stays, gets_then, after, comes, makes, raises}
+use Rattle.follow_laws.proofs.Holding.{middle}
+use Rattle.follow_laws.proofs.Requesting.{Untaken}
+use Rattle.follow_laws.proofs.Instructions.{pushes_by, jumps_by, puts_on, renamed, as_action, YieldsSuch, computed_by, sole}
 use Rattle.code_laws.proofs.Values.{both_true, same_int}
 
 -- ---- results

@@ -10,7 +10,7 @@ use Rattle.source_meaning.specs.BodyMeaning.{Bodies, calls_in}
 use Rattle.code_scheme.specs.Pieces.{Layout}
 use Rattle.code_scheme.specs.ExprSizes.{expr_size}
 use Rattle.code_scheme.specs.ExprCode.{expr_code}
-use Rattle.code_laws.specs.Follows.{HasAt, Around, free_in, here, Holds, on_top, IsLong, Gives}
+use Rattle.follow_laws.specs.Follows.{HasAt, Around, free_in, here, Holds, on_top, IsLong, Gives}
 use Rattle.code_laws.specs.Calls.{EnteredBelow, open_in, BodiesWithin, BodiesFollow, call_within}
 use Rattle.code_laws.specs.InRange.{FitsExpr}
 use Rattle.code_laws.specs.OwnBounds.{CallsWithin, expr_within}
