@@ -1,5 +1,26 @@
 -- The law of assembly: bodies that do what they mean make a code that has the program's talk.
-USES
+use Rattle.std.specs.Prelude.{◌≡◌, ℕ, suc, ◌≤◌, ◌↔◌, true, List, [], ◌∷◌, ℤ, length, reverse, Some, slice_get, MatchBool}
+use Rattle.kernel_base.specs.declared.answer.Answer.{Answer}
+use Rattle.kernel_base.specs.declared.event.Event.{Event}
+use Rattle.kernel_base.specs.declared.facts.Facts.{Facts}
+use Rattle.world_model.specs.Session.{Session, session_of}
+use Rattle.world_model.specs.Journal.{line_of, answers_of, Birth, born_of}
+use Rattle.program_trees.specs.ProgramTree.{BodyRowTree, CheckedTree}
+use Rattle.code_types.specs.declared.code.BodyRow.{BodyRow}
+use Rattle.code_types.specs.declared.code.Code.{Code}
+use Rattle.code_types.specs.State.{Frame, OpenRegion, State}
+use Rattle.code_types.specs.Steps.{Run, At, Over, steps}
+use Rattle.code_types.specs.Talk.{start_of}
+use Rattle.code_types.specs.Runs.{ticks_in, IsCodeRun}
+use Rattle.source_meaning.specs.Store.{Store, Taken}
+use Rattle.source_meaning.specs.Flow.{Flow, Stops, Gone, Bound}
+use Rattle.source_meaning.specs.BodyMeaning.{body_mean}
+use Rattle.source_meaning.specs.Talk.{talk, process_end, parameter_scalars}
+use Rattle.source_meaning.specs.Fitting.{has_instances}
+use Rattle.source_meaning.specs.Runs.{IsSourceRun}
+use Rattle.follow_laws.specs.Follows.{AreFramesOf, StopsOpen, HasGone}
+use Rattle.code_laws.specs.BodyBounds.{bodies_within, talk_within}
+use Rattle.code_laws.specs.Calls.{taken_scalars, in_frame_of, Returns, EnteredBelow, open_in, FitTaken, IsRowOf, BodiesFollow}
 
 -- what a process's end says of the machine
 abbrev pub Tells : Code → ℕ → Run → Flow (Unit {0}) → Type 0

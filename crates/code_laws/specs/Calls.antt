@@ -1,11 +1,7 @@
 -- What it is that the instructions of bodies follow their meaning on every caller.
-use Rattle.std.specs.Prelude.{◌≡◌, ℕ, zero, suc, ◌+◌, ◌<◌, ◌≤◌, ◌↔◌, Bool, true, false, List, [], ◌∷◌, ◌++◌, ℤ, pos, length, reverse, map, Option, Some, None, slice_get, nat_lt, if◌then◌else◌, MatchBool}
+use Rattle.std.specs.Prelude.{◌≡◌, ℕ, suc, ◌+◌, ◌<◌, ◌≤◌, true, false, List, [], ◌∷◌, ◌++◌, ℤ, length, map, Option, Some, None, slice_get}
 use Rattle.kernel_base.specs.declared.ends.Exc.{Exc}
-use Rattle.kernel_base.specs.declared.answer.Answer.{Answer}
-use Rattle.kernel_base.specs.declared.event.Event.{Event}
-use Rattle.kernel_base.specs.declared.facts.Facts.{Facts}
-use Rattle.world_model.specs.Session.{Item, Session, session_of, Ticked, GoesOn, Last, tick}
-use Rattle.world_model.specs.Journal.{line_of, answers_of, Birth, born_of}
+use Rattle.world_model.specs.Session.{Session}
 use Rattle.modes.specs.ModeTree.{ModeTree}
 use Rattle.modes.specs.Scalars.{scalars_of, lowest_of}
 use Rattle.checked_program.specs.declared.program.Parameter.{Parameter}
@@ -16,19 +12,15 @@ use Rattle.code_types.specs.declared.instr.Instr.TheVariants as i
 use Rattle.code_types.specs.declared.code.BodyRow.{BodyRow}
 use Rattle.code_types.specs.declared.code.Code.{Code}
 use Rattle.code_types.specs.declared.code.Handler.{Handler}
-use Rattle.code_types.specs.Actions.{most_frames}
-use Rattle.code_types.specs.Places.{taker}
-use Rattle.code_types.specs.State.{Frame, OpenRegion, State, Mode, Running, Raising}
-use Rattle.code_types.specs.Steps.{Run, At, Over, new_frame, moved, steps}
-use Rattle.code_types.specs.Talk.{start_of}
-use Rattle.code_types.specs.Runs.{ticks_in, IsCodeRun}
-use Rattle.source_meaning.specs.Store.{Store, OpenCall, Taken, brings, lowest}
-use Rattle.source_meaning.specs.Flow.{Flow, Goes, Stops, Gone, Bound}
-use Rattle.source_meaning.specs.BodyMeaning.{Ending, Through, Out, Halted, Ended, Unknown, Bodies, calls_in, body_mean}
-use Rattle.source_meaning.specs.Talk.{talk, process_end, split_over, parameter_scalars}
+use Rattle.code_types.specs.Places.{taker, names_exception}
+use Rattle.code_types.specs.State.{Frame, OpenRegion, Mode, Running, Raising}
+use Rattle.code_types.specs.Steps.{Run, At, new_frame, moved}
+use Rattle.source_meaning.specs.Store.{Store, Taken, brings, lowest, begins_with}
+use Rattle.source_meaning.specs.BodyMeaning.{Ending, Through, Out, Halted, Ended, Unknown, Bodies, calls_in}
+use Rattle.source_meaning.specs.Talk.{parameter_scalars}
 use Rattle.source_meaning.specs.Fitting.{has_instances}
-use Rattle.source_meaning.specs.Runs.{IsSourceRun}
-use Rattle.follow_laws.specs.Follows.{Around, here, FitRows, Holds, GetsTo, IsFrameOf, AreFramesOf, StopsOpen, HasGone, always, HoldsWith, Follows}
+use Rattle.follow_laws.specs.Follows.{Around, here, FitRows, Holds, GetsTo, IsFrameOf, StopsOpen, HasGone, always, HoldsWith, Follows}
+use Rattle.code_laws.specs.BodyBounds.{BodiesWithin, called_within}
 
 -- ---- what a call takes and gives back
 
@@ -63,12 +55,15 @@ in_frame_of instance b row xs below regions s = At (record { instance = instance
 abbrev pub back_in : ℕ → List ℤ → Frame → List Frame → List OpenRegion → Session → Run
 back_in instance results caller below regions s = At (record { instance = instance; frames = moved caller (caller.place + 1) (caller.stack ++ results) ∷ below; regions = regions; mode = Running }) s
 
--- an exception that no handler of the body takes is on its way out of its frame, which holds the store
-pub record GoesOut (code : Code) (instance b : ℕ) (x : Exc) (below : List Frame) (regions : List OpenRegion) (store : Store) (s : Session) (m : Run) : Type 0 where
+-- An exception that no handler of the body takes is on its way out of its frame, which holds the store. Where the caller gets it
+-- the regions are open that were open before; where it ends the process that of the body may be open besides.
+pub record GoesOut (code : Code) (instance b : ℕ) (listed : List ℕ) (x : Exc) (below : List Frame) (regions : List OpenRegion) (store : Store) (s : Session) (m : Run) : Type 0 where
   pub frame : Frame
   pub shows : IsFrameOf frame (record { body = b; store = store })
   pub untaken : taker code.handlers frame.place x ≡ None
-  pub by : GetsTo code m (At (record { instance = instance; frames = frame ∷ below; regions = regions; mode = Raising x }) s)
+  pub still_open : List OpenRegion
+  pub same : names_exception listed x ≡ true → still_open ≡ regions
+  pub by : GetsTo code m (At (record { instance = instance; frames = frame ∷ below; regions = still_open; mode = Raising x }) s)
 
 -- how many scalars a result has; none without RETURNS
 abbrev pub result_scalars : Option ModeTree → ℕ
@@ -83,7 +78,7 @@ pub record EndsFitting (b : BodyRowTree) (store : Store) : Type 0 where
 -- what a body's end says of the machine, on a caller
 abbrev pub Returns : Code → ℕ → ℕ → BodyRowTree → Frame → List Frame → List OpenRegion → Run → Ending → Type 0
 Returns code instance b body caller below regions m (Through store s) = EndsFitting body store × GetsTo code m (back_in instance (results_back body store) caller below regions s)
-Returns code instance b body caller below regions m (Out x store s) = GoesOut code instance b x (caller ∷ below) regions store s m
+Returns code instance b body caller below regions m (Out x store s) = GoesOut code instance b body.listed x (caller ∷ below) regions store s m
 Returns code instance b body caller below regions m (Halted t inner store) = StopsOpen code (caller ∷ below) m t (record { body = b; store = store } ∷ inner)
 Returns code instance b body caller below regions m (Ended t) = HasGone code m t
 Returns code instance b body caller below regions m Unknown = Unit {0}

@@ -1,7 +1,9 @@
 // Laws of compiled code. Each is a fact about the definitions, which a caller learns by calling the function.
 ghost use Rattle.code_laws.specs.Operators.{PrefixLaw, RoutineLaw};
 ghost use Rattle.code_laws.specs.Expressions.{ExprLaw};
-ghost use Rattle.code_laws.specs.Calls.{CallLaw, LawOfAssembly, SameRunsLaw};
+ghost use Rattle.code_laws.specs.Calls.{CallLaw};
+ghost use Rattle.code_laws.specs.Assembly.{LawOfAssembly, SameRunsLaw};
+ghost use Rattle.code_laws.specs.Talk.{TalkJoined};
 
 /// Operators of one operand.
 pub fn prefix_law()
@@ -31,4 +33,9 @@ pub fn law_of_assembly()
 /// Of journals in which a code has the program's talk, its runs are the program's.
 pub fn same_runs_law()
     ensures { SameRunsLaw }
+{}
+
+/// The code of a program has its talk, where its bodies do what they mean and each value lies in its own bounds.
+pub fn talk_joined()
+    ensures { TalkJoined }
 {}
