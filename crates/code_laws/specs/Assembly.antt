@@ -55,11 +55,12 @@ pub record CarriesAll (p : CheckedTree) (code : Code) (instance : ℕ) : Type 0 
   pub count : length code.bodies ≡ length p.bodies
   pub body : (b : ℕ) (body : BodyRowTree) → slice_get p.bodies b ≡ Some body → (row : BodyRow) × (slice_get code.bodies b ≡ Some row) × IsRowOf body row × Carries p code instance b body row
 
--- a process with as many arguments as its parameters have scalars
+-- a process, whose parameters are its first locals, with as many arguments as these have scalars
 pub record FitsBirth (p : CheckedTree) (b : ℕ) (xs : List ℤ) : Type 0 where
   pub body : BodyRowTree
   pub is_body : slice_get p.bodies b ≡ Some body
   pub process : has_instances body.sort ≡ true
+  pub few : length body.parameters ≤ length body.locals
   pub counted : parameter_scalars body.locals body.parameters ≡ length xs
 
 -- the code's trace is that of the text, and where it stops its frames hold the stores of the open calls
