@@ -10,3 +10,4 @@ pub mod ExprPieces
 pub mod ReceiveRuns
 pub mod ExprRuns
 pub mod CallPieces
+pub mod Births

@@ -7,9 +7,9 @@ use Rattle.program_trees.specs.StatementTree.{SentTree, to_buffer, signal, Contr
 use Rattle.program_trees.specs.ProgramTree.{LocalRowTree, BodyRowTree, CheckedTree}
 use Rattle.code_scheme.specs.Pieces.{Layout}
 use Rattle.code_scheme.specs.StatementSite.{Site, layout, result_scalars}
-use Rattle.code_scheme.specs.StatementPlain.{entered_by}
+use Rattle.code_scheme.specs.StatementPlain.{dropped_scalars}
 use Rattle.code_laws.specs.Calls.{result_scalars as scalars_of_mode}
-use Rattle.code_laws.specs.InRange.{IsOffset, BaseFits, OperandsFit, FitsExpr, FitsReceived, FitsAll, FitsLocation, FitsStart, FitsCall}
+use Rattle.code_laws.specs.InRange.{IsNumber32, BaseFits, OperandsFit, FitsExpr, FitsReceived, FitsAll, FitsLocation, FitsStart, FitsCall}
 
 -- a local of so many scalars
 abbrev pub LocalFits : Layout → ℕ → ℕ → Type 0
@@ -91,12 +91,12 @@ abbrev mutual
   pub FitsAction : Site → ℕ → ActionTree → Type 0
   FitsAction site n do_nothing = Unit {0}
   FitsAction site n (declare names r) = FitsReceived (layout site) r × All (λ b. BaseFits (layout site) b (received_count r)) names
-  FitsAction site n (set_lowest locals xs) = All (LocalFits (layout site) (length xs)) locals
+  FitsAction site n (set_lowest locals xs) = All (LocalFits (layout site) (length xs)) locals × IsNumber32 (length xs)
   FitsAction site n (module_at ss) = ⊥
   FitsAction site n (region_at r ss) = ⊥
   FitsAction site n (assign l r) = FitsLocation (layout site) l × FitsReceived (layout site) r × (received_count r ≡ location_count l)
   FitsAction site n (update l o e bounds) = FitsLocation (layout site) l × FitsExpr (layout site) e × OperandsFit o (location_count l) (count_of e) × (location_count l ≡ 1)
-  FitsAction site n (perform t) = (m : ℕ) × FitsCall (layout site) t m
+  FitsAction site n (perform t) = FitsCall (layout site) t (dropped_scalars site t)
   FitsAction site n (drop_routine r e) = FitsNumber (layout site) e
   FitsAction site n (evaluate e) = FitsExpr (layout site) e
   FitsAction site n (put_int e) = FitsNumber (layout site) e
@@ -109,7 +109,7 @@ abbrev mutual
   FitsAction site n (cause x) = IsException site.program x
   FitsAction site n stop = Unit {0}
   FitsAction site n (start_of t) = FitsStart (layout site) t
-  FitsAction site n (delay e priority) = Unit {0}
+  FitsAction site n (delay e priority) = IsNumber32 e
   FitsAction site n (continue_at e) = Unit {0}
   FitsAction site n (send sent priority) = FitsSent (layout site) sent
   FitsAction site n (if_then cs ss) = FitsChoices site n cs × FitsStatements site n ss
@@ -130,11 +130,11 @@ abbrev mutual
 
   pub FitsDelays : Site → ℕ → DelayNodes → Type 0
   FitsDelays site n no_delays = Unit {0}
-  FitsDelays site n (more_delays es ss ds) = FitsStatements site n ss × FitsDelays site n ds
+  FitsDelays site n (more_delays es ss ds) = All IsNumber32 es × FitsStatements site n ss × FitsDelays site n ds
 
   pub FitsReceives : Site → ℕ → ReceiveNodes → Type 0
   FitsReceives site n no_receives = Unit {0}
-  FitsReceives site n (more_receives source ks ss rs) = FollowEachOther (layout site) ks × FitsStatements site n ss × FitsReceives site n rs
+  FitsReceives site n (more_receives source ks ss rs) = IsNumber32 source × FollowEachOther (layout site) ks × FitsStatements site n ss × FitsReceives site n rs
 
 -- ---- bodies
 
