@@ -35,13 +35,13 @@ use Rattle.source_meaning.specs.ExprMeaning.{Setting, or_rangefail, tested, aske
 use Rattle.code_scheme.specs.Pieces.{Layout, bounds_to_test, bounds_of_value, check_code, member_code, has_index, first_of_parts, needs_offset}
 use Rattle.code_scheme.specs.ExprSizes.{indices_size, place_size}
 use Rattle.code_scheme.specs.ExprCode.{cut_code, receive_code, place_code, indices_code}
-use Rattle.code_laws.specs.Follows.{HasAt, Around, free_in, keeping, here, Holds, GetsTo, ComesBy, Follows, always, HoldsWith, Nothing, on_top, IsLong, action_in}
+use Rattle.follow_laws.specs.Follows.{HasAt, Around, free_in, keeping, here, Holds, GetsTo, ComesBy, Follows, always, HoldsWith, Nothing, on_top, IsLong, action_in}
 use Rattle.code_laws.specs.InRange.{AreInts, AreMembers, OperandsFit, BoundsFit, IsOffset, IsNumber32}
 use Rattle.code_laws.specs.OwnBounds.{where_goes, lies_in, CallsWithin, expr_within}
-use Rattle.code_laws.proofs.Running.{has_front, has_back, gets_then, after, follows_then, comes, makes, forgotten}
-use Rattle.code_laws.proofs.Requesting.{asks_by, none_takes}
-use Rattle.code_laws.proofs.Holding.{HasPart, IsSet, scratch_set, scratch_read}
-use Rattle.code_laws.proofs.Instructions.{pushes_by, puts_on, renamed, check_by, offset_is, number_is, sole}
+use Rattle.follow_laws.proofs.Running.{has_front, has_back, gets_then, after, follows_then, comes, makes, forgotten}
+use Rattle.follow_laws.proofs.Requesting.{asks_by, none_takes}
+use Rattle.follow_laws.proofs.Holding.{HasPart, IsSet, scratch_set, scratch_read}
+use Rattle.follow_laws.proofs.Instructions.{pushes_by, puts_on, renamed, check_by, offset_is, number_is, sole}
 use Rattle.code_laws.proofs.Values.{both_true}
 use Rattle.code_laws.proofs.BetweenRuns.{untested, tested_is, pop_run, plus_run}
 use Rattle.code_laws.proofs.PlaceRuns.{IsPlace, place_stack, fields_mean, offset_stack, stays_first, index_first, needs_when, LeadsTo, as_place}

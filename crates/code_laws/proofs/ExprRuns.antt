@@ -28,14 +28,15 @@ use Rattle.source_meaning.specs.Fitting.{has_instances}
 use Rattle.code_scheme.specs.Pieces.{Layout, scalars_code, copies_code, check_code, bounds_to_test, bounds_of_value, between_code, between_size, behind_code, behind_size, prefix_code, routine_code, member_code, has_index, first_of_parts, needs_offset, contents_code, contents_at, pushes, tested_in, offsets_kept, keep_code, kept_code, copies_out, kept_behind, lowest_in_row, rows_of}
 use Rattle.code_scheme.specs.ExprSizes.{sum_size, expr_size, operation_size, place_size, indices_size, received_size, received_sizes, members_size, start_size, copies_out_size, arguments_size}
 use Rattle.code_scheme.specs.ExprCode.{counts_of, sum_code, cut_code, member_offset, expr_code, operation_code, place_code, indices_code, received_code, received_codes, members_code, start_code, arguments_code}
-use Rattle.code_laws.specs.Follows.{HasAt, Around, scalars_in, free_in, keeping, here, Holds, GetsTo, Follows, always, HoldsWith, on_top, IsLong, Gives}
-use Rattle.code_laws.specs.Calls.{taken_scalars, parameters_back, results_back, result_scalars, open_in, BodiesWithin}
+use Rattle.follow_laws.specs.Follows.{HasAt, Around, scalars_in, free_in, keeping, here, Holds, GetsTo, Follows, always, HoldsWith, on_top, IsLong, Gives}
+use Rattle.code_laws.specs.BodyBounds.{BodiesWithin}
+use Rattle.code_laws.specs.Calls.{taken_scalars, parameters_back, results_back, result_scalars, open_in}
 use Rattle.code_laws.specs.InRange.{IsOffset, AreMembers, OperandsFit, FitsExpr, FitsOperation, FitsReceived, FitsAll, FitsParts, FitsRanges, FitsLocation, FitsStart, FitsArguments}
 use Rattle.code_laws.specs.OwnBounds.{CallsWithin, where_goes, copies_within, arguments_within, expr_within, operation_within, received_within, all_within, parts_within, members_within, start_within}
 use Rattle.code_laws.specs.Expressions.{Suited, NamesIn, calls_at, ExprLaw}
-use Rattle.code_laws.proofs.Running.{has_front, has_back, gets_then, after, follows_then, follows_then_is, comes, forgetting}
-use Rattle.code_laws.proofs.Requesting.{none_takes, value_by}
-use Rattle.code_laws.proofs.Instructions.{pushes_by, puts_on, renamed, offset_on, index_by, sole}
+use Rattle.follow_laws.proofs.Running.{has_front, has_back, gets_then, after, follows_then, follows_then_is, comes, forgetting}
+use Rattle.follow_laws.proofs.Requesting.{none_takes, value_by}
+use Rattle.follow_laws.proofs.Instructions.{pushes_by, puts_on, renamed, offset_on, index_by, sole}
 use Rattle.code_laws.proofs.Sizes.{copies_from_length, between_length, expr_length, received_length, all_length, place_length, indices_length, arguments_length, AreFrom, all_from, first_from, others_from, place_by, where_length, pushes_length, contents_length}
 use Rattle.code_laws.proofs.Values.{both_true, IsWithin, offset_found, repeated_length, copies_of, scalars_run, pushes_run}
 use Rattle.code_laws.proofs.OperatorRuns.{held, behind_runs}
@@ -44,7 +45,7 @@ use Rattle.code_laws.proofs.PlaceRuns.{IsPlace, place_stack, contents_runs, offs
 use Rattle.code_laws.proofs.ExprPieces.{reshaped, assoc, there, value_lies, tested_runs, cut_runs, small_int, IndicesFollow, place_runs, width_one, span_one, over_one}
 use Rattle.code_laws.proofs.ReceiveRuns.{receive_runs}
 use Rattle.code_laws.proofs.CallRuns.{call_runs}
-use Rattle.code_laws.proofs.CallPieces.{PassedFit, kept_offset, kept_of, takens_long, keep_none, keep_runs, found_runs, after_unit, as_lies, copies_runs, kept_suited, kept_free, kept_more, kept_end, forgetting_holds}
+use Rattle.code_laws.proofs.CallPieces.{PassedFit, kept_offset, kept_of, takens_fit, keep_none, keep_runs, found_runs, after_unit, as_lies, copies_runs, kept_suited, kept_free, kept_more, kept_end, forgetting_holds}
 
 -- fields alone lead inside
 pub fields_fit : (lay : Layout) (ps : PartNodes) (of n : ℕ) → FitsParts lay of ps n → first_of_parts ps + n ≤ of ⊎ (has_index ps ≡ true)
@@ -120,7 +121,7 @@ call_runs_on w v lay bodies inside lo hi free b body as' qs at to stack locals s
     subst (λ (o : Flow Store). Gives w (here w at (stack ++ taken_scalars body.locals (takens qs)) locals s) lo hi to (on_top stack) (IsLong (result_scalars body.result)) (then_do o (λ final store1 s1. then_do (all_copied_out qs final.locals store1 s1) (λ x. Goes final.result)))) (sym calls_is)
     (forgetting_holds w (kept_of as' qs)
     (follows_then_is
-    (call_runs w1 lay.program bodies inside b body (takens qs) at lo hi [] stack locals store s suited.follow is_body procedure suited.entered (takens_long lay as' body.parameters body.locals qs fits passed) has low (omega arith) (none_takes at) h both.0)
+    (call_runs w1 lay.program bodies inside b body (takens qs) at lo hi [] stack locals store s suited.follow is_body procedure suited.entered (takens_fit lay as' body.parameters body.locals qs fits passed) has low (omega arith) (none_takes at) h both.0)
     (λ final store1 s1 locals1 q is.
     after (renamed w1 (at + 1) (at + 1) (stack ++ results_back body final) ((stack ++ final.result) ++ parameters_back body.parameters final.locals) locals1 s1 refl (sym (append_assoc stack final.result (parameters_back body.parameters final.locals))))
     (follows_then

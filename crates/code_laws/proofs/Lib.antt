@@ -1,10 +1,3 @@
-pub mod Running
-pub mod Stores
-pub mod Holding
-pub mod Requesting
-pub mod Instructions
-pub mod LoopRuns
-pub mod HandledRuns
 pub mod CallRuns
 pub mod Assembling
 pub mod SameRuns
@@ -16,5 +9,5 @@ pub mod PlaceRuns
 pub mod ExprPieces
 pub mod ReceiveRuns
 pub mod ExprRuns
-pub mod Gathered
 pub mod CallPieces
+pub mod Births

@@ -29,13 +29,13 @@ use Rattle.source_meaning.specs.Flow.{Flow, Goes, Meaning, then_do}
 use Rattle.source_meaning.specs.Operators.{sole_number, is_true, one, truth, Computed, Yields, Throws as ThrowsIt, yields_or, in_int, is_member, binary_value, takes_second, prefix_value, member_at, routine_value}
 use Rattle.source_meaning.specs.ExprMeaning.{as_computed}
 use Rattle.code_scheme.specs.Pieces.{bounds_to_test, are_same, member_code, offset_code, member_or_none, between_code, between_size, swap_code, properly_code, behind_code, behind_size, prefix_code, routine_code}
-use Rattle.code_laws.specs.Follows.{HasAt, Around, here, Holds, GetsTo, Follows, always, HoldsWith, on_top, IsLong, action_in}
+use Rattle.follow_laws.specs.Follows.{is_of_language, HasAt, Around, here, Holds, GetsTo, Follows, always, HoldsWith, on_top, IsLong, action_in}
 use Rattle.code_laws.specs.InRange.{AreInts, AreMembers, OperandsFit}
 use Rattle.code_laws.specs.OwnBounds.{lies_in}
-use Rattle.code_laws.proofs.Running.{has_front, has_back, stays, gets_then, after, comes, makes, raises}
-use Rattle.code_laws.proofs.Holding.{middle}
-use Rattle.code_laws.proofs.Requesting.{Untaken}
-use Rattle.code_laws.proofs.Instructions.{pushes_by, jumps_by, puts_on, renamed, as_action, YieldsSuch, computed_by, sole}
+use Rattle.follow_laws.proofs.Running.{has_front, has_back, stays, gets_then, after, comes, makes, raises}
+use Rattle.follow_laws.proofs.Holding.{middle}
+use Rattle.follow_laws.proofs.Requesting.{Untaken}
+use Rattle.follow_laws.proofs.Instructions.{pushes_by, jumps_by, puts_on, renamed, as_action, YieldsSuch, computed_by, sole}
 use Rattle.code_laws.proofs.Values.{both_true, same_int}
 
 -- ---- results
@@ -44,9 +44,9 @@ pub result_action : (x : Exc) (o : Option ℤ) → result_or x o ≡ as_action (
 result_action x None = refl
 result_action x (Some z) = refl
 
-pub result_yields : (x : Exc) (o : Option ℤ) → YieldsSuch (IsLong 1) (yields_or x o)
-result_yields x None = tt
-result_yields x (Some z) = refl
+pub result_yields : (x : Exc) → is_of_language x ≡ true → (o : Option ℤ) → YieldsSuch (IsLong 1) (yields_or x o)
+result_yields x own None = own
+result_yields x own (Some z) = refl
 
 pub truth_back : (b : Bool) → truth_of (truth_number b) ≡ b
 truth_back true = refl
@@ -225,12 +225,12 @@ pub behind_runs : (w : Around) (o : Binary) (n : ℕ) (xs ys : List ℤ) (at to 
     → length xs ≡ n → OperandsFit o n (length ys) → HasAt w.code.instrs at (behind_code o n)
     → at + behind_size o ≡ to → lo ≤ at → to ≤ hi → Holds w store locals
     → Follows w (here w at ((base ++ held o xs) ++ ys) locals s) lo hi [] (always to) (on_top base) (HoldsWith w (IsLong 1)) (as_computed (binary_value o xs ys) store s)
-behind_runs w Add n xs ys at to lo hi base locals store s long fits has e low high h = simple w i.Add Add xs ys at to lo hi base locals store s refl (λ x y stack. result_action Overflow (int_result (x +ℤ y))) (λ x y. result_yields Overflow (int_result (x +ℤ y))) (long ∙ fits.0) fits.1 has.0 e low (omega arith) h
-behind_runs w Subtract n xs ys at to lo hi base locals store s long fits has e low high h = simple w i.Sub Subtract xs ys at to lo hi base locals store s refl (λ x y stack. result_action Overflow (int_result (x -ℤ y))) (λ x y. result_yields Overflow (int_result (x -ℤ y))) (long ∙ fits.0) fits.1 has.0 e low (omega arith) h
-behind_runs w Multiply n xs ys at to lo hi base locals store s long fits has e low high h = simple w i.Mul Multiply xs ys at to lo hi base locals store s refl (λ x y stack. result_action Overflow (int_result (x *ℤ y))) (λ x y. result_yields Overflow (int_result (x *ℤ y))) (long ∙ fits.0) fits.1 has.0 e low (omega arith) h
-behind_runs w Divide n xs ys at to lo hi base locals store s long fits has e low high h = simple w i.Div Divide xs ys at to lo hi base locals store s refl (λ x y stack. result_action Overflow (quotient x y)) (λ x y. result_yields Overflow (quotient x y)) (long ∙ fits.0) fits.1 has.0 e low (omega arith) h
-behind_runs w Modulo n xs ys at to lo hi base locals store s long fits has e low high h = simple w i.Mod Modulo xs ys at to lo hi base locals store s refl (λ x y stack. result_action Overflow (modulus x y)) (λ x y. result_yields Overflow (modulus x y)) (long ∙ fits.0) fits.1 has.0 e low (omega arith) h
-behind_runs w Remainder n xs ys at to lo hi base locals store s long fits has e low high h = simple w i.Rem Remainder xs ys at to lo hi base locals store s refl (λ x y stack. result_action Overflow (remainder x y)) (λ x y. result_yields Overflow (remainder x y)) (long ∙ fits.0) fits.1 has.0 e low (omega arith) h
+behind_runs w Add n xs ys at to lo hi base locals store s long fits has e low high h = simple w i.Add Add xs ys at to lo hi base locals store s refl (λ x y stack. result_action Overflow (int_result (x +ℤ y))) (λ x y. result_yields Overflow refl (int_result (x +ℤ y))) (long ∙ fits.0) fits.1 has.0 e low (omega arith) h
+behind_runs w Subtract n xs ys at to lo hi base locals store s long fits has e low high h = simple w i.Sub Subtract xs ys at to lo hi base locals store s refl (λ x y stack. result_action Overflow (int_result (x -ℤ y))) (λ x y. result_yields Overflow refl (int_result (x -ℤ y))) (long ∙ fits.0) fits.1 has.0 e low (omega arith) h
+behind_runs w Multiply n xs ys at to lo hi base locals store s long fits has e low high h = simple w i.Mul Multiply xs ys at to lo hi base locals store s refl (λ x y stack. result_action Overflow (int_result (x *ℤ y))) (λ x y. result_yields Overflow refl (int_result (x *ℤ y))) (long ∙ fits.0) fits.1 has.0 e low (omega arith) h
+behind_runs w Divide n xs ys at to lo hi base locals store s long fits has e low high h = simple w i.Div Divide xs ys at to lo hi base locals store s refl (λ x y stack. result_action Overflow (quotient x y)) (λ x y. result_yields Overflow refl (quotient x y)) (long ∙ fits.0) fits.1 has.0 e low (omega arith) h
+behind_runs w Modulo n xs ys at to lo hi base locals store s long fits has e low high h = simple w i.Mod Modulo xs ys at to lo hi base locals store s refl (λ x y stack. result_action Overflow (modulus x y)) (λ x y. result_yields Overflow refl (modulus x y)) (long ∙ fits.0) fits.1 has.0 e low (omega arith) h
+behind_runs w Remainder n xs ys at to lo hi base locals store s long fits has e low high h = simple w i.Rem Remainder xs ys at to lo hi base locals store s refl (λ x y stack. result_action Overflow (remainder x y)) (λ x y. result_yields Overflow refl (remainder x y)) (long ∙ fits.0) fits.1 has.0 e low (omega arith) h
 behind_runs w And n xs ys at to lo hi base locals store s long fits has e low high h = simple w i.And And xs ys at to lo hi base locals store s refl (λ x y stack. refl) (λ x y. refl) (long ∙ fits.0) fits.1 has.0 e low (omega arith) h
 behind_runs w Or n xs ys at to lo hi base locals store s long fits has e low high h = simple w i.Or Or xs ys at to lo hi base locals store s refl (λ x y stack. refl) (λ x y. refl) (long ∙ fits.0) fits.1 has.0 e low (omega arith) h
 behind_runs w Xor n xs ys at to lo hi base locals store s long fits has e low high h = simple w i.Xor Xor xs ys at to lo hi base locals store s refl (λ x y stack. refl) (λ x y. refl) (long ∙ fits.0) fits.1 has.0 e low (omega arith) h

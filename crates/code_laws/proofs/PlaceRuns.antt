@@ -12,11 +12,11 @@ use Rattle.source_meaning.specs.Flow.{Flow, Goes, Meaning}
 use Rattle.source_meaning.specs.Operators.{one}
 use Rattle.source_meaning.specs.ExprMeaning.{Setting, read_at, assign_at, offset_mean}
 use Rattle.code_scheme.specs.Pieces.{Layout, has_index, first_of_parts, needs_offset, first_in, first_at, contents_at, store_at}
-use Rattle.code_laws.specs.Follows.{HasAt, Around, here, Holds, GetsTo, Follows, always, HoldsWith, Nothing, on_top, IsLong}
+use Rattle.follow_laws.specs.Follows.{HasAt, Around, here, Holds, GetsTo, Follows, always, HoldsWith, Nothing, on_top, IsLong}
 use Rattle.code_laws.specs.InRange.{BaseFits, IsOffset, FitsParts}
-use Rattle.code_laws.proofs.Running.{after, gets_then}
-use Rattle.code_laws.proofs.Requesting.{Untaken, none_takes}
-use Rattle.code_laws.proofs.Instructions.{renamed, local_by, local_at_by, shared_by, set_by, set_at_by, write_by}
+use Rattle.follow_laws.proofs.Running.{after, gets_then}
+use Rattle.follow_laws.proofs.Requesting.{Untaken, none_takes}
+use Rattle.follow_laws.proofs.Instructions.{renamed, local_by, local_at_by, shared_by, set_by, set_at_by, write_by}
 
 -- the first scalar of a part, among so many: its fields lead to one from which its indices go on, and its own have room
 pub record IsPlace (ps : PartNodes) (of n k : ℕ) : Type 0 where

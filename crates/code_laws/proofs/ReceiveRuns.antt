@@ -19,12 +19,12 @@ use Rattle.source_meaning.specs.Flow.{Flow, Goes, takes_answer}
 use Rattle.source_meaning.specs.Operators.{one}
 use Rattle.source_meaning.specs.ExprMeaning.{brought_by, asked_value}
 use Rattle.code_scheme.specs.ExprCode.{receive_code}
-use Rattle.code_laws.specs.Follows.{HasAt, Around, free_in, keeping, frame_at, state_at, here, Holds, GetsTo, Follows, always, HoldsWith, on_top, IsLong, action_in}
+use Rattle.follow_laws.specs.Follows.{HasAt, Around, free_in, keeping, frame_at, state_at, here, Holds, GetsTo, Follows, always, HoldsWith, on_top, IsLong, action_in}
 use Rattle.code_laws.specs.InRange.{IsNumber32}
-use Rattle.code_laws.proofs.Running.{gets_then, after, comes, forgotten}
-use Rattle.code_laws.proofs.Requesting.{IsNoFailure, asks_by, none_takes}
-use Rattle.code_laws.proofs.Holding.{HasPart, IsSet, scratch_set, scratch_read}
-use Rattle.code_laws.proofs.Instructions.{puts_on, renamed, offset_is}
+use Rattle.follow_laws.proofs.Running.{gets_then, after, comes, forgotten}
+use Rattle.follow_laws.proofs.Requesting.{IsNoFailure, asks_by, none_takes}
+use Rattle.follow_laws.proofs.Holding.{HasPart, IsSet, scratch_set, scratch_read}
+use Rattle.follow_laws.proofs.Instructions.{puts_on, renamed, offset_is}
 use Rattle.code_laws.proofs.Values.{both_true}
 use Rattle.code_laws.proofs.BetweenRuns.{pop_run}
 

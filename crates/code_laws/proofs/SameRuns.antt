@@ -12,7 +12,7 @@ use Rattle.code_types.specs.Runs.{Begins, FollowsCode, IsCodeRun, ticks_in}
 use Rattle.code_types.proofs.ManySteps.{one_talk}
 use Rattle.source_meaning.specs.Talk.{talk}
 use Rattle.source_meaning.specs.Runs.{talk_in_journal, FollowsText, IsSourceRun}
-use Rattle.code_laws.specs.Calls.{TalksAs, TalksInJournal, SameRunsLaw}
+use Rattle.code_laws.specs.Assembly.{TalksAs, TalksInJournal, SameRunsLaw}
 
 pub code_talks : (p : CheckedTree) (code : Code) (instance process : ℕ) (xs : List ℤ) (answers : List Answer) (n : ℕ) → TalksAs p code instance process xs answers n → CodeTalk code instance process xs answers n (talk p instance process xs answers n).trace
 code_talks p code instance process xs answers n t =

@@ -10,10 +10,10 @@ use Rattle.code_types.specs.declared.instr.Instr.{Instr}
 use Rattle.code_types.specs.declared.instr.Instr.TheVariants as i
 use Rattle.source_meaning.specs.Operators.{one, offset_within}
 use Rattle.code_scheme.specs.Pieces.{pushes, copies_from, copies_code, run_code, are_same, scalars_from, scalars_code}
-use Rattle.code_laws.specs.Follows.{HasAt, Around, here, GetsTo}
+use Rattle.follow_laws.specs.Follows.{HasAt, Around, here, GetsTo}
 use Rattle.code_laws.specs.InRange.{AreInts}
-use Rattle.code_laws.proofs.Running.{has_front, has_back, stays, gets_then}
-use Rattle.code_laws.proofs.Instructions.{pushes_by, puts_on, renamed}
+use Rattle.follow_laws.proofs.Running.{has_front, has_back, stays, gets_then}
+use Rattle.follow_laws.proofs.Instructions.{pushes_by, puts_on, renamed}
 
 -- ---- tests
 

@@ -1,7 +1,12 @@
-pub mod Follows
-pub mod Statements
+pub mod Operators
+pub mod OwnBounds
+pub mod StatementBounds
+pub mod BodyBounds
 pub mod Calls
 pub mod InRange
-pub mod OwnBounds
+pub mod StatementsInRange
+pub mod Counters
 pub mod Expressions
-pub mod Laws
+pub mod Statements
+pub mod Assembly
+pub mod Talk
