@@ -194,7 +194,7 @@ none_run w b x at base locals s has =
         (renamed w (p + 1 + 1) (at + 12) (base ++ one (b.low +ℤ pos 32)) (base ++ one (member_or_far b x)) locals s (omega arith) (ap (λ (k : ℤ). base ++ one k) e)))
     lands_by false e h = renamed w (at + 12) (at + 12) (base ++ one x) (base ++ one (member_or_far b x)) locals s refl (ap (λ (k : ℤ). base ++ one k) e)
 
-both_yes : (a b : Bool) → a ≡ true → b ≡ true → (a && b) ≡ true
+pub both_yes : (a b : Bool) → a ≡ true → b ≡ true → (a && b) ≡ true
 both_yes a b e f = ap (λ (t : Bool). t && b) e ∙ f
 
 natural_is : (z : ℤ) → int_le (pos 0) z ≡ true → pos (natural_of z) ≡ z
@@ -331,10 +331,10 @@ filter_below : (f : ℕ → Bool) (ks : List ℕ) (n : ℕ) → AreBelow n ks �
 filter_below f [] n h = tt
 filter_below f (k ∷ ks) n h = keep_below (f k) k n (filter f ks) h.0 (filter_below f ks n h.1)
 
-members_below : (x : ℤ) → AreBelow 32 (members_of x)
+pub members_below : (x : ℤ) → AreBelow 32 (members_of x)
 members_below x = filter_below (has_member x) offsets 32 (up_below 0 32 32 (omega arith))
 
-first_below : (ks : List ℕ) (n k : ℕ) → AreBelow n ks → first_of_list ks ≡ Some k → k < n
+pub first_below : (ks : List ℕ) (n k : ℕ) → AreBelow n ks → first_of_list ks ≡ Some k → k < n
 first_below [] n k h e = absurd (let no : ⊥ = cc in no)
 first_below (j ∷ ks) n k h e = let same : j ≡ k = cc in subst (λ (m : ℕ). m < n) same h.0
 
@@ -360,7 +360,7 @@ plus_run w low z at base locals s inside has = by_zero (are_same low (pos 0)) re
         (renamed w (at + 1 + 1) (at + 2) (base ++ one (z +ℤ low)) (base ++ one (z +ℤ low)) locals s (omega arith) refl)))
 
 -- it may lie outside INT
-member_follows : (w : Around) (low : ℤ) (k at to lo hi : ℕ) (base locals : List ℤ) (store : Store) (s : Session)
+pub member_follows : (w : Around) (low : ℤ) (k at to lo hi : ℕ) (base locals : List ℤ) (store : Store) (s : Session)
     → k < 32 → HasAt w.code.instrs at (member_code low) → at + length (member_code low) ≡ to → lo ≤ at → to ≤ hi → Holds w store locals
     → Follows w (here w at (base ++ one (pos k)) locals s) lo hi [] (always to) (on_top base) (HoldsWith w (IsLong 1)) (as_computed (in_int (pos k +ℤ low)) store s)
 member_follows w low k at to lo hi base locals store s small has e l u h = by_zero (are_same low (pos 0)) refl has e

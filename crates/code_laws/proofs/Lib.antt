@@ -11,3 +11,13 @@ pub mod ReceiveRuns
 pub mod ExprRuns
 pub mod CallPieces
 pub mod Births
+pub mod LoopPieces
+pub mod PlainLoops
+pub mod MemberLoops
+pub mod StepValues
+pub mod StepRuns
+pub mod StepBounds
+pub mod StepLoops
+pub mod ControlRuns
+pub mod Staying
+pub mod StayingStatements

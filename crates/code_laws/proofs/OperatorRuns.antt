@@ -92,7 +92,7 @@ same_run w n at base xs ys locals s long long2 has =
     back : (xs ys : List ℤ) (n : ℕ) → length xs ≡ n → drop n (xs ++ ys) ≡ ys
     back xs ys n e = ap (λ (j : ℕ). drop j (xs ++ ys)) (sym e) ∙ drop-append_seam xs ys
 
-less_run : (w : Around) (n at : ℕ) (base xs ys locals : List ℤ) (s : Session)
+pub less_run : (w : Around) (n at : ℕ) (base xs ys locals : List ℤ) (s : Session)
     → length xs ≡ n → length ys ≡ n → slice_get w.code.instrs at ≡ Some (i.Less n)
     → GetsTo w.code (here w at (base ++ (xs ++ ys)) locals s) (here w (at + 1) (base ++ truth (comes_before xs ys)) locals s)
 less_run w n at base xs ys locals s long long2 has =

@@ -6,7 +6,9 @@ pub mod Calls
 pub mod InRange
 pub mod StatementsInRange
 pub mod Counters
+pub mod Leaving
 pub mod Expressions
 pub mod Statements
+pub mod Loops
 pub mod Assembly
 pub mod Talk

@@ -1,7 +1,8 @@
 -- Compiled code has the text's talk: the statement of the whole, and what it rests on.
-use Rattle.std.specs.Prelude.{◌≡◌, ℕ, ◌≤◌, true, List, ℤ, Some, slice_get}
+use Rattle.std.specs.Prelude.{◌≡◌, ℕ, ◌≤◌, true, List, ℤ, length, Some, slice_get, All}
 use Rattle.kernel_base.specs.declared.answer.Answer.{Answer}
 use Rattle.program_trees.specs.ProgramTree.{BodyRowTree, CheckedTree}
+use Rattle.program_trees.specs.StatementTree.{statement, set_lowest, StatementNodes, no_statements, more_statements}
 use Rattle.code_types.specs.Agreement.{Agrees}
 use Rattle.source_meaning.specs.Fitting.{IsFitting}
 use Rattle.source_meaning.specs.Typed.{IsTyped}
@@ -16,12 +17,24 @@ pub record KeepsCounters (b : BodyRowTree) : Type 0 where
   pub statements : statements_keep b.statements ≡ true
   pub handler : handler_keeps b.handler ≡ true
 
--- A program that may be compiled: what it says is what its modes say, its numbers are in range, and its loops alone set their
--- counters.
+-- The declarations without a value with which statements begin are of locals behind so many. A frame begins with their lowest values,
+-- so they have no code.
+abbrev pub DeclareBehind : ℕ → StatementNodes → Type 0
+DeclareBehind n no_statements = Unit {0}
+DeclareBehind n (more_statements (statement labelled (set_lowest locals xs) h) ss) = All (λ i. n ≤ i) locals × DeclareBehind n ss
+DeclareBehind n (more_statements s ss) = Unit {0}
+
+-- what is asked of each body besides
+pub record IsWellMade (b : BodyRowTree) : Type 0 where
+  pub counters : KeepsCounters b
+  pub declared : DeclareBehind (length b.parameters) b.statements
+
+-- A program that may be compiled: what it says is what its modes say, its numbers are in range, its loops alone set their counters,
+-- and its declarations name no parameters.
 pub record IsCompilable (p : CheckedTree) : Type 0 where
   pub typed : IsTyped p
   pub in_range : FitsProgram p
-  pub counters : (k : ℕ) (b : BodyRowTree) → slice_get p.bodies k ≡ Some b → KeepsCounters b
+  pub well_made : (k : ℕ) (b : BodyRowTree) → slice_get p.bodies k ≡ Some b → IsWellMade b
 
 -- The code of a program has its talk, with arguments and answers that fit, and where it stops its frames hold the stores of the open
 -- calls. As code that the guard takes it agrees.

@@ -2,6 +2,8 @@
 ghost use Rattle.code_laws.specs.Operators.{PrefixLaw, RoutineLaw};
 ghost use Rattle.code_laws.specs.Expressions.{ExprLaw};
 ghost use Rattle.code_laws.specs.Calls.{CallLaw};
+ghost use Rattle.code_laws.specs.Leaving.{LeavesLaw};
+ghost use Rattle.code_laws.specs.Loops.{LoopLaw};
 ghost use Rattle.code_laws.specs.Assembly.{LawOfAssembly, SameRunsLaw};
 ghost use Rattle.code_laws.specs.Talk.{TalkJoined};
 
@@ -23,6 +25,16 @@ pub fn expr_law()
 /// So does a call, once its arguments are on the stack.
 pub fn call_law()
     ensures { CallLaw }
+{}
+
+/// A part that names a local in no place where it is set leaves it as it is.
+pub fn leaves_law()
+    ensures { LeavesLaw }
+{}
+
+/// The instructions of a loop follow its meaning, where those of its condition and of its actions follow theirs.
+pub fn loop_law()
+    ensures { LoopLaw }
 {}
 
 /// A code whose bodies do what they mean has the program's talk.

@@ -37,35 +37,29 @@ TurnHolds w kept_of (Some c) store locals = Holds (keeping w (kept_of c)) store 
 abbrev pub TestFrom : {C : Type 0} → Around → LoopPlaces → (C → List ℤ) → Run → Flow (Option C) → Type 0
 TestFrom w l kept_of m o = Follows w m l.from l.until l.rows (turn_place l) no_stack (TurnHolds w kept_of) o
 
--- What holds before a test behind which so many turns are looked at, of what was kept for it, the store and the session.
+-- What holds where so many turns are looked at behind this one, of what is kept for the next test, the store and the session.
 abbrev pub Invariant : Type 0 → Type 1
 Invariant C = ℕ → C → Store → Session → Type 0
 
--- a test of which the invariant holds leads to a turn
-pub record LeadsToTurn {C : Type 0} (inv : Invariant C) (test : C → Meaning (Option C)) (n : ℕ) (c : C) (store : Store) (s : Session) : Type 0 where
-  pub before : C
-  pub store_before : Store
-  pub session_before : Session
-  pub holds : inv (suc n) before store_before session_before
-  pub leads : test before store_before session_before ≡ Goes (Some c) store s
-
--- The instructions of a loop, wherever they stand, follow its test and its turns where the invariant holds. A turn keeps it, and
--- what the loop keeps for its next test stands in scratch locals.
-pub record LoopFollows {C : Type 0} (w : Around) (l : LoopPlaces) (kept_of : C → List ℤ) (inv : Invariant C) (test : C → Meaning (Option C)) (body : Meaning (Unit {0})) : Type 0 where
+-- The instructions of a loop follow its test, where one thing holds, and its turns, where another holds. The first leads to the
+-- second, and a turn leads back to the first. What the loop keeps for its next test stands in scratch locals.
+pub record LoopFollows {C : Type 0} (w : Around) (l : LoopPlaces) (kept_of : C → List ℤ) (at_test at_turn : Invariant C) (test : C → Meaning (Option C)) (body : Meaning (Unit {0})) : Type 0 where
   -- from the place to which turns go back
-  pub tests : (n : ℕ) (c : C) (store : Store) (s : Session) (locals : List ℤ) → inv (suc n) c store s → Holds (keeping w (kept_of c)) store locals
+  pub tests : (n : ℕ) (c : C) (store : Store) (s : Session) (locals : List ℤ) → at_test (suc n) c store s → Holds (keeping w (kept_of c)) store locals
       → TestFrom w l kept_of (here w l.again [] locals s) (test c store s)
-  pub turns : (n : ℕ) (c : C) (store : Store) (s : Session) (locals : List ℤ) → LeadsToTurn inv test n c store s → Holds (keeping w (kept_of c)) store locals
+  pub leads : (n : ℕ) (c c1 : C) (store store1 : Store) (s s1 : Session) → at_test (suc n) c store s → test c store s ≡ Goes (Some c1) store1 s1 → at_turn n c1 store1 s1
+  pub turns : (n : ℕ) (c : C) (store : Store) (s : Session) (locals : List ℤ) → at_turn n c store s → Holds (keeping w (kept_of c)) store locals
       → Does (keeping w (kept_of c)) (here w l.turn [] locals s) l.from l.until l.rows l.back (body store s)
-  pub keeps : (n : ℕ) (c : C) (store store1 : Store) (s s1 s2 : Session) → LeadsToTurn inv test n c store s
-      → body store s ≡ Goes tt store1 s1 → tick s1 ≡ GoesOn s2 → inv n c store1 s2
+  pub keeps : (n : ℕ) (c : C) (store store1 : Store) (s s1 s2 : Session) → at_turn n c store s → body store s ≡ Goes tt store1 s1 → tick s1 ≡ GoesOn s2 → at_test n c store1 s2
   -- a turn that goes through comes to an Again
   pub back : (store store1 : Store) (s s1 : Session) → body store s ≡ Goes tt store1 s1 → slice_get w.code.instrs l.back ≡ Some (i.Again l.again)
 
--- The instructions of a loop follow its turns. The machine may come to the first test at another place than to the others.
-abbrev pub TurnsFollow : {C : Type 0} → Around → LoopPlaces → (C → List ℤ) → Invariant C → (C → Meaning (Option C)) → Meaning (Unit {0}) → Type 0
-TurnsFollow {C} w l kept_of inv test body = LoopFollows w l kept_of inv test body
-    → (n : ℕ) (m : Run) (c : C) (store : Store) (s : Session) → inv (suc n) c store s
+-- The instructions of a loop follow its turns. The machine may come to the first test at another place than to the others, where
+-- something else holds that leads to a turn as well.
+abbrev pub TurnsFollow : {C : Type 0} → Around → LoopPlaces → (C → List ℤ) → Invariant C → Invariant C → (C → Meaning (Option C)) → Meaning (Unit {0}) → Type 0
+TurnsFollow {C} w l kept_of at_test at_turn test body = LoopFollows w l kept_of at_test at_turn test body
+    → (n : ℕ) (m : Run) (c : C) (store : Store) (s : Session)
+    → ((c1 : C) (store1 : Store) (s1 : Session) → test c store s ≡ Goes (Some c1) store1 s1 → at_turn n c1 store1 s1)
     → TestFrom w l kept_of m (test c store s)
     → Does w m l.from l.until l.rows l.behind (turns (suc n) test body c store s)
 
@@ -77,8 +71,8 @@ abbrev pub where_decided : {C : Type 0} → Decided C → Invariant C
 where_decided holds n c store s = holds n c store s ≡ true
 
 abbrev pub TurnsLawOf : Type 0 → Type 0
-TurnsLawOf C = (w : Around) (l : LoopPlaces) (kept_of : C → List ℤ) (holds : Decided C) (test : C → Meaning (Option C)) (body : Meaning (Unit {0}))
-    → TurnsFollow w l kept_of (where_decided holds) test body
+TurnsLawOf C = (w : Around) (l : LoopPlaces) (kept_of : C → List ℤ) (at_test at_turn : Decided C) (test : C → Meaning (Option C)) (body : Meaning (Unit {0}))
+    → TurnsFollow w l kept_of (where_decided at_test) (where_decided at_turn) test body
 
 -- So it is of loops that keep nothing for the next test, of those over members, and of those that count.
 pub record TurnsLaw : Type 0 where
