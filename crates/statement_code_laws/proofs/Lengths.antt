@@ -167,10 +167,17 @@ order_length : (down : Bool) (a b : ℕ) → length (before_code down a b) ≡ 3
 order_length true a b = refl
 order_length false a b = refl
 
-next_length : (c : Steps) (behind : ℕ) → length (next_code c behind) ≡ 8
+pub next_length : (c : Steps) (behind : ℕ) → length (next_code c behind) ≡ 8
 next_length c behind =
     let rest : List Instr = i.Unless behind ∷ i.Local c.counter 1 ∷ by_step c.step ∷ forth c.down ∷ i.SetLocal c.counter 1 ∷ [] in
     omega (arith, order_length c.down c.counter c.end, length-append (before_code c.down c.counter c.end) rest)
+
+pub before_turns_length : (st : Standing) (c : ControlTree) (behind at : ℕ) → FitsControl (layout st.site) c → length (before_turns st c behind at) ≡ before_turns_size c
+before_turns_length st (while_true e) behind at fits = refl
+before_turns_length st for_ever behind at fits = refl
+before_turns_length st (for_members counter e low condition) behind at fits = both_long _ _ (expr_length (layout st.site) st.free e at fits.1.0) refl
+before_turns_length st (for_steps counter from step to down condition) behind at fits =
+    both_long _ _ (bounds_length st from step to at fits.1 fits.2 fits.3) (first_length (first_in (slice_get st.site.body.locals counter)) (constant_step step) down st.free behind (at + bounds_size from step to))
 
 pub control_length : (st : Standing) (c : ControlTree) (behind at : ℕ) → FitsControl (layout st.site) c → length (control_code st c behind at) ≡ control_size c
 control_length st (while_true e) behind at fits = omega (arith, condition_length (layout st.site) st.free e false behind (at + 0) fits.0)
