@@ -114,10 +114,11 @@ names_catch w from until lo next behind names own a b g1 g2 goes in1 in2 mean1 m
         → (t : Bool) → takes head place x ≡ t → (if takes head place x then Some head else taker own place x) ≡ Some row → (if t then in1 store s else in2 x store s) ≡ true
         → (row.height ≡ 0) × Does w (here w row.target [] locals s) lo behind (a ++ b) behind (if t then mean1 store s else mean2 x store s)
     taken covered place x row store s locals l u h true is e inside =
-        let same : head ≡ row = head_row (takes head place x) head row (taker own place x) is e in
-        (ap (λ (r : Handler). r.height) (sym same),
-        subst (λ (r : Handler). Does w (here w r.target [] locals s) lo behind (a ++ b) behind (mean1 store s)) same
-        (acts_in (embeds_left a b lo next next behind lo behind q.lie (omega arith) (omega arith) high) p covered store s locals inside h))
+        let same : head ≡ row = head_row (takes head place x) head row (taker own place x) is e in (
+          ap (λ (r : Handler). r.height) (sym same),
+          subst (λ (r : Handler). Does w (here w r.target [] locals s) lo behind (a ++ b) behind (mean1 store s)) same
+              (acts_in (embeds_left a b lo next next behind lo behind q.lie (omega arith) (omega arith) high) p covered store s locals inside h),
+        )
     taken covered place x row store s locals l u h false is e inside =
         let inner : Embeds b next behind (a ++ b) lo behind = embeds_right a b next behind lo next lo behind p.lie low (omega arith) (omega arith) in
         let r = q.takes (covered_inside inner covered) place x row store s locals l u (sym (behind_head (takes head place x) head (taker own place x) is) ∙ e) inside h in

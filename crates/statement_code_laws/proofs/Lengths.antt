@@ -139,10 +139,16 @@ limit_length c d at one_is size_same = by_one (is_one c.step) (is_one d.step) on
   where
     long : (e : Steps) (p : ℕ) → length (near_end_code e p ++ moved_end_code e) ≡ (rest_size e.step + 3) + ((2 + ((rest_size e.step + 2) + 1)) + (1 + (rest_size e.step + 2)))
     long e p =
-        omega (arith, length-append (near_end_code e p) (moved_end_code e), nearer_length e, nearest_length e, rest_length e.step,
-        length-append (nearer_code e) (i.Less 1 ∷ i.Unless (p + (2 * length (rest_code e.step) + 8)) ∷ (nearest_code e ++ i.SetLocal e.end 1 ∷ [])),
-        length-append (nearest_code e) (i.SetLocal e.end 1 ∷ []),
-        length-append (rest_code e.step) ((if e.down then i.Add else i.Sub) ∷ i.SetLocal e.end 1 ∷ []))
+        omega (
+          arith,
+          length-append (near_end_code e p) (moved_end_code e),
+          nearer_length e,
+          nearest_length e,
+          rest_length e.step,
+          length-append (nearer_code e) (i.Less 1 ∷ i.Unless (p + (2 * length (rest_code e.step) + 8)) ∷ (nearest_code e ++ i.SetLocal e.end 1 ∷ [])),
+          length-append (nearest_code e) (i.SetLocal e.end 1 ∷ []),
+          length-append (rest_code e.step) ((if e.down then i.Add else i.Sub) ∷ i.SetLocal e.end 1 ∷ []),
+        )
 
     by_one : (t u : Bool) → t ≡ u → length (if t then [] else near_end_code c at ++ moved_end_code c) ≡ length (if u then [] else near_end_code d 0 ++ moved_end_code d)
     by_one true true e = refl

@@ -532,10 +532,11 @@ reception_acts kind set rs o alternatives some w v st bodies inside n from behin
         let room : chosen_local + 2 ≤ w.row.locals = names (at2 + 1) (i.SetLocal chosen_local 2) (omega arith) (omega arith) has2.1.0 in
         let put : IsSet (keeping (keeping w ks) ls) store locals chosen_local ls = scratch_set (keeping w ks) store locals ls chosen_local h free_is room in
         let fit : nat_le (chosen_local + 2) (length locals) ≡ true = le-leb (chosen_local + 2) (length locals) put.inside in
-        let at_chosen : chosen_local ≡ scalars_in w.rows + (w.results + length (w.kept ++ ks)) = omega (arith, stands.free, long, length-append w.kept ks) in
-        (sets_by w (i.SetLocal chosen_local 2) (at2 + 1) [] ls locals s chosen_local ls has2.1.0 refl (ap (λ (u : Bool). if u then Sets chosen_local ls else Halts) fit),
-        put.holds,
-        kept_read (keeping (keeping w ks) ls) store (with_scalars locals chosen_local ls) (w.kept ++ ks) (one (pos x)) (one (pos y)) chosen_local 1 put.holds refl at_chosen refl)
+        let at_chosen : chosen_local ≡ scalars_in w.rows + (w.results + length (w.kept ++ ks)) = omega (arith, stands.free, long, length-append w.kept ks) in (
+          sets_by w (i.SetLocal chosen_local 2) (at2 + 1) [] ls locals s chosen_local ls has2.1.0 refl (ap (λ (u : Bool). if u then Sets chosen_local ls else Halts) fit),
+          put.holds,
+          kept_read (keeping (keeping w ks) ls) store (with_scalars locals chosen_local ls) (w.kept ++ ks) (one (pos x)) (one (pos y)) chosen_local 1 put.holds refl at_chosen refl,
+        )
 
     -- the alternative, whose number is kept
     chosen_follows : IsCovered w from behind rows → (ks : List ℤ) (k by : ℕ) (store : Store) (s : Session) (locals : List ℤ) → length ks ≡ set_kept set → k < count → along k store s ≡ true

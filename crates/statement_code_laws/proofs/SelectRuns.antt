@@ -108,13 +108,14 @@ pub alternative_acts : {X Y : Type 0} (w : Around) (v : Setting) (st : Standing)
     → (HasAt w.code.instrs (next_place from (size + suc (statements_size st.site ss)) (go_on ss) rest) others → Selects w kept number2 can2 (next_place from (size + suc (statements_size st.site ss)) (go_on ss) rest) behind rows behind g2 along2 mean2)
     → Selects w kept number can from behind (statements_rows st.site ss (from + size + 1) ++ rows) behind goes along mean
     × Embeds rows (next_place from (size + suc (statements_size st.site ss)) (go_on ss) rest) behind (statements_rows st.site ss (from + size + 1) ++ rows) from behind
-alternative_acts w v st bodies inside n kept from size rest behind ss others test holds rows g2 goes number number2 can can2 along mean along2 mean2 stands names fits first long end has leads up1 up2 decide more =
-    (select_acts w kept number number2 can can2 from at next behind behind (statements_rows st.site ss at) rows (go_on ss) g2 goes holds along mean (statements_within v (calls_from inside w) n ss) along2 (statements_mean v n ss) mean2
-    (omega arith) (omega arith) (omega arith)
-    (λ z s locals part. gets_then (leads z s locals part (has_front all from test (codes ++ others) has)) (gets_then (renamed w (from + length test) at0 (truth (holds z)) (truth (holds z)) locals s (omega arith) refl) (jump (holds z) locals s)))
-    up1 up2 decide
-    first_acts (more has_more),
-    embeds_right (statements_rows st.site ss at) rows next behind at next from behind first_acts.lie (omega arith) (omega arith) (omega arith))
+alternative_acts w v st bodies inside n kept from size rest behind ss others test holds rows g2 goes number number2 can can2 along mean along2 mean2 stands names fits first long end has leads up1 up2 decide more = (
+  select_acts w kept number number2 can can2 from at next behind behind (statements_rows st.site ss at) rows (go_on ss) g2 goes holds along mean (statements_within v (calls_from inside w) n ss) along2 (statements_mean v n ss) mean2
+      (omega arith) (omega arith) (omega arith)
+      (λ z s locals part. gets_then (leads z s locals part (has_front all from test (codes ++ others) has)) (gets_then (renamed w (from + length test) at0 (truth (holds z)) (truth (holds z)) locals s (omega arith) refl) (jump (holds z) locals s)))
+      up1 up2 decide
+      first_acts (more has_more),
+  embeds_right (statements_rows st.site ss at) rows next behind at next from behind first_acts.lie (omega arith) (omega arith) (omega arith),
+)
   where
     all : List Instr
     all = w.code.instrs
