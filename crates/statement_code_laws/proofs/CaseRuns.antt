@@ -45,7 +45,7 @@ use Rattle.statement_code_laws.specs.StatementsInRange.{FitsNumber, FitsOtherwis
 use Rattle.statement_code_laws.specs.Statements.{StandsAs, calls_from}
 use Rattle.statement_code_laws.specs.Parts.{LieIn, Acts}
 use Rattle.statement_code_laws.specs.Actions.{ActionActs}
-use Rattle.statement_code_laws.specs.StatementForms.{StatementsAct}
+use Rattle.statement_code_laws.specs.StatementForms.{StatementsAct, SomeAct}
 use Rattle.statement_code_laws.proofs.PlainRuns.{leaving_acts, open_here}
 use Rattle.statement_code_laws.proofs.Lengths.{labels_length}
 use Rattle.statement_code_laws.proofs.Joining.{lie_wider, Embeds, embeds_before, embedded, covered_inside}
@@ -184,14 +184,14 @@ no_cases_act w v st bodies inside n from behind last rest rest_rows goes along m
 
 pub more_cases_act : (labels : List Bounds) (ss : StatementNodes) (cs : CaseNodes) → StatementsAct ss → CasesAct cs → CasesAct (more_cases labels ss cs)
 more_cases_act labels ss cs first others w v st bodies inside n from behind last rest rest_rows goes along mean stands end names fits acts has =
-    alternative_acts w v st bodies inside n st.free from (labels_size labels) size behind ss (cases_code st cs behind last rest next) (labels_code st.free labels) (λ x. holds_one x labels)
+    (alternative_acts w v st bodies inside n st.free from (labels_size labels) size behind ss (cases_code st cs behind last rest next) (labels_code st.free labels) (λ x. holds_one x labels)
     (cases_rows st.site cs last rest_rows next) (goes || some_case_goes_on cs) (goes || (go_on ss || some_case_goes_on cs))
     (λ (x : ℤ). x) (λ (x : ℤ). x) any_number any_number (cases_within v (calls_from inside w) n (more_cases labels ss cs) along) (cases_mean v n (more_cases labels ss cs) mean) (cases_within v (calls_from inside w) n cs along) (cases_mean v n cs mean)
     stands names fits.0 first (labels_length st.free labels) end has
     (λ x s locals part has_test. labels_run w st.free x labels from [] locals s part has_test)
     (first_comes goes (go_on ss) (some_case_goes_on cs)) (others_come goes (go_on ss) (some_case_goes_on cs))
     (λ x c. by_labels x (holds_one x labels) refl)
-    (λ has_more. others w v st bodies inside n next behind last rest rest_rows goes along mean stands (omega arith) (names_inside w from behind next behind (omega arith) (omega arith) names) fits.1 acts has_more)
+    (λ has_more. others w v st bodies inside n next behind last rest rest_rows goes along mean stands (omega arith) (names_inside w from behind next behind (omega arith) (omega arith) names) fits.1 acts has_more)).0
   where
     size : ℕ
     size = cases_size st.site cs last
@@ -218,11 +218,6 @@ more_cases_act labels ss cs first others w v st bodies inside n from behind last
         inl (e, ap {B = Along} (λ (u : Bool) (store : Store) (s : Session). if u then within1 store s else within2 x store s) e, ap {B = Meaning (Unit {0})} (λ (u : Bool) (store : Store) (s : Session). if u then mean1 store s else mean2 x store s) e)
     by_labels x false e =
         inr (record { other = x; can = tt; fails = e; same = refl; inside = ap {B = Along} (λ (u : Bool) (store : Store) (s : Session). if u then within1 store s else within2 x store s) e; means = ap {B = Meaning (Unit {0})} (λ (u : Bool) (store : Store) (s : Session). if u then mean1 store s else mean2 x store s) e })
-
--- what is written as ELSE acts
-abbrev pub SomeAct : OtherwiseNode → Type 0
-SomeAct no_otherwise = Unit {0}
-SomeAct (otherwise ss) = StatementsAct ss
 
 -- RANGEFAIL where no label holds the selector
 no_label_acts : (w : Around) (at : ℕ) → HasAt w.code.instrs at (i.Raise 1 ∷ []) → Acts w at (at + 1) [] (at + 1) false nothing_within (Raised Rangefail)

@@ -112,12 +112,12 @@ no_delays_act w v st bodies inside n kept j from behind stands end names fits ha
 
 pub more_delays_act : (es : List ℕ) (ss : StatementNodes) (ds : DelayNodes) → StatementsAct ss → DelaysAct ds → DelaysAct (more_delays es ss ds)
 more_delays_act es ss ds first others w v st bodies inside n kept j from behind stands end names fits has =
-    alternative_acts w v st bodies inside n kept from 3 size behind ss (delays_code st kept (suc j) ds behind next) (is_chosen_code kept j) (is_number_of j)
+    (alternative_acts w v st bodies inside n kept from 3 size behind ss (delays_code st kept (suc j) ds behind next) (is_chosen_code kept j) (is_number_of j)
     (delays_rows st.site ds next) true true (number_from j) (number_from (suc j)) any_alternative any_alternative (delays_within v (calls_from inside w) n (more_delays es ss ds)) (delay_mean v n (more_delays es ss ds)) (delays_within v (calls_from inside w) n ds) (delay_mean v n ds)
     stands names fits.1 first refl end has
     (λ z s locals part has_test. chosen_run w kept j z from s locals part has_test)
     (λ e. refl) (λ e. refl) decide
-    (λ has_more. others w v st bodies inside n kept (suc j) next behind stands (omega arith) (names_inside w from behind next behind (omega arith) (omega arith) names) fits.2 has_more)
+    (λ has_more. others w v st bodies inside n kept (suc j) next behind stands (omega arith) (names_inside w from behind next behind (omega arith) (omega arith) names) fits.2 has_more)).0
   where
     size : ℕ
     size = delays_size st.site ds
@@ -176,10 +176,10 @@ pairs_is k (e ∷ es) zs as' small fits is =
     ∙ (ap (λ (o : Option ℕ). with_first (alternative_in (Some e) o) (pairs_of (pairs_pushed k es ++ zs))) (thing_is k small)
     ∙ ap (λ (o : Option (List Alternative)). with_first (Some (record { thing = e; number = k })) o) (pairs_is k es zs as' small (All-tail IsNumber32 e es fits) is))
 
-all_is : {site : Site} {m : ℕ} (k : ℕ) (ds : DelayNodes) → k + count_of_delays ds < 4294967296 → FitsDelays site m ds → pairs_of (all_pushed k ds) ≡ Some (delay_pairs k ds)
-all_is k no_delays small fits = refl
-all_is {site} {m} k (more_delays es ss ds) small fits =
-    pairs_is k es (all_pushed (suc k) ds) (delay_pairs (suc k) ds) (omega arith) fits.0 (all_is {site} {m} (suc k) ds (omega arith) fits.2)
+all_is : (site : Site) (m k : ℕ) (ds : DelayNodes) → k + count_of_delays ds < 4294967296 → FitsDelays site m ds → pairs_of (all_pushed k ds) ≡ Some (delay_pairs k ds)
+all_is site m k no_delays small fits = refl
+all_is site m k (more_delays es ss ds) small fits =
+    pairs_is k es (all_pushed (suc k) ds) (delay_pairs (suc k) ds) (omega arith) fits.0 (all_is site m (suc k) ds (omega arith) fits.2)
 
 -- ---- the whole
 
@@ -309,20 +309,6 @@ delay_acts set priority ds alternatives w v st bodies inside n from stands names
         (λ u store1 s1 locals1 r is_set.
         chosen_follows covered ks address k by store1 s1 locals1 long (there (set_to address by store s) (λ z store2 s2. delays_within v (calls_from inside w) n ds k store2 s2) u store1 s1 within is_set) r.1))
 
-    waits : IsCovered w from behind rows → (address : Option Address) (store : Store) (s : Session) (locals : List ℤ) → KeepsPlace w lay set address store locals
-        → where_goes (asked request [] store s) (λ answer store1 s1. behind_wait_within address (delays_within v (calls_from inside w) n ds) nothing_within (woken_as answer) store1 s1) ≡ true
-        → Does w (here w at1 [] locals s) from behind rows behind (then_do (asked request [] store s) (λ answer. behind_wait address (delay_mean v n ds) skip (woken_as answer)))
-    waits covered address store s locals keeps within =
-        after (all_events_run w 0 ds at1 [] locals s (has_front all at1 events rest has1))
-        (follows_then_is
-        (subst (λ (o : Flow Answer). Follows w (here w at2 (all_pushed 0 ds) locals s) from behind rows (always (at2 + 1)) (pushed_by 0) (WokenKeeps w keeps.kept) o) (then_same (asked request [] store s))
-        (asks_by w (i.Delay count priority) from behind rows (always (at2 + 1)) (pushed_by 0) (WokenKeeps w keeps.kept) at2 request [] [] (all_pushed 0 ds) locals store s (λ answer. Goes answer) has2.0 (sym (all_long 0 ds))
-        (ap (delays priority) (all_is {st.site} {length st.exits} 0 ds fits.1 fits.2)) tt (omega arith) (omega arith) (λ x. (plain at2 at5 (omega arith) (omega arith)).same at2 x (omega arith) (omega arith)) (forgotten w keeps.kept store locals keeps.holds)
-        (by_answer store locals keeps.kept keeps.holds)))
-        (λ answer store1 s1 locals1 q is.
-        by_woken covered address keeps.kept keeps.is answer store1 s1 locals1 q
-        (there (asked request [] store s) (λ a store2 s2. behind_wait_within address (delays_within v (calls_from inside w) n ds) nothing_within (woken_as a) store2 s2) answer store1 s1 within is)))
-
     by_woken : IsCovered w from behind rows → (address : Option Address) (ks : List ℤ) → IsKept lay set address ks → (a : Answer) (store : Store) (s : Session) (locals : List ℤ) → WokenKeeps w ks a store locals
         → behind_wait_within address (delays_within v (calls_from inside w) n ds) nothing_within (woken_as a) store s ≡ true
         → Does w (here w (at2 + 1) (pushed_by 0 a) locals s) from behind rows behind (behind_wait address (delay_mean v n ds) skip (woken_as a) store s)
@@ -350,3 +336,17 @@ delay_acts set priority ds alternatives w v st bodies inside n from stands names
     by_answer store locals ks h (Chose c) s1 given fit = no_truth fit
     by_answer store locals ks h (Handed j) s1 given fit = no_truth fit
     by_answer store locals ks h Stored s1 given fit = no_truth fit
+
+    waits : IsCovered w from behind rows → (address : Option Address) (store : Store) (s : Session) (locals : List ℤ) → KeepsPlace w lay set address store locals
+        → where_goes (asked request [] store s) (λ answer store1 s1. behind_wait_within address (delays_within v (calls_from inside w) n ds) nothing_within (woken_as answer) store1 s1) ≡ true
+        → Does w (here w at1 [] locals s) from behind rows behind (then_do (asked request [] store s) (λ answer. behind_wait address (delay_mean v n ds) skip (woken_as answer)))
+    waits covered address store s locals keeps within =
+        after (all_events_run w 0 ds at1 [] locals s (has_front all at1 events rest has1))
+        (follows_then_is
+        (subst (λ (o : Flow Answer). Follows w (here w at2 (all_pushed 0 ds) locals s) from behind rows (always (at2 + 1)) (pushed_by 0) (WokenKeeps w keeps.kept) o) (then_same (asked request [] store s))
+        (asks_by w (i.Delay count priority) from behind rows (always (at2 + 1)) (pushed_by 0) (WokenKeeps w keeps.kept) at2 request [] [] (all_pushed 0 ds) locals store s (λ answer. Goes answer) has2.0 (sym (all_long 0 ds))
+        (ap (delays priority) (all_is st.site (length st.exits) 0 ds (let small : 0 + count_of_delays ds < 4294967296 = omega (arith, fits.1) in small) fits.2)) tt (omega arith) (omega arith) (λ x. (plain at2 at5 (omega arith) (omega arith)).same at2 x (omega arith) (omega arith)) (forgotten w keeps.kept store locals keeps.holds)
+        (by_answer store locals keeps.kept keeps.holds)))
+        (λ answer store1 s1 locals1 q is.
+        by_woken covered address keeps.kept keeps.is answer store1 s1 locals1 q
+        (there (asked request [] store s) (λ a store2 s2. behind_wait_within address (delays_within v (calls_from inside w) n ds) nothing_within (woken_as a) store2 s2) answer store1 s1 within is)))

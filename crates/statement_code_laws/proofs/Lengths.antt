@@ -139,10 +139,16 @@ limit_length c d at one_is size_same = by_one (is_one c.step) (is_one d.step) on
   where
     long : (e : Steps) (p : ℕ) → length (near_end_code e p ++ moved_end_code e) ≡ (rest_size e.step + 3) + ((2 + ((rest_size e.step + 2) + 1)) + (1 + (rest_size e.step + 2)))
     long e p =
-        omega (arith, length-append (near_end_code e p) (moved_end_code e), nearer_length e, nearest_length e, rest_length e.step,
-        length-append (nearer_code e) (i.Less 1 ∷ i.Unless (p + (2 * length (rest_code e.step) + 8)) ∷ (nearest_code e ++ i.SetLocal e.end 1 ∷ [])),
-        length-append (nearest_code e) (i.SetLocal e.end 1 ∷ []),
-        length-append (rest_code e.step) ((if e.down then i.Add else i.Sub) ∷ i.SetLocal e.end 1 ∷ []))
+        omega (
+          arith,
+          length-append (near_end_code e p) (moved_end_code e),
+          nearer_length e,
+          nearest_length e,
+          rest_length e.step,
+          length-append (nearer_code e) (i.Less 1 ∷ i.Unless (p + (2 * length (rest_code e.step) + 8)) ∷ (nearest_code e ++ i.SetLocal e.end 1 ∷ [])),
+          length-append (nearest_code e) (i.SetLocal e.end 1 ∷ []),
+          length-append (rest_code e.step) ((if e.down then i.Add else i.Sub) ∷ i.SetLocal e.end 1 ∷ []),
+        )
 
     by_one : (t u : Bool) → t ≡ u → length (if t then [] else near_end_code c at ++ moved_end_code c) ≡ length (if u then [] else near_end_code d 0 ++ moved_end_code d)
     by_one true true e = refl
@@ -167,10 +173,17 @@ order_length : (down : Bool) (a b : ℕ) → length (before_code down a b) ≡ 3
 order_length true a b = refl
 order_length false a b = refl
 
-next_length : (c : Steps) (behind : ℕ) → length (next_code c behind) ≡ 8
+pub next_length : (c : Steps) (behind : ℕ) → length (next_code c behind) ≡ 8
 next_length c behind =
     let rest : List Instr = i.Unless behind ∷ i.Local c.counter 1 ∷ by_step c.step ∷ forth c.down ∷ i.SetLocal c.counter 1 ∷ [] in
     omega (arith, order_length c.down c.counter c.end, length-append (before_code c.down c.counter c.end) rest)
+
+pub before_turns_length : (st : Standing) (c : ControlTree) (behind at : ℕ) → FitsControl (layout st.site) c → length (before_turns st c behind at) ≡ before_turns_size c
+before_turns_length st (while_true e) behind at fits = refl
+before_turns_length st for_ever behind at fits = refl
+before_turns_length st (for_members counter e low condition) behind at fits = both_long _ _ (expr_length (layout st.site) st.free e at fits.1.0) refl
+before_turns_length st (for_steps counter from step to down condition) behind at fits =
+    both_long _ _ (bounds_length st from step to at fits.1 fits.2 fits.3) (first_length (first_in (slice_get st.site.body.locals counter)) (constant_step step) down st.free behind (at + bounds_size from step to))
 
 pub control_length : (st : Standing) (c : ControlTree) (behind at : ℕ) → FitsControl (layout st.site) c → length (control_code st c behind at) ≡ control_size c
 control_length st (while_true e) behind at fits = omega (arith, condition_length (layout st.site) st.free e false behind (at + 0) fits.0)

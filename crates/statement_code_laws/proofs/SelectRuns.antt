@@ -107,15 +107,15 @@ pub alternative_acts : {X Y : Type 0} (w : Around) (v : Setting) (st : Standing)
     → ((x : X) → can x → IsFirst holds number along mean (statements_within v (calls_from inside w) n ss) (statements_mean v n ss) x ⊎ IsOther holds number number2 can2 along mean along2 mean2 x)
     → (HasAt w.code.instrs (next_place from (size + suc (statements_size st.site ss)) (go_on ss) rest) others → Selects w kept number2 can2 (next_place from (size + suc (statements_size st.site ss)) (go_on ss) rest) behind rows behind g2 along2 mean2)
     → Selects w kept number can from behind (statements_rows st.site ss (from + size + 1) ++ rows) behind goes along mean
-alternative_acts w v st bodies inside n kept from size rest behind ss others test holds rows g2 goes number number2 can can2 along mean along2 mean2 stands names fits first long end has leads up1 up2 decide more =
-    select_acts w kept number number2 can can2 from at next behind behind (statements_rows st.site ss at) rows (go_on ss) g2 goes holds along mean (statements_within v (calls_from inside w) n ss) along2 (statements_mean v n ss) mean2
-    (omega arith) (omega arith) (omega arith)
-    (λ z s locals part. gets_then (leads z s locals part (has_front all from test (codes ++ others) has)) (gets_then (renamed w (from + length test) at0 (truth (holds z)) (truth (holds z)) locals s (omega arith) refl) (jump (holds z) locals s)))
-    up1 up2 decide
-    (joined_acts w at at1 next behind rest (statements_rows st.site ss at) (go_on ss) (statements_within v (calls_from inside w) n ss) (statements_mean v n ss)
-    (first w v st bodies inside n at stands (names_inside w from behind at at1 (omega arith) (omega arith) names) fits (has_front all at body leave has_actions))
-    (has_back all at at1 body leave (ap (λ (j : ℕ). at + j) body_long) has_actions) (omega arith) (λ none. omega (arith, none, leave_none (go_on ss) rest none)))
-    (more has_more)
+    × Embeds rows (next_place from (size + suc (statements_size st.site ss)) (go_on ss) rest) behind (statements_rows st.site ss (from + size + 1) ++ rows) from behind
+alternative_acts w v st bodies inside n kept from size rest behind ss others test holds rows g2 goes number number2 can can2 along mean along2 mean2 stands names fits first long end has leads up1 up2 decide more = (
+  select_acts w kept number number2 can can2 from at next behind behind (statements_rows st.site ss at) rows (go_on ss) g2 goes holds along mean (statements_within v (calls_from inside w) n ss) along2 (statements_mean v n ss) mean2
+      (omega arith) (omega arith) (omega arith)
+      (λ z s locals part. gets_then (leads z s locals part (has_front all from test (codes ++ others) has)) (gets_then (renamed w (from + length test) at0 (truth (holds z)) (truth (holds z)) locals s (omega arith) refl) (jump (holds z) locals s)))
+      up1 up2 decide
+      first_acts (more has_more),
+  embeds_right (statements_rows st.site ss at) rows next behind at next from behind first_acts.lie (omega arith) (omega arith) (omega arith),
+)
   where
     all : List Instr
     all = w.code.instrs
@@ -174,3 +174,9 @@ alternative_acts w v st bodies inside n kept from size rest behind ss others tes
     leave_none : (g : Bool) (k : ℕ) → k ≡ 0 → leave_size g k ≡ 0
     leave_none true k none = ap (λ (j : ℕ). leave_size true j) none
     leave_none false k none = refl
+
+    first_acts : Acts w at next (statements_rows st.site ss at) behind (go_on ss) (statements_within v (calls_from inside w) n ss) (statements_mean v n ss)
+    first_acts =
+        joined_acts w at at1 next behind rest (statements_rows st.site ss at) (go_on ss) (statements_within v (calls_from inside w) n ss) (statements_mean v n ss)
+        (first w v st bodies inside n at stands (names_inside w from behind at at1 (omega arith) (omega arith) names) fits (has_front all at body leave has_actions))
+        (has_back all at at1 body leave (ap (λ (j : ℕ). at + j) body_long) has_actions) (omega arith) (λ none. omega (arith, none, leave_none (go_on ss) rest none))

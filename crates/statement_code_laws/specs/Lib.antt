@@ -1,5 +1,6 @@
 pub mod StatementBounds
 pub mod StatementsInRange
+pub mod Counters
 pub mod Statements
 pub mod Parts
 pub mod Conditions

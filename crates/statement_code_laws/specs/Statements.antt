@@ -30,4 +30,3 @@ pub record StandsAs (w : Around) (v : Setting) (st : Standing) (bodies : Bodies)
 -- whether what calls do from here keeps within, where these regions are open
 abbrev pub calls_from : BodiesWithin → Around → OpenCallsWithin
 calls_from inside w open_now b ts s = call_within inside b (suc (length w.below)) open_now ts s
-

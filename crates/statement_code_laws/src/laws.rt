@@ -1,6 +1,7 @@
 // Laws of the code of statements. Each is a fact about the definitions, which a caller learns by calling the function.
 ghost use Rattle.statement_code_laws.specs.Conditions.{ConditionLaw};
 ghost use Rattle.statement_code_laws.specs.Actions.{AssignmentLaw, CallingLaw, DeclarationLaw, LeavingLaw, PlainLaw, RequestingLaw};
+ghost use Rattle.statement_code_laws.specs.StatementForms.{JoiningLaw, StatementsJoined};
 
 /// The instructions of a condition follow its meaning, and control goes where it has to.
 pub fn condition_law()
@@ -35,4 +36,14 @@ pub fn calling_law()
 /// So do DELAY, CONTINUE and SEND.
 pub fn requesting_law()
     ensures { RequestingLaw }
+{}
+
+/// What holds statements acts where these do: statements behind each other, BEGIN, IF, CASE, waits, labels and handlers.
+pub fn joining_law()
+    ensures { JoiningLaw }
+{}
+
+/// Where loops act, so do all statements.
+pub fn statements_law()
+    ensures { StatementsJoined }
 {}

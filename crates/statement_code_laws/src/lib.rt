@@ -5,4 +5,7 @@
 
 mod laws;
 
-pub use laws::{assignment_law, calling_law, condition_law, declaration_law, leaving_law, plain_law, requesting_law};
+pub use laws::{
+    assignment_law, calling_law, condition_law, declaration_law, joining_law, leaving_law,
+    plain_law, requesting_law, statements_law,
+};
