@@ -27,16 +27,16 @@ use Rattle.code_scheme.specs.ExprSizes.{expr_size, place_size, indices_size, rec
 use Rattle.code_scheme.specs.ExprCode.{expr_code, place_code, indices_code, received_code}
 use Rattle.code_scheme.specs.StatementSite.{Standing, layout}
 use Rattle.code_scheme.specs.StatementPlain.{assign_code, assign_size, update_code, update_size, update_test, read_code, read_size}
-use Rattle.code_laws.specs.Follows.{HasAt, Around, free_in, here, Holds, GetsTo, Follows, always, HoldsWith, Nothing, on_top, IsLong, no_stack, Does}
-use Rattle.code_laws.specs.Calls.{BodiesWithin}
+use Rattle.follow_laws.specs.Follows.{HasAt, Around, free_in, here, Holds, GetsTo, Follows, always, HoldsWith, Nothing, on_top, IsLong, no_stack, Does}
+use Rattle.code_laws.specs.BodyBounds.{BodiesWithin}
 use Rattle.code_laws.specs.InRange.{FitsExpr, FitsReceived, FitsLocation, OperandsFit, BoundsFit}
 use Rattle.code_laws.specs.OwnBounds.{CallsWithin, where_goes, lies_in, expr_within, received_within, parts_within}
 use Rattle.code_laws.specs.Expressions.{Suited, NamesIn, calls_at}
-use Rattle.statement_code_laws.specs.StatementBounds.{assign_within, update_within}
+use Rattle.code_laws.specs.StatementBounds.{assign_within, update_within}
 use Rattle.statement_code_laws.specs.Actions.{ActionActs, AssignmentLaw}
 use Rattle.statement_code_laws.proofs.PlainRuns.{plain_acts, open_here}
-use Rattle.code_laws.proofs.Running.{has_front, has_back, gets_then, after, follows_then, follows_then_is, comes}
-use Rattle.code_laws.proofs.Instructions.{pushes_by, renamed}
+use Rattle.follow_laws.proofs.Running.{has_front, has_back, gets_then, after, follows_then, follows_then_is, comes}
+use Rattle.follow_laws.proofs.Instructions.{pushes_by, renamed}
 use Rattle.code_laws.proofs.Sizes.{between_length, behind_length, expr_length, received_length, place_length, contents_length, where_length}
 use Rattle.code_laws.proofs.Values.{both_true}
 use Rattle.code_laws.proofs.OperatorRuns.{held, behind_runs}

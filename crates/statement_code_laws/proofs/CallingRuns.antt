@@ -12,10 +12,10 @@ use Rattle.code_scheme.specs.ExprSizes.{call_size, start_size}
 use Rattle.code_scheme.specs.ExprCode.{call_code, start_code}
 use Rattle.code_scheme.specs.StatementSite.{layout}
 use Rattle.code_scheme.specs.StatementPlain.{dropped_scalars, drop_code}
-use Rattle.code_laws.specs.Follows.{HasAt, Around, here, Holds, GetsTo}
+use Rattle.follow_laws.specs.Follows.{HasAt, Around, here, Holds, GetsTo}
 use Rattle.code_laws.specs.OwnBounds.{start_within, call_within}
-use Rattle.code_laws.proofs.Running.{has_front, has_back, gets_then, after, follows_then, comes}
-use Rattle.code_laws.proofs.Instructions.{renamed}
+use Rattle.follow_laws.proofs.Running.{has_front, has_back, gets_then, after, follows_then, comes}
+use Rattle.follow_laws.proofs.Instructions.{renamed}
 use Rattle.code_laws.proofs.Sizes.{call_length, start_length}
 use Rattle.code_laws.proofs.BetweenRuns.{pop_run}
 use Rattle.code_laws.proofs.ExprRuns.{operation_runs}

@@ -26,23 +26,23 @@ use Rattle.code_scheme.specs.StatementGoing.{go_on, otherwise_goes_on, some_case
 use Rattle.code_scheme.specs.StatementSize.{label_code, more_labels_code, labels_code, labels_size, statements_size, otherwise_size, cases_size}
 use Rattle.code_scheme.specs.StatementCode.{CodeAt, no_label_code, next_place, joining, chosen, statements_code, otherwise_code, cases_code}
 use Rattle.code_scheme.specs.StatementRows.{RowsAt, statements_rows, otherwise_rows, cases_rows}
-use Rattle.code_laws.specs.Follows.{HasAt, Around, free_in, keeping, here, Holds, GetsTo, Follows, always, HoldsWith, Does}
-use Rattle.code_laws.specs.Statements.{IsCovered}
-use Rattle.code_laws.specs.Calls.{BodiesWithin}
+use Rattle.follow_laws.specs.Follows.{HasAt, Around, free_in, keeping, here, Holds, GetsTo, Follows, always, HoldsWith, Does}
+use Rattle.follow_laws.specs.Parts.{IsCovered}
+use Rattle.code_laws.specs.BodyBounds.{BodiesWithin}
 use Rattle.code_laws.specs.OwnBounds.{where_goes, expr_within}
 use Rattle.code_laws.specs.Expressions.{NamesIn}
-use Rattle.code_laws.proofs.Running.{has_front, has_back, gets_then, after, follows_then_is, makes, raises, forgotten}
-use Rattle.code_laws.proofs.Holding.{HasPart, IsSet, scratch_set, scratch_read}
-use Rattle.code_laws.proofs.Instructions.{puts_on, sets_by, pushes_by, renamed, sole}
+use Rattle.follow_laws.proofs.Running.{has_front, has_back, gets_then, after, follows_then_is, makes, raises, forgotten}
+use Rattle.follow_laws.proofs.Holding.{HasPart, IsSet, scratch_set, scratch_read}
+use Rattle.follow_laws.proofs.Instructions.{puts_on, sets_by, pushes_by, renamed, sole}
 use Rattle.code_laws.proofs.Sizes.{expr_length}
 use Rattle.code_laws.proofs.Values.{both_true, same_int}
 use Rattle.code_laws.proofs.OperatorRuns.{truth_back, not_run}
 use Rattle.code_laws.proofs.BetweenRuns.{unless_run}
 use Rattle.code_laws.proofs.ExprPieces.{there}
 use Rattle.code_laws.proofs.ExprRuns.{expr_runs}
-use Rattle.statement_code_laws.specs.StatementBounds.{Along, nothing_within, value_within, statements_within, otherwise_within, cases_within}
-use Rattle.statement_code_laws.specs.StatementsInRange.{FitsNumber, FitsOtherwise, FitsCases}
-use Rattle.statement_code_laws.specs.Statements.{StandsAs, calls_from}
+use Rattle.code_laws.specs.StatementBounds.{Along, nothing_within, value_within, statements_within, otherwise_within, cases_within}
+use Rattle.code_laws.specs.StatementsInRange.{FitsNumber, FitsOtherwise, FitsCases}
+use Rattle.code_laws.specs.Statements.{StandsAs, calls_from}
 use Rattle.statement_code_laws.specs.Parts.{LieIn, Acts}
 use Rattle.statement_code_laws.specs.Actions.{ActionActs}
 use Rattle.statement_code_laws.specs.StatementForms.{StatementsAct, SomeAct}
@@ -221,7 +221,7 @@ more_cases_act labels ss cs first others w v st bodies inside n from behind last
 
 -- RANGEFAIL where no label holds the selector
 no_label_acts : (w : Around) (at : ℕ) → HasAt w.code.instrs at (i.Raise 1 ∷ []) → Acts w at (at + 1) [] (at + 1) false nothing_within (Raised Rangefail)
-no_label_acts w at has = leaving_acts (λ store store1 s s1 e. let no : ⊥ = cc in no) (λ store s locals within h. makes (i.Raise 1) at [] [] locals s (Throws Rangefail) has.0 refl refl (raises (omega arith) (omega arith) refl h))
+no_label_acts w at has = leaving_acts (λ store store1 s s1 e. let no : ⊥ = cc in no) (λ store s locals within h. makes (i.Raise 1) at [] [] locals s (Throws Rangefail) has.0 refl refl (raises (inl refl) (omega arith) (omega arith) refl h))
 
 otherwise_acts : (w : Around) (v : Setting) (st : Standing) (bodies : Bodies) (inside : BodiesWithin) (n : ℕ) (o : OtherwiseNode) → SomeAct o → StandsAs w v st bodies inside → FitsOtherwise st.site (length st.exits) o
     → RestActs w (otherwise_size st.site o 1) (otherwise_code st o no_label_code) (otherwise_rows st.site o) (otherwise_goes_on o) (otherwise_within v (calls_from inside w) n o) (otherwise_mean v n o (Raised Rangefail))

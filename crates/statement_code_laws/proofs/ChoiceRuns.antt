@@ -20,18 +20,18 @@ use Rattle.code_scheme.specs.StatementGoing.{go_on, goes_on, some_choice_goes_on
 use Rattle.code_scheme.specs.StatementSize.{statements_size, statement_size, choices_size}
 use Rattle.code_scheme.specs.StatementCode.{CodeAt, next_place, joining, statements_code, statement_code, choices_code}
 use Rattle.code_scheme.specs.StatementRows.{RowsAt, statements_rows, statement_rows, choices_rows}
-use Rattle.code_laws.specs.Follows.{HasAt, Around, here, Holds, Follows, always, HoldsWith, IsLong, Does}
-use Rattle.code_laws.specs.Statements.{IsCovered}
-use Rattle.code_laws.specs.Calls.{BodiesWithin}
+use Rattle.follow_laws.specs.Follows.{HasAt, Around, here, Holds, Follows, always, HoldsWith, IsLong, Does}
+use Rattle.follow_laws.specs.Parts.{IsCovered}
+use Rattle.code_laws.specs.BodyBounds.{BodiesWithin}
 use Rattle.code_laws.specs.OwnBounds.{where_goes, expr_within}
 use Rattle.code_laws.specs.Expressions.{NamesIn}
-use Rattle.code_laws.proofs.Running.{has_front, has_back, follows_then_is}
+use Rattle.follow_laws.proofs.Running.{has_front, has_back, follows_then_is}
 use Rattle.code_laws.proofs.Values.{both_true}
 use Rattle.code_laws.proofs.ExprPieces.{there}
 use Rattle.statement_code_laws.specs.Conditions.{goes_where}
-use Rattle.statement_code_laws.specs.StatementBounds.{Along, value_within, statements_within, statement_within, choices_within}
-use Rattle.statement_code_laws.specs.StatementsInRange.{FitsNumber, FitsChoices}
-use Rattle.statement_code_laws.specs.Statements.{StandsAs, calls_from}
+use Rattle.code_laws.specs.StatementBounds.{Along, value_within, statements_within, statement_within, choices_within}
+use Rattle.code_laws.specs.StatementsInRange.{FitsNumber, FitsChoices}
+use Rattle.code_laws.specs.Statements.{StandsAs, calls_from}
 use Rattle.statement_code_laws.specs.Parts.{LieIn, Acts}
 use Rattle.statement_code_laws.specs.Actions.{ActionActs}
 use Rattle.statement_code_laws.specs.StatementForms.{StatementActs, StatementsAct}

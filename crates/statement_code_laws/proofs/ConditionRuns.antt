@@ -18,14 +18,14 @@ use Rattle.source_meaning.specs.BodyMeaning.{Bodies}
 use Rattle.code_scheme.specs.Pieces.{Layout, bounds_of_value, between_code, between_size, behind_code, behind_size, branch_code, branch_size, decided_by, straight, is_turned, turned}
 use Rattle.code_scheme.specs.ExprSizes.{expr_size, operation_size, condition_size, operation_condition_size}
 use Rattle.code_scheme.specs.ExprCode.{expr_code, operation_code, first_target, condition_code, operation_condition}
-use Rattle.code_laws.specs.Follows.{HasAt, Around, free_in, here, Holds, GetsTo, Follows, always, HoldsWith, on_top, IsLong}
-use Rattle.code_laws.specs.Calls.{BodiesWithin}
+use Rattle.follow_laws.specs.Follows.{HasAt, Around, free_in, here, Holds, GetsTo, Follows, always, HoldsWith, on_top, IsLong}
+use Rattle.code_laws.specs.BodyBounds.{BodiesWithin}
 use Rattle.code_laws.specs.InRange.{FitsExpr, FitsOperation, OperandsFit}
 use Rattle.code_laws.specs.OwnBounds.{expr_within, operation_within}
 use Rattle.code_laws.specs.Expressions.{Suited, NamesIn, calls_at}
 use Rattle.statement_code_laws.specs.Conditions.{goes_where, ConditionLaw}
-use Rattle.code_laws.proofs.Running.{has_front, has_back, gets_then, after, follows_then, follows_then_is, comes}
-use Rattle.code_laws.proofs.Instructions.{jumps_by, renamed, sole}
+use Rattle.follow_laws.proofs.Running.{has_front, has_back, gets_then, after, follows_then, follows_then_is, comes}
+use Rattle.follow_laws.proofs.Instructions.{jumps_by, renamed, sole}
 use Rattle.code_laws.proofs.Sizes.{between_length, behind_length, expr_length, operation_length}
 use Rattle.code_laws.proofs.Values.{both_true}
 use Rattle.code_laws.proofs.OperatorRuns.{truth_back, held, behind_runs}

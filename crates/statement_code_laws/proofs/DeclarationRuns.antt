@@ -22,19 +22,19 @@ use Rattle.code_scheme.specs.ExprSizes.{received_size}
 use Rattle.code_scheme.specs.ExprCode.{received_code}
 use Rattle.code_scheme.specs.StatementSite.{Standing, layout}
 use Rattle.code_scheme.specs.StatementPlain.{offset_of_name, name_code, names_code, keeping_code, name_size, names_size, keeping_size, set_lowest_code, set_lowest_size}
-use Rattle.code_laws.specs.Follows.{HasAt, Around, free_in, keeping, here, Holds, GetsTo, Follows, always, HoldsWith, Nothing, Does}
-use Rattle.code_laws.specs.Calls.{BodiesWithin}
+use Rattle.follow_laws.specs.Follows.{HasAt, Around, free_in, keeping, here, Holds, GetsTo, Follows, always, HoldsWith, Nothing, Does}
+use Rattle.code_laws.specs.BodyBounds.{BodiesWithin}
 use Rattle.code_laws.specs.InRange.{IsNumber32, BaseFits, FitsReceived}
 use Rattle.code_laws.specs.OwnBounds.{received_within}
 use Rattle.code_laws.specs.Expressions.{NamesIn}
-use Rattle.code_laws.proofs.Running.{has_front, has_back, stays, after, follows_then, comes}
-use Rattle.code_laws.proofs.Requesting.{none_takes}
-use Rattle.code_laws.proofs.Holding.{HasPart, IsSet, scratch_set, scratch_read, whole_set}
-use Rattle.code_laws.proofs.Instructions.{puts_on, sets_by, renamed, set_by, write_by}
+use Rattle.follow_laws.proofs.Running.{has_front, has_back, stays, after, follows_then, comes}
+use Rattle.follow_laws.proofs.Requesting.{none_takes}
+use Rattle.follow_laws.proofs.Holding.{HasPart, IsSet, scratch_set, scratch_read, whole_set}
+use Rattle.follow_laws.proofs.Instructions.{puts_on, sets_by, renamed, set_by, write_by}
 use Rattle.code_laws.proofs.Values.{scalars_run}
 use Rattle.code_laws.proofs.CallPieces.{forgetting_holds}
-use Rattle.statement_code_laws.specs.Statements.{StandsAs, calls_from}
-use Rattle.statement_code_laws.specs.StatementsInRange.{LocalFits}
+use Rattle.code_laws.specs.Statements.{StandsAs, calls_from}
+use Rattle.code_laws.specs.StatementsInRange.{LocalFits}
 use Rattle.statement_code_laws.specs.Actions.{ActionActs, DeclarationLaw}
 use Rattle.statement_code_laws.proofs.PlainRuns.{plain_acts}
 use Rattle.statement_code_laws.proofs.LeavingRuns.{received_then}

@@ -33,22 +33,22 @@ use Rattle.code_scheme.specs.StatementWaits.{set_place_code, set_place_size, set
 use Rattle.code_scheme.specs.StatementSize.{statements_size, delays_size}
 use Rattle.code_scheme.specs.StatementCode.{next_place, delays_code}
 use Rattle.code_scheme.specs.StatementRows.{delays_rows}
-use Rattle.code_laws.specs.Follows.{HasAt, scalars_in, Around, free_in, keeping, frame_at, state_at, here, Holds, GetsTo, Follows, always, no_stack, HoldsWith, Nothing, Does, action_in}
-use Rattle.code_laws.specs.Statements.{IsCovered}
-use Rattle.code_laws.specs.Calls.{BodiesWithin}
+use Rattle.follow_laws.specs.Follows.{HasAt, scalars_in, Around, free_in, keeping, frame_at, state_at, here, Holds, GetsTo, Follows, always, no_stack, HoldsWith, Nothing, Does, action_in}
+use Rattle.follow_laws.specs.Parts.{IsCovered}
+use Rattle.code_laws.specs.BodyBounds.{BodiesWithin}
 use Rattle.code_laws.specs.OwnBounds.{where_goes}
 use Rattle.code_laws.specs.InRange.{IsNumber32}
 use Rattle.code_laws.specs.Expressions.{NamesIn}
-use Rattle.code_laws.proofs.Running.{has_front, has_back, gets_then, after, follows_then, follows_then_is, comes, forgotten, forgetting}
-use Rattle.code_laws.proofs.Requesting.{IsNoFailure, none_takes, asks_by}
-use Rattle.code_laws.proofs.Holding.{HasPart, IsSet, scratch_set, kept_read}
-use Rattle.code_laws.proofs.Instructions.{puts_on, sets_by, pushes_by, renamed}
+use Rattle.follow_laws.proofs.Running.{has_front, has_back, gets_then, after, follows_then, follows_then_is, comes, forgotten, forgetting}
+use Rattle.follow_laws.proofs.Requesting.{IsNoFailure, none_takes, asks_by}
+use Rattle.follow_laws.proofs.Holding.{HasPart, IsSet, scratch_set, kept_read}
+use Rattle.follow_laws.proofs.Instructions.{puts_on, sets_by, pushes_by, renamed}
 use Rattle.code_laws.proofs.Values.{both_true}
 use Rattle.code_laws.proofs.ExprPieces.{there}
 use Rattle.code_laws.proofs.ReceiveRuns.{thing_is}
-use Rattle.statement_code_laws.specs.StatementBounds.{Along, nothing_within, some_place_within, behind_wait_within, statements_within, delays_within}
-use Rattle.statement_code_laws.specs.StatementsInRange.{FitsDelays, count_of_delays}
-use Rattle.statement_code_laws.specs.Statements.{StandsAs, calls_from}
+use Rattle.code_laws.specs.StatementBounds.{Along, nothing_within, some_place_within, behind_wait_within, statements_within, delays_within}
+use Rattle.code_laws.specs.StatementsInRange.{FitsDelays, count_of_delays}
+use Rattle.code_laws.specs.Statements.{StandsAs, calls_from}
 use Rattle.statement_code_laws.specs.Parts.{Acts}
 use Rattle.statement_code_laws.specs.Actions.{ActionActs}
 use Rattle.statement_code_laws.specs.StatementForms.{StatementsAct}

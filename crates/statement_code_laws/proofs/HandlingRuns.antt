@@ -17,16 +17,16 @@ use Rattle.code_scheme.specs.StatementGoing.{has_label, go_on, goes_on, handler_
 use Rattle.code_scheme.specs.StatementSize.{statements_size, statement_size, handler_size, handled_size, otherwise_size, action_size}
 use Rattle.code_scheme.specs.StatementCode.{no_code, next_place, joining, statements_code, handler_code, handled_code, otherwise_code, action_code}
 use Rattle.code_scheme.specs.StatementRows.{row_for, else_row, own_rows, statements_rows, statement_rows, handler_rows, handled_rows, otherwise_rows, action_rows}
-use Rattle.code_laws.specs.Follows.{HasAt, Around, here, Holds, ComesBy, RaisesIn, Follows, always, no_stack, HoldsWith, Nothing, Does}
-use Rattle.code_laws.specs.Statements.{IsCovered}
-use Rattle.code_laws.specs.Calls.{BodiesWithin}
+use Rattle.follow_laws.specs.Follows.{HasAt, Around, here, Holds, ComesBy, RaisesIn, Follows, always, no_stack, HoldsWith, Nothing, Does}
+use Rattle.follow_laws.specs.Parts.{exits_with, labelled, IsCovered}
+use Rattle.code_laws.specs.BodyBounds.{BodiesWithin}
 use Rattle.code_laws.specs.Expressions.{Suited, NamesIn}
-use Rattle.code_laws.proofs.Running.{has_front, has_back, gets_then, after}
-use Rattle.code_laws.proofs.HandledRuns.{taker_right, taker_left, lands}
+use Rattle.follow_laws.proofs.Running.{has_front, has_back, gets_then, after}
+use Rattle.follow_laws.proofs.HandledRuns.{labelled_runs, taker_right, taker_left, lands}
 use Rattle.code_laws.proofs.Values.{both_true}
-use Rattle.statement_code_laws.specs.StatementBounds.{Along, where_raises, at_region_within, statement_within, handler_within, alternatives_within, otherwise_within, statements_within, action_within}
-use Rattle.statement_code_laws.specs.StatementsInRange.{FitsStatement, FitsHandler, FitsHandled, FitsOtherwise, FitsAction}
-use Rattle.statement_code_laws.specs.Statements.{StandsAs, calls_from}
+use Rattle.code_laws.specs.StatementBounds.{Along, where_raises, at_region_within, statement_within, handler_within, alternatives_within, otherwise_within, statements_within, action_within}
+use Rattle.code_laws.specs.StatementsInRange.{FitsStatement, FitsHandler, FitsHandled, FitsOtherwise, FitsAction}
+use Rattle.code_laws.specs.Statements.{StandsAs, calls_from}
 use Rattle.statement_code_laws.specs.Parts.{LieIn, Acts}
 use Rattle.statement_code_laws.specs.Actions.{ActionActs}
 use Rattle.statement_code_laws.specs.StatementForms.{StatementActs, StatementsAct, SomeAct}
@@ -247,6 +247,7 @@ handled_acts w from until next rest behind inner own acts g1 g2 goes in1 mean1 i
             from = r.from;
             until = omega (arith, r.until);
             untaken = taker_right inner (own ++ acts) r.place x r.untaken ∙ (taker_right own acts r.place x is ∙ untaken_before acts next behind r.place x c.lie (omega (arith, r.until)));
+            arises = r.arises;
             holds = r.holds;
             by = r.by;
           };
@@ -283,31 +284,8 @@ acts_as {w} {from} {until} {behind} {rows} inside same a =
 
 -- ---- labels
 
--- an EXIT of the innermost label leads to this place, and the others where they did
-abbrev exits_with : ℕ → (ℕ → ℕ) → ℕ → ℕ
-exits_with behind exits zero = behind
-exits_with behind exits (suc k) = exits k
-
-abbrev pub labelled : Around → ℕ → Around
-labelled w behind = record w { exits = exits_with behind w.exits }
-
 pub held_inside : (w : Around) (behind : ℕ) (store : Store) (locals : List ℤ) → Holds w store locals → Holds (labelled w behind) store locals
 held_inside w behind store locals h = record { rest = h.rest; is = h.is; fit = h.fit; result = h.result; long = h.long }
-
-held_outside : (w : Around) (behind : ℕ) (store : Store) (locals : List ℤ) → Holds (labelled w behind) store locals → Holds w store locals
-held_outside w behind store locals h = record { rest = h.rest; is = h.is; fit = h.fit; result = h.result; long = h.long }
-
-labelled_comes : (w : Around) (m : Run) (lo hi : ℕ) (rows : List Handler) (behind : ℕ) (o : Flow (Unit {0}))
-    → ComesBy (labelled w behind) m lo hi rows (always behind) no_stack (HoldsWith (labelled w behind) Nothing) o
-    → ComesBy w m lo hi rows (always behind) no_stack (HoldsWith w Nothing) (ends_exit o)
-labelled_comes w m lo hi rows behind (Goes v store s) f = record { locals = f.locals; holds = (tt, held_outside w behind store f.locals f.holds.1); by = f.by }
-labelled_comes w m lo hi rows behind (Raised x store s) f = record { place = f.place; stack = f.stack; locals = f.locals; from = f.from; until = f.until; untaken = f.untaken; holds = held_outside w behind store f.locals f.holds; by = f.by }
-labelled_comes w m lo hi rows behind (Exits zero store s) f = record { locals = f.locals; holds = (tt, held_outside w behind store f.locals f.holds); by = f.by }
-labelled_comes w m lo hi rows behind (Exits (suc k) store s) f = record { locals = f.locals; holds = held_outside w behind store f.locals f.holds; by = f.by }
-labelled_comes w m lo hi rows behind (Returned store s) f = record { place = f.place; has = f.has; arrives = record { locals = f.arrives.locals; holds = held_outside w behind store f.arrives.locals f.arrives.holds; by = f.arrives.by } }
-labelled_comes w m lo hi rows behind (Stops t calls store) f = record { state = f.state; front = f.front; frames = f.frames; are = f.are; by = f.by }
-labelled_comes w m lo hi rows behind (Gone t) f = record { state = f.state; none = f.none; by = f.by }
-labelled_comes w m lo hi rows behind Bound f = tt
 
 labelled_acts : (w : Around) (from behind : ℕ) (rows : List Handler) (goes : Bool) (inside : Along) (mean : Meaning (Unit {0})) → Acts (labelled w behind) from behind rows behind goes inside mean
     → Acts w from behind rows behind true inside (λ store s. ends_exit (mean store s))
@@ -316,7 +294,7 @@ labelled_acts w from behind rows goes inside mean a =
       lie = a.lie;
       comes = λ store store1 s s1 e. refl;
       follows = λ covered store s locals within h.
-          record { by = labelled_comes w (here w from [] locals s) from behind rows behind (mean store s) (a.follows (record { at = covered.at }) store s locals within (held_inside w behind store locals h)).by };
+          labelled_runs w (here w from [] locals s) from behind rows behind (mean store s) (a.follows (record { at = covered.at }) store s locals within (held_inside w behind store locals h));
     }
 
 stands_inside : (w : Around) (v : Setting) (st : Standing) (bodies : Bodies) (inside : BodiesWithin) (behind : ℕ) → StandsAs w v st bodies inside → StandsAs (labelled w behind) v (within_label st behind) bodies inside

@@ -10,15 +10,15 @@ use Rattle.source_meaning.specs.Store.{Store}
 use Rattle.source_meaning.specs.Flow.{Flow, Goes, Raised, Exits, Returned, Stops, Gone, Bound, Meaning, then_do}
 use Rattle.source_meaning.specs.StatementMeaning.{skip}
 use Rattle.code_scheme.specs.StatementGoing.{leave_size, leave_code}
-use Rattle.code_laws.specs.Follows.{HasAt, Around, here, Holds, GetsTo, ComesBy, Follows, always, no_stack, HoldsWith, Nothing, Does}
-use Rattle.code_laws.specs.Statements.{IsCovered}
+use Rattle.follow_laws.specs.Follows.{HasAt, Around, here, Holds, GetsTo, ComesBy, Follows, always, no_stack, HoldsWith, Nothing, Does}
+use Rattle.follow_laws.specs.Parts.{IsCovered}
 use Rattle.code_laws.specs.OwnBounds.{where_goes}
-use Rattle.code_laws.proofs.Running.{gets_then, wider, follows_then_is, comes}
-use Rattle.code_laws.proofs.Instructions.{jumps_by, renamed}
-use Rattle.code_laws.proofs.HandledRuns.{taker_right, taker_left}
+use Rattle.follow_laws.proofs.Running.{gets_then, wider, follows_then_is, comes}
+use Rattle.follow_laws.proofs.Instructions.{jumps_by, renamed}
+use Rattle.follow_laws.proofs.HandledRuns.{taker_right, taker_left}
 use Rattle.code_laws.proofs.Values.{both_true}
 use Rattle.code_laws.proofs.ExprPieces.{there}
-use Rattle.statement_code_laws.specs.StatementBounds.{Along, nothing_within}
+use Rattle.code_laws.specs.StatementBounds.{Along, nothing_within}
 use Rattle.statement_code_laws.specs.Parts.{LieIn, Acts}
 
 -- ---- rows outside their places

@@ -18,18 +18,18 @@ use Rattle.code_scheme.specs.ExprSizes.{received_size}
 use Rattle.code_scheme.specs.ExprCode.{received_code}
 use Rattle.code_scheme.specs.StatementSite.{Standing, layout, scalars_in, declared_scalars, result_scalars}
 use Rattle.code_scheme.specs.StatementPlain.{set_result_code, set_result_size, way_out_code}
-use Rattle.code_laws.specs.Follows.{HasAt, scalars_in as scalars_held, Around, here, Holds, Does}
-use Rattle.code_laws.specs.Calls.{BodiesWithin}
+use Rattle.follow_laws.specs.Follows.{HasAt, scalars_in as scalars_held, Around, here, Holds, Does}
+use Rattle.code_laws.specs.BodyBounds.{BodiesWithin}
 use Rattle.code_laws.specs.InRange.{FitsReceived}
 use Rattle.code_laws.specs.OwnBounds.{received_within}
 use Rattle.code_laws.specs.Expressions.{NamesIn}
-use Rattle.code_laws.proofs.Running.{has_front, has_back, stays, gets_then, after, follows_then, comes}
-use Rattle.code_laws.proofs.Holding.{IsSet, result_set}
-use Rattle.code_laws.proofs.Instructions.{sets_by, jumps_by, renamed}
+use Rattle.follow_laws.proofs.Running.{has_front, has_back, stays, gets_then, after, follows_then, comes}
+use Rattle.follow_laws.proofs.Holding.{IsSet, result_set}
+use Rattle.follow_laws.proofs.Instructions.{sets_by, jumps_by, renamed}
 use Rattle.code_laws.proofs.Sizes.{received_length}
 use Rattle.code_laws.proofs.ExprRuns.{received_runs}
-use Rattle.statement_code_laws.specs.Statements.{StandsAs, calls_from}
-use Rattle.statement_code_laws.specs.StatementsInRange.{FitsResult}
+use Rattle.code_laws.specs.Statements.{StandsAs, calls_from}
+use Rattle.code_laws.specs.StatementsInRange.{FitsResult}
 use Rattle.statement_code_laws.specs.Actions.{ActionActs, LeavingLaw}
 use Rattle.statement_code_laws.proofs.PlainRuns.{plain_acts, leaving_acts, open_here}
 

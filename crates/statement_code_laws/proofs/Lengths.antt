@@ -23,7 +23,7 @@ use Rattle.code_scheme.specs.StatementSize.{label_code, more_labels_code, labels
 use Rattle.code_scheme.specs.StatementCode.{CodeAt, no_label_code, next_place, labelled_around, turn_back_code, joining, statements_code, statement_code, handler_code, handled_code, otherwise_code, action_code, choices_code, cases_code, delays_code, receives_code}
 use Rattle.code_laws.specs.InRange.{BaseFits, FitsReceived}
 use Rattle.code_laws.proofs.Sizes.{between_length, behind_length, expr_length, received_length, all_length, place_length, contents_length, store_length, where_length, call_length, start_length}
-use Rattle.statement_code_laws.specs.StatementsInRange.{LocalFits, FitsSomeNumber, FitsReturn, FitsSent, FitsSet, FitsControl, labels_with, FitsStatements, FitsStatement, FitsHandler, FitsHandled, FitsOtherwise, FitsAction, FitsChoices, FitsCases, FitsDelays, FitsReceives}
+use Rattle.code_laws.specs.StatementsInRange.{LocalFits, FitsSomeNumber, FitsReturn, FitsSent, FitsSet, FitsControl, labels_with, FitsStatements, FitsStatement, FitsHandler, FitsHandled, FitsOtherwise, FitsAction, FitsChoices, FitsCases, FitsDelays, FitsReceives}
 use Rattle.statement_code_laws.proofs.ConditionRuns.{condition_length}
 
 -- ---- lists of instructions

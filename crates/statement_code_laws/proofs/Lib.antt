@@ -15,4 +15,5 @@ pub mod DelayRuns
 pub mod SpreadRuns
 pub mod ReceptionRuns
 pub mod HandlingRuns
+pub mod LoopActs
 pub mod StatementRuns

@@ -1,5 +1,5 @@
 -- Values that are dropped or put out, ASSERT, CAUSE and STOP.
-use Rattle.std.proofs.Common.{◌≡◌, ℕ, zero, suc, ◌+◌, ◌<◌, ◌≤◌, if◌then◌else◌, Bool, true, false, List, [], ◌∷◌, ◌++◌, ℤ, length, Option, Some, None, slice_get, refl, sym, ap, ◌∙◌, subst, arith, append_assoc, append-nil}
+use Rattle.std.proofs.Common.{◌≡◌, ℕ, zero, suc, ◌+◌, ◌<◌, ◌≤◌, if◌then◌else◌, Bool, true, false, List, [], ◌∷◌, ◌++◌, ℤ, length, Option, Some, None, slice_get, refl, sym, ap, ◌∙◌, subst, arith, append_assoc, append-nil, ◌⊎◌, inl, inr}
 use Rattle.kernel_base.specs.declared.ends.Exc.TheVariants.{Rangefail, Assertfail}
 use Rattle.kernel_base.specs.declared.ends.How.{How}
 use Rattle.kernel_base.specs.declared.ends.How.TheVariants.{Stopped}
@@ -29,19 +29,20 @@ use Rattle.code_scheme.specs.ExprSizes.{expr_size, condition_size}
 use Rattle.code_scheme.specs.ExprCode.{expr_code, condition_code}
 use Rattle.code_scheme.specs.StatementSite.{Standing, layout}
 use Rattle.code_scheme.specs.StatementPlain.{taken_by}
-use Rattle.code_laws.specs.Follows.{HasAt, Around, here, state_at, Holds, GetsTo, own_call, Follows, always, no_stack, HoldsWith, Nothing, Does}
-use Rattle.code_laws.specs.Calls.{BodiesWithin, open_in}
+use Rattle.follow_laws.specs.Follows.{HasAt, Around, here, state_at, Holds, GetsTo, own_call, Follows, always, no_stack, HoldsWith, Nothing, Does}
+use Rattle.code_laws.specs.Calls.{open_in}
+use Rattle.code_laws.specs.BodyBounds.{BodiesWithin}
 use Rattle.code_laws.specs.InRange.{FitsExpr}
 use Rattle.code_laws.specs.OwnBounds.{CallsWithin, expr_within}
 use Rattle.code_laws.specs.Expressions.{NamesIn, calls_at}
-use Rattle.code_laws.proofs.Running.{has_front, has_back, stays, one_more, after, follows_then, makes, comes, raises, stops}
-use Rattle.code_laws.proofs.Requesting.{fits_alike, none_takes, done_by}
-use Rattle.code_laws.proofs.Instructions.{sole}
+use Rattle.follow_laws.proofs.Running.{has_front, has_back, stays, one_more, after, follows_then, makes, comes, raises, stops}
+use Rattle.follow_laws.proofs.Requesting.{fits_alike, none_takes, done_by}
+use Rattle.follow_laws.proofs.Instructions.{sole}
 use Rattle.code_laws.proofs.Sizes.{expr_length}
 use Rattle.code_laws.proofs.BetweenRuns.{pop_run, routine_runs}
 use Rattle.code_laws.proofs.ExprRuns.{expr_runs}
-use Rattle.statement_code_laws.specs.StatementBounds.{Along}
-use Rattle.statement_code_laws.specs.Statements.{StandsAs, calls_from}
+use Rattle.code_laws.specs.StatementBounds.{Along}
+use Rattle.code_laws.specs.Statements.{StandsAs, calls_from}
 use Rattle.statement_code_laws.specs.Parts.{Acts}
 use Rattle.statement_code_laws.specs.Actions.{ActionActs, PlainLaw}
 use Rattle.statement_code_laws.proofs.ConditionRuns.{condition_length, condition_runs}
@@ -129,7 +130,7 @@ text_put e w v st bodies inside n from stands names fits has =
 
     by_bytes : (xs : List ℤ) (store1 : Store) (s1 : Session) (locals1 : List ℤ) → length xs ≡ count_of e → slice_get w.code.instrs at ≡ Some (i.PutText (count_of e)) → Holds w store1 locals1 → (o : Option (List ℕ)) → bytes_of xs ≡ o
         → Does w (here w at xs locals1 s1) from until [] until (put_bytes o store1 s1)
-    by_bytes xs store1 s1 locals1 long is h1 None o_is = makes (i.PutText (count_of e)) at [] xs locals1 s1 (Throws Rangefail) is (sym long) (ap puts o_is) (raises (omega arith) (omega arith) refl h1)
+    by_bytes xs store1 s1 locals1 long is h1 None o_is = makes (i.PutText (count_of e)) at [] xs locals1 s1 (Throws Rangefail) is (sym long) (ap puts o_is) (raises (inl refl) (omega arith) (omega arith) refl h1)
     by_bytes xs store1 s1 locals1 long is h1 (Some bytes) o_is = done_by w (i.PutText (count_of e)) from until until [] at (Put bytes) [] xs locals1 store1 s1 is (sym long) (ap puts o_is) tt (omega arith) (omega arith) (omega arith) (none_takes at) h1
 
 line_put : ActionActs put_line
@@ -162,12 +163,12 @@ asserted e w v st bodies inside n from stands names fits has =
     by_truth : (store1 : Store) (s1 : Session) (locals1 : List ℤ) → Holds w store1 locals1 → (t : Bool)
         → Does w (here w (if t then until else at) [] locals1 s1) from until [] until (if t then Goes tt store1 s1 else Raised Assertfail store1 s1)
     by_truth store1 s1 locals1 h1 true = comes {v = tt} refl refl (tt, h1)
-    by_truth store1 s1 locals1 h1 false = makes (i.Raise 3) at [] [] locals1 s1 (Throws Assertfail) has1.0 refl refl (raises (omega arith) (omega arith) refl h1)
+    by_truth store1 s1 locals1 h1 false = makes (i.Raise 3) at [] [] locals1 s1 (Throws Assertfail) has1.0 refl refl (raises (inl refl) (omega arith) (omega arith) refl h1)
 
 caused : (x : ℕ) → ActionActs (cause x)
 caused x w v st bodies inside n from stands names fits has =
     leaving_acts (λ store store1 s s1 e. let no : ⊥ = cc in no)
-    (λ store s locals within h. makes (i.Raise x) from [] [] locals s (Throws (exception_of x)) has.0 refl refl (raises (omega arith) (omega arith) refl h))
+    (λ store s locals within h. makes (i.Raise x) from [] [] locals s (Throws (exception_of x)) has.0 refl refl (raises (inr (inl (x, has.0, refl))) (omega arith) (omega arith) refl h))
 
 -- the process asks its end
 end_follows : {A : Type 0} (w : Around) (lo hi : ℕ) (to : A → ℕ) (give : A → List ℤ) (Q : A → Store → List ℤ → Type 0) (how : How) (at : ℕ) (locals : List ℤ) (store : Store) (s : Session)

@@ -35,25 +35,25 @@ use Rattle.code_scheme.specs.StatementWaits.{set_place_code, set_place_size, set
 use Rattle.code_scheme.specs.StatementSize.{statements_size, otherwise_size, receives_size}
 use Rattle.code_scheme.specs.StatementCode.{CodeAt, no_code, next_place, chosen, statements_code, otherwise_code, receives_code, receive_case_code}
 use Rattle.code_scheme.specs.StatementRows.{RowsAt, statements_rows, otherwise_rows, receives_rows}
-use Rattle.code_laws.specs.Follows.{HasAt, scalars_in, Around, free_in, keeping, frame_at, state_at, here, Holds, GetsTo, Follows, always, no_stack, HoldsWith, Nothing, Does, action_in}
-use Rattle.code_laws.specs.Laws.{GoesOnBehind, counts_in}
-use Rattle.code_laws.specs.Statements.{IsCovered}
-use Rattle.code_laws.specs.Calls.{BodiesWithin}
+use Rattle.follow_laws.specs.Follows.{HasAt, scalars_in, Around, free_in, keeping, frame_at, state_at, here, Holds, GetsTo, Follows, always, no_stack, HoldsWith, Nothing, Does, action_in}
+use Rattle.follow_laws.specs.Laws.{GoesOnBehind, counts_in}
+use Rattle.follow_laws.specs.Parts.{IsCovered}
+use Rattle.code_laws.specs.BodyBounds.{BodiesWithin}
 use Rattle.code_laws.specs.OwnBounds.{where_goes}
 use Rattle.code_laws.specs.InRange.{IsNumber32}
 use Rattle.code_laws.specs.Expressions.{NamesIn}
-use Rattle.code_laws.proofs.Running.{has_front, has_back, stays, gets_then, after, follows_then_is, comes, forgotten, forgetting}
-use Rattle.code_laws.proofs.Requesting.{IsNoFailure, asks_by}
-use Rattle.code_laws.proofs.Holding.{HasPart, IsSet, scratch_set, kept_read}
-use Rattle.code_laws.proofs.Instructions.{puts_on, sets_by, pushes_by, renamed, offset_is}
+use Rattle.follow_laws.proofs.Running.{has_front, has_back, stays, gets_then, after, follows_then_is, comes, forgotten, forgetting}
+use Rattle.follow_laws.proofs.Requesting.{IsNoFailure, asks_by}
+use Rattle.follow_laws.proofs.Holding.{HasPart, IsSet, scratch_set, kept_read}
+use Rattle.follow_laws.proofs.Instructions.{puts_on, sets_by, pushes_by, renamed, offset_is}
 use Rattle.code_laws.proofs.Values.{both_true}
 use Rattle.code_laws.proofs.OperatorRuns.{truth_back}
 use Rattle.code_laws.proofs.BetweenRuns.{unless_run}
 use Rattle.code_laws.proofs.ExprPieces.{there}
 use Rattle.code_laws.proofs.ReceiveRuns.{thing_is}
-use Rattle.statement_code_laws.specs.StatementBounds.{Along, behind_wait_within, receive_case_within, statements_within, otherwise_within, receives_within}
-use Rattle.statement_code_laws.specs.StatementsInRange.{FollowEachOther, FitsSet, FitsOtherwise, FitsReceives}
-use Rattle.statement_code_laws.specs.Statements.{StandsAs, calls_from}
+use Rattle.code_laws.specs.StatementBounds.{Along, behind_wait_within, receive_case_within, statements_within, otherwise_within, receives_within}
+use Rattle.code_laws.specs.StatementsInRange.{FollowEachOther, FitsSet, FitsOtherwise, FitsReceives}
+use Rattle.code_laws.specs.Statements.{StandsAs, calls_from}
 use Rattle.statement_code_laws.specs.Parts.{Acts}
 use Rattle.statement_code_laws.specs.Actions.{ActionActs}
 use Rattle.statement_code_laws.specs.StatementForms.{StatementsAct, SomeAct}

@@ -1,5 +1,5 @@
 -- DELAY, CONTINUE and SEND.
-use Rattle.std.proofs.Common.{◌≡◌, ℕ, zero, suc, ◌+◌, ◌<◌, ◌≤◌, if◌then◌else◌, Bool, true, false, ◌&&◌, List, [], ◌∷◌, ◌++◌, ℤ, pos, length, take, drop, Option, Some, None, slice_get, refl, sym, ap, ◌∙◌, subst, arith, append_assoc, append-nil, length-append}
+use Rattle.std.proofs.Common.{◌≡◌, ℕ, zero, suc, ◌+◌, ◌<◌, ◌≤◌, if◌then◌else◌, Bool, true, false, ◌&&◌, List, [], ◌∷◌, ◌++◌, ℤ, pos, length, take, drop, Option, Some, None, slice_get, refl, sym, ap, ◌∙◌, subst, arith, append_assoc, append-nil, length-append, ◌⊎◌, inl, inr}
 use Rattle.std.proofs.Math.Seq.{take-append_seam, drop-append_seam}
 use Rattle.kernel_base.specs.declared.ends.Exc.TheVariants.{Rangefail}
 use Rattle.kernel_base.specs.declared.request.Alternative.{Alternative}
@@ -27,20 +27,20 @@ use Rattle.code_scheme.specs.ExprSizes.{expr_size, received_size, received_sizes
 use Rattle.code_scheme.specs.ExprCode.{expr_code, received_codes, counts_of}
 use Rattle.code_scheme.specs.StatementSite.{layout}
 use Rattle.code_scheme.specs.StatementPlain.{receiver_code, receiver_size, has_receiver}
-use Rattle.code_laws.specs.Follows.{HasAt, Around, frame_at, state_at, here, Holds, Follows, always, no_stack, HoldsWith, Nothing, Does, action_in}
+use Rattle.follow_laws.specs.Follows.{HasAt, Around, frame_at, state_at, here, Holds, Follows, always, no_stack, HoldsWith, Nothing, Does, action_in}
 use Rattle.code_laws.specs.InRange.{IsNumber32}
 use Rattle.code_laws.specs.OwnBounds.{all_within, expr_within}
-use Rattle.code_laws.proofs.Running.{has_front, has_back, after, follows_then, follows_then_is, makes, comes, raises}
-use Rattle.code_laws.proofs.Requesting.{IsNoFailure, none_takes, asks_by, done_by}
-use Rattle.code_laws.proofs.Instructions.{puts_on, renamed, sole}
+use Rattle.follow_laws.proofs.Running.{has_front, has_back, after, follows_then, follows_then_is, makes, comes, raises}
+use Rattle.follow_laws.proofs.Requesting.{IsNoFailure, none_takes, asks_by, done_by}
+use Rattle.follow_laws.proofs.Instructions.{puts_on, renamed, sole}
 use Rattle.code_laws.proofs.Sizes.{expr_length, received_length, all_length}
 use Rattle.code_laws.proofs.Values.{both_true}
 use Rattle.code_laws.proofs.BetweenRuns.{pop_run}
 use Rattle.code_laws.proofs.ExprPieces.{there}
 use Rattle.code_laws.proofs.ReceiveRuns.{thing_is}
 use Rattle.code_laws.proofs.ExprRuns.{expr_runs, all_runs}
-use Rattle.statement_code_laws.specs.Statements.{calls_from}
-use Rattle.statement_code_laws.specs.StatementBounds.{sent_within, some_value_within}
+use Rattle.code_laws.specs.Statements.{calls_from}
+use Rattle.code_laws.specs.StatementBounds.{sent_within, some_value_within}
 use Rattle.statement_code_laws.specs.Actions.{ActionActs, RequestingLaw}
 use Rattle.statement_code_laws.proofs.PlainRuns.{plain_acts, open_here}
 use Rattle.statement_code_laws.proofs.LeavingRuns.{received_then}
@@ -126,7 +126,7 @@ to_instance_runs w k count priority at to lo hi xs ys locals store s long one_lo
         ∙ ap (λ o. at_offset o (λ to. asks (SendSignal k xs (Some to) priority))) is)
 
     by_number : (o : Option ℕ) → number_in (sole_number ys) ≡ o → Does w (here w at (xs ++ ys) locals s) lo hi [] to (send_to k priority xs o store s)
-    by_number None is = makes instr at [] (xs ++ ys) locals s (Throws Rangefail) has found (does None is) (raises low high refl h)
+    by_number None is = makes instr at [] (xs ++ ys) locals s (Throws Rangefail) has found (does None is) (raises (inl refl) low high refl h)
     by_number (Some who) is = done_by w instr lo hi to [] at (SendSignal k xs (Some who) priority) [] (xs ++ ys) locals store s has found (does (Some who) is) tt e low high (none_takes at) h
 
 signal_sent : (k : ℕ) (rs : ReceivedNodes) (to : Option ExprTree) (priority : ℕ) → ActionActs (send (signal k rs to) priority)

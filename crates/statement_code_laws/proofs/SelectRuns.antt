@@ -17,18 +17,18 @@ use Rattle.code_scheme.specs.StatementGoing.{go_on, leave_size, leave_code}
 use Rattle.code_scheme.specs.StatementSize.{statements_size}
 use Rattle.code_scheme.specs.StatementCode.{next_place, chosen, statements_code}
 use Rattle.code_scheme.specs.StatementRows.{statements_rows}
-use Rattle.code_laws.specs.Follows.{HasAt, Around, here, Holds, GetsTo, Does}
-use Rattle.code_laws.specs.Statements.{IsCovered}
-use Rattle.code_laws.specs.Calls.{BodiesWithin}
+use Rattle.follow_laws.specs.Follows.{HasAt, Around, here, Holds, GetsTo, Does}
+use Rattle.follow_laws.specs.Parts.{IsCovered}
+use Rattle.code_laws.specs.BodyBounds.{BodiesWithin}
 use Rattle.code_laws.specs.Expressions.{NamesIn}
-use Rattle.code_laws.proofs.Running.{has_front, has_back, gets_then, after}
-use Rattle.code_laws.proofs.Holding.{HasPart}
-use Rattle.code_laws.proofs.Instructions.{renamed}
+use Rattle.follow_laws.proofs.Running.{has_front, has_back, gets_then, after}
+use Rattle.follow_laws.proofs.Holding.{HasPart}
+use Rattle.follow_laws.proofs.Instructions.{renamed}
 use Rattle.code_laws.proofs.OperatorRuns.{truth_back}
 use Rattle.code_laws.proofs.BetweenRuns.{unless_run}
-use Rattle.statement_code_laws.specs.StatementBounds.{Along, statements_within}
-use Rattle.statement_code_laws.specs.StatementsInRange.{FitsStatements}
-use Rattle.statement_code_laws.specs.Statements.{StandsAs, calls_from}
+use Rattle.code_laws.specs.StatementBounds.{Along, statements_within}
+use Rattle.code_laws.specs.StatementsInRange.{FitsStatements}
+use Rattle.code_laws.specs.Statements.{StandsAs, calls_from}
 use Rattle.statement_code_laws.specs.Parts.{LieIn, Acts}
 use Rattle.statement_code_laws.specs.StatementForms.{StatementsAct}
 use Rattle.statement_code_laws.proofs.Lengths.{leave_length, statements_length}

@@ -17,21 +17,21 @@ use Rattle.code_scheme.specs.ExprSizes.{place_size}
 use Rattle.code_scheme.specs.ExprCode.{place_code}
 use Rattle.code_scheme.specs.StatementSite.{Standing, layout}
 use Rattle.code_scheme.specs.StatementWaits.{set_place_code, set_place_size, set_kept, chosen_in, set_code, set_size}
-use Rattle.code_laws.specs.Follows.{HasAt, scalars_in, Around, free_in, keeping, here, Holds, Follows, always, no_stack, HoldsWith, Nothing, Does}
-use Rattle.code_laws.specs.Calls.{BodiesWithin}
+use Rattle.follow_laws.specs.Follows.{HasAt, scalars_in, Around, free_in, keeping, here, Holds, Follows, always, no_stack, HoldsWith, Nothing, Does}
+use Rattle.code_laws.specs.BodyBounds.{BodiesWithin}
 use Rattle.code_laws.specs.InRange.{BaseFits, IsOffset}
 use Rattle.code_laws.specs.OwnBounds.{parts_within}
 use Rattle.code_laws.specs.Expressions.{NamesIn}
-use Rattle.code_laws.proofs.Running.{has_front, has_back, gets_then, after, follows_then, comes}
-use Rattle.code_laws.proofs.Holding.{HasPart, kept_read}
-use Rattle.code_laws.proofs.Instructions.{puts_on, renamed}
+use Rattle.follow_laws.proofs.Running.{has_front, has_back, gets_then, after, follows_then, comes}
+use Rattle.follow_laws.proofs.Holding.{HasPart, kept_read}
+use Rattle.follow_laws.proofs.Instructions.{puts_on, renamed}
 use Rattle.code_laws.proofs.Sizes.{place_length, where_length}
 use Rattle.code_laws.proofs.PlaceRuns.{IsPlace, place_stack, store_runs}
 use Rattle.code_laws.proofs.ExprPieces.{assoc}
 use Rattle.code_laws.proofs.CallPieces.{kept_offset, keep_none, keep_runs, found_runs}
-use Rattle.statement_code_laws.specs.StatementBounds.{some_place_within}
-use Rattle.statement_code_laws.specs.StatementsInRange.{FitsSet}
-use Rattle.statement_code_laws.specs.Statements.{StandsAs, calls_from}
+use Rattle.code_laws.specs.StatementBounds.{some_place_within}
+use Rattle.code_laws.specs.StatementsInRange.{FitsSet}
+use Rattle.code_laws.specs.Statements.{StandsAs, calls_from}
 use Rattle.statement_code_laws.proofs.PlainRuns.{open_here}
 use Rattle.statement_code_laws.proofs.AssignRuns.{target_runs}
 

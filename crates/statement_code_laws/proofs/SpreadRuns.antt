@@ -7,10 +7,10 @@ use Rattle.source_meaning.specs.Store.{Store, with_local, count_in}
 use Rattle.source_meaning.specs.StatementMeaning.{spread_over, counts_over}
 use Rattle.code_scheme.specs.Pieces.{Layout, first_in}
 use Rattle.code_scheme.specs.StatementWaits.{first_received, scalars_received, scalars_of_row}
-use Rattle.code_laws.specs.Follows.{Around, Holds}
-use Rattle.code_laws.proofs.Stores.{set_right, length-with_scalars}
-use Rattle.code_laws.proofs.Holding.{IsSet, whole_set}
-use Rattle.statement_code_laws.specs.StatementsInRange.{FollowFrom, FollowEachOther}
+use Rattle.follow_laws.specs.Follows.{Around, Holds}
+use Rattle.follow_laws.proofs.Stores.{set_right, length-with_scalars}
+use Rattle.follow_laws.proofs.Holding.{IsSet, whole_set}
+use Rattle.code_laws.specs.StatementsInRange.{FollowFrom, FollowEachOther}
 
 -- ---- parts of lists
 

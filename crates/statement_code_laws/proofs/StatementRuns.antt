@@ -3,9 +3,12 @@ use Rattle.std.proofs.Common.{◌≡◌, ℕ, Bool, true, List, ℤ, Option, ref
 use Rattle.program_trees.specs.ExprTree.{LocationTree}
 use Rattle.program_trees.specs.StatementTree.{ControlTree, StatementTree, statement, ActionTree, do_nothing, declare, set_lowest, module_at, region_at, assign, update, perform, drop_routine, evaluate, put_int, put_text, put_line, exit_from, return_with, set_result, assert_that, cause, stop, start_of, delay, continue_at, send, if_then, case_of, do_loop, begin_end, delay_case, receive_buffers, receive_signals, StatementNodes, no_statements, more_statements, ChoiceNodes, no_choices, more_choices, CaseNodes, no_cases, more_cases, DelayNodes, no_delays, more_delays, ReceiveNodes, no_receives, more_receives, OtherwiseNode, no_otherwise, otherwise, HandledNodes, no_handled, more_handled, HandlerNode, no_handler, handler}
 use Rattle.code_laws.proofs.Values.{both_true}
-use Rattle.statement_code_laws.specs.Counters.{loop_keeps, statements_keep, statement_keeps, handler_keeps, handled_keep, otherwise_keeps, action_keeps, choices_keep, cases_keep, delays_keep, receives_keep}
+use Rattle.code_laws.specs.Statements.{StatementsLaw}
+use Rattle.code_laws.proofs.ControlRuns.{loop_runs}
+use Rattle.code_laws.proofs.StayingStatements.{leaves_law}
+use Rattle.code_laws.specs.Counters.{loop_keeps, statements_keep, statement_keeps, handler_keeps, handled_keep, otherwise_keeps, action_keeps, choices_keep, cases_keep, delays_keep, receives_keep}
 use Rattle.statement_code_laws.specs.Actions.{ActionActs}
-use Rattle.statement_code_laws.specs.StatementForms.{StatementActs, StatementsAct, SomeAct, EachChoice, EachCase, EachDelay, EachReceive, EachHandled, HandlerActs, JoiningLaw, LoopsAct, StatementsJoined}
+use Rattle.statement_code_laws.specs.StatementForms.{StatementActs, StatementsAct, SomeAct, EachChoice, EachCase, EachDelay, EachReceive, EachHandled, HandlerActs, JoiningLaw, LoopsAct}
 use Rattle.statement_code_laws.proofs.PlainRuns.{plain_law}
 use Rattle.statement_code_laws.proofs.AssignRuns.{assignment_law}
 use Rattle.statement_code_laws.proofs.LeavingRuns.{leaving_law}
@@ -16,6 +19,7 @@ use Rattle.statement_code_laws.proofs.ChoiceRuns.{ChoicesAct, sequence_acts, not
 use Rattle.statement_code_laws.proofs.CaseRuns.{CasesAct, no_cases_act, more_cases_act, case_acts}
 use Rattle.statement_code_laws.proofs.DelayRuns.{DelaysAct, no_delays_act, more_delays_act, delay_acts}
 use Rattle.statement_code_laws.proofs.ReceptionRuns.{ReceivesAct, no_receives_act, more_receives_act, buffers_act, signals_act}
+use Rattle.statement_code_laws.proofs.LoopActs.{loops_act}
 use Rattle.statement_code_laws.proofs.HandlingRuns.{HandledAct, no_handled_act, more_handled_act, statement_acts}
 
 -- ---- what holds statements
@@ -59,6 +63,9 @@ joining_law =
     }
 
 -- ---- all statements
+
+pub looping_law : LoopsAct
+looping_law = loops_act loop_runs leaves_law
 
 mutual
   pub statements_join : LoopsAct → (ss : StatementNodes) → statements_keep ss ≡ true → StatementsAct ss
@@ -128,5 +135,6 @@ mutual
   action_join p (receive_buffers set rs o) keeps = joining_law.buffers set rs o (receives_join p rs (both_true _ _ keeps).0) (otherwise_join p o (both_true _ _ keeps).1)
   action_join p (receive_signals set rs o) keeps = joining_law.signals set rs o (receives_join p rs (both_true _ _ keeps).0) (otherwise_join p o (both_true _ _ keeps).1)
 
-pub statements_law : StatementsJoined
-statements_law = statements_join
+pub statements_law : StatementsLaw
+statements_law w v st bodies inside n ss at locals store s stands names fits keeps has covered within h =
+    (statements_join looping_law ss keeps w v st bodies inside n at stands names fits has).follows covered store s locals within h

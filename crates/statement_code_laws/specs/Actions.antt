@@ -14,13 +14,13 @@ use Rattle.code_scheme.specs.StatementGoing.{action_goes_on}
 use Rattle.code_scheme.specs.StatementSize.{action_size}
 use Rattle.code_scheme.specs.StatementCode.{action_code}
 use Rattle.code_scheme.specs.StatementRows.{action_rows}
-use Rattle.code_laws.specs.Follows.{HasAt, Around}
-use Rattle.code_laws.specs.Calls.{BodiesWithin}
+use Rattle.follow_laws.specs.Follows.{HasAt, Around}
+use Rattle.code_laws.specs.BodyBounds.{BodiesWithin}
 use Rattle.code_laws.specs.Expressions.{NamesIn}
 use Rattle.statement_code_laws.specs.Parts.{Acts}
-use Rattle.statement_code_laws.specs.Statements.{StandsAs, calls_from}
-use Rattle.statement_code_laws.specs.StatementsInRange.{FitsAction}
-use Rattle.statement_code_laws.specs.StatementBounds.{action_within}
+use Rattle.code_laws.specs.Statements.{StandsAs, calls_from}
+use Rattle.code_laws.specs.StatementsInRange.{FitsAction}
+use Rattle.code_laws.specs.StatementBounds.{action_within}
 
 -- the code of an action acts as the action means, wherever it stands
 abbrev pub ActionActs : ActionTree → Type 0

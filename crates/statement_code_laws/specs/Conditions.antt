@@ -9,8 +9,8 @@ use Rattle.source_meaning.specs.BodyMeaning.{Bodies}
 use Rattle.code_scheme.specs.Pieces.{Layout}
 use Rattle.code_scheme.specs.ExprSizes.{condition_size}
 use Rattle.code_scheme.specs.ExprCode.{condition_code}
-use Rattle.code_laws.specs.Follows.{HasAt, Around, free_in, here, Holds, Follows, always, HoldsWith, IsLong}
-use Rattle.code_laws.specs.Calls.{BodiesWithin}
+use Rattle.follow_laws.specs.Follows.{HasAt, Around, free_in, here, Holds, Follows, always, HoldsWith, IsLong}
+use Rattle.code_laws.specs.BodyBounds.{BodiesWithin}
 use Rattle.code_laws.specs.InRange.{FitsExpr}
 use Rattle.code_laws.specs.OwnBounds.{expr_within}
 use Rattle.code_laws.specs.Expressions.{Suited, NamesIn, calls_at}

@@ -4,9 +4,9 @@ use Rattle.world_model.specs.Session.{Session}
 use Rattle.code_types.specs.declared.code.Handler.{Handler}
 use Rattle.source_meaning.specs.Store.{Store}
 use Rattle.source_meaning.specs.Flow.{Goes, Meaning}
-use Rattle.code_laws.specs.Follows.{Around, here, Holds, Does}
-use Rattle.code_laws.specs.Statements.{IsCovered}
-use Rattle.statement_code_laws.specs.StatementBounds.{Along}
+use Rattle.follow_laws.specs.Follows.{Around, here, Holds, Does}
+use Rattle.follow_laws.specs.Parts.{IsCovered}
+use Rattle.code_laws.specs.StatementBounds.{Along}
 
 -- the rows are for instructions between two places
 abbrev pub LieIn : List Handler → ℕ → ℕ → Type 0

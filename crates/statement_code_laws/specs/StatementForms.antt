@@ -10,13 +10,13 @@ use Rattle.code_scheme.specs.StatementGoing.{go_on, goes_on}
 use Rattle.code_scheme.specs.StatementSize.{statements_size, statement_size}
 use Rattle.code_scheme.specs.StatementCode.{statements_code, statement_code}
 use Rattle.code_scheme.specs.StatementRows.{statements_rows, statement_rows}
-use Rattle.code_laws.specs.Follows.{HasAt, Around}
-use Rattle.code_laws.specs.Calls.{BodiesWithin}
+use Rattle.follow_laws.specs.Follows.{HasAt, Around}
+use Rattle.code_laws.specs.BodyBounds.{BodiesWithin}
 use Rattle.code_laws.specs.Expressions.{NamesIn}
-use Rattle.statement_code_laws.specs.StatementBounds.{statements_within, statement_within}
-use Rattle.statement_code_laws.specs.StatementsInRange.{FitsStatements, FitsStatement}
-use Rattle.statement_code_laws.specs.Statements.{StandsAs, calls_from}
-use Rattle.statement_code_laws.specs.Counters.{loop_keeps, statements_keep}
+use Rattle.code_laws.specs.StatementBounds.{statements_within, statement_within}
+use Rattle.code_laws.specs.StatementsInRange.{FitsStatements, FitsStatement}
+use Rattle.code_laws.specs.Statements.{StandsAs, calls_from}
+use Rattle.code_laws.specs.Counters.{loop_keeps}
 use Rattle.statement_code_laws.specs.Parts.{Acts}
 use Rattle.statement_code_laws.specs.Actions.{ActionActs}
 
@@ -81,7 +81,3 @@ pub record JoiningLaw : Type 0 where
 -- Loops that alone set their counters act where their actions do.
 abbrev pub LoopsAct : Type 0
 LoopsAct = (control : ControlTree) (ss : StatementNodes) → loop_keeps control ss ≡ true → StatementsAct ss → ActionActs (do_loop control ss)
-
--- Then all statements act whose loops alone set their counters.
-abbrev pub StatementsJoined : Type 0
-StatementsJoined = LoopsAct → (ss : StatementNodes) → statements_keep ss ≡ true → StatementsAct ss

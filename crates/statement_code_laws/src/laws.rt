@@ -1,7 +1,8 @@
 // Laws of the code of statements. Each is a fact about the definitions, which a caller learns by calling the function.
+ghost use Rattle.code_laws.specs.Statements.{StatementsLaw};
 ghost use Rattle.statement_code_laws.specs.Conditions.{ConditionLaw};
 ghost use Rattle.statement_code_laws.specs.Actions.{AssignmentLaw, CallingLaw, DeclarationLaw, LeavingLaw, PlainLaw, RequestingLaw};
-ghost use Rattle.statement_code_laws.specs.StatementForms.{JoiningLaw, StatementsJoined};
+ghost use Rattle.statement_code_laws.specs.StatementForms.{JoiningLaw, LoopsAct};
 
 /// The instructions of a condition follow its meaning, and control goes where it has to.
 pub fn condition_law()
@@ -43,7 +44,12 @@ pub fn joining_law()
     ensures { JoiningLaw }
 {}
 
-/// Where loops act, so do all statements.
+/// A DO acts where its actions do.
+pub fn looping_law()
+    ensures { LoopsAct }
+{}
+
+/// The instructions of all statements follow their meaning.
 pub fn statements_law()
-    ensures { StatementsJoined }
+    ensures { StatementsLaw }
 {}
