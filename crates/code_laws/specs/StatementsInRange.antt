@@ -53,6 +53,11 @@ abbrev pub FitsSent : Layout → SentTree → Type 0
 FitsSent lay (to_buffer b r) = FitsReceived lay r
 FitsSent lay (signal n rs to) = FitsAll lay rs × FitsSomeNumber lay to
 
+-- how many alternatives a DELAY CASE has
+abbrev pub count_of_delays : DelayNodes → ℕ
+count_of_delays no_delays = 0
+count_of_delays (more_delays es ss ds) = suc (count_of_delays ds)
+
 -- the control of a DO, whose counter is a local of one scalar
 abbrev pub FitsControl : Layout → ControlTree → Type 0
 FitsControl lay (while_true e) = FitsNumber lay e
@@ -116,7 +121,7 @@ abbrev mutual
   FitsAction site n (case_of e cs o) = FitsNumber (layout site) e × FitsCases site n cs × FitsOtherwise site n o
   FitsAction site n (do_loop control ss) = FitsControl (layout site) control × FitsStatements site n ss
   FitsAction site n (begin_end ss) = FitsStatements site n ss
-  FitsAction site n (delay_case set priority ds) = FitsSet (layout site) set × FitsDelays site n ds
+  FitsAction site n (delay_case set priority ds) = FitsSet (layout site) set × IsNumber32 (count_of_delays ds) × FitsDelays site n ds
   FitsAction site n (receive_buffers set rs o) = FitsSet (layout site) set × FitsReceives site n rs × FitsOtherwise site n o
   FitsAction site n (receive_signals set rs o) = FitsSet (layout site) set × FitsReceives site n rs × FitsOtherwise site n o
 
@@ -152,10 +157,10 @@ abbrev mutual
   FitsItemAction site labelled (region_at r ss) h = FitsStatements site 0 ss × FitsHandler site 0 h
   FitsItemAction site labelled a h = FitsStatement site 0 (statement labelled a h)
 
--- locals of as many scalars as their modes, which follow each other from this scalar on
+-- locals of as many scalars as their modes, at most 4,096 each, which follow each other from this scalar on
 abbrev pub AreLaid : ℕ → List LocalRowTree → Type 0
 AreLaid first [] = Unit {0}
-AreLaid first (row ∷ rows) = (row.first ≡ first) × (row.count ≡ scalars_of row.mode) × AreLaid (first + row.count) rows
+AreLaid first (row ∷ rows) = (row.first ≡ first) × (row.count ≡ scalars_of row.mode) × (row.count < 4097) × AreLaid (first + row.count) rows
 
 -- the numbers of a body are in range; its parameters are its first locals
 pub record FitsWhole (p : CheckedTree) (b : BodyRowTree) : Type 0 where
