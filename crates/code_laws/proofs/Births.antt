@@ -56,7 +56,7 @@ count_parameters : (first : ℕ) (rows : List LocalRowTree) (ps : List Parameter
 count_parameters first rows [] laid = refl
 count_parameters first [] (q ∷ ps) laid = refl
 count_parameters first (row ∷ rows) (q ∷ ps) laid =
-    omega (arith, length-append (domains_of row.mode) (domains_of_parameters rows ps), count_domains row.mode, laid.1, count_parameters (first + row.count) rows ps laid.2)
+    omega (arith, length-append (domains_of row.mode) (domains_of_parameters rows ps), count_domains row.mode, laid.1, count_parameters (first + row.count) rows ps laid.3)
 
 pub birth_fits : (p : CheckedTree) (who process : ℕ) (xs : List ℤ) (answers : List Answer) → FitsProgram p → IsFitting p who process xs answers → FitsBirth p process xs
 birth_fits p who process xs answers in_range fits =

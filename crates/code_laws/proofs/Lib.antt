@@ -21,3 +21,4 @@ pub mod StepLoops
 pub mod ControlRuns
 pub mod Staying
 pub mod StayingStatements
+pub mod BodyBegins

@@ -8,6 +8,7 @@ pub mod StatementsInRange
 pub mod Counters
 pub mod Leaving
 pub mod Expressions
+pub mod Bodies
 pub mod Statements
 pub mod Loops
 pub mod Assembly

@@ -157,10 +157,10 @@ abbrev mutual
   FitsItemAction site labelled (region_at r ss) h = FitsStatements site 0 ss × FitsHandler site 0 h
   FitsItemAction site labelled a h = FitsStatement site 0 (statement labelled a h)
 
--- locals of as many scalars as their modes, which follow each other from this scalar on
+-- locals of as many scalars as their modes, at most 4,096 each, which follow each other from this scalar on
 abbrev pub AreLaid : ℕ → List LocalRowTree → Type 0
 AreLaid first [] = Unit {0}
-AreLaid first (row ∷ rows) = (row.first ≡ first) × (row.count ≡ scalars_of row.mode) × AreLaid (first + row.count) rows
+AreLaid first (row ∷ rows) = (row.first ≡ first) × (row.count ≡ scalars_of row.mode) × (row.count < 4097) × AreLaid (first + row.count) rows
 
 -- the numbers of a body are in range; its parameters are its first locals
 pub record FitsWhole (p : CheckedTree) (b : BodyRowTree) : Type 0 where

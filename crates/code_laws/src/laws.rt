@@ -2,6 +2,7 @@
 ghost use Rattle.code_laws.specs.Operators.{PrefixLaw, RoutineLaw};
 ghost use Rattle.code_laws.specs.Expressions.{ExprLaw};
 ghost use Rattle.code_laws.specs.Calls.{CallLaw};
+ghost use Rattle.code_laws.specs.Bodies.{BeginsLaw};
 ghost use Rattle.code_laws.specs.Leaving.{LeavesLaw};
 ghost use Rattle.code_laws.specs.Loops.{LoopLaw};
 ghost use Rattle.code_laws.specs.Assembly.{LawOfAssembly, SameRunsLaw};
@@ -35,6 +36,11 @@ pub fn leaves_law()
 /// The instructions of a loop follow its meaning, where those of its condition and of its actions follow theirs.
 pub fn loop_law()
     ensures { LoopLaw }
+{}
+
+/// A body's frame comes to its first store.
+pub fn begins_law()
+    ensures { BeginsLaw }
 {}
 
 /// A code whose bodies do what they mean has the program's talk.

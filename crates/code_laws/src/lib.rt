@@ -6,6 +6,6 @@
 mod laws;
 
 pub use laws::{
-    call_law, expr_law, law_of_assembly, leaves_law, loop_law, prefix_law, routine_law,
+    begins_law, call_law, expr_law, law_of_assembly, leaves_law, loop_law, prefix_law, routine_law,
     same_runs_law, talk_joined,
 };
