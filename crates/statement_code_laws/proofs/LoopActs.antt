@@ -129,9 +129,10 @@ counter_stays : LeavesLaw → (w : Around) (v : Setting) (st : Standing) (bodies
 counter_stays law w v st bodies inside n (while_true e) ss stands keeps = tt
 counter_stays law w v st bodies inside n for_ever ss stands keeps = tt
 counter_stays law w v st bodies inside n (for_members counter e low condition) ss stands keeps = tt
-counter_stays law w v st bodies inside n (for_steps counter e step f down condition) ss stands keeps =
-    (by_condition condition (both_true _ _ keeps).0,
-    λ u store store1 s s1 is. left_by counter (statements_mean v n ss store s) u store store1 s1 (law.statements st.site.program bodies (suc (length w.below)) counter n v ss store s stands.suited.calls (both_true _ _ keeps).1) is)
+counter_stays law w v st bodies inside n (for_steps counter e step f down condition) ss stands keeps = (
+  by_condition condition (both_true _ _ keeps).0,
+  λ u store store1 s s1 is. left_by counter (statements_mean v n ss store s) u store store1 s1 (law.statements st.site.program bodies (suc (length w.below)) counter n v ss store s stands.suited.calls (both_true _ _ keeps).1) is,
+)
   where
     by_condition : (o : Option ExprTree) → some_leaves counter o ≡ true → SomeLeaves v counter o
     by_condition None left = tt

@@ -6,6 +6,6 @@
 mod laws;
 
 pub use laws::{
-    assignment_law, calling_law, condition_law, declaration_law, joining_law, leaving_law, looping_law,
-    plain_law, requesting_law, statements_law,
+    assignment_law, calling_law, condition_law, declaration_law, joining_law, leaving_law,
+    looping_law, plain_law, requesting_law, statements_law,
 };
