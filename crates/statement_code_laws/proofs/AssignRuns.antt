@@ -1,5 +1,5 @@
 -- The instructions of assignments follow their meaning.
-use Rattle.std.proofs.Common.{◌≡◌, ℕ, zero, suc, ◌+◌, ◌-◌, ◌<◌, ◌≤◌, if◌then◌else◌, Bool, true, false, ◌&&◌, List, [], ◌∷◌, ◌++◌, ℤ, pos, ◌+ℤ◌, ◌-ℤ◌, ◌*ℤ◌, length, Option, Some, None, slice_get, refl, sym, ap, ◌∙◌, subst, arith, append_assoc, append-nil, length-append, ◌⊎◌, inl, inr}
+use Rattle.std.proofs.Common.{◌≡◌, ℕ, ◌+◌, ◌-◌, ◌<◌, ◌≤◌, if◌then◌else◌, Bool, true, false, ◌&&◌, List, [], ◌∷◌, ◌++◌, ℤ, pos, ◌+ℤ◌, ◌-ℤ◌, ◌*ℤ◌, length, Option, Some, None, refl, sym, ap, ◌∙◌, subst, arith, append_assoc, length-append, inl}
 use Rattle.std.specs.Prelude.{int_div, int_rem, int_le}
 use Rattle.std.specs.Int.{int_rem_euclid}
 use Rattle.kernel_base.specs.declared.ends.Exc.TheVariants.{Overflow}
@@ -12,30 +12,30 @@ use Rattle.checked_program.specs.declared.expr.Binary.{Binary}
 use Rattle.checked_program.specs.declared.expr.Binary.TheVariants.{Add, Subtract, Multiply, Divide, Modulo, Remainder, And, Or, Xor, AndIf, OrIf}
 use Rattle.program_trees.specs.ExprTree.{ExprTree, ReceivedTree, PartNodes, LocationTree, location, count_of, received_count, location_count}
 use Rattle.program_trees.specs.StatementTree.{assign, update}
-use Rattle.scalar_operators.specs.Numbers.{is_int, where_true, int_result, quotient, remainder, modulus, truth_of, truth_number}
+use Rattle.scalar_operators.specs.Numbers.{is_int, where_true, int_result, quotient, remainder, modulus, truth_of}
 use Rattle.code_types.specs.declared.instr.Instr.{Instr}
 use Rattle.code_types.specs.Steps.{Run}
 use Rattle.code_types.specs.declared.instr.Instr.TheVariants as i
-use Rattle.source_meaning.specs.Store.{Store, Address, address_of}
-use Rattle.source_meaning.specs.Flow.{Flow, Goes, Meaning, then_do}
+use Rattle.source_meaning.specs.Store.{Store, address_of}
+use Rattle.source_meaning.specs.Flow.{Flow, Goes, then_do}
 use Rattle.source_meaning.specs.Operators.{sole_number, one, truth, Computed, Yields, Throws, yields_or, binary_value, takes_second}
 use Rattle.source_meaning.specs.ExprMeaning.{Setting, as_computed, tested, read_at, assign_at, binary_with, expr_mean, received_mean, offset_mean, location_mean}
 use Rattle.source_meaning.specs.StatementMeaning.{action_mean}
 use Rattle.source_meaning.specs.BodyMeaning.{Bodies}
-use Rattle.code_scheme.specs.Pieces.{Layout, first_of_parts, has_index, needs_offset, has_offset, offsets_kept, again_code, contents_code, store_code, between_code, between_size, behind_code, behind_size, check_code, bounds_to_test, bounds_of_operator}
+use Rattle.code_scheme.specs.Pieces.{Layout, first_of_parts, needs_offset, offsets_kept, again_code, contents_code, store_code, between_code, between_size, behind_code, behind_size, check_code, bounds_to_test, bounds_of_operator}
 use Rattle.code_scheme.specs.ExprSizes.{expr_size, place_size, indices_size, received_size}
-use Rattle.code_scheme.specs.ExprCode.{expr_code, place_code, indices_code, received_code}
+use Rattle.code_scheme.specs.ExprCode.{expr_code, place_code, received_code}
 use Rattle.code_scheme.specs.StatementSite.{Standing, layout}
-use Rattle.code_scheme.specs.StatementPlain.{assign_code, assign_size, update_code, update_size, update_test, read_code, read_size}
-use Rattle.follow_laws.specs.Follows.{HasAt, Around, free_in, here, Holds, GetsTo, Follows, always, HoldsWith, Nothing, on_top, IsLong, no_stack, Does}
+use Rattle.code_scheme.specs.StatementPlain.{assign_code, assign_size, update_code, update_size, update_test, read_size}
+use Rattle.follow_laws.specs.Follows.{HasAt, Around, free_in, here, Holds, GetsTo, Follows, always, HoldsWith, on_top, IsLong, Does}
 use Rattle.code_laws.specs.BodyBounds.{BodiesWithin}
 use Rattle.code_laws.specs.InRange.{FitsExpr, FitsReceived, FitsLocation, OperandsFit, BoundsFit}
-use Rattle.code_laws.specs.OwnBounds.{CallsWithin, where_goes, lies_in, expr_within, received_within, parts_within}
+use Rattle.code_laws.specs.OwnBounds.{where_goes, lies_in, expr_within, received_within, parts_within}
 use Rattle.code_laws.specs.Expressions.{Suited, NamesIn, calls_at}
 use Rattle.code_laws.specs.StatementBounds.{assign_within, update_within}
 use Rattle.statement_code_laws.specs.Actions.{ActionActs, AssignmentLaw}
 use Rattle.statement_code_laws.proofs.PlainRuns.{plain_acts, open_here}
-use Rattle.follow_laws.proofs.Running.{has_front, has_back, gets_then, after, follows_then, follows_then_is, comes}
+use Rattle.follow_laws.proofs.Running.{has_front, has_back, gets_then, after, follows_then, follows_then_is}
 use Rattle.follow_laws.proofs.Instructions.{pushes_by, renamed}
 use Rattle.code_laws.proofs.Sizes.{between_length, behind_length, expr_length, received_length, place_length, contents_length, where_length}
 use Rattle.code_laws.proofs.Values.{both_true}

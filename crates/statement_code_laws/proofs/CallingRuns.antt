@@ -1,20 +1,18 @@
 -- Calls and starts whose values are dropped.
-use Rattle.std.proofs.Common.{◌≡◌, ℕ, zero, suc, ◌+◌, ◌<◌, ◌≤◌, if◌then◌else◌, nat_lt, ltb-false, Bool, true, false, List, [], ◌∷◌, ◌++◌, ℤ, length, Option, Some, None, slice_get, refl, sym, ap, ◌∙◌, subst, arith}
+use Rattle.std.proofs.Common.{◌≡◌, ℕ, ◌+◌, if◌then◌else◌, nat_lt, ltb-false, Bool, true, false, List, [], ◌∷◌, ℤ, length, refl, sym, ap, arith}
 use Rattle.world_model.specs.Session.{Session}
 use Rattle.code_types.specs.declared.instr.Instr.{Instr}
 use Rattle.code_types.specs.declared.instr.Instr.TheVariants as i
 use Rattle.program_trees.specs.ExprTree.{CallTree, StartTree, call, start}
 use Rattle.program_trees.specs.StatementTree.{perform, start_of}
-use Rattle.source_meaning.specs.Store.{Store}
-use Rattle.source_meaning.specs.Flow.{Flow, Goes}
 use Rattle.code_scheme.specs.Pieces.{Layout}
 use Rattle.code_scheme.specs.ExprSizes.{call_size, start_size}
 use Rattle.code_scheme.specs.ExprCode.{call_code, start_code}
 use Rattle.code_scheme.specs.StatementSite.{layout}
 use Rattle.code_scheme.specs.StatementPlain.{dropped_scalars, drop_code}
-use Rattle.follow_laws.specs.Follows.{HasAt, Around, here, Holds, GetsTo}
+use Rattle.follow_laws.specs.Follows.{HasAt, Around, here, GetsTo}
 use Rattle.code_laws.specs.OwnBounds.{start_within, call_within}
-use Rattle.follow_laws.proofs.Running.{has_front, has_back, gets_then, after, follows_then, comes}
+use Rattle.follow_laws.proofs.Running.{has_front, has_back, after, follows_then, comes}
 use Rattle.follow_laws.proofs.Instructions.{renamed}
 use Rattle.code_laws.proofs.Sizes.{call_length, start_length}
 use Rattle.code_laws.proofs.BetweenRuns.{pop_run}

@@ -1,5 +1,5 @@
 -- CASE: the selector is kept, and the labels of each alternative are tried.
-use Rattle.std.proofs.Common.{◌≡◌, ℕ, zero, suc, ◌+◌, ◌<◌, ◌≤◌, if◌then◌else◌, nat_le, le-leb, int_le, int_lt, Bool, true, false, not, ◌&&◌, ◌||◌, List, [], ◌∷◌, ◌++◌, ℤ, length, Option, Some, None, slice_get, refl, sym, ap, ◌∙◌, subst, arith, append_assoc, append-nil, length-append, ◌⊎◌, inl, inr}
+use Rattle.std.proofs.Common.{◌≡◌, ℕ, suc, ◌+◌, ◌≤◌, if◌then◌else◌, nat_le, le-leb, int_le, int_lt, Bool, true, false, not, ◌&&◌, ◌||◌, List, [], ◌∷◌, ◌++◌, ℤ, length, Some, slice_get, refl, sym, ap, ◌∙◌, subst, arith, append_assoc, length-append, ◌⊎◌, inl, inr}
 use Rattle.std.proofs.lemmas.Int.{ints}
 use Rattle.kernel_base.specs.declared.ends.Exc.TheVariants.{Rangefail}
 use Rattle.world_model.specs.Session.{Session}
@@ -13,7 +13,7 @@ use Rattle.code_types.specs.declared.instr.Instr.TheVariants as i
 use Rattle.code_types.specs.declared.code.Handler.{Handler}
 use Rattle.code_types.specs.Actions.{Sets, Halts, Throws, in_frame, truth as truth_action}
 use Rattle.source_meaning.specs.Store.{Store}
-use Rattle.source_meaning.specs.Flow.{Flow, Goes, Raised, Meaning, then_do}
+use Rattle.source_meaning.specs.Flow.{Raised, Meaning}
 use Rattle.source_meaning.specs.Operators.{sole_number, one, truth}
 use Rattle.source_meaning.specs.ExprMeaning.{Setting, expr_mean}
 use Rattle.source_meaning.specs.StatementMeaning.{holds_one, statements_mean, otherwise_mean, cases_mean}
@@ -22,14 +22,13 @@ use Rattle.code_scheme.specs.Pieces.{Layout, are_same}
 use Rattle.code_scheme.specs.ExprSizes.{expr_size}
 use Rattle.code_scheme.specs.ExprCode.{expr_code}
 use Rattle.code_scheme.specs.StatementSite.{Standing, layout}
-use Rattle.code_scheme.specs.StatementGoing.{go_on, otherwise_goes_on, some_case_goes_on, leave_size, leave_code}
+use Rattle.code_scheme.specs.StatementGoing.{go_on, otherwise_goes_on, some_case_goes_on}
 use Rattle.code_scheme.specs.StatementSize.{label_code, more_labels_code, labels_code, labels_size, statements_size, otherwise_size, cases_size}
-use Rattle.code_scheme.specs.StatementCode.{CodeAt, no_label_code, next_place, joining, chosen, statements_code, otherwise_code, cases_code}
-use Rattle.code_scheme.specs.StatementRows.{RowsAt, statements_rows, otherwise_rows, cases_rows}
-use Rattle.follow_laws.specs.Follows.{HasAt, Around, free_in, keeping, here, Holds, GetsTo, Follows, always, HoldsWith, Does}
-use Rattle.follow_laws.specs.Parts.{IsCovered}
+use Rattle.code_scheme.specs.StatementCode.{CodeAt, no_label_code, next_place, otherwise_code, cases_code}
+use Rattle.code_scheme.specs.StatementRows.{RowsAt, otherwise_rows, cases_rows}
+use Rattle.follow_laws.specs.Follows.{HasAt, Around, keeping, here, Holds, GetsTo}
 use Rattle.code_laws.specs.BodyBounds.{BodiesWithin}
-use Rattle.code_laws.specs.OwnBounds.{where_goes, expr_within}
+use Rattle.code_laws.specs.OwnBounds.{expr_within}
 use Rattle.code_laws.specs.Expressions.{NamesIn}
 use Rattle.follow_laws.proofs.Running.{has_front, has_back, gets_then, after, follows_then_is, makes, raises, forgotten}
 use Rattle.follow_laws.proofs.Holding.{HasPart, IsSet, scratch_set, scratch_read}
@@ -37,13 +36,12 @@ use Rattle.follow_laws.proofs.Instructions.{puts_on, sets_by, pushes_by, renamed
 use Rattle.code_laws.proofs.Sizes.{expr_length}
 use Rattle.code_laws.proofs.Values.{both_true, same_int}
 use Rattle.code_laws.proofs.OperatorRuns.{truth_back, not_run}
-use Rattle.code_laws.proofs.BetweenRuns.{unless_run}
 use Rattle.code_laws.proofs.ExprPieces.{there}
 use Rattle.code_laws.proofs.ExprRuns.{expr_runs}
-use Rattle.code_laws.specs.StatementBounds.{Along, nothing_within, value_within, statements_within, otherwise_within, cases_within}
-use Rattle.code_laws.specs.StatementsInRange.{FitsNumber, FitsOtherwise, FitsCases}
+use Rattle.code_laws.specs.StatementBounds.{Along, nothing_within, statements_within, otherwise_within, cases_within}
+use Rattle.code_laws.specs.StatementsInRange.{FitsOtherwise, FitsCases}
 use Rattle.code_laws.specs.Statements.{StandsAs, calls_from}
-use Rattle.statement_code_laws.specs.Parts.{LieIn, Acts}
+use Rattle.statement_code_laws.specs.Parts.{Acts}
 use Rattle.statement_code_laws.specs.Actions.{ActionActs}
 use Rattle.statement_code_laws.specs.StatementForms.{StatementsAct, SomeAct}
 use Rattle.statement_code_laws.proofs.PlainRuns.{leaving_acts, open_here}

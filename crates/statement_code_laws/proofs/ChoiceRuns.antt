@@ -1,10 +1,9 @@
 -- Statements behind each other, IF and CASE.
-use Rattle.std.proofs.Common.{◌≡◌, ℕ, zero, suc, ◌+◌, ◌<◌, ◌≤◌, if◌then◌else◌, Bool, true, false, ◌&&◌, ◌||◌, List, [], ◌∷◌, ◌++◌, ℤ, length, Option, Some, None, slice_get, refl, sym, ap, ◌∙◌, subst, arith, append-nil, length-append}
+use Rattle.std.proofs.Common.{◌≡◌, ℕ, ◌+◌, ◌≤◌, if◌then◌else◌, Bool, true, false, ◌&&◌, ◌||◌, List, [], ◌++◌, ℤ, length, refl, sym, ap, subst, arith, append-nil, length-append}
 use Rattle.world_model.specs.Session.{Session}
 use Rattle.program_trees.specs.ExprTree.{ExprTree}
 use Rattle.program_trees.specs.StatementTree.{StatementTree, StatementNodes, no_statements, more_statements, ChoiceNodes, no_choices, more_choices, if_then, begin_end}
 use Rattle.code_types.specs.declared.instr.Instr.{Instr}
-use Rattle.code_types.specs.declared.instr.Instr.TheVariants as i
 use Rattle.code_types.specs.declared.code.Handler.{Handler}
 use Rattle.source_meaning.specs.Store.{Store}
 use Rattle.source_meaning.specs.Flow.{Flow, Goes, Raised, Exits, Returned, Stops, Gone, Bound, Meaning, then_do}
@@ -12,7 +11,6 @@ use Rattle.source_meaning.specs.Operators.{is_true}
 use Rattle.source_meaning.specs.ExprMeaning.{Setting, expr_mean}
 use Rattle.source_meaning.specs.StatementMeaning.{statement_mean, statements_mean, choices_mean}
 use Rattle.source_meaning.specs.BodyMeaning.{Bodies}
-use Rattle.code_scheme.specs.Pieces.{Layout}
 use Rattle.code_scheme.specs.ExprSizes.{condition_size}
 use Rattle.code_scheme.specs.ExprCode.{condition_code}
 use Rattle.code_scheme.specs.StatementSite.{Standing, layout}
@@ -20,7 +18,7 @@ use Rattle.code_scheme.specs.StatementGoing.{go_on, goes_on, some_choice_goes_on
 use Rattle.code_scheme.specs.StatementSize.{statements_size, statement_size, choices_size}
 use Rattle.code_scheme.specs.StatementCode.{CodeAt, next_place, joining, statements_code, statement_code, choices_code}
 use Rattle.code_scheme.specs.StatementRows.{RowsAt, statements_rows, statement_rows, choices_rows}
-use Rattle.follow_laws.specs.Follows.{HasAt, Around, here, Holds, Follows, always, HoldsWith, IsLong, Does}
+use Rattle.follow_laws.specs.Follows.{HasAt, Around, here, Holds, Does}
 use Rattle.follow_laws.specs.Parts.{IsCovered}
 use Rattle.code_laws.specs.BodyBounds.{BodiesWithin}
 use Rattle.code_laws.specs.OwnBounds.{where_goes, expr_within}
@@ -28,17 +26,16 @@ use Rattle.code_laws.specs.Expressions.{NamesIn}
 use Rattle.follow_laws.proofs.Running.{has_front, has_back, follows_then_is}
 use Rattle.code_laws.proofs.Values.{both_true}
 use Rattle.code_laws.proofs.ExprPieces.{there}
-use Rattle.statement_code_laws.specs.Conditions.{goes_where}
 use Rattle.code_laws.specs.StatementBounds.{Along, value_within, statements_within, statement_within, choices_within}
 use Rattle.code_laws.specs.StatementsInRange.{FitsNumber, FitsChoices}
 use Rattle.code_laws.specs.Statements.{StandsAs, calls_from}
-use Rattle.statement_code_laws.specs.Parts.{LieIn, Acts}
+use Rattle.statement_code_laws.specs.Parts.{Acts}
 use Rattle.statement_code_laws.specs.Actions.{ActionActs}
 use Rattle.statement_code_laws.specs.StatementForms.{StatementActs, StatementsAct}
 use Rattle.statement_code_laws.proofs.ConditionRuns.{condition_length, condition_runs}
 use Rattle.statement_code_laws.proofs.PlainRuns.{open_here}
 use Rattle.statement_code_laws.proofs.Lengths.{leave_length, statements_length, statement_length}
-use Rattle.statement_code_laws.proofs.Joining.{lie_wider, lie_both, Embeds, embeds_left, embeds_right, embeds_before, embeds_then, embedded, acts_in, joined_acts, no_part, order_acts, alone_acts}
+use Rattle.statement_code_laws.proofs.Joining.{lie_wider, lie_both, Embeds, embeds_left, embeds_right, embeds_before, embedded, acts_in, joined_acts, no_part, order_acts, alone_acts}
 
 pub names_inside : (w : Around) (lo hi lo' hi' : ℕ) → lo ≤ lo' → hi' ≤ hi → NamesIn w lo hi → NamesIn w lo' hi'
 names_inside w lo hi lo' hi' l u names place instr p q is = names place instr (omega arith) (omega arith) is

@@ -1,24 +1,23 @@
 -- The instructions of each condition follow its meaning.
-use Rattle.std.proofs.Common.{◌≡◌, ℕ, zero, suc, ◌+◌, ◌<◌, ◌≤◌, if◌then◌else◌, Bool, true, false, not, ◌&&◌, List, [], ◌∷◌, ◌++◌, ℤ, length, Option, Some, None, slice_get, refl, sym, ap, ◌∙◌, subst, arith, append_assoc, append-nil, length-append}
+use Rattle.std.proofs.Common.{◌≡◌, ℕ, ◌+◌, ◌≤◌, if◌then◌else◌, Bool, true, false, not, List, [], ◌++◌, ℤ, length, Option, None, refl, sym, ap, ◌∙◌, subst, arith, append-nil, length-append}
 use Rattle.world_model.specs.Session.{Session}
 use Rattle.modes.specs.declared.mode.Bounds.{Bounds}
 use Rattle.checked_program.specs.declared.expr.Binary.{Binary}
-use Rattle.checked_program.specs.declared.expr.Binary.TheVariants.{AndIf, OrIf, Equal, NotEqual, Less, LessOrEqual, Greater, GreaterOrEqual}
-use Rattle.checked_program.specs.declared.expr.Prefix.{Prefix}
-use Rattle.checked_program.specs.declared.expr.Prefix.TheVariants.{Minus, Not, Complement}
+use Rattle.checked_program.specs.declared.expr.Binary.TheVariants.{AndIf, OrIf, NotEqual, LessOrEqual, GreaterOrEqual}
+use Rattle.checked_program.specs.declared.expr.Prefix.TheVariants.{Not}
 use Rattle.program_trees.specs.ExprTree.{ExprTree, expr, OperationTree, prefixed, binary, count_of}
-use Rattle.scalar_operators.specs.Numbers.{truth_of, truth_number, same_numbers, comes_before}
+use Rattle.scalar_operators.specs.Numbers.{truth_of, same_numbers, comes_before}
 use Rattle.code_types.specs.declared.instr.Instr.{Instr}
 use Rattle.code_types.specs.declared.instr.Instr.TheVariants as i
 use Rattle.source_meaning.specs.Store.{Store}
-use Rattle.source_meaning.specs.Flow.{Flow, Goes, Raised, Exits, Returned, Stops, Gone, Bound, Meaning, then_do}
-use Rattle.source_meaning.specs.Operators.{sole_number, is_true, one, truth, binary_value, prefix_value, takes_second}
+use Rattle.source_meaning.specs.Flow.{Flow, Goes, Raised, Exits, Returned, Stops, Gone, Bound, then_do}
+use Rattle.source_meaning.specs.Operators.{sole_number, is_true, one, truth, binary_value, takes_second}
 use Rattle.source_meaning.specs.ExprMeaning.{Setting, as_computed, expr_mean, operation_mean}
 use Rattle.source_meaning.specs.BodyMeaning.{Bodies}
 use Rattle.code_scheme.specs.Pieces.{Layout, bounds_of_value, between_code, between_size, behind_code, behind_size, branch_code, branch_size, decided_by, straight, is_turned, turned}
 use Rattle.code_scheme.specs.ExprSizes.{expr_size, operation_size, condition_size, operation_condition_size}
 use Rattle.code_scheme.specs.ExprCode.{expr_code, operation_code, first_target, condition_code, operation_condition}
-use Rattle.follow_laws.specs.Follows.{HasAt, Around, free_in, here, Holds, GetsTo, Follows, always, HoldsWith, on_top, IsLong}
+use Rattle.follow_laws.specs.Follows.{HasAt, Around, free_in, here, Holds, GetsTo, Follows, always, HoldsWith, IsLong}
 use Rattle.code_laws.specs.BodyBounds.{BodiesWithin}
 use Rattle.code_laws.specs.InRange.{FitsExpr, FitsOperation, OperandsFit}
 use Rattle.code_laws.specs.OwnBounds.{expr_within, operation_within}

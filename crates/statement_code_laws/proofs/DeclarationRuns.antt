@@ -1,5 +1,5 @@
 -- Declarations: names get a value, or the lowest value of their mode.
-use Rattle.std.proofs.Common.{◌≡◌, ℕ, zero, suc, ◌+◌, ◌<◌, ◌≤◌, if◌then◌else◌, Bool, true, false, List, [], ◌∷◌, ◌++◌, ℤ, pos, length, Option, Some, None, slice_get, nat_le, le-leb, All, refl, sym, ap, ◌∙◌, subst, arith, append_assoc, append-nil}
+use Rattle.std.proofs.Common.{◌≡◌, ℕ, ◌+◌, ◌<◌, ◌≤◌, if◌then◌else◌, Bool, true, List, [], ◌∷◌, ◌++◌, ℤ, pos, length, Some, slice_get, nat_le, le-leb, All, refl, sym, ap, ◌∙◌, subst, arith, append_assoc}
 use Rattle.std.proofs.lemmas.List.Elements.{All-head, All-tail}
 use Rattle.world_model.specs.Session.{Session}
 use Rattle.world_model.specs.Lists.{with_scalars}
@@ -12,7 +12,7 @@ use Rattle.program_trees.specs.ExprTree.{ReceivedTree, received_count}
 use Rattle.program_trees.specs.ProgramTree.{LocalRowTree}
 use Rattle.program_trees.specs.StatementTree.{declare, set_lowest}
 use Rattle.source_meaning.specs.Store.{Store, address_of, with_local}
-use Rattle.source_meaning.specs.Flow.{Flow, Goes, Meaning, then_do}
+use Rattle.source_meaning.specs.Flow.{Goes, then_do}
 use Rattle.source_meaning.specs.Operators.{one}
 use Rattle.source_meaning.specs.ExprMeaning.{Setting, assign_at, received_mean}
 use Rattle.source_meaning.specs.StatementMeaning.{set_names, set_locals}
@@ -27,7 +27,7 @@ use Rattle.code_laws.specs.BodyBounds.{BodiesWithin}
 use Rattle.code_laws.specs.InRange.{IsNumber32, BaseFits, FitsReceived}
 use Rattle.code_laws.specs.OwnBounds.{received_within}
 use Rattle.code_laws.specs.Expressions.{NamesIn}
-use Rattle.follow_laws.proofs.Running.{has_front, has_back, stays, after, follows_then, comes}
+use Rattle.follow_laws.proofs.Running.{has_front, has_back, after, follows_then, comes}
 use Rattle.follow_laws.proofs.Requesting.{none_takes}
 use Rattle.follow_laws.proofs.Holding.{HasPart, IsSet, scratch_set, scratch_read, whole_set}
 use Rattle.follow_laws.proofs.Instructions.{puts_on, sets_by, renamed, set_by, write_by}

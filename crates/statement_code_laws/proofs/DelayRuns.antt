@@ -1,5 +1,5 @@
 -- DELAY CASE: the wait, and the alternative that is chosen.
-use Rattle.std.proofs.Common.{◌≡◌, ℕ, zero, suc, ◌+◌, ◌*◌, ◌<◌, ◌≤◌, if◌then◌else◌, nat_le, le-leb, int_le, Bool, true, false, ◌&&◌, ◌||◌, List, [], ◌∷◌, ◌++◌, ℤ, pos, length, Option, Some, None, All, refl, sym, ap, ◌∙◌, subst, arith, append_assoc, append-nil, length-append, ◌⊎◌, inl, inr}
+use Rattle.std.proofs.Common.{◌≡◌, ℕ, zero, suc, ◌+◌, ◌*◌, ◌<◌, ◌≤◌, if◌then◌else◌, nat_le, le-leb, int_le, Bool, true, false, ◌&&◌, List, [], ◌∷◌, ◌++◌, ℤ, pos, length, Option, Some, All, refl, sym, ap, ◌∙◌, subst, arith, append_assoc, append-nil, length-append, ◌⊎◌, inl, inr}
 use Rattle.std.proofs.lemmas.Int.{ints}
 use Rattle.std.proofs.lemmas.List.Elements.{All-head, All-tail}
 use Rattle.kernel_base.specs.declared.request.Alternative.{Alternative}
@@ -16,12 +16,12 @@ use Rattle.code_types.specs.declared.instr.Instr.{Instr}
 use Rattle.code_types.specs.declared.instr.Instr.TheVariants as i
 use Rattle.code_types.specs.declared.code.Handler.{Handler}
 use Rattle.code_types.specs.Operands.{number_in, pairs_of, with_first, alternative_in}
-use Rattle.code_types.specs.Actions.{Sets, Halts, Requests, in_frame, delays}
+use Rattle.code_types.specs.Actions.{Sets, Halts, in_frame, delays}
 use Rattle.code_types.specs.Answers.{goes_on, pushed_by}
 use Rattle.code_types.specs.State.{Asking}
 use Rattle.code_types.specs.Steps.{At}
 use Rattle.source_meaning.specs.Store.{Store, Address}
-use Rattle.source_meaning.specs.Flow.{Flow, Goes, Raised, Exits, Returned, Stops, Gone, Bound, Meaning, then_do, asked, takes_answer}
+use Rattle.source_meaning.specs.Flow.{Flow, Goes, Raised, Exits, Returned, Stops, Gone, Bound, then_do, asked, takes_answer}
 use Rattle.source_meaning.specs.Operators.{one, truth}
 use Rattle.source_meaning.specs.ExprMeaning.{Setting}
 use Rattle.source_meaning.specs.StatementMeaning.{skip, set_to, set_address, pairs_with, delay_pairs, woken_as, behind_wait, statements_mean, delay_mean}
@@ -29,32 +29,31 @@ use Rattle.source_meaning.specs.BodyMeaning.{Bodies}
 use Rattle.code_scheme.specs.Pieces.{Layout}
 use Rattle.code_scheme.specs.StatementSite.{Site, Standing, layout}
 use Rattle.code_scheme.specs.StatementGoing.{go_on}
-use Rattle.code_scheme.specs.StatementWaits.{set_place_code, set_place_size, set_kept, chosen_in, set_code, set_size, events_code, all_events_code, count_of_events, delay_wait_code, delay_wait_size, is_chosen_code}
+use Rattle.code_scheme.specs.StatementWaits.{set_place_code, set_place_size, set_kept, chosen_in, set_code, events_code, all_events_code, count_of_events, delay_wait_code, delay_wait_size, is_chosen_code}
 use Rattle.code_scheme.specs.StatementSize.{statements_size, delays_size}
 use Rattle.code_scheme.specs.StatementCode.{next_place, delays_code}
 use Rattle.code_scheme.specs.StatementRows.{delays_rows}
-use Rattle.follow_laws.specs.Follows.{HasAt, scalars_in, Around, free_in, keeping, frame_at, state_at, here, Holds, GetsTo, Follows, always, no_stack, HoldsWith, Nothing, Does, action_in}
+use Rattle.follow_laws.specs.Follows.{HasAt, scalars_in, Around, free_in, keeping, frame_at, state_at, here, Holds, GetsTo, Follows, always, Does}
 use Rattle.follow_laws.specs.Parts.{IsCovered}
 use Rattle.code_laws.specs.BodyBounds.{BodiesWithin}
 use Rattle.code_laws.specs.OwnBounds.{where_goes}
 use Rattle.code_laws.specs.InRange.{IsNumber32}
 use Rattle.code_laws.specs.Expressions.{NamesIn}
-use Rattle.follow_laws.proofs.Running.{has_front, has_back, gets_then, after, follows_then, follows_then_is, comes, forgotten, forgetting}
-use Rattle.follow_laws.proofs.Requesting.{IsNoFailure, none_takes, asks_by}
+use Rattle.follow_laws.proofs.Running.{has_front, has_back, gets_then, after, follows_then_is, comes, forgotten, forgetting}
+use Rattle.follow_laws.proofs.Requesting.{IsNoFailure, asks_by}
 use Rattle.follow_laws.proofs.Holding.{HasPart, IsSet, scratch_set, kept_read}
 use Rattle.follow_laws.proofs.Instructions.{puts_on, sets_by, pushes_by, renamed}
 use Rattle.code_laws.proofs.Values.{both_true}
 use Rattle.code_laws.proofs.ExprPieces.{there}
 use Rattle.code_laws.proofs.ReceiveRuns.{thing_is}
-use Rattle.code_laws.specs.StatementBounds.{Along, nothing_within, some_place_within, behind_wait_within, statements_within, delays_within}
+use Rattle.code_laws.specs.StatementBounds.{nothing_within, behind_wait_within, statements_within, delays_within}
 use Rattle.code_laws.specs.StatementsInRange.{FitsDelays, count_of_delays}
 use Rattle.code_laws.specs.Statements.{StandsAs, calls_from}
-use Rattle.statement_code_laws.specs.Parts.{Acts}
 use Rattle.statement_code_laws.specs.Actions.{ActionActs}
 use Rattle.statement_code_laws.specs.StatementForms.{StatementsAct}
-use Rattle.statement_code_laws.proofs.Lengths.{set_place_length, set_length, events_length, all_events_length, delay_wait_length}
+use Rattle.statement_code_laws.proofs.Lengths.{set_place_length, events_length, all_events_length, delay_wait_length}
 use Rattle.statement_code_laws.proofs.Joining.{lie_wider, Embeds, embeds_before, embedded, covered_inside}
-use Rattle.statement_code_laws.proofs.ChoiceRuns.{names_inside, went_with}
+use Rattle.statement_code_laws.proofs.ChoiceRuns.{names_inside}
 use Rattle.statement_code_laws.proofs.SelectRuns.{Selects, IsFirst, IsOther, alternative_acts}
 use Rattle.statement_code_laws.proofs.SetRuns.{IsKept, KeepsPlace, kept_long, set_place_runs, set_runs}
 

@@ -1,8 +1,8 @@
 -- Statements with handlers, and labels.
-use Rattle.std.proofs.Common.{◌≡◌, ℕ, zero, suc, ◌+◌, ◌<◌, ◌≤◌, if◌then◌else◌, nat_le, nat_lt, le-leb, lt-ltb, slice_index_or, Bool, true, false, ◌&&◌, ◌||◌, List, [], ◌∷◌, ◌++◌, ℤ, length, Option, Some, None, refl, sym, ap, ◌∙◌, subst, arith, length-append}
+use Rattle.std.proofs.Common.{◌≡◌, ℕ, zero, suc, ◌+◌, ◌<◌, ◌≤◌, if◌then◌else◌, nat_lt, le-leb, lt-ltb, slice_index_or, Bool, true, false, ◌&&◌, ◌||◌, List, [], ◌∷◌, ◌++◌, ℤ, length, Option, Some, None, refl, sym, ap, ◌∙◌, subst, arith, length-append}
 use Rattle.kernel_base.specs.declared.ends.Exc.{Exc}
 use Rattle.world_model.specs.Session.{Session}
-use Rattle.program_trees.specs.StatementTree.{StatementTree, statement, ActionTree, module_at, region_at, StatementNodes, OtherwiseNode, no_otherwise, otherwise, HandledNodes, no_handled, more_handled, HandlerNode, no_handler, handler}
+use Rattle.program_trees.specs.StatementTree.{statement, ActionTree, module_at, region_at, StatementNodes, OtherwiseNode, no_otherwise, otherwise, HandledNodes, no_handled, more_handled, HandlerNode, no_handler, handler}
 use Rattle.code_types.specs.declared.instr.Instr.{Instr}
 use Rattle.code_types.specs.declared.code.Handler.{Handler}
 use Rattle.code_types.specs.Places.{names_exception, takes, taker}
@@ -13,19 +13,19 @@ use Rattle.source_meaning.specs.ExprMeaning.{Setting}
 use Rattle.source_meaning.specs.StatementMeaning.{is_label, ends_exit, labelled_as, region_in, at_region, caught, statement_mean, handler_mean, alternatives_mean, otherwise_mean, statements_mean, action_mean}
 use Rattle.source_meaning.specs.BodyMeaning.{Bodies}
 use Rattle.code_scheme.specs.StatementSite.{Site, Standing, within_label}
-use Rattle.code_scheme.specs.StatementGoing.{has_label, go_on, goes_on, handler_goes_on, otherwise_goes_on, some_handled_goes_on, action_goes_on, leave_size, leave_code}
+use Rattle.code_scheme.specs.StatementGoing.{has_label, go_on, handler_goes_on, otherwise_goes_on, some_handled_goes_on, action_goes_on, leave_size, leave_code}
 use Rattle.code_scheme.specs.StatementSize.{statements_size, statement_size, handler_size, handled_size, otherwise_size, action_size}
-use Rattle.code_scheme.specs.StatementCode.{no_code, next_place, joining, statements_code, handler_code, handled_code, otherwise_code, action_code}
-use Rattle.code_scheme.specs.StatementRows.{row_for, else_row, own_rows, statements_rows, statement_rows, handler_rows, handled_rows, otherwise_rows, action_rows}
-use Rattle.follow_laws.specs.Follows.{HasAt, Around, here, Holds, ComesBy, RaisesIn, Follows, always, no_stack, HoldsWith, Nothing, Does}
+use Rattle.code_scheme.specs.StatementCode.{no_code, next_place, statements_code, handler_code, handled_code, otherwise_code, action_code}
+use Rattle.code_scheme.specs.StatementRows.{row_for, own_rows, statements_rows, statement_rows, handler_rows, handled_rows, otherwise_rows, action_rows}
+use Rattle.follow_laws.specs.Follows.{HasAt, Around, here, Holds, ComesBy, RaisesIn, always, no_stack, HoldsWith, Nothing, Does}
 use Rattle.follow_laws.specs.Parts.{exits_with, labelled, IsCovered}
 use Rattle.code_laws.specs.BodyBounds.{BodiesWithin}
-use Rattle.code_laws.specs.Expressions.{Suited, NamesIn}
+use Rattle.code_laws.specs.Expressions.{NamesIn}
 use Rattle.follow_laws.proofs.Running.{has_front, has_back, gets_then, after}
 use Rattle.follow_laws.proofs.HandledRuns.{labelled_runs, taker_right, taker_left, lands}
 use Rattle.code_laws.proofs.Values.{both_true}
 use Rattle.code_laws.specs.StatementBounds.{Along, where_raises, at_region_within, statement_within, handler_within, alternatives_within, otherwise_within, statements_within, action_within}
-use Rattle.code_laws.specs.StatementsInRange.{FitsStatement, FitsHandler, FitsHandled, FitsOtherwise, FitsAction}
+use Rattle.code_laws.specs.StatementsInRange.{FitsHandler, FitsHandled, FitsOtherwise, FitsAction}
 use Rattle.code_laws.specs.Statements.{StandsAs, calls_from}
 use Rattle.statement_code_laws.specs.Parts.{LieIn, Acts}
 use Rattle.statement_code_laws.specs.Actions.{ActionActs}
@@ -387,12 +387,12 @@ guarded_acts w v st bodies inside n from behind a h action handled stands end na
     by_handler (handler hs o) acts fits_k end2 has2 =
         let size : ℕ = handler_size st.site (handler hs o) in
         let next : ℕ = until + leave_size g size in
-        let target : ℕ = until + (leave_size g size + size) in
-        let same : target ≡ behind = omega arith in
-        let leave : List Instr = leave_code g size target in
-        let rest : List Instr = handled_code st hs target (otherwise_size st.site o 0) (otherwise_code st o no_code) next in
+        let ends : ℕ = until + (leave_size g size + size) in
+        let same : ends ≡ behind = omega arith in
+        let leave : List Instr = leave_code g size ends in
+        let rest : List Instr = handled_code st hs ends (otherwise_size st.site o 0) (otherwise_code st o no_code) next in
         let has3 : HasAt all until (leave ++ rest) = has_handler (handler hs o) has2 in
-        let has_rest : HasAt all next rest = has_back all until next leave rest (ap (λ (j : ℕ). until + j) (leave_length g size target)) has3 in
+        let has_rest : HasAt all next rest = has_back all until next leave rest (ap (λ (j : ℕ). until + j) (leave_length g size ends)) has3 in
         let catches = acts.0 w v st bodies inside n from until next behind o stands (omega arith) (names_inside w from behind next behind (omega arith) (omega arith) names) fits_k.0 fits_k.1 acts.1
         (subst (λ (j : ℕ). HasAt all next (handled_code st hs j (otherwise_size st.site o 0) (otherwise_code st o no_code) next)) same has_rest) in
         handled_acts w from until next size behind (action_rows st.site a from) (own_rows st.site from until hs o next) (handled_rows st.site hs (otherwise_size st.site o 0) (otherwise_rows st.site o) next) g (handler_goes_on (handler hs o)) (g || handler_goes_on (handler hs o))

@@ -1,5 +1,5 @@
 -- Parts that stand behind each other, and the rows of each among those of the whole.
-use Rattle.std.proofs.Common.{◌≡◌, ℕ, zero, suc, ◌+◌, ◌<◌, ◌≤◌, nat_le, nat_lt, leb-true, ltb-true, if◌then◌else◌, Bool, true, false, ◌&&◌, ◌||◌, List, [], ◌∷◌, ◌++◌, ℤ, Option, Some, None, refl, sym, ap, ◌∙◌, subst, arith, ◌⊎◌, inl, inr}
+use Rattle.std.proofs.Common.{◌≡◌, ℕ, zero, suc, ◌+◌, ◌<◌, ◌≤◌, nat_le, nat_lt, leb-true, ltb-true, if◌then◌else◌, Bool, true, false, ◌&&◌, ◌||◌, List, [], ◌∷◌, ◌++◌, ℤ, Option, Some, None, refl, sym, ap, ◌∙◌, arith}
 use Rattle.kernel_base.specs.declared.ends.Exc.{Exc}
 use Rattle.world_model.specs.Session.{Session}
 use Rattle.code_types.specs.declared.instr.Instr.TheVariants as i

@@ -1,7 +1,6 @@
 -- RESULT, RETURN and EXIT, and a value that something takes.
-use Rattle.std.proofs.Common.{◌≡◌, ℕ, ◌+◌, ◌<◌, ◌≤◌, if◌then◌else◌, Bool, true, false, List, [], ◌∷◌, ◌++◌, ℤ, length, Option, Some, None, slice_get, slice_index_or, nat_le, le-leb, refl, sym, ap, ◌∙◌, subst, arith, length-append}
+use Rattle.std.proofs.Common.{◌≡◌, ℕ, ◌+◌, ◌≤◌, if◌then◌else◌, Bool, true, List, [], ◌∷◌, ◌++◌, ℤ, length, Option, Some, None, slice_index_or, nat_le, le-leb, refl, sym, ap, ◌∙◌, subst, arith, length-append}
 use Rattle.world_model.specs.Session.{Session}
-use Rattle.world_model.specs.Lists.{with_scalars}
 use Rattle.code_types.specs.declared.instr.Instr.{Instr}
 use Rattle.code_types.specs.declared.instr.Instr.TheVariants as i
 use Rattle.code_types.specs.Actions.{Sets, Halts}

@@ -1,29 +1,28 @@
 -- The code of each statement has as many instructions as its size says.
-use Rattle.std.proofs.Common.{◌≡◌, ℕ, zero, suc, ◌+◌, ◌-◌, ◌*◌, nat_lt, if◌then◌else◌, Bool, true, false, List, [], ◌∷◌, ◌++◌, ℤ, pos, length, Option, Some, None, slice_get, All, refl, sym, ap, ◌∙◌, subst, arith, length-append}
-use Rattle.std.proofs.lemmas.List.Elements.{All-head, All-tail}
+use Rattle.std.proofs.Common.{◌≡◌, ℕ, zero, suc, ◌+◌, ◌*◌, if◌then◌else◌, Bool, true, false, List, [], ◌∷◌, ◌++◌, ℤ, pos, length, Option, Some, None, slice_get, refl, ap, arith, length-append}
 use Rattle.modes.specs.declared.mode.Bounds.{Bounds}
 use Rattle.modes.specs.ModeTree.{int}
 use Rattle.modes.specs.Bounds.{bounds_of}
 use Rattle.checked_program.specs.declared.expr.Base.{Base}
 use Rattle.checked_program.specs.declared.expr.Base.TheVariants.{Shared, Local}
-use Rattle.program_trees.specs.ExprTree.{ExprTree, ReceivedTree, LocationTree, location, received_count, location_count}
+use Rattle.program_trees.specs.ExprTree.{ExprTree, ReceivedTree, LocationTree, received_count, location_count}
 use Rattle.program_trees.specs.ProgramTree.{LocalRowTree}
 use Rattle.program_trees.specs.StatementTree.{SentTree, to_buffer, signal, ControlTree, while_true, for_ever, for_members, for_steps, StatementTree, statement, ActionTree, do_nothing, declare, set_lowest, module_at, region_at, assign, update, perform, drop_routine, evaluate, put_int, put_text, put_line, exit_from, return_with, set_result, assert_that, cause, stop, start_of, delay, continue_at, send, if_then, case_of, do_loop, begin_end, delay_case, receive_buffers, receive_signals, StatementNodes, no_statements, more_statements, ChoiceNodes, no_choices, more_choices, CaseNodes, no_cases, more_cases, DelayNodes, no_delays, more_delays, ReceiveNodes, no_receives, more_receives, OtherwiseNode, no_otherwise, otherwise, HandledNodes, no_handled, more_handled, HandlerNode, no_handler, handler}
 use Rattle.code_types.specs.declared.instr.Instr.{Instr}
 use Rattle.code_types.specs.declared.instr.Instr.TheVariants as i
-use Rattle.code_scheme.specs.Pieces.{Layout, first_in, store_code, kept_code, are_same, scalars_code, member_code, offsets_kept, check_code, bounds_to_test, bounds_of_value, branch_code, has_offset}
-use Rattle.code_scheme.specs.ExprSizes.{expr_size, received_size}
+use Rattle.code_scheme.specs.Pieces.{Layout, first_in, store_code, kept_code, are_same, scalars_code, member_code, branch_code}
+use Rattle.code_scheme.specs.ExprSizes.{expr_size}
 use Rattle.code_scheme.specs.ExprCode.{expr_code, received_code}
-use Rattle.code_scheme.specs.StatementSite.{Site, Standing, layout, taking}
+use Rattle.code_scheme.specs.StatementSite.{Standing, layout, taking}
 use Rattle.code_scheme.specs.StatementGoing.{go_on, goes_on, action_goes_on, leave_size, leave_code}
-use Rattle.code_scheme.specs.StatementPlain.{offset_of_name, name_code, names_code, keeping_code, declare_code, name_size, names_size, keeping_size, declare_size, set_lowest_code, set_lowest_size, update_test, receiver_code, receiver_size, send_code, send_size}
-use Rattle.code_scheme.specs.StatementLoops.{Step, by_constant, by_kept, Steps, steps_with, step_from, constant_step, some_while_code, some_while_size, members_test, members_test_size, within_code, within_size, step_code, step_size, step_bounds, bounds_code, bounds_size, rest_code, nearest_code, nearer_code, near_end_code, moved_end_code, is_one, limit_code, first_value_code, first_value_size, before_code, by_step, forth, next_code, before_turns, before_turns_size, turn_test, turn_test_size, control_code, control_size, locals_kept}
-use Rattle.code_scheme.specs.StatementWaits.{chosen_in, receive_instr, set_place_code, set_place_size, set_code, set_size, events_code, all_events_code, count_of_events, delay_wait_code, delay_wait_size, sources_code, count_of_sources, Receives, from_buffers, of_signals, nothing_code, has_else, receive_wait_code, receive_wait_size, first_received}
-use Rattle.code_scheme.specs.StatementSize.{label_code, more_labels_code, labels_code, labels_size, turn_back_size, statements_size, statement_size, handler_size, handled_size, otherwise_size, choices_size, cases_size, delays_size, receives_size, action_size}
-use Rattle.code_scheme.specs.StatementCode.{CodeAt, no_label_code, next_place, labelled_around, turn_back_code, joining, statements_code, statement_code, handler_code, handled_code, otherwise_code, action_code, choices_code, cases_code, delays_code, receives_code}
-use Rattle.code_laws.specs.InRange.{BaseFits, FitsReceived}
+use Rattle.code_scheme.specs.StatementPlain.{offset_of_name, name_code, names_code, keeping_code, declare_code, name_size, names_size, keeping_size, declare_size, set_lowest_code, set_lowest_size, receiver_code, receiver_size, send_code, send_size}
+use Rattle.code_scheme.specs.StatementLoops.{Step, by_constant, by_kept, Steps, steps_with, step_from, constant_step, some_while_code, some_while_size, members_test, members_test_size, within_code, within_size, step_code, step_size, step_bounds, bounds_code, bounds_size, rest_code, nearest_code, nearer_code, near_end_code, moved_end_code, is_one, limit_code, first_value_code, first_value_size, before_code, by_step, forth, next_code, before_turns, before_turns_size, control_code, control_size, locals_kept}
+use Rattle.code_scheme.specs.StatementWaits.{chosen_in, receive_instr, set_place_code, set_place_size, set_code, set_size, events_code, all_events_code, count_of_events, delay_wait_code, delay_wait_size, sources_code, count_of_sources, Receives, from_buffers, of_signals, nothing_code, has_else, receive_wait_code, receive_wait_size}
+use Rattle.code_scheme.specs.StatementSize.{label_code, more_labels_code, labels_code, labels_size, statements_size, statement_size, handler_size, handled_size, otherwise_size, choices_size, cases_size, delays_size, receives_size, action_size}
+use Rattle.code_scheme.specs.StatementCode.{CodeAt, no_label_code, next_place, labelled_around, joining, statements_code, statement_code, handler_code, handled_code, otherwise_code, action_code, choices_code, cases_code, delays_code, receives_code}
+use Rattle.code_laws.specs.InRange.{FitsReceived}
 use Rattle.code_laws.proofs.Sizes.{between_length, behind_length, expr_length, received_length, all_length, place_length, contents_length, store_length, where_length, call_length, start_length}
-use Rattle.code_laws.specs.StatementsInRange.{LocalFits, FitsSomeNumber, FitsReturn, FitsSent, FitsSet, FitsControl, labels_with, FitsStatements, FitsStatement, FitsHandler, FitsHandled, FitsOtherwise, FitsAction, FitsChoices, FitsCases, FitsDelays, FitsReceives}
+use Rattle.code_laws.specs.StatementsInRange.{FitsSomeNumber, FitsSent, FitsSet, FitsControl, FitsStatements, FitsStatement, FitsHandler, FitsHandled, FitsOtherwise, FitsAction, FitsChoices, FitsCases, FitsDelays, FitsReceives}
 use Rattle.statement_code_laws.proofs.ConditionRuns.{condition_length}
 
 -- ---- lists of instructions

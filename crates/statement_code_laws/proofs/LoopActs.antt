@@ -1,9 +1,9 @@
 -- A DO acts where its actions do.
-use Rattle.std.proofs.Common.{◌≡◌, ℕ, zero, suc, ◌+◌, ◌<◌, ◌≤◌, if◌then◌else◌, Bool, true, false, ◌&&◌, List, [], ◌∷◌, ◌++◌, ℤ, pos, length, replicate, Option, Some, None, slice_get, refl, sym, ap, ◌∙◌, subst, arith, length-append}
+use Rattle.std.proofs.Common.{◌≡◌, ℕ, zero, suc, ◌+◌, ◌≤◌, Bool, true, false, List, [], ◌++◌, ℤ, pos, length, replicate, Option, Some, None, slice_get, refl, ap, subst, arith, length-append}
 use Rattle.std.proofs.lemmas.List.{length-replicate}
 use Rattle.world_model.specs.Session.{Session, Ticked, GoesOn, Last, tick}
-use Rattle.program_trees.specs.ExprTree.{ExprTree, count_of}
-use Rattle.program_trees.specs.StatementTree.{ControlTree, while_true, for_ever, for_members, for_steps, StatementNodes, do_loop}
+use Rattle.program_trees.specs.ExprTree.{ExprTree}
+use Rattle.program_trees.specs.StatementTree.{ControlTree, while_true, for_ever, for_members, for_steps, StatementNodes}
 use Rattle.code_types.specs.declared.instr.Instr.{Instr}
 use Rattle.code_types.specs.declared.instr.Instr.TheVariants as i
 use Rattle.code_types.specs.declared.code.Handler.{Handler}
@@ -17,26 +17,25 @@ use Rattle.code_scheme.specs.ExprSizes.{condition_size}
 use Rattle.code_scheme.specs.ExprCode.{condition_code}
 use Rattle.code_scheme.specs.StatementSite.{Standing, layout, taking}
 use Rattle.code_scheme.specs.StatementGoing.{go_on, has_end}
-use Rattle.code_scheme.specs.StatementLoops.{Steps, steps_with, constant_step, steps_kept, some_while_code, some_while_size, members_test, members_test_size, next_code, next_size, before_turns, before_turns_size, turn_test, turn_test_size, control_code, control_size, locals_kept}
+use Rattle.code_scheme.specs.StatementLoops.{Steps, steps_with, constant_step, steps_kept, some_while_code, some_while_size, members_test, members_test_size, next_code, next_size, before_turns, before_turns_size, control_code, control_size, locals_kept}
 use Rattle.code_scheme.specs.StatementSize.{statements_size, turn_back_size}
 use Rattle.code_scheme.specs.StatementCode.{turn_back_code, statements_code}
 use Rattle.code_scheme.specs.StatementRows.{statements_rows}
-use Rattle.follow_laws.specs.Follows.{HasAt, Around, free_in, keeping, here, Holds, Follows, no_stack, HoldsWith, IsLong, Does}
+use Rattle.follow_laws.specs.Follows.{HasAt, Around, keeping}
 use Rattle.follow_laws.specs.Parts.{LoopPlaces, IsCovered}
 use Rattle.code_laws.specs.BodyBounds.{BodiesWithin}
 use Rattle.code_laws.specs.OwnBounds.{expr_within}
-use Rattle.code_laws.specs.StatementBounds.{Along, value_within, statements_within}
+use Rattle.code_laws.specs.StatementBounds.{Along, statements_within}
 use Rattle.code_laws.specs.StatementsInRange.{FitsNumber, FitsSomeNumber, FitsControl}
-use Rattle.code_laws.specs.Counters.{loop_keeps, some_leaves, statements_leave}
-use Rattle.code_laws.specs.Expressions.{NamesIn}
+use Rattle.code_laws.specs.Counters.{loop_keeps, some_leaves}
 use Rattle.code_laws.specs.Statements.{StandsAs, calls_from}
-use Rattle.code_laws.specs.Loops.{condition_of, condition_place, leads_to, ConditionGoes, Leaves, SomeLeaves, CounterStays, LoopStands, LoopLaw}
+use Rattle.code_laws.specs.Loops.{condition_of, condition_place, ConditionGoes, SomeLeaves, CounterStays, LoopStands, LoopLaw}
 use Rattle.code_laws.specs.Leaving.{LeavesLocal, LeavesLaw}
 use Rattle.follow_laws.proofs.Running.{has_front, has_back}
 use Rattle.code_laws.proofs.Values.{both_true}
 use Rattle.code_laws.proofs.CallPieces.{kept_suited}
 use Rattle.statement_code_laws.specs.Parts.{LieIn, Acts}
-use Rattle.statement_code_laws.specs.StatementForms.{StatementsAct, LoopsAct}
+use Rattle.statement_code_laws.specs.StatementForms.{LoopsAct}
 use Rattle.statement_code_laws.proofs.ConditionRuns.{condition_runs}
 use Rattle.statement_code_laws.proofs.PlainRuns.{open_here}
 use Rattle.statement_code_laws.proofs.Lengths.{statements_length, before_turns_length, members_length, next_length, control_length}

@@ -1,5 +1,5 @@
 -- Values that are dropped or put out, ASSERT, CAUSE and STOP.
-use Rattle.std.proofs.Common.{◌≡◌, ℕ, zero, suc, ◌+◌, ◌<◌, ◌≤◌, if◌then◌else◌, Bool, true, false, List, [], ◌∷◌, ◌++◌, ℤ, length, Option, Some, None, slice_get, refl, sym, ap, ◌∙◌, subst, arith, append_assoc, append-nil, ◌⊎◌, inl, inr}
+use Rattle.std.proofs.Common.{◌≡◌, ℕ, ◌+◌, if◌then◌else◌, Bool, true, false, List, [], ◌∷◌, ◌++◌, ℤ, length, Option, Some, None, slice_get, refl, sym, ap, ◌∙◌, subst, arith, inl, inr}
 use Rattle.kernel_base.specs.declared.ends.Exc.TheVariants.{Rangefail, Assertfail}
 use Rattle.kernel_base.specs.declared.ends.How.{How}
 use Rattle.kernel_base.specs.declared.ends.How.TheVariants.{Stopped}
@@ -12,16 +12,16 @@ use Rattle.code_types.specs.declared.instr.Instr.{Instr}
 use Rattle.code_types.specs.declared.instr.Instr.TheVariants as i
 use Rattle.code_types.specs.Exceptions.{exception_of}
 use Rattle.code_types.specs.Operands.{bytes_of}
-use Rattle.code_types.specs.Actions.{Action, Throws, Requests, with_one, asks, puts}
+use Rattle.code_types.specs.Actions.{Throws, Requests, with_one, asks, puts}
 use Rattle.code_types.specs.Answers.{fits_request, ended}
 use Rattle.code_types.specs.State.{State, Asking}
-use Rattle.code_types.specs.Steps.{Run, At, Over, run_with}
+use Rattle.code_types.specs.Steps.{At, Over, run_with}
 use Rattle.program_trees.specs.ExprTree.{ExprTree, count_of}
-use Rattle.program_trees.specs.StatementTree.{do_nothing, drop_routine, evaluate, put_int, put_text, put_line, assert_that, cause, stop}
+use Rattle.program_trees.specs.StatementTree.{drop_routine, evaluate, put_int, put_text, put_line, assert_that, cause, stop}
 use Rattle.source_meaning.specs.Store.{Store}
-use Rattle.source_meaning.specs.Flow.{Flow, Goes, Raised, Meaning, then_do, done, Given, Halts, reply_in, finished, finish, takes_answer}
-use Rattle.source_meaning.specs.Operators.{sole_number, is_true, routine_value}
-use Rattle.source_meaning.specs.ExprMeaning.{Setting, as_computed, expr_mean}
+use Rattle.source_meaning.specs.Flow.{Goes, Raised, Meaning, then_do, done, Given, Halts, reply_in, finished, finish, takes_answer}
+use Rattle.source_meaning.specs.Operators.{sole_number, is_true}
+use Rattle.source_meaning.specs.ExprMeaning.{Setting, expr_mean}
 use Rattle.source_meaning.specs.StatementMeaning.{nothing, put_bytes}
 use Rattle.source_meaning.specs.BodyMeaning.{Bodies}
 use Rattle.code_scheme.specs.Pieces.{Layout, routine_code}
@@ -29,13 +29,13 @@ use Rattle.code_scheme.specs.ExprSizes.{expr_size, condition_size}
 use Rattle.code_scheme.specs.ExprCode.{expr_code, condition_code}
 use Rattle.code_scheme.specs.StatementSite.{Standing, layout}
 use Rattle.code_scheme.specs.StatementPlain.{taken_by}
-use Rattle.follow_laws.specs.Follows.{HasAt, Around, here, state_at, Holds, GetsTo, own_call, Follows, always, no_stack, HoldsWith, Nothing, Does}
+use Rattle.follow_laws.specs.Follows.{HasAt, Around, here, state_at, Holds, Follows, always, no_stack, HoldsWith, Nothing, Does}
 use Rattle.code_laws.specs.Calls.{open_in}
 use Rattle.code_laws.specs.BodyBounds.{BodiesWithin}
 use Rattle.code_laws.specs.InRange.{FitsExpr}
 use Rattle.code_laws.specs.OwnBounds.{CallsWithin, expr_within}
 use Rattle.code_laws.specs.Expressions.{NamesIn, calls_at}
-use Rattle.follow_laws.proofs.Running.{has_front, has_back, stays, one_more, after, follows_then, makes, comes, raises, stops}
+use Rattle.follow_laws.proofs.Running.{has_front, has_back, one_more, after, follows_then, makes, comes, raises, stops}
 use Rattle.follow_laws.proofs.Requesting.{fits_alike, none_takes, done_by}
 use Rattle.follow_laws.proofs.Instructions.{sole}
 use Rattle.code_laws.proofs.Sizes.{expr_length}

@@ -1,5 +1,5 @@
 -- RECEIVE CASE: the wait, the names that are set, and the alternative that is chosen, or ELSE.
-use Rattle.std.proofs.Common.{◌≡◌, ℕ, zero, suc, ◌+◌, ◌-◌, ◌*◌, ◌<◌, ◌≤◌, ◌==◌, if◌then◌else◌, nat_le, le-leb, eqb-true, int_le, int_lt, Bool, true, false, ◌&&◌, ◌||◌, List, [], ◌∷◌, ◌++◌, ℤ, pos, length, map, Option, Some, None, slice_get, slice_index_or, refl, sym, ap, ◌∙◌, subst, arith, append_assoc, append-nil, length-append, ◌⊎◌, inl, inr}
+use Rattle.std.proofs.Common.{◌≡◌, ℕ, zero, suc, ◌+◌, ◌-◌, ◌*◌, ◌<◌, ◌≤◌, ◌==◌, if◌then◌else◌, nat_le, le-leb, eqb-true, int_le, int_lt, Bool, true, false, ◌&&◌, ◌||◌, List, [], ◌∷◌, ◌++◌, ℤ, pos, length, Option, Some, None, slice_index_or, refl, sym, ap, ◌∙◌, subst, arith, append_assoc, append-nil, length-append, ◌⊎◌, inl, inr}
 use Rattle.std.proofs.lemmas.Int.{ints}
 use Rattle.std.specs.List.{list_any}
 use Rattle.kernel_base.specs.declared.request.Alternative.{Alternative}
@@ -9,38 +9,37 @@ use Rattle.kernel_base.specs.declared.answer.Answer.{Answer}
 use Rattle.kernel_base.specs.declared.answer.Answer.TheVariants.{Value, Done, Woken, Got, Otherwise, Instance, Fail, Chose, Handed, Stored}
 use Rattle.world_model.specs.Session.{Session}
 use Rattle.world_model.specs.Lists.{number_for, with_scalars}
-use Rattle.scalar_operators.specs.Numbers.{where_true, comes_before, truth_of, truth_number}
+use Rattle.scalar_operators.specs.Numbers.{where_true, comes_before, truth_number}
 use Rattle.program_trees.specs.ExprTree.{LocationTree}
 use Rattle.program_trees.specs.ProgramTree.{LocalRowTree}
-use Rattle.program_trees.specs.StatementTree.{StatementNodes, ReceiveNodes, no_receives, more_receives, OtherwiseNode, no_otherwise, otherwise, ActionTree, receive_buffers, receive_signals}
+use Rattle.program_trees.specs.StatementTree.{StatementNodes, ReceiveNodes, no_receives, more_receives, OtherwiseNode, no_otherwise, otherwise, receive_buffers, receive_signals}
 use Rattle.code_types.specs.declared.instr.Instr.{Instr}
 use Rattle.code_types.specs.declared.instr.Instr.TheVariants as i
 use Rattle.code_types.specs.declared.code.Handler.{Handler}
 use Rattle.code_types.specs.Places.{finds}
-use Rattle.code_types.specs.Operands.{number_in, offset_of, slot_in, with_triple, Triples, triples_of}
+use Rattle.code_types.specs.Operands.{offset_of, slot_in, with_triple, Triples, triples_of}
 use Rattle.code_types.specs.Actions.{Sets, Halts, Requests, in_frame, receives}
-use Rattle.code_types.specs.Answers.{is_some_number, is_listed, gives, gives_receive, no_slot, goes_on, pushed_by, locals_after}
+use Rattle.code_types.specs.Answers.{is_some_number, gives, gives_receive, no_slot, goes_on, pushed_by, locals_after}
 use Rattle.code_types.specs.State.{Slot, Asking}
 use Rattle.code_types.specs.Steps.{At}
 use Rattle.source_meaning.specs.Store.{Store, Address}
-use Rattle.source_meaning.specs.Flow.{Flow, Goes, Raised, Exits, Returned, Stops, Gone, Bound, Meaning, then_do, asked, fills, takes_answer}
+use Rattle.source_meaning.specs.Flow.{Flow, Goes, Meaning, then_do, asked, fills, takes_answer}
 use Rattle.source_meaning.specs.Operators.{one, truth}
 use Rattle.source_meaning.specs.ExprMeaning.{Setting}
-use Rattle.source_meaning.specs.StatementMeaning.{skip, set_to, set_address, spread_over, counts_over, receive_list, receive_counts, is_written, received_by, Come, comes_to, nothing_came, take_in, behind_wait, receive_with, statements_mean, receive_mean, otherwise_mean, action_mean}
+use Rattle.source_meaning.specs.StatementMeaning.{skip, set_to, set_address, spread_over, counts_over, receive_list, receive_counts, is_written, received_by, take_in, behind_wait, receive_with, statements_mean, receive_mean, otherwise_mean}
 use Rattle.source_meaning.specs.BodyMeaning.{Bodies}
 use Rattle.code_scheme.specs.Pieces.{Layout}
 use Rattle.code_scheme.specs.StatementSite.{Standing, layout}
 use Rattle.code_scheme.specs.StatementGoing.{go_on, leave_code}
 use Rattle.code_scheme.specs.StatementWaits.{set_place_code, set_place_size, set_kept, chosen_in, set_code, set_size, first_received, scalars_received, sources_code, count_of_sources, Receives, from_buffers, of_signals, receive_instr, nothing_code, has_else, receive_wait_code, receive_wait_size, is_chosen_code}
 use Rattle.code_scheme.specs.StatementSize.{statements_size, otherwise_size, receives_size}
-use Rattle.code_scheme.specs.StatementCode.{CodeAt, no_code, next_place, chosen, statements_code, otherwise_code, receives_code, receive_case_code}
-use Rattle.code_scheme.specs.StatementRows.{RowsAt, statements_rows, otherwise_rows, receives_rows}
-use Rattle.follow_laws.specs.Follows.{HasAt, scalars_in, Around, free_in, keeping, frame_at, state_at, here, Holds, GetsTo, Follows, always, no_stack, HoldsWith, Nothing, Does, action_in}
+use Rattle.code_scheme.specs.StatementCode.{CodeAt, no_code, next_place, chosen, statements_code, otherwise_code, receives_code}
+use Rattle.code_scheme.specs.StatementRows.{RowsAt, otherwise_rows, receives_rows}
+use Rattle.follow_laws.specs.Follows.{HasAt, scalars_in, Around, free_in, keeping, frame_at, state_at, here, Holds, GetsTo, Follows, always, Does, action_in}
 use Rattle.follow_laws.specs.Laws.{GoesOnBehind, counts_in}
 use Rattle.follow_laws.specs.Parts.{IsCovered}
 use Rattle.code_laws.specs.BodyBounds.{BodiesWithin}
 use Rattle.code_laws.specs.OwnBounds.{where_goes}
-use Rattle.code_laws.specs.InRange.{IsNumber32}
 use Rattle.code_laws.specs.Expressions.{NamesIn}
 use Rattle.follow_laws.proofs.Running.{has_front, has_back, stays, gets_then, after, follows_then_is, comes, forgotten, forgetting}
 use Rattle.follow_laws.proofs.Requesting.{IsNoFailure, asks_by}
@@ -57,7 +56,7 @@ use Rattle.code_laws.specs.Statements.{StandsAs, calls_from}
 use Rattle.statement_code_laws.specs.Parts.{Acts}
 use Rattle.statement_code_laws.specs.Actions.{ActionActs}
 use Rattle.statement_code_laws.specs.StatementForms.{StatementsAct, SomeAct}
-use Rattle.statement_code_laws.proofs.Lengths.{leave_length, statements_length, set_place_length, set_length, sources_length, nothing_length, receive_wait_length}
+use Rattle.statement_code_laws.proofs.Lengths.{leave_length, statements_length, set_place_length, sources_length, nothing_length, receive_wait_length}
 use Rattle.statement_code_laws.proofs.Joining.{lie_wider, Embeds, embeds_before, embeds_then, embedded, covered_inside, acts_in, no_part}
 use Rattle.statement_code_laws.proofs.ChoiceRuns.{names_inside, RestActs}
 use Rattle.statement_code_laws.proofs.SelectRuns.{Selects, IsFirst, IsOther, alternative_acts}

@@ -1,8 +1,7 @@
 -- DELAY, CONTINUE and SEND.
-use Rattle.std.proofs.Common.{◌≡◌, ℕ, zero, suc, ◌+◌, ◌<◌, ◌≤◌, if◌then◌else◌, Bool, true, false, ◌&&◌, List, [], ◌∷◌, ◌++◌, ℤ, pos, length, take, drop, Option, Some, None, slice_get, refl, sym, ap, ◌∙◌, subst, arith, append_assoc, append-nil, length-append, ◌⊎◌, inl, inr}
+use Rattle.std.proofs.Common.{◌≡◌, ℕ, ◌+◌, ◌<◌, ◌≤◌, true, false, List, [], ◌∷◌, ◌++◌, ℤ, pos, length, take, drop, Option, Some, None, slice_get, refl, sym, ap, ◌∙◌, arith, length-append, inl}
 use Rattle.std.proofs.Math.Seq.{take-append_seam, drop-append_seam}
 use Rattle.kernel_base.specs.declared.ends.Exc.TheVariants.{Rangefail}
-use Rattle.kernel_base.specs.declared.request.Alternative.{Alternative}
 use Rattle.kernel_base.specs.declared.request.Request.{Request}
 use Rattle.kernel_base.specs.declared.request.Request.TheVariants.{Delay, Continue, SendBuffer, SendSignal}
 use Rattle.kernel_base.specs.declared.answer.Answer.{Answer}
@@ -10,37 +9,35 @@ use Rattle.kernel_base.specs.declared.answer.Answer.TheVariants.{Value, Done, Wo
 use Rattle.world_model.specs.Session.{Session}
 use Rattle.code_types.specs.declared.instr.Instr.{Instr}
 use Rattle.code_types.specs.declared.instr.Instr.TheVariants as i
-use Rattle.code_types.specs.Operands.{number_in, pairs_of, with_first, alternative_in}
-use Rattle.code_types.specs.Actions.{Action, Throws, Requests, with_one, with_number, at_offset, delays, asks}
+use Rattle.code_types.specs.Operands.{number_in, with_first, alternative_in}
+use Rattle.code_types.specs.Actions.{Throws, Requests, with_one, with_number, at_offset, delays, asks}
 use Rattle.code_types.specs.Answers.{goes_on}
 use Rattle.code_types.specs.State.{Asking}
 use Rattle.code_types.specs.Steps.{At}
 use Rattle.program_trees.specs.ExprTree.{ExprTree, ReceivedTree, ReceivedNodes, received_count}
 use Rattle.program_trees.specs.StatementTree.{SentTree, to_buffer, signal, delay, continue_at, send}
 use Rattle.source_meaning.specs.Store.{Store}
-use Rattle.source_meaning.specs.Flow.{Flow, Goes, Raised, Meaning, then_do, done, takes_answer}
+use Rattle.source_meaning.specs.Flow.{Goes, done, takes_answer}
 use Rattle.source_meaning.specs.Operators.{sole_number, one}
-use Rattle.source_meaning.specs.ExprMeaning.{Setting, expr_mean, all_received_mean}
-use Rattle.source_meaning.specs.StatementMeaning.{send_to, sent_signal}
+use Rattle.source_meaning.specs.ExprMeaning.{all_received_mean}
+use Rattle.source_meaning.specs.StatementMeaning.{send_to}
 use Rattle.code_scheme.specs.Pieces.{Layout}
 use Rattle.code_scheme.specs.ExprSizes.{expr_size, received_size, received_sizes}
 use Rattle.code_scheme.specs.ExprCode.{expr_code, received_codes, counts_of}
 use Rattle.code_scheme.specs.StatementSite.{layout}
-use Rattle.code_scheme.specs.StatementPlain.{receiver_code, receiver_size, has_receiver}
-use Rattle.follow_laws.specs.Follows.{HasAt, Around, frame_at, state_at, here, Holds, Follows, always, no_stack, HoldsWith, Nothing, Does, action_in}
-use Rattle.code_laws.specs.InRange.{IsNumber32}
+use Rattle.follow_laws.specs.Follows.{Around, frame_at, state_at, here, Holds, always, no_stack, HoldsWith, Nothing, Does, action_in}
 use Rattle.code_laws.specs.OwnBounds.{all_within, expr_within}
 use Rattle.follow_laws.proofs.Running.{has_front, has_back, after, follows_then, follows_then_is, makes, comes, raises}
 use Rattle.follow_laws.proofs.Requesting.{IsNoFailure, none_takes, asks_by, done_by}
-use Rattle.follow_laws.proofs.Instructions.{puts_on, renamed, sole}
-use Rattle.code_laws.proofs.Sizes.{expr_length, received_length, all_length}
+use Rattle.follow_laws.proofs.Instructions.{puts_on, sole}
+use Rattle.code_laws.proofs.Sizes.{expr_length, all_length}
 use Rattle.code_laws.proofs.Values.{both_true}
 use Rattle.code_laws.proofs.BetweenRuns.{pop_run}
 use Rattle.code_laws.proofs.ExprPieces.{there}
 use Rattle.code_laws.proofs.ReceiveRuns.{thing_is}
 use Rattle.code_laws.proofs.ExprRuns.{expr_runs, all_runs}
 use Rattle.code_laws.specs.Statements.{calls_from}
-use Rattle.code_laws.specs.StatementBounds.{sent_within, some_value_within}
+use Rattle.code_laws.specs.StatementBounds.{some_value_within}
 use Rattle.statement_code_laws.specs.Actions.{ActionActs, RequestingLaw}
 use Rattle.statement_code_laws.proofs.PlainRuns.{plain_acts, open_here}
 use Rattle.statement_code_laws.proofs.LeavingRuns.{received_then}

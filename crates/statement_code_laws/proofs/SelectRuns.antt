@@ -1,5 +1,5 @@
 -- Alternatives of which a number that is kept chooses one.
-use Rattle.std.proofs.Common.{◌≡◌, ℕ, zero, suc, ◌+◌, ◌<◌, ◌≤◌, if◌then◌else◌, Bool, true, false, List, [], ◌∷◌, ◌++◌, ℤ, length, refl, sym, ap, ◌∙◌, subst, arith, length-append, ◌⊎◌, inl, inr}
+use Rattle.std.proofs.Common.{◌≡◌, ℕ, suc, ◌+◌, ◌≤◌, if◌then◌else◌, Bool, true, false, List, [], ◌∷◌, ◌++◌, ℤ, length, refl, sym, ap, subst, arith, length-append, ◌⊎◌, inl, inr}
 use Rattle.world_model.specs.Session.{Session}
 use Rattle.scalar_operators.specs.Numbers.{truth_number}
 use Rattle.program_trees.specs.StatementTree.{StatementNodes}

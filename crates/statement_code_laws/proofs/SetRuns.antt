@@ -1,8 +1,7 @@
 -- What stands before and behind a wait: the place of the location after SET is kept, and the location gets the instance.
-use Rattle.std.proofs.Common.{◌≡◌, ℕ, zero, suc, ◌+◌, ◌-◌, ◌<◌, ◌≤◌, if◌then◌else◌, Bool, true, false, List, [], ◌∷◌, ◌++◌, ℤ, pos, length, Option, Some, None, refl, sym, ap, ◌∙◌, subst, arith, append_assoc, append-nil, length-append}
+use Rattle.std.proofs.Common.{◌≡◌, ℕ, ◌+◌, ◌-◌, ◌≤◌, if◌then◌else◌, Bool, true, false, List, [], ◌∷◌, ◌++◌, ℤ, pos, length, Option, Some, None, refl, sym, ap, ◌∙◌, subst, arith, append_assoc, length-append}
 use Rattle.world_model.specs.Session.{Session}
-use Rattle.checked_program.specs.declared.expr.Base.{Base}
-use Rattle.program_trees.specs.ExprTree.{PartNodes, LocationTree, location}
+use Rattle.program_trees.specs.ExprTree.{LocationTree, location}
 use Rattle.code_types.specs.declared.instr.Instr.{Instr}
 use Rattle.code_types.specs.declared.instr.Instr.TheVariants as i
 use Rattle.code_types.specs.Actions.{in_frame}
@@ -17,14 +16,14 @@ use Rattle.code_scheme.specs.ExprSizes.{place_size}
 use Rattle.code_scheme.specs.ExprCode.{place_code}
 use Rattle.code_scheme.specs.StatementSite.{Standing, layout}
 use Rattle.code_scheme.specs.StatementWaits.{set_place_code, set_place_size, set_kept, chosen_in, set_code, set_size}
-use Rattle.follow_laws.specs.Follows.{HasAt, scalars_in, Around, free_in, keeping, here, Holds, Follows, always, no_stack, HoldsWith, Nothing, Does}
+use Rattle.follow_laws.specs.Follows.{HasAt, scalars_in, Around, free_in, keeping, here, Holds, Follows, always, no_stack, Does}
 use Rattle.code_laws.specs.BodyBounds.{BodiesWithin}
 use Rattle.code_laws.specs.InRange.{BaseFits, IsOffset}
 use Rattle.code_laws.specs.OwnBounds.{parts_within}
 use Rattle.code_laws.specs.Expressions.{NamesIn}
-use Rattle.follow_laws.proofs.Running.{has_front, has_back, gets_then, after, follows_then, comes}
+use Rattle.follow_laws.proofs.Running.{has_front, has_back, after, follows_then, comes}
 use Rattle.follow_laws.proofs.Holding.{HasPart, kept_read}
-use Rattle.follow_laws.proofs.Instructions.{puts_on, renamed}
+use Rattle.follow_laws.proofs.Instructions.{puts_on}
 use Rattle.code_laws.proofs.Sizes.{place_length, where_length}
 use Rattle.code_laws.proofs.PlaceRuns.{IsPlace, place_stack, store_runs}
 use Rattle.code_laws.proofs.ExprPieces.{assoc}

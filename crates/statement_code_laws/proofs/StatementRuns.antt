@@ -1,12 +1,11 @@
 -- One induction over statements, which joins the laws of each.
-use Rattle.std.proofs.Common.{◌≡◌, ℕ, Bool, true, List, ℤ, Option, refl}
-use Rattle.program_trees.specs.ExprTree.{LocationTree}
-use Rattle.program_trees.specs.StatementTree.{ControlTree, StatementTree, statement, ActionTree, do_nothing, declare, set_lowest, module_at, region_at, assign, update, perform, drop_routine, evaluate, put_int, put_text, put_line, exit_from, return_with, set_result, assert_that, cause, stop, start_of, delay, continue_at, send, if_then, case_of, do_loop, begin_end, delay_case, receive_buffers, receive_signals, StatementNodes, no_statements, more_statements, ChoiceNodes, no_choices, more_choices, CaseNodes, no_cases, more_cases, DelayNodes, no_delays, more_delays, ReceiveNodes, no_receives, more_receives, OtherwiseNode, no_otherwise, otherwise, HandledNodes, no_handled, more_handled, HandlerNode, no_handler, handler}
+use Rattle.std.proofs.Common.{◌≡◌, Bool, true}
+use Rattle.program_trees.specs.StatementTree.{StatementTree, statement, ActionTree, do_nothing, declare, set_lowest, module_at, region_at, assign, update, perform, drop_routine, evaluate, put_int, put_text, put_line, exit_from, return_with, set_result, assert_that, cause, stop, start_of, delay, continue_at, send, if_then, case_of, do_loop, begin_end, delay_case, receive_buffers, receive_signals, StatementNodes, no_statements, more_statements, ChoiceNodes, no_choices, more_choices, CaseNodes, no_cases, more_cases, DelayNodes, no_delays, more_delays, ReceiveNodes, no_receives, more_receives, OtherwiseNode, no_otherwise, otherwise, HandledNodes, no_handled, more_handled, HandlerNode, no_handler, handler}
 use Rattle.code_laws.proofs.Values.{both_true}
 use Rattle.code_laws.specs.Statements.{StatementsLaw}
 use Rattle.code_laws.proofs.ControlRuns.{loop_runs}
 use Rattle.code_laws.proofs.StayingStatements.{leaves_law}
-use Rattle.code_laws.specs.Counters.{loop_keeps, statements_keep, statement_keeps, handler_keeps, handled_keep, otherwise_keeps, action_keeps, choices_keep, cases_keep, delays_keep, receives_keep}
+use Rattle.code_laws.specs.Counters.{statements_keep, statement_keeps, handler_keeps, handled_keep, otherwise_keeps, action_keeps, choices_keep, cases_keep, delays_keep, receives_keep}
 use Rattle.statement_code_laws.specs.Actions.{ActionActs}
 use Rattle.statement_code_laws.specs.StatementForms.{StatementActs, StatementsAct, SomeAct, EachChoice, EachCase, EachDelay, EachReceive, EachHandled, HandlerActs, JoiningLaw, LoopsAct}
 use Rattle.statement_code_laws.proofs.PlainRuns.{plain_law}

@@ -1,5 +1,5 @@
 -- The laws of actions that hold no statements, in the one form.
-use Rattle.std.specs.Prelude.{◌≡◌, ℕ, ◌+◌, List, ℤ, length, Option}
+use Rattle.std.specs.Prelude.{ℕ, ◌+◌, List, ℤ, length, Option}
 use Rattle.modes.specs.declared.mode.Bounds.{Bounds}
 use Rattle.checked_program.specs.declared.expr.Base.{Base}
 use Rattle.checked_program.specs.declared.expr.Binary.{Binary}
