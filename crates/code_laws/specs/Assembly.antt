@@ -12,7 +12,7 @@ use Rattle.code_types.specs.State.{Frame, OpenRegion, State}
 use Rattle.code_types.specs.Steps.{Run, At, Over, steps}
 use Rattle.code_types.specs.Talk.{start_of}
 use Rattle.code_types.specs.Runs.{ticks_in, IsCodeRun}
-use Rattle.source_meaning.specs.Store.{Store, Taken}
+use Rattle.source_meaning.specs.Store.{Taken}
 use Rattle.source_meaning.specs.Flow.{Flow, Stops, Gone, Bound}
 use Rattle.source_meaning.specs.BodyMeaning.{body_mean}
 use Rattle.source_meaning.specs.Talk.{talk, process_end, parameter_scalars}
