@@ -163,7 +163,7 @@ first_fits first [] (q ∷ ps) (t ∷ ts) laid fit = absurd fit
 first_fits first (row ∷ rows) (q ∷ ps) (t ∷ ts) laid fit = (laid.0, fit.0, first_fits (first + row.count) rows ps ts laid.3 fit.1)
 
 -- the two sums are one
-same_sum : (rows : List LocalRowTree) → declared_in rows ≡ scalars_in rows
+pub same_sum : (rows : List LocalRowTree) → declared_in rows ≡ scalars_in rows
 same_sum [] = refl
 same_sum (row ∷ rows) = ap (λ (n : ℕ). row.count + n) (same_sum rows)
 
