@@ -1,5 +1,5 @@
 -- The way out of a procedure: what it gives back.
-use Rattle.std.proofs.Common.{◌≡◌, ℕ, zero, suc, ◌+◌, ◌<◌, ◌≤◌, if◌then◌else◌, Bool, true, false, List, [], ◌∷◌, ◌++◌, ℤ, length, take, drop, Option, Some, None, slice_get, slice_index_or, nat_lt, lt-ltb, refl, sym, ap, ◌∙◌, subst, arith, append_assoc, append-nil, length-append}
+use Rattle.std.proofs.Common.{◌≡◌, ℕ, zero, suc, ◌+◌, ◌≤◌, if◌then◌else◌, Bool, true, false, List, [], ◌∷◌, ◌++◌, ℤ, length, take, Some, slice_get, slice_index_or, nat_lt, lt-ltb, refl, sym, ap, ◌∙◌, subst, arith, append_assoc, append-nil, length-append}
 use Rattle.world_model.specs.Session.{Session}
 use Rattle.world_model.specs.Lists.{scalars_at}
 use Rattle.checked_program.specs.declared.program.Parameter.{Parameter}

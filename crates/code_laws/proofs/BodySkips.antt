@@ -1,18 +1,18 @@
 -- Declarations without a value with which a body begins: its first store has their values already.
-use Rattle.std.proofs.Common.{◌≡◌, ℕ, zero, suc, ◌+◌, ◌<◌, ◌≤◌, if◌then◌else◌, Bool, true, false, List, [], ◌∷◌, ◌++◌, ℤ, length, Option, Some, None, slice_get, slice_set, slice_index_or, refl, sym, ap, ◌∙◌, subst, arith}
+use Rattle.std.proofs.Common.{◌≡◌, ℕ, zero, suc, ◌≤◌, true, false, List, [], ◌∷◌, ℤ, length, Option, Some, slice_get, slice_set, slice_index_or, refl, sym, ap, ◌∙◌, arith}
 use Rattle.std.specs.Prelude.{All}
 use Rattle.std.proofs.lemmas.List.Elements.{All-head, All-tail}
 use Rattle.world_model.specs.Session.{Session}
 use Rattle.modes.specs.ModeTree.{ModeTree}
 use Rattle.modes.specs.Scalars.{lowest_of}
 use Rattle.checked_program.specs.declared.program.Parameter.{Parameter}
-use Rattle.program_trees.specs.ProgramTree.{LocalRowTree, BodyRowTree, CheckedTree}
-use Rattle.program_trees.specs.StatementTree.{StatementTree, statement, ActionTree, set_lowest, StatementNodes, no_statements, more_statements, HandlerNode}
+use Rattle.program_trees.specs.ProgramTree.{LocalRowTree}
+use Rattle.program_trees.specs.StatementTree.{statement, set_lowest, StatementNodes, no_statements, more_statements}
 use Rattle.source_meaning.specs.Store.{Store, Taken, local_value, with_local, first_locals, first_store}
 use Rattle.source_meaning.specs.ExprMeaning.{Setting}
-use Rattle.source_meaning.specs.StatementMeaning.{set_locals, statement_mean, statements_mean}
+use Rattle.source_meaning.specs.StatementMeaning.{set_locals, statements_mean}
 use Rattle.source_meaning.specs.TypedStatements.{Around, LocalHas, AreTyped}
-use Rattle.source_meaning.specs.Typed.{IsTypedBody, around_body}
+use Rattle.source_meaning.specs.Typed.{around_body}
 use Rattle.code_scheme.specs.BodyCode.{behind_lowest}
 use Rattle.code_laws.specs.Calls.{FitTaken}
 use Rattle.code_laws.specs.Bodies.{DeclareBehind, SkipsLaw}

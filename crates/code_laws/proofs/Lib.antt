@@ -24,3 +24,4 @@ pub mod StayingStatements
 pub mod BodyBegins
 pub mod BodyEnds
 pub mod BodySkips
+pub mod ProcessEnds
