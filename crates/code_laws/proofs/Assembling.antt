@@ -1,25 +1,25 @@
 -- The law of assembly: bodies that do what they mean make a code that has the program's talk.
-use Rattle.std.proofs.Common.{◌≡◌, ℕ, zero, suc, ◌+◌, ◌<◌, ◌≤◌, if◌then◌else◌, Bool, true, false, ◌==◌, List, [], ◌∷◌, ◌++◌, ℤ, length, reverse, take, drop, Option, Some, None, slice_get, refl, sym, ap, ◌∙◌, subst, arith, append-nil, take-append-drop, length-drop, length-take-le, eq-eqb}
+use Rattle.std.proofs.Common.{◌≡◌, ℕ, zero, suc, ◌≤◌, if◌then◌else◌, Bool, true, false, ◌==◌, List, [], ◌∷◌, ◌++◌, ℤ, length, reverse, take, drop, Option, Some, None, refl, sym, ap, ◌∙◌, subst, arith, append-nil, take-append-drop, length-drop, length-take-le, eq-eqb}
 use Rattle.std.specs.Prelude.{MatchBool}
 use Rattle.kernel_base.specs.declared.answer.Answer.{Answer}
-use Rattle.world_model.specs.Session.{Item, Session, session_of}
+use Rattle.world_model.specs.Session.{Session, session_of}
 use Rattle.checked_program.specs.declared.program.Parameter.{Parameter}
 use Rattle.program_trees.specs.ProgramTree.{LocalRowTree, BodyRowTree, CheckedTree}
 use Rattle.code_types.specs.declared.code.BodyRow.{BodyRow}
 use Rattle.code_types.specs.declared.code.Code.{Code}
-use Rattle.code_types.specs.State.{Frame, OpenRegion, State, Running}
-use Rattle.code_types.specs.Steps.{Run, At, Over, new_frame, steps}
+use Rattle.code_types.specs.State.{Frame, State, Running}
+use Rattle.code_types.specs.Steps.{At, Over, new_frame}
 use Rattle.code_types.specs.Talk.{start_in, start_of}
-use Rattle.source_meaning.specs.Store.{Store, OpenCall, Taken, brings, lowest}
+use Rattle.source_meaning.specs.Store.{OpenCall, Taken}
 use Rattle.source_meaning.specs.Flow.{Flow, Goes, Raised, Exits, Returned, Stops, Gone, Bound}
-use Rattle.source_meaning.specs.BodyMeaning.{Ending, Unknown, Bodies, body_mean}
+use Rattle.source_meaning.specs.BodyMeaning.{Ending, body_mean}
 use Rattle.source_meaning.specs.Talk.{Talk, talk_at, talk, talk_in, no_talk, process_end, split_over, parameter_scalars}
 use Rattle.source_meaning.specs.Fitting.{has_instances}
-use Rattle.follow_laws.specs.Follows.{GetsTo, AreFramesOf}
+use Rattle.follow_laws.specs.Follows.{AreFramesOf}
 use Rattle.source_meaning.proofs.EnoughBodies.{enough_law}
 use Rattle.code_laws.specs.BodyBounds.{bodies_within, talk_within_of}
 use Rattle.code_laws.specs.Calls.{taken_scalars, in_frame_of, FitTaken, BodiesFollow}
-use Rattle.code_laws.specs.Assembly.{CarriesProcedure, CarriesProcess, CarriesAll, Tells, FitsBirth, TalksAs, LawOfAssembly}
+use Rattle.code_laws.specs.Assembly.{CarriesProcedure, CarriesProcess, CarriesAll, Tells, TalksAs, LawOfAssembly}
 
 by_false : (b : Bool) (P Q : Type 0) → b ≡ false → MatchBool b P Q → Q
 by_false true P Q h m = absurd (let no : ⊥ = cc in no)

@@ -1,12 +1,11 @@
 -- What stands between two operands, and behind the argument of a prefix or a routine.
-use Rattle.std.proofs.Common.{◌≡◌, ℕ, zero, suc, ◌+◌, ◌-◌, ◌*◌, ◌<◌, ◌≤◌, min, nat_le, nat_lt, if◌then◌else◌, Bool, true, false, not, ◌&&◌, ◌||◌, List, [], ◌∷◌, ◌++◌, ℤ, pos, negsuc, ◌+ℤ◌, ◌-ℤ◌, neg_ℤ, int_le, int_lt, map, length, Option, Some, None, slice_get, refl, sym, ap, ◌∙◌, subst, arith, length-append, append_assoc, append-nil, inl}
+use Rattle.std.proofs.Common.{◌≡◌, ℕ, zero, suc, ◌+◌, ◌<◌, ◌≤◌, if◌then◌else◌, Bool, true, false, not, ◌&&◌, ◌||◌, List, [], ◌∷◌, ◌++◌, ℤ, pos, negsuc, ◌+ℤ◌, ◌-ℤ◌, neg_ℤ, int_le, int_lt, map, length, Option, Some, None, slice_get, refl, sym, ap, ◌∙◌, subst, arith, length-append, append_assoc, append-nil, inl}
 use Rattle.std.specs.List.{filter}
 use Rattle.std.proofs.lemmas.Int.{ints}
-use Rattle.kernel_base.specs.declared.ends.Exc.{Exc}
-use Rattle.kernel_base.specs.declared.ends.Exc.TheVariants.{Overflow, Empty}
+use Rattle.kernel_base.specs.declared.ends.Exc.TheVariants.{Overflow}
 use Rattle.world_model.specs.Session.{Session}
 use Rattle.modes.specs.declared.mode.Bounds.{Bounds}
-use Rattle.modes.specs.Bounds.{natural_of, count_between}
+use Rattle.modes.specs.Bounds.{natural_of}
 use Rattle.checked_program.specs.declared.expr.Binary.{Binary}
 use Rattle.checked_program.specs.declared.expr.Binary.TheVariants.{AndIf, OrIf, Member}
 use Rattle.checked_program.specs.declared.expr.Prefix.{Prefix}
@@ -16,20 +15,18 @@ use Rattle.checked_program.specs.declared.expr.Routine.TheVariants.{Number, Abso
 use Rattle.scalar_operators.specs.Numbers.{is_between, is_int, where_true, truth_number, truth_of, int_result, magnitude, comes_before, least_int, greatest_int}
 use Rattle.scalar_operators.specs.Powersets.{members_of, has_member, numbers_up, offsets, first_of_list, last_of_list}
 use Rattle.scalar_operators.specs.Members.{offsets_of}
-use Rattle.code_types.specs.declared.instr.Instr.{Instr}
 use Rattle.code_types.specs.declared.instr.Instr.TheVariants as i
-use Rattle.code_types.specs.Actions.{Action, Pushes, GoesTo, Throws, result_or, member_or_empty, truth as truth_action}
+use Rattle.code_types.specs.Actions.{Pushes, GoesTo, result_or, member_or_empty, truth as truth_action}
 use Rattle.code_types.specs.Steps.{Run}
 use Rattle.source_meaning.specs.Store.{Store}
-use Rattle.source_meaning.specs.Flow.{Flow, Goes, Raised, Meaning, then_do}
-use Rattle.source_meaning.specs.Operators.{sole_number, is_true, one, truth, Computed, Yields, Throws as ThrowsIt, yields_or, in_int, takes_second, prefix_value, member_at, routine_value}
+use Rattle.source_meaning.specs.Operators.{sole_number, is_true, one, truth, Yields, yields_or, in_int, takes_second, prefix_value, member_at, routine_value}
 use Rattle.source_meaning.specs.ExprMeaning.{as_computed}
 use Rattle.code_scheme.specs.Pieces.{bounds_to_test, are_same, member_code, offset_code, member_or_none, between_code, between_size, prefix_code, routine_code}
-use Rattle.follow_laws.specs.Follows.{HasAt, Around, state_at, here, Holds, GetsTo, Follows, always, HoldsWith, on_top, IsLong, action_in, run_by}
-use Rattle.code_laws.specs.InRange.{AreInts, AreMembers, OperandsFit}
+use Rattle.follow_laws.specs.Follows.{HasAt, Around, here, Holds, GetsTo, Follows, always, HoldsWith, on_top, IsLong, run_by}
+use Rattle.code_laws.specs.InRange.{AreMembers, OperandsFit}
 use Rattle.code_laws.specs.OwnBounds.{lies_in}
-use Rattle.follow_laws.proofs.Running.{has_front, has_back, stays, gets_then, after, comes, makes, raises}
-use Rattle.follow_laws.proofs.Instructions.{pushes_by, jumps_by, puts_on, renamed, as_action, YieldsSuch, computed_by, sole}
+use Rattle.follow_laws.proofs.Running.{has_front, has_back, gets_then, after, comes, makes, raises}
+use Rattle.follow_laws.proofs.Instructions.{pushes_by, jumps_by, puts_on, renamed, computed_by, sole}
 use Rattle.code_laws.proofs.Values.{both_true, same_int}
 use Rattle.code_laws.proofs.OperatorRuns.{result_action, result_yields, truth_back, not_run, offset_in, held}
 

@@ -1,11 +1,11 @@
 -- Arguments that fit a process are as many as its parameters have scalars.
-use Rattle.std.proofs.Common.{◌≡◌, ℕ, zero, suc, ◌+◌, ◌≤◌, List, [], ◌∷◌, ◌++◌, ℤ, replicate, length, slice_get, Some, refl, sym, ap, ◌∙◌, arith, length-append}
+use Rattle.std.proofs.Common.{◌≡◌, ℕ, zero, suc, ◌+◌, List, [], ◌∷◌, ℤ, replicate, length, refl, sym, ap, ◌∙◌, arith, length-append}
 use Rattle.kernel_base.specs.declared.answer.Answer.{Answer}
 use Rattle.modes.specs.ModeTree.{ModeTree, int, boolean, char, instance, set_of, range, powerset, chars, array, structure, event, buffer, read, named, FieldNodes, no_fields, more_fields}
 use Rattle.modes.specs.Bounds.{bounds_of, values_of}
 use Rattle.modes.specs.Scalars.{numbers_of, scalars_of, scalars_in_fields}
 use Rattle.checked_program.specs.declared.program.Parameter.{Parameter}
-use Rattle.program_trees.specs.ProgramTree.{LocalRowTree, BodyRowTree, CheckedTree}
+use Rattle.program_trees.specs.ProgramTree.{LocalRowTree, CheckedTree}
 use Rattle.source_meaning.specs.Values.{Domain, domain_in, member_domains, domains_of, domains_of_fields, AreWithin}
 use Rattle.source_meaning.specs.Talk.{parameter_scalars}
 use Rattle.source_meaning.specs.Fitting.{domains_of_parameters, IsFitting}

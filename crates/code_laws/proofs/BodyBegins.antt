@@ -1,5 +1,5 @@
 -- What a frame begins with.
-use Rattle.std.proofs.Common.{◌≡◌, ℕ, zero, suc, ◌+◌, ◌-◌, ◌*◌, ◌<◌, ◌≤◌, if◌then◌else◌, Bool, true, false, ◌&&◌, List, [], ◌∷◌, ◌++◌, ℤ, pos, length, take, drop, replicate, Option, Some, None, slice_get, refl, sym, ap, ◌∙◌, subst, arith, append_assoc, append-nil, length-append}
+use Rattle.std.proofs.Common.{◌≡◌, ℕ, zero, suc, ◌+◌, ◌-◌, ◌<◌, ◌≤◌, if◌then◌else◌, Bool, true, false, List, [], ◌∷◌, ◌++◌, ℤ, pos, length, drop, replicate, Option, Some, None, refl, sym, ap, ◌∙◌, subst, arith, append_assoc, append-nil, length-append}
 use Rattle.std.specs.List.{list_all}
 use Rattle.world_model.specs.Session.{Session}
 use Rattle.world_model.specs.Lists.{with_scalars}
@@ -7,21 +7,20 @@ use Rattle.modes.specs.ModeTree.{ModeTree, int, boolean, char, instance, set_of,
 use Rattle.modes.specs.Bounds.{values_of}
 use Rattle.modes.specs.Scalars.{numbers_of, scalars_of, scalars_in_fields, lowest_of, lowest_of_fields}
 use Rattle.checked_program.specs.declared.program.Parameter.{Parameter}
-use Rattle.program_trees.specs.ProgramTree.{LocalRowTree, BodyRowTree}
+use Rattle.program_trees.specs.ProgramTree.{LocalRowTree}
 use Rattle.code_types.specs.declared.instr.Instr.{Instr}
 use Rattle.code_types.specs.declared.instr.Instr.TheVariants as i
-use Rattle.code_types.specs.Steps.{Run}
-use Rattle.source_meaning.specs.Store.{Store, Taken, brings, lowest, begins_with, first_locals, first_store, lowest_result}
+use Rattle.source_meaning.specs.Store.{Store, Taken, brings, lowest, first_locals, first_store, lowest_result}
 use Rattle.source_meaning.specs.Talk.{parameter_scalars}
 use Rattle.code_scheme.specs.Pieces.{are_same, scalars_code}
 use Rattle.code_scheme.specs.StatementSite.{declared_scalars, scalars_in as declared_in}
-use Rattle.code_scheme.specs.BodyCode.{lowest_value_code, locals_code, lowest_result_code, lowest_code}
-use Rattle.follow_laws.specs.Follows.{HasAt, flat, FitRows, scalars_in, Around, here, Holds, GetsTo}
+use Rattle.code_scheme.specs.BodyCode.{lowest_value_code, locals_code, lowest_result_code}
+use Rattle.follow_laws.specs.Follows.{HasAt, flat, FitRows, scalars_in, Around, here, GetsTo}
 use Rattle.follow_laws.proofs.Running.{has_front, has_back, is_there, gets_then}
 use Rattle.follow_laws.proofs.Stores.{set_right}
 use Rattle.code_laws.specs.Calls.{taken_scalars, result_scalars, FitTaken}
 use Rattle.code_laws.specs.StatementsInRange.{AreLaid}
-use Rattle.code_laws.specs.Bodies.{StandsInBody, BeginsLaw}
+use Rattle.code_laws.specs.Bodies.{BeginsLaw}
 use Rattle.code_laws.proofs.Values.{both_true, same_int, repeated_length, scalars_run}
 use Rattle.code_laws.proofs.CallRuns.{taken_long}
 use Rattle.code_laws.proofs.LoopPieces.{set_run}
@@ -164,7 +163,7 @@ first_fits first [] (q ∷ ps) (t ∷ ts) laid fit = absurd fit
 first_fits first (row ∷ rows) (q ∷ ps) (t ∷ ts) laid fit = (laid.0, fit.0, first_fits (first + row.count) rows ps ts laid.3 fit.1)
 
 -- the two sums are one
-same_sum : (rows : List LocalRowTree) → declared_in rows ≡ scalars_in rows
+pub same_sum : (rows : List LocalRowTree) → declared_in rows ≡ scalars_in rows
 same_sum [] = refl
 same_sum (row ∷ rows) = ap (λ (n : ℕ). row.count + n) (same_sum rows)
 

@@ -1,5 +1,5 @@
 -- Arguments whose places are kept, and what is copied out behind a call.
-use Rattle.std.proofs.Common.{◌≡◌, ℕ, zero, suc, ◌+◌, ◌-◌, ◌<◌, ◌≤◌, if◌then◌else◌, Bool, true, false, ◌&&◌, List, [], ◌∷◌, ◌++◌, ℤ, pos, length, Option, Some, None, slice_get, nat_le, le-leb, refl, sym, ap, ◌∙◌, subst, arith, append_assoc, append-nil, length-append, ◌⊎◌, inl, inr}
+use Rattle.std.proofs.Common.{◌≡◌, ℕ, ◌+◌, ◌-◌, ◌≤◌, if◌then◌else◌, Bool, true, false, List, [], ◌∷◌, ◌++◌, ℤ, pos, length, Option, Some, None, nat_le, le-leb, refl, sym, ap, ◌∙◌, subst, arith, append_assoc, append-nil, length-append, ◌⊎◌, inl, inr}
 use Rattle.world_model.specs.Session.{Session}
 use Rattle.world_model.specs.Lists.{with_scalars}
 use Rattle.modes.specs.declared.mode.Bounds.{Bounds}
@@ -8,7 +8,7 @@ use Rattle.modes.specs.Bounds.{bounds_of}
 use Rattle.checked_program.specs.declared.expr.Base.{Base}
 use Rattle.checked_program.specs.declared.expr.Base.TheVariants.{Shared, Local}
 use Rattle.checked_program.specs.declared.program.Parameter.{Parameter}
-use Rattle.program_trees.specs.ExprTree.{PartNodes, LocationTree, location, ArgumentNodes, no_arguments, in_argument, out_argument, inout_argument, location_count}
+use Rattle.program_trees.specs.ExprTree.{PartNodes, LocationTree, location, ArgumentNodes, no_arguments, in_argument, out_argument, inout_argument}
 use Rattle.program_trees.specs.ProgramTree.{LocalRowTree}
 use Rattle.code_types.specs.declared.instr.Instr.{Instr}
 use Rattle.code_types.specs.declared.instr.Instr.TheVariants as i
@@ -16,22 +16,22 @@ use Rattle.code_types.specs.declared.code.Handler.{Handler}
 use Rattle.code_types.specs.Actions.{Sets, Halts, in_frame}
 use Rattle.code_types.specs.Steps.{Run}
 use Rattle.source_meaning.specs.Store.{Store, begins_with, Address, in_local, in_shared, address_of}
-use Rattle.source_meaning.specs.Flow.{Flow, Goes, Meaning, then_do}
+use Rattle.source_meaning.specs.Flow.{Flow, Goes, then_do}
 use Rattle.source_meaning.specs.Operators.{one}
-use Rattle.source_meaning.specs.ExprMeaning.{Setting, CopyOut, Passed, takens, tested, assign_at, copied_out, all_copied_out}
+use Rattle.source_meaning.specs.ExprMeaning.{Setting, CopyOut, Passed, takens, copied_out, all_copied_out}
 use Rattle.code_scheme.specs.Pieces.{Layout, bounds_to_test, tested_out, tested_back, check_code, first_of_parts, needs_offset, has_offset, offsets_kept, keep_code, kept_code, under_code, store_code, copy_out_code, copies_out, kept_behind}
 use Rattle.code_scheme.specs.ExprSizes.{copy_out_size, copies_out_size}
-use Rattle.follow_laws.specs.Follows.{HasAt, FitRows, Around, free_in, scalars_in, keeping, here, Holds, GetsTo, Follows, always, HoldsWith, Nothing, on_top, IsLong}
+use Rattle.follow_laws.specs.Follows.{HasAt, FitRows, Around, free_in, scalars_in, keeping, here, Holds, GetsTo, Follows, always, HoldsWith, Nothing}
 use Rattle.source_meaning.specs.BodyMeaning.{Bodies}
 use Rattle.code_laws.specs.BodyBounds.{BodiesWithin}
-use Rattle.code_laws.specs.Calls.{FitTaken, passed_back, parameters_back}
+use Rattle.code_laws.specs.Calls.{FitTaken, parameters_back}
 use Rattle.code_laws.specs.InRange.{BoundsFit, IsOffset, BaseFits, FitsArguments}
 use Rattle.code_laws.specs.OwnBounds.{lies_in, lies_where, copies_within}
 use Rattle.code_laws.specs.Expressions.{Suited, NamesIn}
 use Rattle.follow_laws.proofs.Running.{has_front, has_back, gets_then, after, follows_then, comes, forgotten, forgetting}
 use Rattle.follow_laws.proofs.Holding.{HasPart, IsSet, kept_read, scratch_set, scratch_read}
 use Rattle.follow_laws.proofs.Instructions.{puts_on, sets_by, renamed}
-use Rattle.code_laws.proofs.Sizes.{copy_out_length, store_length, where_length}
+use Rattle.code_laws.proofs.Sizes.{copy_out_length, where_length}
 use Rattle.code_laws.proofs.Values.{both_true}
 use Rattle.code_laws.proofs.PlaceRuns.{IsPlace, place_stack, store_runs}
 use Rattle.code_laws.proofs.ExprPieces.{reshaped, tested_runs}

@@ -1,5 +1,5 @@
 -- Calls: the tick, the frame, and what the body's end makes of the caller.
-use Rattle.std.proofs.Common.{◌≡◌, ℕ, zero, suc, ◌+◌, ◌<◌, ◌≤◌, if◌then◌else◌, Bool, true, false, List, [], ◌∷◌, ◌++◌, ℤ, length, reverse, map, take, drop, Option, Some, None, slice_get, nat_lt, nat_le, le-leb, refl, sym, ap, ◌∙◌, subst, arith, append_assoc, append-nil, length-append, inl, inr}
+use Rattle.std.proofs.Common.{◌≡◌, ℕ, suc, ◌+◌, ◌<◌, ◌≤◌, if◌then◌else◌, Bool, true, false, List, [], ◌∷◌, ◌++◌, ℤ, length, reverse, Some, slice_get, nat_lt, nat_le, le-leb, refl, sym, ap, ◌∙◌, subst, arith, append_assoc, length-append, inl, inr}
 use Rattle.std.proofs.lemmas.List.{reverse-append}
 use Rattle.kernel_base.specs.declared.ends.Exc.{Exc}
 use Rattle.kernel_base.specs.declared.ends.Exc.TheVariants.{Spacefail}
@@ -10,30 +10,25 @@ use Rattle.kernel_base.specs.declared.answer.Answer.{Answer}
 use Rattle.world_model.specs.Session.{Item, Ask, Session, Asked, Answered, Unanswered, ask, Ticked, GoesOn, Last, tick}
 use Rattle.modes.specs.Scalars.{lowest_of}
 use Rattle.checked_program.specs.declared.program.Parameter.{Parameter}
-use Rattle.program_trees.specs.ProgramTree.{LocalRowTree, BodyRowTree, CheckedTree}
-use Rattle.code_types.specs.declared.instr.Instr.{Instr}
+use Rattle.program_trees.specs.ProgramTree.{LocalRowTree, BodyRowTree}
 use Rattle.code_types.specs.declared.instr.Instr.TheVariants as i
 use Rattle.code_types.specs.declared.code.BodyRow.{BodyRow}
-use Rattle.code_types.specs.declared.code.Code.{Code}
 use Rattle.code_types.specs.declared.code.Handler.{Handler}
 use Rattle.code_types.specs.Places.{taker, params_of, listed_of, names_exception}
 use Rattle.code_types.specs.Operands.{topmost, below_topmost}
-use Rattle.code_types.specs.Actions.{Action, Calls, Throws, most_frames}
+use Rattle.code_types.specs.Actions.{Calls, Throws, most_frames}
 use Rattle.code_types.specs.Answers.{fits_request, ended}
-use Rattle.code_types.specs.State.{Frame, OpenRegion, State, Mode, Running, Called, Raising, Asking}
-use Rattle.code_types.specs.Steps.{Move, Goes, Asks, Stays, Run, At, Over, with_frames, moved, new_frame, entered, called, caught, run_behind, run_with, run_after, steps}
+use Rattle.code_types.specs.State.{Frame, OpenRegion, State, Running, Called, Raising, Asking}
+use Rattle.code_types.specs.Steps.{Move, Goes, Asks, Stays, Run, At, Over, with_frames, moved, new_frame, entered, called, caught, run_behind, run_with, run_after}
 use Rattle.source_meaning.specs.Store.{Store, OpenCall, Taken, brings, lowest}
-use Rattle.source_meaning.specs.Flow.{Flow, Raised, Stops, Gone, Meaning, takes_answer, Reply, Given, Halts, reply_in, finished, finish, after_tick}
-use Rattle.source_meaning.specs.BodyMeaning.{Ending, Through, Out, Halted, Ended, Unknown, Bodies, listed_by, at_call, calls_in}
+use Rattle.source_meaning.specs.Flow.{Flow, Raised, takes_answer, Given, Halts, reply_in, finished, finish, after_tick}
+use Rattle.source_meaning.specs.BodyMeaning.{Ending, Through, Out, Halted, Ended, Unknown, at_call}
 use Rattle.source_meaning.specs.Talk.{parameter_scalars}
-use Rattle.source_meaning.specs.Fitting.{has_instances}
-use Rattle.follow_laws.specs.Follows.{Around, CanArise, frame_at, state_at, here, Holds, GetsTo, IsFrameOf, AreFramesOf, own_call, StopsOpen, HasGone, always, HoldsWith, Follows, run_by}
+use Rattle.follow_laws.specs.Follows.{Around, CanArise, frame_at, state_at, Holds, GetsTo, IsFrameOf, AreFramesOf, own_call, always, HoldsWith, Follows, run_by}
 use Rattle.code_laws.specs.StatementBounds.{where_goes_on}
-use Rattle.code_laws.specs.BodyBounds.{BodiesWithin, called_within}
-use Rattle.code_laws.specs.Calls.{taken_scalars, results_back, in_frame_of, back_in, GoesOut, EndsFitting, Returns, EnteredBelow, open_in, FitTaken, IsRowOf, BodiesFollow, CallLaw}
+use Rattle.code_laws.specs.Calls.{taken_scalars, results_back, in_frame_of, EndsFitting, Returns, open_in, FitTaken, CallLaw}
 use Rattle.follow_laws.proofs.Running.{stays, is_there, one_more, gets_then, after, makes, comes, raises, stops, own_frame, on_top_of, below_of}
 use Rattle.follow_laws.proofs.Requesting.{Untaken, fits_alike}
-use Rattle.follow_laws.proofs.LoopRuns.{tick_follows}
 
 -- a frame below others is the first one of them, seen from the outermost
 pub frames_below : (front : List Frame) (f : Frame) (calls : List OpenCall) (c : OpenCall) → AreFramesOf (reverse front) calls → IsFrameOf f c → AreFramesOf (reverse (front ++ f ∷ [])) (c ∷ calls)

@@ -22,3 +22,6 @@ pub mod ControlRuns
 pub mod Staying
 pub mod StayingStatements
 pub mod BodyBegins
+pub mod BodyEnds
+pub mod BodySkips
+pub mod ProcessEnds

@@ -1,5 +1,5 @@
 -- Pieces of loops: what a turn keeps within, and conditions behind a test.
-use Rattle.std.proofs.Common.{◌≡◌, ℕ, zero, suc, ◌+◌, ◌<◌, ◌≤◌, if◌then◌else◌, Bool, true, false, ◌&&◌, List, [], ◌∷◌, ◌++◌, ℤ, length, Option, Some, None, slice_get, nat_le, le-leb, refl, sym, ap, ◌∙◌, subst, arith}
+use Rattle.std.proofs.Common.{◌≡◌, ℕ, suc, ◌+◌, ◌≤◌, if◌then◌else◌, Bool, true, false, List, [], ◌++◌, ℤ, length, Option, Some, None, slice_get, nat_le, le-leb, refl, sym, ap, ◌∙◌, subst}
 use Rattle.world_model.specs.Session.{Session, GoesOn, tick}
 use Rattle.world_model.specs.Lists.{with_scalars}
 use Rattle.program_trees.specs.ExprTree.{ExprTree}
@@ -19,8 +19,8 @@ use Rattle.code_laws.specs.OwnBounds.{expr_within}
 use Rattle.code_laws.specs.StatementBounds.{Along, OpenCallsWithin, where_goes_on, value_within, some_value_within, turn_within, turns_within}
 use Rattle.code_laws.specs.Expressions.{Suited, calls_at}
 use Rattle.code_laws.specs.Statements.{calls_from}
-use Rattle.code_laws.specs.Loops.{ConditionGoes, leads_to, SomeLeaves}
-use Rattle.follow_laws.proofs.Running.{after, follows_then, comes, forgotten, forgetting}
+use Rattle.code_laws.specs.Loops.{ConditionGoes, SomeLeaves}
+use Rattle.follow_laws.proofs.Running.{follows_then, comes, forgotten, forgetting}
 use Rattle.follow_laws.proofs.Instructions.{sets_by}
 use Rattle.code_laws.proofs.Values.{both_true}
 use Rattle.code_laws.proofs.ExprPieces.{there}

@@ -1,17 +1,17 @@
 -- Loops over the members of a powerset: what is left of it is kept in a scratch local.
-use Rattle.std.proofs.Common.{◌≡◌, ℕ, zero, suc, ◌+◌, ◌<◌, ◌≤◌, if◌then◌else◌, Bool, true, false, List, [], ◌∷◌, ◌++◌, ℤ, pos, length, Option, Some, None, slice_get, refl, sym, ap, ◌∙◌, subst, arith, length-append, append-nil}
-use Rattle.world_model.specs.Session.{Session, GoesOn, tick}
+use Rattle.std.proofs.Common.{◌≡◌, ℕ, zero, suc, ◌+◌, ◌<◌, ◌≤◌, true, false, List, [], ◌∷◌, ℤ, pos, length, Option, Some, None, slice_get, refl, sym, ap, ◌∙◌, subst, arith, length-append}
+use Rattle.world_model.specs.Session.{Session}
 use Rattle.world_model.specs.Lists.{with_scalars}
 use Rattle.scalar_operators.specs.Powersets.{members_of, first_of_list, difference, span_of}
 use Rattle.scalar_operators.specs.Members.{offsets_of}
-use Rattle.program_trees.specs.ExprTree.{ExprTree, count_of}
-use Rattle.program_trees.specs.StatementTree.{ControlTree, for_members}
+use Rattle.program_trees.specs.ExprTree.{ExprTree}
+use Rattle.program_trees.specs.StatementTree.{for_members}
 use Rattle.program_trees.specs.ProgramTree.{LocalRowTree}
 use Rattle.code_types.specs.declared.instr.Instr.{Instr}
 use Rattle.code_types.specs.declared.instr.Instr.TheVariants as i
 use Rattle.code_types.specs.Actions.{in_frame, member_or_empty}
 use Rattle.source_meaning.specs.Store.{Store, with_local}
-use Rattle.source_meaning.specs.Flow.{Flow, Goes, Meaning, then_do}
+use Rattle.source_meaning.specs.Flow.{Goes, Meaning}
 use Rattle.source_meaning.specs.Operators.{one, member_at, without_offset}
 use Rattle.source_meaning.specs.ExprMeaning.{Setting, as_computed, expr_mean}
 use Rattle.source_meaning.specs.StatementMeaning.{turns, where_holds, next_member, loop_mean}
@@ -20,18 +20,18 @@ use Rattle.code_scheme.specs.Pieces.{member_code, first_in}
 use Rattle.code_scheme.specs.ExprSizes.{expr_size}
 use Rattle.code_scheme.specs.ExprCode.{expr_code}
 use Rattle.code_scheme.specs.StatementSite.{Standing, layout, taking}
-use Rattle.code_scheme.specs.StatementLoops.{members_test, members_test_size, some_while_code, some_while_size, before_turns, before_turns_size, turn_test, control_size, locals_kept}
+use Rattle.code_scheme.specs.StatementLoops.{members_test, members_test_size, some_while_code, some_while_size, before_turns, before_turns_size, turn_test}
 use Rattle.follow_laws.specs.Follows.{HasAt, Around, keeping, free_in, here, Holds, Does}
 use Rattle.follow_laws.specs.Parts.{LoopPlaces, LoopFollows, TestFrom, TakeNothing}
 use Rattle.code_laws.specs.BodyBounds.{BodiesWithin}
-use Rattle.code_laws.specs.StatementBounds.{Along, OpenCallsWithin, some_value_within, value_within, turns_within, next_member_within, loop_within}
+use Rattle.code_laws.specs.StatementBounds.{Along, OpenCallsWithin, some_value_within, turns_within, next_member_within, loop_within}
 use Rattle.code_laws.specs.StatementsInRange.{FitsControl}
 use Rattle.code_laws.specs.Expressions.{NamesIn}
 use Rattle.code_laws.specs.Statements.{StandsAs, calls_from}
 use Rattle.code_laws.specs.Loops.{ConditionGoes, LoopStands}
 use Rattle.follow_laws.proofs.Running.{has_front, has_back, gets_then, after, follows_then_is, comes, wider, forgotten, forgetting}
 use Rattle.follow_laws.proofs.Holding.{scratch_read, scratch_set, kept_set, whole_set}
-use Rattle.follow_laws.proofs.Instructions.{pushes_by, puts_on, renamed, sole}
+use Rattle.follow_laws.proofs.Instructions.{pushes_by, puts_on, renamed}
 use Rattle.follow_laws.proofs.LoopRuns.{turns_run}
 use Rattle.code_laws.proofs.Sizes.{expr_length}
 use Rattle.code_laws.proofs.Values.{both_true}

@@ -1,42 +1,33 @@
 -- Operators and routines: what stands between and behind their operands.
-use Rattle.std.proofs.Common.{◌≡◌, ℕ, zero, suc, ◌+◌, ◌-◌, ◌*◌, ◌<◌, ◌≤◌, min, nat_le, nat_lt, if◌then◌else◌, Bool, true, false, not, ◌&&◌, ◌||◌, List, [], ◌∷◌, ◌++◌, ℤ, pos, negsuc, ◌+ℤ◌, ◌-ℤ◌, ◌*ℤ◌, neg_ℤ, int_le, int_lt, map, length, take, drop, Option, Some, None, slice_get, refl, sym, ap, ◌∙◌, subst, arith, length-append, append_assoc, append-nil, length-take-le, length-drop}
+use Rattle.std.proofs.Common.{◌≡◌, ℕ, ◌+◌, ◌-◌, ◌*◌, ◌<◌, ◌≤◌, nat_lt, if◌then◌else◌, Bool, true, false, not, ◌&&◌, List, [], ◌∷◌, ◌++◌, ℤ, pos, negsuc, ◌+ℤ◌, ◌-ℤ◌, ◌*ℤ◌, length, take, drop, Option, Some, None, slice_get, refl, sym, ap, ◌∙◌, subst, arith, length-append, append_assoc, append-nil}
 use Rattle.std.proofs.Math.Seq.{take-append_seam, drop-append_seam}
-use Rattle.std.specs.List.{filter}
-use Rattle.std.proofs.lemmas.Int.{ints}
 use Rattle.kernel_base.specs.declared.ends.Exc.{Exc}
-use Rattle.kernel_base.specs.declared.ends.Exc.TheVariants.{Overflow, Empty}
+use Rattle.kernel_base.specs.declared.ends.Exc.TheVariants.{Overflow}
 use Rattle.world_model.specs.Session.{Session}
 use Rattle.modes.specs.declared.mode.Bounds.{Bounds}
-use Rattle.modes.specs.Bounds.{natural_of, count_between}
 use Rattle.checked_program.specs.declared.expr.Binary.{Binary}
 use Rattle.checked_program.specs.declared.expr.Binary.TheVariants.{Add, Subtract, Multiply, Divide, Modulo, Remainder, And, Or, Xor, AndIf, OrIf, Equal, NotEqual, Less, LessOrEqual, Greater, GreaterOrEqual, Union, Intersection, SymmetricDifference, Difference, Included, ProperlyIncluded, Includes, ProperlyIncludes, Member}
-use Rattle.checked_program.specs.declared.expr.Prefix.{Prefix}
-use Rattle.checked_program.specs.declared.expr.Prefix.TheVariants.{Minus, Not, Complement}
-use Rattle.checked_program.specs.declared.expr.Routine.{Routine}
-use Rattle.checked_program.specs.declared.expr.Routine.TheVariants.{Number, Absolute, Cardinality, Successor, Predecessor, Least, Greatest}
-use Rattle.scalar_operators.specs.Numbers.{is_between, is_int, is_scalar, where_true, truth_number, truth_of, int_result, quotient, remainder, modulus, magnitude, same_numbers, comes_before, least_int, greatest_int}
-use Rattle.scalar_operators.specs.Powersets.{members_each, members_of, has_member, numbers_up, offsets, complement_in, intersection, union, symmetric_difference, difference, is_included, has_offset, span_of, first_of_list, last_of_list}
-use Rattle.scalar_operators.specs.Members.{is_subset, has_offset_of, has_member_at, offsets_of}
+use Rattle.scalar_operators.specs.Numbers.{is_between, truth_number, truth_of, int_result, quotient, remainder, modulus, same_numbers, comes_before}
+use Rattle.scalar_operators.specs.Powersets.{members_each, has_member, is_included, has_offset}
+use Rattle.scalar_operators.specs.Members.{is_subset, has_offset_of, has_member_at}
 use Rattle.code_types.specs.declared.instr.Instr.{Instr}
 use Rattle.code_types.specs.declared.instr.Instr.TheVariants as i
 use Rattle.code_types.specs.declared.code.Handler.{Handler}
-use Rattle.code_types.specs.Actions.{Action, Pushes, GoesTo, Throws, result_or, member_or_empty, in_frame, truth as truth_action}
+use Rattle.code_types.specs.Actions.{result_or, in_frame, truth as truth_action}
 use Rattle.code_types.specs.Places.{finds}
 use Rattle.code_types.specs.Operands.{part_of}
 use Rattle.code_types.specs.Steps.{Run}
 use Rattle.source_meaning.specs.Store.{Store}
-use Rattle.source_meaning.specs.Flow.{Flow, Goes, Meaning, then_do}
-use Rattle.source_meaning.specs.Operators.{sole_number, is_true, one, truth, Computed, Yields, Throws as ThrowsIt, yields_or, in_int, is_member, binary_value, takes_second, prefix_value, member_at, routine_value}
+use Rattle.source_meaning.specs.Flow.{Goes}
+use Rattle.source_meaning.specs.Operators.{sole_number, one, truth, Computed, yields_or, is_member, binary_value}
 use Rattle.source_meaning.specs.ExprMeaning.{as_computed}
-use Rattle.code_scheme.specs.Pieces.{bounds_to_test, are_same, member_code, offset_code, member_or_none, between_code, between_size, swap_code, properly_code, behind_code, behind_size, prefix_code, routine_code}
+use Rattle.code_scheme.specs.Pieces.{swap_code, properly_code, behind_code, behind_size}
 use Rattle.follow_laws.specs.Follows.{is_of_language, HasAt, Around, here, Holds, GetsTo, Follows, always, HoldsWith, on_top, IsLong, action_in}
-use Rattle.code_laws.specs.InRange.{AreInts, AreMembers, OperandsFit}
-use Rattle.code_laws.specs.OwnBounds.{lies_in}
-use Rattle.follow_laws.proofs.Running.{has_front, has_back, stays, gets_then, after, comes, makes, raises}
+use Rattle.code_laws.specs.InRange.{OperandsFit}
+use Rattle.follow_laws.proofs.Running.{has_front, has_back, gets_then, after, comes}
 use Rattle.follow_laws.proofs.Holding.{middle}
 use Rattle.follow_laws.proofs.Requesting.{Untaken}
-use Rattle.follow_laws.proofs.Instructions.{pushes_by, jumps_by, puts_on, renamed, as_action, YieldsSuch, computed_by, sole}
-use Rattle.code_laws.proofs.Values.{both_true, same_int}
+use Rattle.follow_laws.proofs.Instructions.{pushes_by, renamed, as_action, YieldsSuch, computed_by, sole}
 
 -- ---- results
 

@@ -1,16 +1,15 @@
 -- Loops that keep nothing for their next test.
-use Rattle.std.proofs.Common.{◌≡◌, ℕ, zero, suc, ◌+◌, Bool, true, List, [], ℤ, length, Option, Some, None, refl, sym, ap, ◌∙◌, subst, arith}
-use Rattle.world_model.specs.Session.{Session, GoesOn, tick}
+use Rattle.std.proofs.Common.{◌≡◌, ℕ, zero, suc, ◌+◌, true, List, [], ℤ, Option, refl, sym, arith}
+use Rattle.world_model.specs.Session.{Session}
 use Rattle.program_trees.specs.ExprTree.{ExprTree}
 use Rattle.program_trees.specs.StatementTree.{ControlTree, while_true, for_ever}
 use Rattle.source_meaning.specs.Store.{Store}
-use Rattle.source_meaning.specs.Flow.{Flow, Goes, Meaning}
+use Rattle.source_meaning.specs.Flow.{Meaning}
 use Rattle.source_meaning.specs.ExprMeaning.{Setting}
 use Rattle.source_meaning.specs.StatementMeaning.{no_state, turns, where_holds, loop_mean}
-use Rattle.source_meaning.specs.BodyMeaning.{Bodies}
-use Rattle.code_scheme.specs.StatementSite.{Standing, layout}
+use Rattle.code_scheme.specs.StatementSite.{Standing}
 use Rattle.code_scheme.specs.StatementLoops.{some_while_size, before_turns_size, control_size, locals_kept}
-use Rattle.follow_laws.specs.Follows.{Around, keeping, here, Holds, Does}
+use Rattle.follow_laws.specs.Follows.{Around, here, Holds, Does}
 use Rattle.follow_laws.specs.Parts.{LoopPlaces, LoopFollows}
 use Rattle.code_laws.specs.BodyBounds.{BodiesWithin}
 use Rattle.code_laws.specs.StatementBounds.{Along, OpenCallsWithin, some_value_within, turns_within, loop_within}

@@ -1,12 +1,10 @@
 -- Locals that are left as they are: pieces and expressions.
-use Rattle.std.proofs.Common.{◌≡◌, ℕ, zero, suc, ◌+◌, if◌then◌else◌, Bool, true, false, not, ◌&&◌, ◌==◌, nat_lt, List, [], ◌∷◌, ◌++◌, ℤ, nat_abs, Option, Some, None, slice_get, slice_set, slice_index_or, eq-eqb, refl, sym, ap, ◌∙◌, subst}
-use Rattle.kernel_base.specs.declared.ends.Exc.{Exc}
+use Rattle.std.proofs.Common.{◌≡◌, ℕ, zero, suc, ◌+◌, if◌then◌else◌, Bool, true, false, not, ◌==◌, nat_lt, List, [], ◌∷◌, ℤ, nat_abs, Option, Some, None, slice_get, slice_set, slice_index_or, eq-eqb, refl, sym, ap, ◌∙◌, subst}
 use Rattle.kernel_base.specs.declared.ends.Exc.TheVariants.{Rangefail, Spacefail}
 use Rattle.kernel_base.specs.declared.ends.How.{How}
 use Rattle.kernel_base.specs.declared.ends.How.TheVariants.{Raised as RaisedHow}
 use Rattle.kernel_base.specs.declared.request.Request.{Request}
 use Rattle.kernel_base.specs.declared.request.Request.TheVariants.{End}
-use Rattle.kernel_base.specs.declared.answer.Answer.{Answer}
 use Rattle.kernel_base.specs.declared.answer.Answer.TheVariants.{Value, Done, Woken, Got, Otherwise, Instance, Fail, Chose, Handed, Stored}
 use Rattle.world_model.specs.Session.{Session, Ticked, GoesOn, Last, tick}
 use Rattle.modes.specs.declared.mode.Bounds.{Bounds}
@@ -17,10 +15,10 @@ use Rattle.checked_program.specs.declared.expr.Binary.{Binary}
 use Rattle.code_types.specs.Actions.{most_frames}
 use Rattle.program_trees.specs.ExprTree.{ExprTree, expr, OperationTree, constant, own_instance, contents, part_of, receive, start, call, powerset, parts, uniform, routine, get_int, prefixed, binary, ReceivedTree, received, ReceivedNodes, no_received, more_received, PartNodes, no_parts, field, element, RangeNodes, no_ranges, one_member, members, LocationTree, location, StartTree, started, CallTree, called, ArgumentNodes, no_arguments, in_argument, out_argument, inout_argument}
 use Rattle.program_trees.specs.ProgramTree.{BodyRowTree, CheckedTree}
-use Rattle.source_meaning.specs.Store.{Store, OpenCall, Taken, Address, in_local, in_shared, address_of, local_value, with_local}
+use Rattle.source_meaning.specs.Store.{Store, OpenCall, Taken, Address, in_local, in_shared, address_of, local_value}
 use Rattle.source_meaning.specs.Flow.{Flow, Goes, Raised, Exits, Returned, Stops, Gone, Bound, Meaning, then_do, Reply, Given, Halts, reply, asked_in, asked, done, finished, finish, after_tick}
 use Rattle.source_meaning.specs.Operators.{Computed, Yields, Throws, sole_number, offset_within, takes_second, binary_value, prefix_value, routine_value, empty_within, with_span}
-use Rattle.source_meaning.specs.ExprMeaning.{Setting, as_computed, or_rangefail, tested, read_at, assign_at, asked_value, CopyOut, Passed, copied_out, all_copied_out, call_with, binary_with, expr_mean, operation_mean, received_mean, all_received_mean, offset_mean, location_mean, members_mean, start_mean, call_mean, arguments_mean, place_mean}
+use Rattle.source_meaning.specs.ExprMeaning.{Setting, as_computed, or_rangefail, tested, read_at, assign_at, asked_value, CopyOut, Passed, copied_out, all_copied_out, binary_with, expr_mean, operation_mean, received_mean, all_received_mean, offset_mean, location_mean, members_mean, start_mean, call_mean, arguments_mean, place_mean}
 use Rattle.source_meaning.specs.BodyMeaning.{Ending, Through, Out, Halted, Ended, Unknown, Bodies, at_call, calls_in, listed_by}
 use Rattle.code_types.specs.Places.{names_exception}
 use Rattle.code_laws.specs.Counters.{is_other, expr_leaves, operation_leaves, received_leaves, all_leave, parts_leave, place_leaves, target_leaves, ranges_leave, start_leaves, call_leaves, arguments_leave}

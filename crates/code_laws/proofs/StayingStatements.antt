@@ -1,5 +1,5 @@
 -- Locals that statements leave as they are.
-use Rattle.std.proofs.Common.{◌≡◌, ℕ, zero, suc, ◌+◌, if◌then◌else◌, Bool, true, false, not, ◌&&◌, ◌==◌, List, [], ◌∷◌, ◌++◌, ℤ, pos, take, drop, length, Option, Some, None, slice_get, refl, sym, ap, ◌∙◌, subst}
+use Rattle.std.proofs.Common.{◌≡◌, ℕ, zero, suc, Bool, true, false, not, ◌==◌, List, [], ◌∷◌, ℤ, pos, take, drop, length, Option, Some, None, slice_get, refl, ◌∙◌}
 use Rattle.std.specs.List.{list_all}
 use Rattle.kernel_base.specs.declared.ends.Exc.{Exc}
 use Rattle.kernel_base.specs.declared.ends.Exc.TheVariants.{Rangefail, Assertfail}
@@ -18,12 +18,12 @@ use Rattle.code_types.specs.Places.{names_exception}
 use Rattle.program_trees.specs.ExprTree.{ExprTree, ReceivedTree, LocationTree, location_count}
 use Rattle.program_trees.specs.ProgramTree.{LocalRowTree}
 use Rattle.program_trees.specs.StatementTree.{SentTree, to_buffer, signal, ControlTree, while_true, for_ever, for_members, for_steps, StatementTree, statement, ActionTree, do_nothing, declare, set_lowest, module_at, region_at, assign, update, perform, drop_routine, evaluate, put_int, put_text, put_line, exit_from, return_with, set_result, assert_that, cause, stop, start_of, delay, continue_at, send, if_then, case_of, do_loop, begin_end, delay_case, receive_buffers, receive_signals, StatementNodes, no_statements, more_statements, ChoiceNodes, no_choices, more_choices, CaseNodes, no_cases, more_cases, DelayNodes, no_delays, more_delays, ReceiveNodes, no_receives, more_receives, OtherwiseNode, no_otherwise, otherwise, HandledNodes, no_handled, more_handled, HandlerNode, no_handler, handler}
-use Rattle.source_meaning.specs.Store.{Store, Address, address_of, local_value, with_local, with_result, count_in}
+use Rattle.source_meaning.specs.Store.{Store, Address, address_of, local_value, with_local, count_in}
 use Rattle.source_meaning.specs.Flow.{Flow, Goes, Raised, Exits, Returned, Stops, Gone, Bound, Meaning, then_do, done}
 use Rattle.source_meaning.specs.Operators.{sole_number, one, is_true, member_at, routine_value, without_offset}
 use Rattle.source_meaning.specs.ExprMeaning.{Setting, expr_mean}
-use Rattle.source_meaning.specs.StatementMeaning.{nothing, skip, set_names, set_locals, spread_over, set_to, set_address, put_bytes, send_to, sent_signal, sent_mean, result_mean, return_mean, holds_one, delay_pairs, receive_list, receive_counts, is_written, received_by, Come, comes_to, nothing_came, take_in, woken_as, turn_or_end, turns, where_holds, next_member, passes_end, next_value, next_step, bound_mean, step_mean, loop_mean, is_label, ends_exit, labelled_as, then_leave, is_open, opened, region_in, at_region, caught, behind_wait, delay_with, receive_with, statement_mean, handler_mean, alternatives_mean, otherwise_mean, statements_mean, action_mean, choices_mean, cases_mean, delay_mean, receive_mean}
-use Rattle.code_laws.specs.Counters.{is_other, some_leaves, some_received_leaves, set_leaves, sent_leaves, are_others, control_leaves, statements_leave, statement_leaves, handler_leaves, handled_leave, otherwise_leaves, action_leaves, choices_leave, cases_leave, delays_leave, receives_leave, target_leaves, received_leaves}
+use Rattle.source_meaning.specs.StatementMeaning.{skip, set_names, set_locals, spread_over, set_to, set_address, put_bytes, send_to, sent_signal, sent_mean, result_mean, return_mean, holds_one, receive_list, receive_counts, is_written, received_by, Come, comes_to, nothing_came, take_in, woken_as, turn_or_end, turns, where_holds, next_member, passes_end, next_value, next_step, bound_mean, step_mean, loop_mean, is_label, ends_exit, labelled_as, then_leave, is_open, opened, region_in, at_region, caught, behind_wait, receive_with, statement_mean, handler_mean, alternatives_mean, otherwise_mean, statements_mean, action_mean, choices_mean, cases_mean, delay_mean, receive_mean}
+use Rattle.code_laws.specs.Counters.{is_other, some_leaves, some_received_leaves, set_leaves, sent_leaves, are_others, control_leaves, statements_leave, statement_leaves, handler_leaves, handled_leave, otherwise_leaves, action_leaves, choices_leave, cases_leave, delays_leave, receives_leave, received_leaves}
 use Rattle.code_laws.specs.Leaving.{LeavesLocal, LeavesLaw}
 use Rattle.code_laws.proofs.Values.{both_true}
 use Rattle.code_laws.proofs.Staying.{StaysBy, Stays, Any, stays_then, moved_on, chosen_stays, other_read, others_differ, OtherAt, other_base, asked_stays, done_stays, computed_stays, rangefail_stays, tested_stays, read_stays, assign_stays, ticks_stay, finish_stays, CallsStay, calls_stay, expr_stays, second_stays, received_stays, all_stay, target_found, start_stays, call_stays}

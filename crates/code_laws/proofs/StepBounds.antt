@@ -1,16 +1,16 @@
 -- The start, the step and the end of a loop that counts: each evaluated once and tested.
-use Rattle.std.proofs.Common.{◌≡◌, ℕ, zero, suc, ◌+◌, ◌<◌, ◌≤◌, if◌then◌else◌, Bool, true, false, ◌&&◌, List, [], ◌∷◌, ◌++◌, ℤ, pos, int_le, length, Option, Some, None, refl, sym, ap, ◌∙◌, subst, arith}
+use Rattle.std.proofs.Common.{◌≡◌, ℕ, ◌+◌, ◌≤◌, if◌then◌else◌, Bool, true, false, ◌&&◌, List, [], ◌∷◌, ◌++◌, ℤ, pos, int_le, Option, Some, None, refl, sym, ap, ◌∙◌, subst, arith}
 use Rattle.std.proofs.lemmas.Int.{ints}
 use Rattle.kernel_base.specs.declared.ends.Exc.TheVariants.{Rangefail}
 use Rattle.world_model.specs.Session.{Session}
 use Rattle.modes.specs.declared.mode.Bounds.{Bounds}
 use Rattle.modes.specs.ModeTree.{int}
 use Rattle.modes.specs.Bounds.{bounds_of}
-use Rattle.scalar_operators.specs.Numbers.{is_between, is_int, where_true, least_int, greatest_int}
-use Rattle.program_trees.specs.ExprTree.{ExprTree, expr, OperationTree, constant, received, count_of}
+use Rattle.scalar_operators.specs.Numbers.{is_int, where_true, least_int, greatest_int}
+use Rattle.program_trees.specs.ExprTree.{ExprTree, expr, constant, received, count_of}
 use Rattle.code_types.specs.Steps.{Run}
 use Rattle.source_meaning.specs.Store.{Store}
-use Rattle.source_meaning.specs.Flow.{Flow, Goes, Raised, Exits, Returned, Stops, Gone, Bound, Meaning, then_do}
+use Rattle.source_meaning.specs.Flow.{Flow, Goes, Raised, Exits, Returned, Stops, Gone, Bound, then_do}
 use Rattle.source_meaning.specs.Operators.{sole_number, one}
 use Rattle.source_meaning.specs.ExprMeaning.{Setting, or_rangefail, tested, expr_mean}
 use Rattle.source_meaning.specs.StatementMeaning.{bound_mean, step_mean}

@@ -1,26 +1,26 @@
 -- Loops that count from a start to an end.
-use Rattle.std.proofs.Common.{◌≡◌, ℕ, zero, suc, ◌+◌, ◌<◌, ◌≤◌, if◌then◌else◌, Bool, true, false, not, List, [], ◌∷◌, ◌++◌, ℤ, pos, length, Option, Some, None, slice_get, slice_set, slice_index_or, refl, sym, ap, ◌∙◌, subst, arith, append_assoc, length-append}
-use Rattle.world_model.specs.Session.{Session, GoesOn, tick}
+use Rattle.std.proofs.Common.{◌≡◌, ℕ, zero, suc, ◌+◌, ◌≤◌, if◌then◌else◌, Bool, true, false, not, List, [], ◌∷◌, ◌++◌, ℤ, length, Option, Some, None, slice_get, slice_set, slice_index_or, refl, sym, ap, ◌∙◌, subst, arith, length-append}
+use Rattle.world_model.specs.Session.{Session}
 use Rattle.world_model.specs.Lists.{with_scalars, scalars_at}
 use Rattle.modes.specs.ModeTree.{int}
 use Rattle.modes.specs.Bounds.{bounds_of}
 use Rattle.scalar_operators.specs.Numbers.{is_int, truth_number}
 use Rattle.program_trees.specs.ExprTree.{ExprTree, received}
-use Rattle.program_trees.specs.StatementTree.{ControlTree, for_steps}
+use Rattle.program_trees.specs.StatementTree.{for_steps}
 use Rattle.program_trees.specs.ProgramTree.{LocalRowTree}
 use Rattle.code_types.specs.declared.instr.Instr.{Instr}
 use Rattle.code_types.specs.declared.instr.Instr.TheVariants as i
 use Rattle.code_types.specs.Operands.{part_of}
 use Rattle.code_types.specs.Steps.{Run}
 use Rattle.source_meaning.specs.Store.{Store, local_value, with_local}
-use Rattle.source_meaning.specs.Flow.{Flow, Goes, Meaning, then_do}
+use Rattle.source_meaning.specs.Flow.{Flow, Goes, Meaning}
 use Rattle.source_meaning.specs.Operators.{sole_number, one, truth}
 use Rattle.source_meaning.specs.ExprMeaning.{Setting}
 use Rattle.source_meaning.specs.StatementMeaning.{turns, where_holds, passes_end, next_value, next_step, bound_mean, step_mean, loop_mean}
 use Rattle.source_meaning.specs.BodyMeaning.{Bodies}
 use Rattle.code_scheme.specs.Pieces.{first_in}
 use Rattle.code_scheme.specs.StatementSite.{Standing, layout, taking}
-use Rattle.code_scheme.specs.StatementLoops.{step_bounds, constant_step, step_from, Steps, steps_with, steps_kept, kept_with, within_code, within_size, step_code, step_size, bounds_code, bounds_size, before_code, forth, by_step, is_one, limit_code, first_test_code, next_code, next_size, first_value_code, first_value_size, some_while_code, some_while_size, before_turns, before_turns_size, turn_test, control_size, locals_kept}
+use Rattle.code_scheme.specs.StatementLoops.{step_bounds, constant_step, step_from, Steps, steps_with, steps_kept, kept_with, within_code, within_size, step_code, step_size, bounds_code, bounds_size, before_code, forth, by_step, is_one, limit_code, first_test_code, next_code, next_size, first_value_code, first_value_size, some_while_code, some_while_size, before_turns_size, turn_test}
 use Rattle.follow_laws.specs.Follows.{HasAt, Around, keeping, free_in, here, Holds, GetsTo, Follows, Does}
 use Rattle.follow_laws.specs.Parts.{LoopPlaces, LoopFollows, TestFrom}
 use Rattle.code_laws.specs.BodyBounds.{BodiesWithin}
@@ -28,7 +28,7 @@ use Rattle.code_laws.specs.StatementBounds.{Along, OpenCallsWithin, some_value_w
 use Rattle.code_laws.specs.StatementsInRange.{FitsSomeNumber, FitsControl}
 use Rattle.code_laws.specs.Expressions.{NamesIn}
 use Rattle.code_laws.specs.Statements.{StandsAs, calls_from}
-use Rattle.code_laws.specs.Loops.{ConditionGoes, SomeLeaves, Leaves, LoopStands}
+use Rattle.code_laws.specs.Loops.{ConditionGoes, SomeLeaves, LoopStands}
 use Rattle.follow_laws.proofs.Running.{has_front, has_back, gets_then, after, follows_then_is, comes, wider, forgotten}
 use Rattle.follow_laws.proofs.Stores.{fit_length}
 use Rattle.follow_laws.proofs.Holding.{local_read, scratch_set, whole_set}
@@ -389,10 +389,14 @@ step_loop_runs w v st bodies inside counter e step f down condition l body along
     first_long : length first_code ≡ first_value_size (steps_with 0 cs false 0)
     first_long =
         let d : Steps = steps_with (first_in (slice_get st.site.body.locals counter)) cs down st.free in
-        omega (arith, length-append (first_test_code d l.behind p4) (limit_code d (p4 + 5) ++ i.Local d.start 1 ∷ i.SetLocal d.counter 1 ∷ i.Jump (p4 + (5 + (length (limit_code d 0) + 11))) ∷ []),
-        length-append (before_code down d.end d.start) (i.Unless (p4 + 3 + 2) ∷ i.Jump l.behind ∷ []), before_long down d.end d.start,
-        length-append (limit_code d (p4 + 5)) (i.Local d.start 1 ∷ i.SetLocal d.counter 1 ∷ i.Jump (p4 + (5 + (length (limit_code d 0) + 11))) ∷ []),
-        limit_size cs (first_in (slice_get st.site.body.locals counter)) st.free down (p4 + 5))
+        omega (
+          arith,
+          length-append (first_test_code d l.behind p4) (limit_code d (p4 + 5) ++ i.Local d.start 1 ∷ i.SetLocal d.counter 1 ∷ i.Jump (p4 + (5 + (length (limit_code d 0) + 11))) ∷ []),
+          length-append (before_code down d.end d.start) (i.Unless (p4 + 3 + 2) ∷ i.Jump l.behind ∷ []),
+          before_long down d.end d.start,
+          length-append (limit_code d (p4 + 5)) (i.Local d.start 1 ∷ i.SetLocal d.counter 1 ∷ i.Jump (p4 + (5 + (length (limit_code d 0) + 11))) ∷ []),
+          limit_size cs (first_in (slice_get st.site.body.locals counter)) st.free down (p4 + 5),
+        )
 
     before_all : at + length before ≡ l.again
     before_all = omega (arith, length-append bounds first_code, bounds_long, first_long, loop.again)

@@ -1,24 +1,28 @@
 -- The law of assembly: bodies that do what they mean make a code that has the program's talk.
-use Rattle.std.specs.Prelude.{◌≡◌, ℕ, suc, ◌≤◌, ◌↔◌, true, List, [], ◌∷◌, ℤ, length, reverse, Some, slice_get, MatchBool}
+use Rattle.std.specs.Prelude.{◌≡◌, ℕ, suc, ◌≤◌, ◌↔◌, true, List, [], ◌∷◌, ℤ, length, reverse, Some, None, slice_get, MatchBool}
+use Rattle.kernel_base.specs.declared.ends.Exc.{Exc}
+use Rattle.kernel_base.specs.declared.ends.How.TheVariants.{Normal, Raised as RaisedHow}
 use Rattle.kernel_base.specs.declared.answer.Answer.{Answer}
 use Rattle.kernel_base.specs.declared.event.Event.{Event}
 use Rattle.kernel_base.specs.declared.facts.Facts.{Facts}
 use Rattle.world_model.specs.Session.{Session, session_of}
 use Rattle.world_model.specs.Journal.{line_of, answers_of, Birth, born_of}
 use Rattle.program_trees.specs.ProgramTree.{BodyRowTree, CheckedTree}
+use Rattle.code_types.specs.declared.instr.Instr.TheVariants as i
 use Rattle.code_types.specs.declared.code.BodyRow.{BodyRow}
 use Rattle.code_types.specs.declared.code.Code.{Code}
-use Rattle.code_types.specs.State.{Frame, OpenRegion, State}
+use Rattle.code_types.specs.Places.{taker}
+use Rattle.code_types.specs.State.{Frame, OpenRegion, State, Raising}
 use Rattle.code_types.specs.Steps.{Run, At, Over, steps}
 use Rattle.code_types.specs.Talk.{start_of}
 use Rattle.code_types.specs.Runs.{ticks_in, IsCodeRun}
 use Rattle.source_meaning.specs.Store.{Store, Taken}
-use Rattle.source_meaning.specs.Flow.{Flow, Stops, Gone, Bound}
+use Rattle.source_meaning.specs.Flow.{Flow, Stops, Gone, Bound, finish}
 use Rattle.source_meaning.specs.BodyMeaning.{body_mean}
 use Rattle.source_meaning.specs.Talk.{talk, process_end, parameter_scalars}
 use Rattle.source_meaning.specs.Fitting.{has_instances}
 use Rattle.source_meaning.specs.Runs.{IsSourceRun}
-use Rattle.follow_laws.specs.Follows.{AreFramesOf, StopsOpen, HasGone}
+use Rattle.follow_laws.specs.Follows.{Around, state_at, here, Holds, AreFramesOf, StopsOpen, HasGone}
 use Rattle.code_laws.specs.BodyBounds.{bodies_within, talk_within}
 use Rattle.code_laws.specs.Calls.{taken_scalars, in_frame_of, Returns, EnteredBelow, open_in, FitTaken, IsRowOf, BodiesFollow}
 
@@ -28,6 +32,15 @@ Tells code b m (Stops t inner store) = StopsOpen code [] m t (record { body = b;
 Tells code b m (Gone t) = HasGone code m t
 Tells code b m Bound = Unit {0}
 Tells code b m o = ⊥
+
+-- A process ends where its way out stands, and where an exception goes out of its own body.
+pub record EndsLaw : Type 0 where
+  pub normal : (w : Around) (at : ℕ) (locals : List ℤ) (store : Store) (s : Session)
+      → w.below ≡ [] → slice_get w.code.instrs at ≡ Some i.Finish → Holds w store locals
+      → Tells w.code w.body (here w at [] locals s) (finish Normal [] store s)
+  pub raised : (w : Around) (x : Exc) (place : ℕ) (stack locals : List ℤ) (store : Store) (s : Session)
+      → w.below ≡ [] → taker w.code.handlers place x ≡ None → Holds w store locals
+      → Tells w.code w.body (At (state_at w (Raising x) place stack locals) s) (finish (RaisedHow x) [] store s)
 
 -- In this code the procedure's instructions do what it means, where the bodies that it calls do.
 pub record CarriesProcedure (p : CheckedTree) (code : Code) (instance b : ℕ) (body : BodyRowTree) (row : BodyRow) : Type 0 where

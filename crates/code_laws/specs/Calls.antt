@@ -13,7 +13,7 @@ use Rattle.code_types.specs.declared.code.BodyRow.{BodyRow}
 use Rattle.code_types.specs.declared.code.Code.{Code}
 use Rattle.code_types.specs.declared.code.Handler.{Handler}
 use Rattle.code_types.specs.Places.{taker, names_exception}
-use Rattle.code_types.specs.State.{Frame, OpenRegion, Mode, Running, Raising}
+use Rattle.code_types.specs.State.{Frame, OpenRegion, Running, Raising}
 use Rattle.code_types.specs.Steps.{Run, At, new_frame, moved}
 use Rattle.source_meaning.specs.Store.{Store, Taken, brings, lowest, begins_with}
 use Rattle.source_meaning.specs.BodyMeaning.{Ending, Through, Out, Halted, Ended, Unknown, Bodies, calls_in}

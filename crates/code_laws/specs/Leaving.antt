@@ -1,5 +1,5 @@
 -- The law of locals that are left as they are.
-use Rattle.std.specs.Prelude.{◌≡◌, ℕ, true, List}
+use Rattle.std.specs.Prelude.{◌≡◌, ℕ, true}
 use Rattle.world_model.specs.Session.{Session}
 use Rattle.program_trees.specs.ExprTree.{ExprTree}
 use Rattle.program_trees.specs.ProgramTree.{CheckedTree}

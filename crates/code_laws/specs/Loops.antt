@@ -1,7 +1,6 @@
 -- The law of loops: the instructions of a DO follow its meaning, where those of its condition and of its actions follow theirs.
-use Rattle.std.specs.Prelude.{◌≡◌, ℕ, ◌+◌, ◌≤◌, Bool, true, List, [], ℤ, length, Option, Some, None, slice_get, if◌then◌else◌}
+use Rattle.std.specs.Prelude.{◌≡◌, ℕ, ◌+◌, ◌≤◌, true, List, [], ℤ, length, Option, Some, None, slice_get, if◌then◌else◌}
 use Rattle.world_model.specs.Session.{Session}
-use Rattle.code_types.specs.declared.code.Handler.{Handler}
 use Rattle.code_types.specs.declared.instr.Instr.TheVariants as i
 use Rattle.program_trees.specs.ExprTree.{ExprTree}
 use Rattle.program_trees.specs.StatementTree.{ControlTree, while_true, for_ever, for_members, for_steps}
@@ -12,7 +11,7 @@ use Rattle.source_meaning.specs.ExprMeaning.{Setting, expr_mean}
 use Rattle.source_meaning.specs.StatementMeaning.{loop_mean}
 use Rattle.source_meaning.specs.BodyMeaning.{Bodies}
 use Rattle.code_scheme.specs.StatementSite.{Standing, layout}
-use Rattle.code_scheme.specs.StatementLoops.{control_code, control_size, before_turns_size, turn_test_size, some_while_size, locals_kept}
+use Rattle.code_scheme.specs.StatementLoops.{control_code, control_size, before_turns_size, some_while_size, locals_kept}
 use Rattle.follow_laws.specs.Follows.{HasAt, Around, keeping, here, Holds, HoldsWith, no_stack, IsLong, Follows, Does}
 use Rattle.follow_laws.specs.Parts.{LoopPlaces, TakeNothing}
 use Rattle.code_laws.specs.BodyBounds.{BodiesWithin}

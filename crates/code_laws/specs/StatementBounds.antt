@@ -1,5 +1,5 @@
 -- Whether each value along what a statement does lies in its own bounds.
-use Rattle.std.specs.Prelude.{ℕ, zero, suc, Bool, true, ◌&&◌, List, [], ◌∷◌, ◌++◌, ℤ, Option, Some, None, if◌then◌else◌}
+use Rattle.std.specs.Prelude.{ℕ, zero, suc, Bool, true, ◌&&◌, List, [], ℤ, Option, Some, None, if◌then◌else◌}
 use Rattle.kernel_base.specs.declared.ends.Exc.{Exc}
 use Rattle.kernel_base.specs.declared.request.Request.{Request}
 use Rattle.kernel_base.specs.declared.request.Request.TheVariants.{Enter, Delay, ReceiveBuffer, ReceiveSignal}
@@ -12,7 +12,7 @@ use Rattle.code_types.specs.Places.{names_exception}
 use Rattle.program_trees.specs.ExprTree.{ExprTree, ReceivedTree, LocationTree, location_count}
 use Rattle.program_trees.specs.StatementTree.{SentTree, to_buffer, signal, ControlTree, while_true, for_ever, for_members, for_steps, StatementTree, statement, ActionTree, do_nothing, declare, set_lowest, module_at, region_at, assign, update, perform, drop_routine, evaluate, put_int, put_text, put_line, exit_from, return_with, set_result, assert_that, cause, stop, start_of, delay, continue_at, send, if_then, case_of, do_loop, begin_end, delay_case, receive_buffers, receive_signals, StatementNodes, no_statements, more_statements, ChoiceNodes, no_choices, more_choices, CaseNodes, no_cases, more_cases, DelayNodes, no_delays, more_delays, ReceiveNodes, no_receives, more_receives, OtherwiseNode, no_otherwise, otherwise, HandledNodes, no_handled, more_handled, HandlerNode, no_handler, handler}
 use Rattle.source_meaning.specs.Store.{Store, Address, with_local}
-use Rattle.source_meaning.specs.Flow.{Flow, Goes, Raised, Exits, Returned, Stops, Gone, Bound, Meaning, asked, done}
+use Rattle.source_meaning.specs.Flow.{Flow, Raised, Meaning, asked, done}
 use Rattle.source_meaning.specs.Operators.{sole_number, one, is_true, member_at, takes_second}
 use Rattle.source_meaning.specs.ExprMeaning.{Setting, as_computed, read_at, expr_mean, all_received_mean, location_mean}
 use Rattle.source_meaning.specs.StatementMeaning.{no_state, set_to, set_address, holds_one, delay_pairs, receive_list, receive_counts, is_written, Come, comes_to, nothing_came, take_in, woken_as, where_holds, next_member, passes_end, next_step, bound_mean, step_mean, is_open, opened, region_in, statement_mean, statements_mean, action_mean}

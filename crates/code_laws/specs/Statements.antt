@@ -1,5 +1,5 @@
 -- The law of statements: the instructions of each statement follow its meaning, where those of the bodies that it calls do.
-use Rattle.std.specs.Prelude.{◌≡◌, ℕ, suc, ◌+◌, ◌<◌, Bool, true, List, [], ℤ, length, slice_index_or}
+use Rattle.std.specs.Prelude.{◌≡◌, ℕ, suc, ◌+◌, ◌<◌, true, List, [], ℤ, length, slice_index_or}
 use Rattle.world_model.specs.Session.{Session}
 use Rattle.program_trees.specs.StatementTree.{StatementNodes}
 use Rattle.source_meaning.specs.Store.{Store}

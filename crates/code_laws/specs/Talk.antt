@@ -1,8 +1,7 @@
 -- Compiled code has the text's talk: the statement of the whole, and what it rests on.
-use Rattle.std.specs.Prelude.{◌≡◌, ℕ, ◌≤◌, true, List, ℤ, length, Some, slice_get, All}
+use Rattle.std.specs.Prelude.{◌≡◌, ℕ, ◌≤◌, true, List, ℤ, length, Some, slice_get}
 use Rattle.kernel_base.specs.declared.answer.Answer.{Answer}
 use Rattle.program_trees.specs.ProgramTree.{BodyRowTree, CheckedTree}
-use Rattle.program_trees.specs.StatementTree.{statement, set_lowest, StatementNodes, no_statements, more_statements}
 use Rattle.code_types.specs.Agreement.{Agrees}
 use Rattle.source_meaning.specs.Fitting.{IsFitting}
 use Rattle.source_meaning.specs.Typed.{IsTyped}
@@ -10,19 +9,13 @@ use Rattle.code_scheme.specs.BodyCode.{code_of}
 use Rattle.code_laws.specs.BodyBounds.{talk_within}
 use Rattle.code_laws.specs.StatementsInRange.{FitsProgram}
 use Rattle.code_laws.specs.Counters.{statements_keep, handler_keeps}
+use Rattle.code_laws.specs.Bodies.{DeclareBehind}
 use Rattle.code_laws.specs.Assembly.{CarriesAll, TalksAs}
 
 -- each loop of a body alone sets its counter
 pub record KeepsCounters (b : BodyRowTree) : Type 0 where
   pub statements : statements_keep b.statements ≡ true
   pub handler : handler_keeps b.handler ≡ true
-
--- The declarations without a value with which statements begin are of locals behind so many. A frame begins with their lowest values,
--- so they have no code.
-abbrev pub DeclareBehind : ℕ → StatementNodes → Type 0
-DeclareBehind n no_statements = Unit {0}
-DeclareBehind n (more_statements (statement labelled (set_lowest locals xs) h) ss) = All (λ i. n ≤ i) locals × DeclareBehind n ss
-DeclareBehind n (more_statements s ss) = Unit {0}
 
 -- what is asked of each body besides
 pub record IsWellMade (b : BodyRowTree) : Type 0 where

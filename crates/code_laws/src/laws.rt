@@ -2,10 +2,10 @@
 ghost use Rattle.code_laws.specs.Operators.{PrefixLaw, RoutineLaw};
 ghost use Rattle.code_laws.specs.Expressions.{ExprLaw};
 ghost use Rattle.code_laws.specs.Calls.{CallLaw};
-ghost use Rattle.code_laws.specs.Bodies.{BeginsLaw};
+ghost use Rattle.code_laws.specs.Bodies.{BeginsLaw, SkipsLaw, GivesBackLaw};
 ghost use Rattle.code_laws.specs.Leaving.{LeavesLaw};
 ghost use Rattle.code_laws.specs.Loops.{LoopLaw};
-ghost use Rattle.code_laws.specs.Assembly.{LawOfAssembly, SameRunsLaw};
+ghost use Rattle.code_laws.specs.Assembly.{EndsLaw, LawOfAssembly, SameRunsLaw};
 ghost use Rattle.code_laws.specs.Talk.{TalkJoined};
 
 /// Operators of one operand.
@@ -41,6 +41,21 @@ pub fn loop_law()
 /// A body's frame comes to its first store.
 pub fn begins_law()
     ensures { BeginsLaw }
+{}
+
+/// The declarations without a value with which a body begins change nothing.
+pub fn skips_law()
+    ensures { SkipsLaw }
+{}
+
+/// A procedure gives its result and its parameters back.
+pub fn gives_back_law()
+    ensures { GivesBackLaw }
+{}
+
+/// A process ends behind its body, or with an exception that goes out of it.
+pub fn ends_law()
+    ensures { EndsLaw }
 {}
 
 /// A code whose bodies do what they mean has the program's talk.

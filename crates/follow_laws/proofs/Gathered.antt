@@ -1,15 +1,14 @@
 -- The laws of single instructions and requests.
-use Rattle.std.proofs.Common.{◌≡◌, ℕ, ◌+◌, if◌then◌else◌, Bool, true, false, List, [], ◌∷◌, ◌++◌, refl, sym, ap, ◌∙◌, subst}
+use Rattle.std.proofs.Common.{◌≡◌, ◌+◌, if◌then◌else◌, Bool, true, false, List, [], ◌∷◌, ◌++◌, refl, ap}
 use Rattle.kernel_base.specs.declared.request.Request.{Request}
-use Rattle.kernel_base.specs.declared.answer.Answer.{Answer}
-use Rattle.world_model.specs.Session.{Item, Ask, Session, Asked, Answered, Unanswered, ask}
+use Rattle.world_model.specs.Session.{Item, Ask, Asked, Answered, Unanswered, ask}
 use Rattle.code_types.specs.declared.code.Code.{Code}
 use Rattle.code_types.specs.Answers.{fits_request, answered}
-use Rattle.code_types.specs.State.{Slot, State, Mode, Asking}
+use Rattle.code_types.specs.State.{Slot, State, Mode}
 use Rattle.code_types.specs.Steps.{Run, At, Over, move_in, run_after, run_with}
 use Rattle.source_meaning.specs.Flow.{takes_answer, Given, Halts, reply_in}
 use Rattle.follow_laws.specs.Follows.{GetsTo}
-use Rattle.follow_laws.specs.Laws.{InstructionLaw, behind_answer, GoesOnBehind, counts_in, ComesByReply, RequestLaw, IsFree, ContentsLaw, AssignLaw, CheckLaw, IndexLaw}
+use Rattle.follow_laws.specs.Laws.{InstructionLaw, behind_answer, GoesOnBehind, counts_in, ComesByReply, RequestLaw, ContentsLaw, AssignLaw, CheckLaw, IndexLaw}
 use Rattle.follow_laws.proofs.Running.{is_there, one_more, gets_then, stays, acts}
 use Rattle.follow_laws.proofs.Requesting.{answered_is, fits_alike}
 use Rattle.follow_laws.proofs.Instructions.{local_by, local_at_by, shared_by, set_by, set_at_by, write_by, check_by, index_by}

@@ -1,5 +1,5 @@
 -- Statements with a label or a handler.
-use Rattle.std.proofs.Common.{◌≡◌, ℕ, zero, suc, ◌+◌, ◌<◌, ◌≤◌, if◌then◌else◌, Bool, true, false, List, [], ◌∷◌, ◌++◌, ℤ, take, Option, Some, None, refl, sym, ap, ◌∙◌, subst, arith}
+use Rattle.std.proofs.Common.{◌≡◌, ℕ, zero, suc, ◌≤◌, if◌then◌else◌, Bool, true, false, List, [], ◌∷◌, ◌++◌, ℤ, take, Option, Some, None, refl, sym, ap, ◌∙◌, subst, arith}
 use Rattle.kernel_base.specs.declared.ends.Exc.{Exc}
 use Rattle.world_model.specs.Session.{Session}
 use Rattle.code_types.specs.declared.code.Handler.{Handler}
@@ -9,7 +9,7 @@ use Rattle.code_types.specs.Steps.{Run, At, caught as caught_by, run_after}
 use Rattle.source_meaning.specs.Store.{Store}
 use Rattle.source_meaning.specs.Flow.{Flow, Goes, Raised, Exits, Returned, Stops, Gone, Bound, Meaning}
 use Rattle.source_meaning.specs.StatementMeaning.{ends_exit, caught}
-use Rattle.follow_laws.specs.Follows.{Around, frame_at, state_at, here, Holds, GetsTo, RaisesIn, Follows, ComesBy, always, HoldsWith, Nothing, no_stack, Does}
+use Rattle.follow_laws.specs.Follows.{Around, frame_at, state_at, here, Holds, GetsTo, RaisesIn, ComesBy, always, HoldsWith, Nothing, no_stack, Does}
 use Rattle.follow_laws.specs.Parts.{labelled, LabelledLaw, IsCovered, TakeNothing, Handles, HandledLaw}
 use Rattle.follow_laws.proofs.Running.{gets_then, after, wider}
 

@@ -1,13 +1,12 @@
 -- Frames that hold a store: its locals, its result and the scratch locals are read and set.
-use Rattle.std.proofs.Common.{◌≡◌, ℕ, zero, suc, ◌+◌, ◌-◌, ◌<◌, ◌≤◌, if◌then◌else◌, true, List, [], ◌∷◌, ◌++◌, ℤ, length, take, drop, Option, Some, None, slice_get, slice_set, slice_index_or, nat_le, le-leb, refl, sym, ap, ◌∙◌, subst, arith, append_assoc, append-nil, length-append, length-drop, length-take-le}
-use Rattle.std.proofs.Math.Seq.{drop-append-add, take-append-add, take-append_seam, drop-append_seam}
-use Rattle.std.proofs.lemmas.List.{take-append-le, drop-append-le}
+use Rattle.std.proofs.Common.{◌≡◌, ℕ, ◌+◌, ◌≤◌, if◌then◌else◌, true, List, [], ◌++◌, ℤ, length, take, drop, Some, None, slice_get, nat_le, le-leb, sym, ap, ◌∙◌, subst, arith, append_assoc, append-nil, length-append, length-drop, length-take-le}
+use Rattle.std.proofs.Math.Seq.{take-append_seam, drop-append_seam}
 use Rattle.program_trees.specs.ProgramTree.{LocalRowTree}
 use Rattle.world_model.specs.Lists.{with_scalars, scalars_at}
 use Rattle.code_types.specs.Operands.{part_of}
 use Rattle.source_meaning.specs.Store.{Store, local_value, with_local, with_part, with_result}
-use Rattle.follow_laws.specs.Follows.{flat, FitRows, scalars_in, Around, free_in, keeping, Holds}
-use Rattle.follow_laws.proofs.Stores.{IsPart, part_flat, part_is, set_flat, set_right, fit_set, fit_length, flat_length, length-with_scalars}
+use Rattle.follow_laws.specs.Follows.{flat, scalars_in, Around, free_in, keeping, Holds}
+use Rattle.follow_laws.proofs.Stores.{part_flat, part_is, set_flat, set_right, fit_set, fit_length, flat_length, length-with_scalars}
 
 -- ---- parts of lists
 

@@ -1,30 +1,25 @@
 -- What single instructions make of the frame.
-use Rattle.std.proofs.Common.{◌≡◌, ℕ, zero, suc, ◌+◌, ◌*◌, ◌<◌, ◌≤◌, if◌then◌else◌, Bool, true, false, ◌&&◌, List, [], ◌∷◌, ◌++◌, ℤ, pos, ◌+ℤ◌, ◌-ℤ◌, length, map, take, drop, Option, Some, None, slice_get, nat_le, le-leb, refl, sym, ap, ◌∙◌, subst, arith, append_assoc, append-nil, length-append, inl}
-use Rattle.std.proofs.Math.IntN.{+ℤ_idl}
-use Rattle.kernel_base.specs.declared.ends.Exc.{Exc}
+use Rattle.std.proofs.Common.{◌≡◌, ℕ, suc, ◌+◌, ◌<◌, ◌≤◌, if◌then◌else◌, Bool, true, false, ◌&&◌, List, [], ◌∷◌, ◌++◌, ℤ, pos, ◌+ℤ◌, length, Option, Some, None, slice_get, nat_le, le-leb, refl, sym, ap, ◌∙◌, subst, arith, inl}
 use Rattle.kernel_base.specs.declared.ends.Exc.TheVariants.{Rangefail}
-use Rattle.kernel_base.specs.declared.request.Place.{Place}
 use Rattle.kernel_base.specs.declared.request.Request.TheVariants.{Read, Write}
 use Rattle.world_model.specs.Session.{Session}
 use Rattle.world_model.specs.Lists.{with_scalars, scalars_at}
 use Rattle.modes.specs.declared.mode.Bounds.{Bounds}
 use Rattle.program_trees.specs.ProgramTree.{LocalRowTree}
-use Rattle.scalar_operators.specs.Numbers.{is_between, is_scalar, where_true}
+use Rattle.scalar_operators.specs.Numbers.{is_between, where_true}
 use Rattle.code_types.specs.declared.instr.Instr.{Instr}
 use Rattle.code_types.specs.declared.instr.Instr.TheVariants as i
 use Rattle.code_types.specs.declared.code.Handler.{Handler}
 use Rattle.code_types.specs.Places.{finds}
 use Rattle.code_types.specs.Operands.{part_of, offset_of, number_in}
-use Rattle.code_types.specs.Actions.{Action, Pushes, Sets, GoesTo, Throws, Requests, Halts, at_offset, numbers_or, in_frame, result_or, set_at, asks}
-use Rattle.code_types.specs.State.{State, Running}
-use Rattle.code_types.specs.Steps.{made, run_after}
-use Rattle.source_meaning.specs.Store.{Store, local_value, with_part, in_local, in_shared}
-use Rattle.source_meaning.specs.Flow.{Flow, Goes, Raised, Meaning, then_do}
+use Rattle.code_types.specs.Actions.{Action, Pushes, Sets, GoesTo, Throws, Halts, at_offset, numbers_or, in_frame, result_or, set_at, asks}
+use Rattle.source_meaning.specs.Store.{Store, local_value, in_local, in_shared}
+use Rattle.source_meaning.specs.Flow.{Goes, Raised}
 use Rattle.source_meaning.specs.Operators.{sole_number, one, Computed, Yields, Throws as ThrowsIt, offset_within}
 use Rattle.source_meaning.specs.ExprMeaning.{as_computed, or_rangefail, tested, read_at, assign_at}
-use Rattle.follow_laws.specs.Follows.{HasAt, Around, is_of_language, frame_at, state_at, here, Holds, GetsTo, Follows, always, HoldsWith, Nothing, on_top, IsLong, run_by, action_in}
-use Rattle.follow_laws.proofs.Running.{stays, is_there, gets_then, after, acts, makes, nullary, comes, raises}
-use Rattle.follow_laws.proofs.Holding.{HasPart, local_read, IsSet, local_set}
+use Rattle.follow_laws.specs.Follows.{Around, is_of_language, here, Holds, GetsTo, Follows, always, HoldsWith, Nothing, on_top, IsLong, run_by, action_in}
+use Rattle.follow_laws.proofs.Running.{is_there, after, acts, makes, nullary, comes, raises}
+use Rattle.follow_laws.proofs.Holding.{local_read, local_set}
 use Rattle.follow_laws.proofs.Requesting.{Untaken, done_by, value_by}
 
 -- ---- what actions make of the frame

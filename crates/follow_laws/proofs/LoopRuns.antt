@@ -1,6 +1,6 @@
 -- Loops: a turn, a tick, and the rest of the turns.
-use Rattle.std.proofs.Common.{◌≡◌, ℕ, zero, suc, ◌+◌, ◌<◌, ◌≤◌, List, [], ◌∷◌, ◌++◌, ℤ, Option, Some, None, slice_get, refl, ap, ◌∙◌}
-use Rattle.world_model.specs.Session.{Item, Session, Ticked, GoesOn, Last, tick}
+use Rattle.std.proofs.Common.{◌≡◌, ℕ, zero, suc, List, [], ℤ, Option, Some, None, refl, ap, ◌∙◌}
+use Rattle.world_model.specs.Session.{Session, Ticked, GoesOn, Last, tick}
 use Rattle.code_types.specs.declared.instr.Instr.TheVariants as i
 use Rattle.code_types.specs.declared.code.Handler.{Handler}
 use Rattle.code_types.specs.Actions.{TicksTo}
@@ -8,11 +8,11 @@ use Rattle.code_types.specs.State.{Mode}
 use Rattle.code_types.specs.State.{Running}
 use Rattle.code_types.specs.Steps.{run_behind}
 use Rattle.source_meaning.specs.Store.{Store}
-use Rattle.source_meaning.specs.Flow.{Flow, Goes, Meaning, then_do, after_tick}
+use Rattle.source_meaning.specs.Flow.{Flow, Goes, Meaning, after_tick}
 use Rattle.source_meaning.specs.StatementMeaning.{turns, turn_or_end}
 use Rattle.follow_laws.specs.Follows.{Around, keeping, state_at, here, Holds, Follows, always, HoldsWith, Nothing, no_stack, Does}
-use Rattle.follow_laws.specs.Parts.{LoopPlaces, turn_place, TurnHolds, Invariant, LoopFollows, TurnsFollow, Decided, where_decided, TurnsLawOf, TurnsLaw}
-use Rattle.follow_laws.proofs.Running.{after, acts, nullary, follows_then, follows_then_is, comes, stops, forgotten, forgetting}
+use Rattle.follow_laws.specs.Parts.{LoopPlaces, turn_place, TurnHolds, Invariant, LoopFollows, TurnsFollow, where_decided, TurnsLawOf, TurnsLaw}
+use Rattle.follow_laws.proofs.Running.{after, nullary, follows_then_is, comes, stops, forgotten, forgetting}
 
 -- a tick, in the mode behind it; what is behind it knows that it was made
 pub tick_follows_is : {A : Type 0} (w : Around) (mode : Mode) (t : Ticked) (lo hi : ℕ) (rows : List Handler) (to : A → ℕ) (give : A → List ℤ) (Q : A → Store → List ℤ → Type 0) (at : ℕ) (stack locals : List ℤ) (store : Store) (next : Session → Flow A)

@@ -1,27 +1,25 @@
 -- What the machine does with the answers to requests.
-use Rattle.std.proofs.Common.{◌≡◌, ℕ, zero, suc, ◌+◌, ◌<◌, ◌≤◌, if◌then◌else◌, Bool, true, false, ◌&&◌, ◌==◌, List, [], ◌∷◌, ◌++◌, ℤ, pos, ◌+ℤ◌, length, Option, Some, None, slice_get, slice_index_or, nat_le, le-leb, eqb-true, map, refl, sym, ap, ◌∙◌, subst, arith, append_assoc, append-nil, length-append, inl}
+use Rattle.std.proofs.Common.{◌≡◌, ℕ, zero, suc, ◌+◌, ◌<◌, ◌≤◌, if◌then◌else◌, Bool, true, false, ◌&&◌, ◌==◌, List, [], ◌∷◌, ◌++◌, ℤ, length, Option, Some, None, slice_get, slice_index_or, eqb-true, refl, sym, ap, ◌∙◌, append-nil, inl}
 use Rattle.kernel_base.specs.declared.ends.Exc.{Exc}
 use Rattle.kernel_base.specs.declared.ends.Exc.TheVariants.{Rangefail, Empty, Delayfail, Spacefail, Extinct}
-use Rattle.kernel_base.specs.declared.ends.How.{How}
-use Rattle.kernel_base.specs.declared.request.Place.{Place}
 use Rattle.kernel_base.specs.declared.request.Request.{Request}
-use Rattle.kernel_base.specs.declared.request.Request.TheVariants.{Read, Write, Enter, Leave, Delay, Continue, SendBuffer, ReceiveBuffer, SendSignal, ReceiveSignal, Start, Put, Get, End}
+use Rattle.kernel_base.specs.declared.request.Request.TheVariants.{Read, Write, Delay, Continue, SendBuffer, SendSignal, Start, Put, Get, End}
 use Rattle.kernel_base.specs.declared.answer.Answer.{Answer}
 use Rattle.kernel_base.specs.declared.answer.Answer.TheVariants.{Value, Done, Woken, Got, Otherwise, Instance, Fail, Chose, Handed, Stored}
 use Rattle.world_model.specs.Session.{Item, Ask, Session, Asked, Answered, Unanswered, ask}
 use Rattle.code_types.specs.declared.instr.Instr.{Instr}
 use Rattle.code_types.specs.declared.code.Handler.{Handler}
 use Rattle.code_types.specs.Places.{finds, taker}
-use Rattle.code_types.specs.Actions.{Action, Requests}
-use Rattle.code_types.specs.Answers.{gives, gives_send_signal, no_slot, fits_request, answered, raised, goes_on, regions_after, pushed_by, locals_after}
-use Rattle.code_types.specs.State.{Frame, Slot, OpenRegion, State, Mode, Running, Raising, Asking}
-use Rattle.code_types.specs.Steps.{Run, At, Over, run_with}
+use Rattle.code_types.specs.Actions.{Requests}
+use Rattle.code_types.specs.Answers.{gives, gives_send_signal, no_slot, fits_request, answered, goes_on, regions_after, pushed_by, locals_after}
+use Rattle.code_types.specs.State.{Slot, OpenRegion, State, Running, Asking}
+use Rattle.code_types.specs.Steps.{At, Over, run_with}
 use Rattle.source_meaning.specs.Store.{Store}
-use Rattle.source_meaning.specs.Flow.{Flow, Goes, Meaning, then_do, fills, takes_answer, Reply, Given, Halts, reply_in, asked_in, asked, done}
+use Rattle.source_meaning.specs.Flow.{Goes, Meaning, then_do, fills, takes_answer, Given, Halts, reply_in, asked_in, asked, done}
 use Rattle.source_meaning.specs.ExprMeaning.{brought_by, asked_value}
-use Rattle.follow_laws.specs.Follows.{Around, is_of_language, frame_at, state_at, here, Holds, GetsTo, Follows, always, HoldsWith, Nothing, on_top, IsLong, action_in}
+use Rattle.follow_laws.specs.Follows.{Around, is_of_language, frame_at, state_at, here, Holds, Follows, always, HoldsWith, Nothing, on_top, IsLong, action_in}
 use Rattle.follow_laws.specs.Laws.{behind_answer, GoesOnBehind, counts_in}
-use Rattle.follow_laws.proofs.Running.{is_there, one_more, after, makes, comes, raises, stops}
+use Rattle.follow_laws.proofs.Running.{is_there, after, makes, comes, raises, stops}
 
 pub answered_is : (q : State) (r : Request) (slots : List Slot) (a : Answer) → GoesOnBehind r → answered q r slots a ≡ behind_answer q r slots a
 answered_is q (End how) slots a on = absurd on

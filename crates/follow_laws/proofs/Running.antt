@@ -1,5 +1,5 @@
 -- How runs of the machine are put together.
-use Rattle.std.proofs.Common.{◌≡◌, ℕ, zero, suc, ◌+◌, ◌-◌, ◌<◌, ◌≤◌, if◌then◌else◌, Bool, true, false, List, [], ◌∷◌, ◌++◌, ℤ, length, take, drop, Option, Some, None, slice_get, nat_le, le-leb, refl, sym, ap, ◌∙◌, subst, arith, append_assoc, append-nil, length-append}
+use Rattle.std.proofs.Common.{◌≡◌, ℕ, zero, suc, ◌+◌, ◌-◌, ◌<◌, ◌≤◌, if◌then◌else◌, Bool, true, false, List, [], ◌∷◌, ◌++◌, ℤ, length, take, drop, Some, None, slice_get, nat_le, le-leb, refl, sym, ap, ◌∙◌, subst, arith, append_assoc, append-nil, length-append}
 use Rattle.std.proofs.Math.Seq.{take-append_seam, drop-append_seam}
 use Rattle.kernel_base.specs.declared.ends.Exc.{Exc}
 use Rattle.world_model.specs.Session.{Item, Session}
@@ -13,7 +13,7 @@ use Rattle.code_types.specs.State.{Frame, State, Mode, Running, Raising}
 use Rattle.code_types.specs.Steps.{Move, Stays, Run, At, Over, made, executed, run_after, step, steps}
 use Rattle.source_meaning.specs.Store.{Store}
 use Rattle.source_meaning.specs.Flow.{Flow, Goes, Raised, Exits, Returned, Stops, Gone, Bound, Meaning, then_do}
-use Rattle.follow_laws.specs.Follows.{HasAt, flat, Around, keeping, frame_at, state_at, here, Holds, GetsTo, run_by, action_in, Arrives, CanArise, RaisesIn, IsFrameOf, AreFramesOf, own_call, StopsOpen, HasGone, TakesWayOut, ComesBy, Follows}
+use Rattle.follow_laws.specs.Follows.{HasAt, flat, Around, keeping, frame_at, state_at, here, Holds, GetsTo, run_by, action_in, Arrives, CanArise, RaisesIn, IsFrameOf, own_call, ComesBy, Follows}
 
 pub has_front : (all : List Instr) (at : ℕ) (a b : List Instr) → HasAt all at (a ++ b) → HasAt all at a
 has_front all at [] b h = tt

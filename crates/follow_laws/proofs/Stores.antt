@@ -1,5 +1,5 @@
 -- Flat locals: a part of one is read and set.
-use Rattle.std.proofs.Common.{◌≡◌, ℕ, zero, suc, ◌+◌, ◌-◌, ◌<◌, ◌≤◌, if◌then◌else◌, true, List, [], ◌∷◌, ◌++◌, ℤ, length, take, drop, Some, None, slice_get, slice_set, slice_index_or, refl, sym, ap, ◌∙◌, subst, arith, append_assoc, length-append, length-drop, length-take, length-take-le, nat_le, le-leb, drop-drop}
+use Rattle.std.proofs.Common.{◌≡◌, ℕ, zero, suc, ◌+◌, ◌-◌, ◌≤◌, if◌then◌else◌, true, List, [], ◌∷◌, ◌++◌, ℤ, length, take, drop, Some, None, slice_get, slice_set, slice_index_or, refl, sym, ap, ◌∙◌, arith, append_assoc, length-append, length-drop, length-take-le, nat_le, le-leb}
 use Rattle.std.proofs.lemmas.List.{take-append-le, drop-append-le}
 use Rattle.std.proofs.Math.Seq.{drop-append-add, take-append-add}
 use Rattle.program_trees.specs.ProgramTree.{LocalRowTree}

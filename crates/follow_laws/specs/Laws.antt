@@ -1,5 +1,5 @@
 -- The laws of single instructions and requests.
-use Rattle.std.specs.Prelude.{◌≡◌, ℕ, suc, ◌+◌, ◌<◌, ◌≤◌, true, List, [], ◌∷◌, ◌++◌, ℤ, pos, length, map, Option, Some, None, slice_get}
+use Rattle.std.specs.Prelude.{◌≡◌, ℕ, ◌+◌, ◌<◌, ◌≤◌, List, [], ◌∷◌, ◌++◌, ℤ, pos, length, map, Some, None, slice_get}
 use Rattle.kernel_base.specs.declared.ends.Exc.{Exc}
 use Rattle.kernel_base.specs.declared.request.Request.{Request}
 use Rattle.kernel_base.specs.declared.request.Request.TheVariants.{End}
@@ -7,7 +7,6 @@ use Rattle.kernel_base.specs.declared.answer.Answer.{Answer}
 use Rattle.kernel_base.specs.declared.answer.Answer.TheVariants.{Fail}
 use Rattle.world_model.specs.Session.{Ask, Session}
 use Rattle.modes.specs.declared.mode.Bounds.{Bounds}
-use Rattle.checked_program.specs.declared.expr.Binary.{Binary}
 use Rattle.program_trees.specs.ProgramTree.{LocalRowTree}
 use Rattle.code_types.specs.declared.instr.Instr.{Instr}
 use Rattle.code_types.specs.declared.instr.Instr.TheVariants as i
@@ -19,7 +18,7 @@ use Rattle.code_types.specs.State.{Slot, State, Asking}
 use Rattle.code_types.specs.Steps.{Run, At, Over}
 use Rattle.source_meaning.specs.Store.{Store, in_local, in_shared}
 use Rattle.source_meaning.specs.Flow.{Reply, Given, Halts, reply}
-use Rattle.source_meaning.specs.Operators.{sole_number, one, binary_value, offset_within}
+use Rattle.source_meaning.specs.Operators.{sole_number, one, offset_within}
 use Rattle.source_meaning.specs.ExprMeaning.{or_rangefail, tested, read_at, assign_at}
 use Rattle.follow_laws.specs.Follows.{Around, here, Holds, GetsTo, run_by, action_in, Follows, always, HoldsWith, Nothing, on_top, IsLong}
 
