@@ -1,12 +1,11 @@
 -- What stands between two operands, and behind the argument of a prefix or a routine.
-use Rattle.std.proofs.Common.{◌≡◌, ℕ, zero, suc, ◌+◌, ◌-◌, ◌*◌, ◌<◌, ◌≤◌, min, nat_le, nat_lt, if◌then◌else◌, Bool, true, false, not, ◌&&◌, ◌||◌, List, [], ◌∷◌, ◌++◌, ℤ, pos, negsuc, ◌+ℤ◌, ◌-ℤ◌, neg_ℤ, int_le, int_lt, map, length, Option, Some, None, slice_get, refl, sym, ap, ◌∙◌, subst, arith, length-append, append_assoc, append-nil}
+use Rattle.std.proofs.Common.{◌≡◌, ℕ, zero, suc, ◌+◌, ◌<◌, ◌≤◌, if◌then◌else◌, Bool, true, false, not, ◌&&◌, ◌||◌, List, [], ◌∷◌, ◌++◌, ℤ, pos, negsuc, ◌+ℤ◌, ◌-ℤ◌, neg_ℤ, int_le, int_lt, map, length, Option, Some, None, slice_get, refl, sym, ap, ◌∙◌, subst, arith, length-append, append_assoc, append-nil, inl}
 use Rattle.std.specs.List.{filter}
 use Rattle.std.proofs.lemmas.Int.{ints}
-use Rattle.kernel_base.specs.declared.ends.Exc.{Exc}
-use Rattle.kernel_base.specs.declared.ends.Exc.TheVariants.{Overflow, Empty}
+use Rattle.kernel_base.specs.declared.ends.Exc.TheVariants.{Overflow}
 use Rattle.world_model.specs.Session.{Session}
 use Rattle.modes.specs.declared.mode.Bounds.{Bounds}
-use Rattle.modes.specs.Bounds.{natural_of, count_between}
+use Rattle.modes.specs.Bounds.{natural_of}
 use Rattle.checked_program.specs.declared.expr.Binary.{Binary}
 use Rattle.checked_program.specs.declared.expr.Binary.TheVariants.{AndIf, OrIf, Member}
 use Rattle.checked_program.specs.declared.expr.Prefix.{Prefix}
@@ -16,20 +15,18 @@ use Rattle.checked_program.specs.declared.expr.Routine.TheVariants.{Number, Abso
 use Rattle.scalar_operators.specs.Numbers.{is_between, is_int, where_true, truth_number, truth_of, int_result, magnitude, comes_before, least_int, greatest_int}
 use Rattle.scalar_operators.specs.Powersets.{members_of, has_member, numbers_up, offsets, first_of_list, last_of_list}
 use Rattle.scalar_operators.specs.Members.{offsets_of}
-use Rattle.code_types.specs.declared.instr.Instr.{Instr}
 use Rattle.code_types.specs.declared.instr.Instr.TheVariants as i
-use Rattle.code_types.specs.Actions.{Action, Pushes, GoesTo, Throws, result_or, member_or_empty, truth as truth_action}
+use Rattle.code_types.specs.Actions.{Pushes, GoesTo, result_or, member_or_empty, truth as truth_action}
 use Rattle.code_types.specs.Steps.{Run}
 use Rattle.source_meaning.specs.Store.{Store}
-use Rattle.source_meaning.specs.Flow.{Flow, Goes, Raised, Meaning, then_do}
-use Rattle.source_meaning.specs.Operators.{sole_number, is_true, one, truth, Computed, Yields, Throws as ThrowsIt, yields_or, in_int, takes_second, prefix_value, member_at, routine_value}
+use Rattle.source_meaning.specs.Operators.{sole_number, is_true, one, truth, Yields, yields_or, in_int, takes_second, prefix_value, member_at, routine_value}
 use Rattle.source_meaning.specs.ExprMeaning.{as_computed}
 use Rattle.code_scheme.specs.Pieces.{bounds_to_test, are_same, member_code, offset_code, member_or_none, between_code, between_size, prefix_code, routine_code}
-use Rattle.code_laws.specs.Follows.{HasAt, Around, state_at, here, Holds, GetsTo, Follows, always, HoldsWith, on_top, IsLong, action_in, run_by}
-use Rattle.code_laws.specs.InRange.{AreInts, AreMembers, OperandsFit}
+use Rattle.follow_laws.specs.Follows.{HasAt, Around, here, Holds, GetsTo, Follows, always, HoldsWith, on_top, IsLong, run_by}
+use Rattle.code_laws.specs.InRange.{AreMembers, OperandsFit}
 use Rattle.code_laws.specs.OwnBounds.{lies_in}
-use Rattle.code_laws.proofs.Running.{has_front, has_back, stays, gets_then, after, comes, makes, raises}
-use Rattle.code_laws.proofs.Instructions.{pushes_by, jumps_by, puts_on, renamed, as_action, YieldsSuch, computed_by, sole}
+use Rattle.follow_laws.proofs.Running.{has_front, has_back, gets_then, after, comes, makes, raises}
+use Rattle.follow_laws.proofs.Instructions.{pushes_by, jumps_by, puts_on, renamed, computed_by, sole}
 use Rattle.code_laws.proofs.Values.{both_true, same_int}
 use Rattle.code_laws.proofs.OperatorRuns.{result_action, result_yields, truth_back, not_run, offset_in, held}
 
@@ -194,7 +191,7 @@ none_run w b x at base locals s has =
         (renamed w (p + 1 + 1) (at + 12) (base ++ one (b.low +ℤ pos 32)) (base ++ one (member_or_far b x)) locals s (omega arith) (ap (λ (k : ℤ). base ++ one k) e)))
     lands_by false e h = renamed w (at + 12) (at + 12) (base ++ one x) (base ++ one (member_or_far b x)) locals s refl (ap (λ (k : ℤ). base ++ one k) e)
 
-both_yes : (a b : Bool) → a ≡ true → b ≡ true → (a && b) ≡ true
+pub both_yes : (a b : Bool) → a ≡ true → b ≡ true → (a && b) ≡ true
 both_yes a b e f = ap (λ (t : Bool). t && b) e ∙ f
 
 natural_is : (z : ℤ) → int_le (pos 0) z ≡ true → pos (natural_of z) ≡ z
@@ -302,7 +299,7 @@ prefix_runs w o xs at to lo hi base locals store s long has e low high h =
     subst (λ (l : List ℤ). Follows w (here w at (base ++ l) locals s) lo hi [] (always to) (on_top base) (HoldsWith w (IsLong 1)) (as_computed (prefix_value o l) store s)) (sym (sole xs long)) (on_one o (sole_number xs) has)
   where
     on_one : (o : Prefix) (x : ℤ) → HasAt w.code.instrs at (prefix_code o) → Follows w (here w at (base ++ one x) locals s) lo hi [] (always to) (on_top base) (HoldsWith w (IsLong 1)) (as_computed (prefix_value o (one x)) store s)
-    on_one Minus x is = computed_by w i.Neg (prefix_value Minus (one x)) (IsLong 1) at to lo hi [] base (one x) locals store s is.0 refl (result_action Overflow (int_result (neg_ℤ x))) (result_yields Overflow (int_result (neg_ℤ x))) e low high (λ z. refl) h
+    on_one Minus x is = computed_by w i.Neg (prefix_value Minus (one x)) (IsLong 1) at to lo hi [] base (one x) locals store s is.0 refl (result_action Overflow (int_result (neg_ℤ x))) (result_yields Overflow refl (int_result (neg_ℤ x))) e low high (λ z. refl) h
     on_one Not x is = computed_by w i.Not (prefix_value Not (one x)) (IsLong 1) at to lo hi [] base (one x) locals store s is.0 refl refl refl e low high (λ z. refl) h
     on_one (Complement m) x is = computed_by w (i.BitNot m) (prefix_value (Complement m) (one x)) (IsLong 1) at to lo hi [] base (one x) locals store s is.0 refl refl refl e low high (λ z. refl) h
 
@@ -331,10 +328,10 @@ filter_below : (f : ℕ → Bool) (ks : List ℕ) (n : ℕ) → AreBelow n ks �
 filter_below f [] n h = tt
 filter_below f (k ∷ ks) n h = keep_below (f k) k n (filter f ks) h.0 (filter_below f ks n h.1)
 
-members_below : (x : ℤ) → AreBelow 32 (members_of x)
+pub members_below : (x : ℤ) → AreBelow 32 (members_of x)
 members_below x = filter_below (has_member x) offsets 32 (up_below 0 32 32 (omega arith))
 
-first_below : (ks : List ℕ) (n k : ℕ) → AreBelow n ks → first_of_list ks ≡ Some k → k < n
+pub first_below : (ks : List ℕ) (n k : ℕ) → AreBelow n ks → first_of_list ks ≡ Some k → k < n
 first_below [] n k h e = absurd (let no : ⊥ = cc in no)
 first_below (j ∷ ks) n k h e = let same : j ≡ k = cc in subst (λ (m : ℕ). m < n) same h.0
 
@@ -360,7 +357,7 @@ plus_run w low z at base locals s inside has = by_zero (are_same low (pos 0)) re
         (renamed w (at + 1 + 1) (at + 2) (base ++ one (z +ℤ low)) (base ++ one (z +ℤ low)) locals s (omega arith) refl)))
 
 -- it may lie outside INT
-member_follows : (w : Around) (low : ℤ) (k at to lo hi : ℕ) (base locals : List ℤ) (store : Store) (s : Session)
+pub member_follows : (w : Around) (low : ℤ) (k at to lo hi : ℕ) (base locals : List ℤ) (store : Store) (s : Session)
     → k < 32 → HasAt w.code.instrs at (member_code low) → at + length (member_code low) ≡ to → lo ≤ at → to ≤ hi → Holds w store locals
     → Follows w (here w at (base ++ one (pos k)) locals s) lo hi [] (always to) (on_top base) (HoldsWith w (IsLong 1)) (as_computed (in_int (pos k +ℤ low)) store s)
 member_follows w low k at to lo hi base locals store s small has e l u h = by_zero (are_same low (pos 0)) refl has e
@@ -386,13 +383,13 @@ member_follows w low k at to lo hi base locals store s small has e l u h = by_ze
     by_zero false is h2 e2 =
         after (puts_on w (i.Push low) at (base ++ one (pos k)) locals s (one low) h2.0 refl refl)
         (after (renamed w (at + 1) (at + 1) ((base ++ one (pos k)) ++ one low) (base ++ (pos k ∷ low ∷ [])) locals s refl (append_assoc base (one (pos k)) (one low)))
-        (computed_by w i.Add (in_int (pos k +ℤ low)) (IsLong 1) (at + 1) to lo hi [] base (pos k ∷ low ∷ []) locals store s h2.1.0 refl (result_action Overflow (int_result (pos k +ℤ low))) (result_yields Overflow (int_result (pos k +ℤ low))) (omega arith) (omega arith) (omega arith) (λ y. refl) h))
+        (computed_by w i.Add (in_int (pos k +ℤ low)) (IsLong 1) (at + 1) to lo hi [] base (pos k ∷ low ∷ []) locals store s h2.1.0 refl (result_action Overflow (int_result (pos k +ℤ low))) (result_yields Overflow refl (int_result (pos k +ℤ low))) (omega arith) (omega arith) (omega arith) (λ y. refl) h))
 
 -- the member of an offset that there may be
 found_follows : (w : Around) (low : ℤ) (o : Option ℕ) (at to lo hi : ℕ) (stack base locals : List ℤ) (store : Store) (s : Session)
     → ((k : ℕ) → o ≡ Some k → k < 32) → HasAt w.code.instrs (at + 1) (member_code low) → at + 1 + length (member_code low) ≡ to → lo ≤ at → at < hi → to ≤ hi → Holds w store locals
     → Follows w (run_by w at stack base locals s (member_or_empty o)) lo hi [] (always to) (on_top base) (HoldsWith w (IsLong 1)) (as_computed (member_at low o) store s)
-found_follows w low None at to lo hi stack base locals store s small has e l u t h = raises l u refl h
+found_follows w low None at to lo hi stack base locals store s small has e l u t h = raises (inl refl) l u refl h
 found_follows w low (Some k) at to lo hi stack base locals store s small has e l u t h = member_follows w low k (at + 1) to lo hi base locals store s (small k refl) has e (omega arith) t h
 
 pub routine_runs : (w : Around) (r : Routine) (xs : List ℤ) (at to lo hi : ℕ) (base locals : List ℤ) (store : Store) (s : Session)
@@ -403,10 +400,10 @@ routine_runs w r xs at to lo hi base locals store s long has e low high h =
   where
     on_one : (r : Routine) (x : ℤ) → HasAt w.code.instrs at (routine_code r) → at + length (routine_code r) ≡ to → Follows w (here w at (base ++ one x) locals s) lo hi [] (always to) (on_top base) (HoldsWith w (IsLong 1)) (as_computed (routine_value r (one x)) store s)
     on_one Number x is e2 = comes {v = one x} (let e3 : at ≡ to = omega arith in e3) refl (refl, h)
-    on_one Absolute x is e2 = computed_by w i.Abs (in_int (magnitude x)) (IsLong 1) at to lo hi [] base (one x) locals store s is.0 refl (result_action Overflow (int_result (magnitude x))) (result_yields Overflow (int_result (magnitude x))) e2 low (omega arith) (λ z. refl) h
+    on_one Absolute x is e2 = computed_by w i.Abs (in_int (magnitude x)) (IsLong 1) at to lo hi [] base (one x) locals store s is.0 refl (result_action Overflow (int_result (magnitude x))) (result_yields Overflow refl (int_result (magnitude x))) e2 low (omega arith) (λ z. refl) h
     on_one Cardinality x is e2 = computed_by w i.Card (Yields (one (pos (length (offsets_of (one x)))))) (IsLong 1) at to lo hi [] base (one x) locals store s is.0 refl (ap (λ (l : List ℕ). Pushes (one (pos (length l)))) (sym (offsets_of_one x))) refl e2 low (omega arith) (λ z. refl) h
-    on_one (Successor bound) x is e2 = computed_by w (i.Succ bound) (yields_or Overflow (if int_le bound x then None else Some (x +ℤ pos 1))) (IsLong 1) at to lo hi [] base (one x) locals store s is.0 refl (result_action Overflow (if int_le bound x then None else Some (x +ℤ pos 1))) (result_yields Overflow (if int_le bound x then None else Some (x +ℤ pos 1))) e2 low (omega arith) (λ z. refl) h
-    on_one (Predecessor bound) x is e2 = computed_by w (i.Pred bound) (yields_or Overflow (if int_le x bound then None else Some (x -ℤ pos 1))) (IsLong 1) at to lo hi [] base (one x) locals store s is.0 refl (result_action Overflow (if int_le x bound then None else Some (x -ℤ pos 1))) (result_yields Overflow (if int_le x bound then None else Some (x -ℤ pos 1))) e2 low (omega arith) (λ z. refl) h
+    on_one (Successor bound) x is e2 = computed_by w (i.Succ bound) (yields_or Overflow (if int_le bound x then None else Some (x +ℤ pos 1))) (IsLong 1) at to lo hi [] base (one x) locals store s is.0 refl (result_action Overflow (if int_le bound x then None else Some (x +ℤ pos 1))) (result_yields Overflow refl (if int_le bound x then None else Some (x +ℤ pos 1))) e2 low (omega arith) (λ z. refl) h
+    on_one (Predecessor bound) x is e2 = computed_by w (i.Pred bound) (yields_or Overflow (if int_le x bound then None else Some (x -ℤ pos 1))) (IsLong 1) at to lo hi [] base (one x) locals store s is.0 refl (result_action Overflow (if int_le x bound then None else Some (x -ℤ pos 1))) (result_yields Overflow refl (if int_le x bound then None else Some (x -ℤ pos 1))) e2 low (omega arith) (λ z. refl) h
     on_one (Least least) x is e2 =
         subst (λ (l : List ℕ). Follows w (here w at (base ++ one x) locals s) lo hi [] (always to) (on_top base) (HoldsWith w (IsLong 1)) (as_computed (member_at least (first_of_list l)) store s)) (sym (offsets_of_one x))
         (makes i.Least at base (one x) locals s (member_or_empty (first_of_list (members_of x))) is.0 refl refl

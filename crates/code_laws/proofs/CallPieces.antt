@@ -1,48 +1,42 @@
 -- Arguments whose places are kept, and what is copied out behind a call.
-use Rattle.std.proofs.Common.{◌≡◌, ℕ, zero, suc, ◌+◌, ◌-◌, ◌<◌, ◌≤◌, if◌then◌else◌, Bool, true, false, ◌&&◌, List, [], ◌∷◌, ◌++◌, ℤ, pos, length, Option, Some, None, slice_get, nat_le, le-leb, refl, sym, ap, ◌∙◌, subst, arith, append_assoc, append-nil, length-append, ◌⊎◌, inl, inr}
+use Rattle.std.proofs.Common.{◌≡◌, ℕ, ◌+◌, ◌-◌, ◌≤◌, if◌then◌else◌, Bool, true, false, List, [], ◌∷◌, ◌++◌, ℤ, pos, length, Option, Some, None, nat_le, le-leb, refl, sym, ap, ◌∙◌, subst, arith, append_assoc, append-nil, length-append, ◌⊎◌, inl, inr}
 use Rattle.world_model.specs.Session.{Session}
 use Rattle.world_model.specs.Lists.{with_scalars}
 use Rattle.modes.specs.declared.mode.Bounds.{Bounds}
 use Rattle.modes.specs.ModeTree.{int}
 use Rattle.modes.specs.Bounds.{bounds_of}
-use Rattle.modes.specs.Scalars.{lowest_of}
 use Rattle.checked_program.specs.declared.expr.Base.{Base}
 use Rattle.checked_program.specs.declared.expr.Base.TheVariants.{Shared, Local}
 use Rattle.checked_program.specs.declared.program.Parameter.{Parameter}
-use Rattle.program_trees.specs.ExprTree.{PartNodes, LocationTree, location, ArgumentNodes, no_arguments, in_argument, out_argument, inout_argument, location_count}
+use Rattle.program_trees.specs.ExprTree.{PartNodes, LocationTree, location, ArgumentNodes, no_arguments, in_argument, out_argument, inout_argument}
 use Rattle.program_trees.specs.ProgramTree.{LocalRowTree}
 use Rattle.code_types.specs.declared.instr.Instr.{Instr}
 use Rattle.code_types.specs.declared.instr.Instr.TheVariants as i
 use Rattle.code_types.specs.declared.code.Handler.{Handler}
 use Rattle.code_types.specs.Actions.{Sets, Halts, in_frame}
 use Rattle.code_types.specs.Steps.{Run}
-use Rattle.source_meaning.specs.Store.{Store, Taken, brings, lowest, Address, in_local, in_shared, address_of}
-use Rattle.source_meaning.specs.Flow.{Flow, Goes, Meaning, then_do}
+use Rattle.source_meaning.specs.Store.{Store, begins_with, Address, in_local, in_shared, address_of}
+use Rattle.source_meaning.specs.Flow.{Flow, Goes, then_do}
 use Rattle.source_meaning.specs.Operators.{one}
-use Rattle.source_meaning.specs.ExprMeaning.{Setting, CopyOut, Passed, takens, tested, assign_at, copied_out, all_copied_out}
-use Rattle.source_meaning.specs.Talk.{parameter_scalars}
+use Rattle.source_meaning.specs.ExprMeaning.{Setting, CopyOut, Passed, takens, copied_out, all_copied_out}
 use Rattle.code_scheme.specs.Pieces.{Layout, bounds_to_test, tested_out, tested_back, check_code, first_of_parts, needs_offset, has_offset, offsets_kept, keep_code, kept_code, under_code, store_code, copy_out_code, copies_out, kept_behind}
 use Rattle.code_scheme.specs.ExprSizes.{copy_out_size, copies_out_size}
-use Rattle.code_laws.specs.Follows.{HasAt, FitRows, Around, free_in, scalars_in, keeping, here, Holds, GetsTo, Follows, always, HoldsWith, Nothing, on_top, IsLong}
+use Rattle.follow_laws.specs.Follows.{HasAt, FitRows, Around, free_in, scalars_in, keeping, here, Holds, GetsTo, Follows, always, HoldsWith, Nothing}
 use Rattle.source_meaning.specs.BodyMeaning.{Bodies}
-use Rattle.code_laws.specs.Calls.{BodiesWithin, taken_scalars, passed_back, parameters_back}
+use Rattle.code_laws.specs.BodyBounds.{BodiesWithin}
+use Rattle.code_laws.specs.Calls.{FitTaken, parameters_back}
 use Rattle.code_laws.specs.InRange.{BoundsFit, IsOffset, BaseFits, FitsArguments}
 use Rattle.code_laws.specs.OwnBounds.{lies_in, lies_where, copies_within}
 use Rattle.code_laws.specs.Expressions.{Suited, NamesIn}
-use Rattle.code_laws.proofs.Running.{has_front, has_back, gets_then, after, follows_then, comes, forgotten, forgetting}
-use Rattle.code_laws.proofs.Holding.{HasPart, IsSet, kept_read, scratch_set, scratch_read}
-use Rattle.code_laws.proofs.Instructions.{puts_on, sets_by, renamed}
-use Rattle.code_laws.proofs.Sizes.{copy_out_length, store_length, where_length}
+use Rattle.follow_laws.proofs.Running.{has_front, has_back, gets_then, after, follows_then, comes, forgotten, forgetting}
+use Rattle.follow_laws.proofs.Holding.{HasPart, IsSet, kept_read, scratch_set, scratch_read}
+use Rattle.follow_laws.proofs.Instructions.{puts_on, sets_by, renamed}
+use Rattle.code_laws.proofs.Sizes.{copy_out_length, where_length}
 use Rattle.code_laws.proofs.Values.{both_true}
 use Rattle.code_laws.proofs.PlaceRuns.{IsPlace, place_stack, store_runs}
 use Rattle.code_laws.proofs.ExprPieces.{reshaped, tested_runs}
 
 -- ---- what is known of arguments that are evaluated
-
--- the scalars that a parameter begins with
-abbrev pub begins_scalars : LocalRowTree → Taken → List ℤ
-begins_scalars row (brings xs) = xs
-begins_scalars row lowest = lowest_of row.mode
 
 -- where an argument's parameter is copied out to: a part of its location
 abbrev pub CopiesTo : Layout → LocationTree → Option Bounds → Option CopyOut → Type 0
@@ -54,13 +48,13 @@ abbrev pub PassedFit : Layout → ArgumentNodes → List LocalRowTree → List P
 PassedFit lay no_arguments rows qs = qs ≡ []
 PassedFit lay (in_argument r as') [] qs = ⊥
 PassedFit lay (in_argument r as') (row ∷ rows) [] = ⊥
-PassedFit lay (in_argument r as') (row ∷ rows) (q ∷ qs) = (length (begins_scalars row q.begins) ≡ row.count) × (q.copy_out ≡ None) × PassedFit lay as' rows qs
+PassedFit lay (in_argument r as') (row ∷ rows) (q ∷ qs) = (length (begins_with row q.begins) ≡ row.count) × (q.copy_out ≡ None) × PassedFit lay as' rows qs
 PassedFit lay (out_argument l bounds as') [] qs = ⊥
 PassedFit lay (out_argument l bounds as') (row ∷ rows) [] = ⊥
-PassedFit lay (out_argument l bounds as') (row ∷ rows) (q ∷ qs) = (length (begins_scalars row q.begins) ≡ row.count) × CopiesTo lay l bounds q.copy_out × PassedFit lay as' rows qs
+PassedFit lay (out_argument l bounds as') (row ∷ rows) (q ∷ qs) = (length (begins_with row q.begins) ≡ row.count) × CopiesTo lay l bounds q.copy_out × PassedFit lay as' rows qs
 PassedFit lay (inout_argument l taken bounds as') [] qs = ⊥
 PassedFit lay (inout_argument l taken bounds as') (row ∷ rows) [] = ⊥
-PassedFit lay (inout_argument l taken bounds as') (row ∷ rows) (q ∷ qs) = (length (begins_scalars row q.begins) ≡ row.count) × CopiesTo lay l bounds q.copy_out × PassedFit lay as' rows qs
+PassedFit lay (inout_argument l taken bounds as') (row ∷ rows) (q ∷ qs) = (length (begins_with row q.begins) ≡ row.count) × CopiesTo lay l bounds q.copy_out × PassedFit lay as' rows qs
 
 -- the offsets of places that are kept
 abbrev pub first_in_address : Address → ℕ
@@ -106,26 +100,25 @@ rows_back row rows row' others e = cc
 pub row_back : (row : LocalRowTree) (rows : List LocalRowTree) (row' : LocalRowTree) (others : List LocalRowTree) → row ∷ rows ≡ row' ∷ others → row' ≡ row
 row_back row rows row' others e = cc
 
-begin_long : (row : LocalRowTree) (rows : List LocalRowTree) (t : Taken) (ts : List Taken) → length (taken_scalars (row ∷ rows) (t ∷ ts)) ≡ length (begins_scalars row t) + length (taken_scalars rows ts)
-begin_long row rows (brings xs) ts = length-append xs (taken_scalars rows ts)
-begin_long row rows lowest ts = length-append (lowest_of row.mode) (taken_scalars rows ts)
+one_more_fits : (row : LocalRowTree) (rows : List LocalRowTree) (q : Passed) (qs : List Passed) (ps more : List Parameter) (p : Parameter) → ps ≡ p ∷ more → length (begins_with row q.begins) ≡ row.count → FitTaken rows more (takens qs)
+    → FitTaken (row ∷ rows) ps (takens (q ∷ qs))
+one_more_fits row rows q qs ps more p is long rest = subst (λ (l : List Parameter). FitTaken (row ∷ rows) l (takens (q ∷ qs))) (sym is) (long, rest)
 
-one_more_long : (row : LocalRowTree) (rows : List LocalRowTree) (q : Passed) (qs : List Passed) (ps more : List Parameter) (p : Parameter) → ps ≡ p ∷ more → length (begins_scalars row q.begins) ≡ row.count → length (taken_scalars rows (takens qs)) ≡ parameter_scalars rows more
-    → length (taken_scalars (row ∷ rows) (takens (q ∷ qs))) ≡ parameter_scalars (row ∷ rows) ps
-one_more_long row rows q qs ps more p is long rest = begin_long row rows q.begins (takens qs) ∙ (ap (λ (n : ℕ). n + length (taken_scalars rows (takens qs))) long ∙ (ap (λ (n : ℕ). row.count + n) rest ∙ sym (ap (λ (l : List Parameter). parameter_scalars (row ∷ rows) l) is)))
+none_fit : (rows : List LocalRowTree) (ps : List Parameter) (qs : List Passed) → ps ≡ [] → qs ≡ [] → FitTaken rows ps (takens qs)
+none_fit rows ps qs e d = subst (λ (l : List Parameter). FitTaken rows l (takens qs)) (sym e) (subst (λ (q : List Passed). FitTaken rows [] (takens q)) (sym d) tt)
 
--- the scalars of parameters are as many as their rows say
-pub takens_long : (lay : Layout) (as' : ArgumentNodes) (ps : List Parameter) (rows : List LocalRowTree) (qs : List Passed) → FitsArguments lay as' ps rows → PassedFit lay as' rows qs → length (taken_scalars rows (takens qs)) ≡ parameter_scalars rows ps
-takens_long lay no_arguments ps rows qs fits passed = ap (λ (q : List Passed). length (taken_scalars rows (takens q))) passed ∙ sym (ap (λ (p : List Parameter). parameter_scalars rows p) fits)
-takens_long lay (in_argument r as') ps [] qs fits passed = absurd passed
-takens_long lay (in_argument r as') ps (row ∷ rows) [] fits passed = absurd passed
-takens_long lay (in_argument r as') ps (row ∷ rows) (q ∷ qs) fits passed = one_more_long row rows q qs ps fits.1 _ fits.3 passed.0 (takens_long lay as' fits.1 rows qs (subst (λ (rs : List LocalRowTree). FitsArguments lay as' fits.1 rs) (rows_back row rows fits.0 fits.2 fits.4) fits.7) passed.2)
-takens_long lay (out_argument l bounds as') ps [] qs fits passed = absurd passed
-takens_long lay (out_argument l bounds as') ps (row ∷ rows) [] fits passed = absurd passed
-takens_long lay (out_argument l bounds as') ps (row ∷ rows) (q ∷ qs) fits passed = one_more_long row rows q qs ps fits.1 _ fits.3 passed.0 (takens_long lay as' fits.1 rows qs (subst (λ (rs : List LocalRowTree). FitsArguments lay as' fits.1 rs) (rows_back row rows fits.0 fits.2 fits.4) fits.7) passed.2)
-takens_long lay (inout_argument l taken bounds as') ps [] qs fits passed = absurd passed
-takens_long lay (inout_argument l taken bounds as') ps (row ∷ rows) [] fits passed = absurd passed
-takens_long lay (inout_argument l taken bounds as') ps (row ∷ rows) (q ∷ qs) fits passed = one_more_long row rows q qs ps fits.1 _ fits.3 passed.0 (takens_long lay as' fits.1 rows qs (subst (λ (rs : List LocalRowTree). FitsArguments lay as' fits.1 rs) (rows_back row rows fits.0 fits.2 fits.4) fits.7) passed.2)
+-- what parameters begin with fits their rows
+pub takens_fit : (lay : Layout) (as' : ArgumentNodes) (ps : List Parameter) (rows : List LocalRowTree) (qs : List Passed) → FitsArguments lay as' ps rows → PassedFit lay as' rows qs → FitTaken rows ps (takens qs)
+takens_fit lay no_arguments ps rows qs fits passed = none_fit rows ps qs fits passed
+takens_fit lay (in_argument r as') ps [] qs fits passed = absurd passed
+takens_fit lay (in_argument r as') ps (row ∷ rows) [] fits passed = absurd passed
+takens_fit lay (in_argument r as') ps (row ∷ rows) (q ∷ qs) fits passed = one_more_fits row rows q qs ps fits.1 _ fits.3 passed.0 (takens_fit lay as' fits.1 rows qs (subst (λ (rs : List LocalRowTree). FitsArguments lay as' fits.1 rs) (rows_back row rows fits.0 fits.2 fits.4) fits.7) passed.2)
+takens_fit lay (out_argument l bounds as') ps [] qs fits passed = absurd passed
+takens_fit lay (out_argument l bounds as') ps (row ∷ rows) [] fits passed = absurd passed
+takens_fit lay (out_argument l bounds as') ps (row ∷ rows) (q ∷ qs) fits passed = one_more_fits row rows q qs ps fits.1 _ fits.3 passed.0 (takens_fit lay as' fits.1 rows qs (subst (λ (rs : List LocalRowTree). FitsArguments lay as' fits.1 rs) (rows_back row rows fits.0 fits.2 fits.4) fits.7) passed.2)
+takens_fit lay (inout_argument l taken bounds as') ps [] qs fits passed = absurd passed
+takens_fit lay (inout_argument l taken bounds as') ps (row ∷ rows) [] fits passed = absurd passed
+takens_fit lay (inout_argument l taken bounds as') ps (row ∷ rows) (q ∷ qs) fits passed = one_more_fits row rows q qs ps fits.1 _ fits.3 passed.0 (takens_fit lay as' fits.1 rows qs (subst (λ (rs : List LocalRowTree). FitsArguments lay as' fits.1 rs) (rows_back row rows fits.0 fits.2 fits.4) fits.7) passed.2)
 
 -- ---- places that are kept
 

@@ -1,49 +1,41 @@
 -- What the law of expressions needs that holds no expression.
-use Rattle.std.proofs.Common.{◌≡◌, ℕ, zero, suc, ◌+◌, ◌-◌, ◌*◌, ◌/◌, ◌<◌, ◌≤◌, min, nat_le, le-leb, eqb-true, ◌==◌, if◌then◌else◌, Bool, true, false, ◌&&◌, List, [], ◌∷◌, ◌++◌, ℤ, pos, ◌+ℤ◌, ◌-ℤ◌, int_le, replicate, length, take, drop, Option, Some, None, slice_get, refl, sym, ap, ◌∙◌, subst, arith, append_assoc, append-nil, length-append, length-take-le, length-drop, ◌⊎◌, inl, inr}
+use Rattle.std.proofs.Common.{◌≡◌, ℕ, ◌+◌, ◌-◌, ◌≤◌, le-leb, if◌then◌else◌, Bool, true, false, ◌&&◌, List, [], ◌∷◌, ◌++◌, ℤ, pos, ◌+ℤ◌, int_le, length, take, drop, Option, Some, None, slice_get, refl, sym, ap, ◌∙◌, subst, arith, append_assoc, length-append, length-take-le, length-drop, ◌⊎◌, inl, inr}
 use Rattle.std.proofs.Math.Seq.{take-append_seam, drop-append_seam}
 use Rattle.std.proofs.lemmas.Int.{ints}
-use Rattle.kernel_base.specs.declared.ends.Exc.{Exc}
 use Rattle.kernel_base.specs.declared.ends.Exc.TheVariants.{Rangefail}
-use Rattle.kernel_base.specs.declared.request.Request.TheVariants.{ReceiveBuffer}
-use Rattle.kernel_base.specs.declared.answer.Answer.{Answer}
-use Rattle.kernel_base.specs.declared.answer.Answer.TheVariants.{Value, Done, Woken, Got, Otherwise, Instance, Fail, Chose, Handed, Stored}
 use Rattle.world_model.specs.Session.{Session}
-use Rattle.world_model.specs.Lists.{scalars_at, with_scalars}
+use Rattle.world_model.specs.Lists.{scalars_at}
 use Rattle.modes.specs.declared.mode.Bounds.{Bounds}
 use Rattle.modes.specs.Bounds.{count_between}
 use Rattle.modes.specs.Scalars.{numbers_of}
 use Rattle.checked_program.specs.declared.expr.Base.{Base}
 use Rattle.checked_program.specs.declared.expr.Binary.{Binary}
 use Rattle.checked_program.specs.declared.expr.Binary.TheVariants.{AndIf, OrIf}
-use Rattle.program_trees.specs.ExprTree.{ExprTree, expr, PartNodes, no_parts, field, element, ReceivedTree, received, LocationTree, location, count_of}
-use Rattle.scalar_operators.specs.Numbers.{is_between, is_int, where_true, least_int, greatest_int}
+use Rattle.program_trees.specs.ExprTree.{ExprTree, expr, PartNodes, no_parts, field, element, location}
+use Rattle.scalar_operators.specs.Numbers.{is_int, least_int, greatest_int}
 use Rattle.scalar_operators.specs.Powersets.{union, span_of}
 use Rattle.scalar_operators.specs.Members.{union_of, span_in}
 use Rattle.code_types.specs.declared.instr.Instr.{Instr}
 use Rattle.code_types.specs.declared.instr.Instr.TheVariants as i
 use Rattle.code_types.specs.declared.code.Handler.{Handler}
-use Rattle.code_types.specs.Places.{finds}
-use Rattle.code_types.specs.Operands.{part_of, offset_of, number_in, Triples, triples_of, slot_in}
-use Rattle.code_types.specs.Actions.{Action, Pushes, Requests, receives, at_offset, numbers_or, in_frame, with_one}
-use Rattle.code_types.specs.Answers.{is_listed, goes_on}
-use Rattle.code_types.specs.State.{Slot}
+use Rattle.code_types.specs.Operands.{part_of, offset_of}
+use Rattle.code_types.specs.Actions.{Pushes, at_offset, numbers_or, in_frame, with_one}
 use Rattle.code_types.specs.Steps.{Run}
-use Rattle.source_meaning.specs.Store.{Store, address_of}
-use Rattle.source_meaning.specs.Flow.{Flow, Goes, Raised, Exits, Returned, Stops, Gone, Bound, Meaning, then_do, takes_answer}
-use Rattle.source_meaning.specs.Operators.{sole_number, one, offset_within, width_of, with_span, takes_second}
-use Rattle.source_meaning.specs.ExprMeaning.{Setting, or_rangefail, tested, asked_value, brought_by, expr_mean, offset_mean}
+use Rattle.source_meaning.specs.Store.{Store}
+use Rattle.source_meaning.specs.Flow.{Flow, Goes, Raised, Exits, Returned, Stops, Gone, Bound, Meaning, then_do}
+use Rattle.source_meaning.specs.Operators.{one, width_of, with_span, takes_second}
+use Rattle.source_meaning.specs.ExprMeaning.{Setting, tested, expr_mean, offset_mean}
 use Rattle.code_scheme.specs.Pieces.{Layout, bounds_to_test, bounds_of_value, check_code, member_code, has_index, first_of_parts, needs_offset}
 use Rattle.code_scheme.specs.ExprSizes.{indices_size, place_size}
-use Rattle.code_scheme.specs.ExprCode.{cut_code, receive_code, place_code, indices_code}
-use Rattle.code_laws.specs.Follows.{HasAt, Around, free_in, keeping, here, Holds, GetsTo, ComesBy, Follows, always, HoldsWith, Nothing, on_top, IsLong, action_in}
-use Rattle.code_laws.specs.InRange.{AreInts, AreMembers, OperandsFit, BoundsFit, IsOffset, IsNumber32}
+use Rattle.code_scheme.specs.ExprCode.{cut_code, place_code, indices_code}
+use Rattle.follow_laws.specs.Follows.{HasAt, Around, here, Holds, GetsTo, ComesBy, Follows, always, HoldsWith, on_top, IsLong, action_in}
+use Rattle.code_laws.specs.InRange.{AreMembers, OperandsFit, BoundsFit, IsOffset}
 use Rattle.code_laws.specs.OwnBounds.{where_goes, lies_in, CallsWithin, expr_within}
-use Rattle.code_laws.proofs.Running.{has_front, has_back, gets_then, after, follows_then, comes, makes, forgotten}
-use Rattle.code_laws.proofs.Requesting.{asks_by, none_takes}
-use Rattle.code_laws.proofs.Holding.{HasPart, IsSet, scratch_set, scratch_read}
-use Rattle.code_laws.proofs.Instructions.{pushes_by, puts_on, renamed, check_by, offset_is, number_is, sole}
+use Rattle.follow_laws.proofs.Running.{has_front, has_back, after, comes}
+use Rattle.follow_laws.proofs.Requesting.{none_takes}
+use Rattle.follow_laws.proofs.Instructions.{pushes_by, puts_on, renamed, check_by, offset_is}
 use Rattle.code_laws.proofs.Values.{both_true}
-use Rattle.code_laws.proofs.BetweenRuns.{untested, tested_is, pop_run, plus_run}
+use Rattle.code_laws.proofs.BetweenRuns.{untested, tested_is, plus_run}
 use Rattle.code_laws.proofs.PlaceRuns.{IsPlace, place_stack, fields_mean, offset_stack, stays_first, index_first, needs_when, LeadsTo, as_place}
 
 -- ---- shapes

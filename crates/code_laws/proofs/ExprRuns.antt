@@ -1,19 +1,16 @@
 -- The instructions of each expression follow its meaning.
-use Rattle.std.proofs.Common.{◌≡◌, ℕ, zero, suc, ◌+◌, ◌-◌, ◌*◌, ◌<◌, ◌≤◌, if◌then◌else◌, Bool, true, false, ◌&&◌, List, [], ◌∷◌, ◌++◌, ℤ, pos, ◌+ℤ◌, nat_abs, replicate, length, Option, Some, None, slice_get, refl, sym, ap, ◌∙◌, subst, arith, append_assoc, append-nil, length-append, ◌⊎◌, inl, inr}
+use Rattle.std.proofs.Common.{◌≡◌, ℕ, suc, ◌+◌, ◌-◌, ◌*◌, ◌<◌, ◌≤◌, if◌then◌else◌, Bool, true, false, ◌&&◌, List, [], ◌∷◌, ◌++◌, ℤ, pos, nat_abs, length, Option, Some, None, slice_get, refl, sym, ap, ◌∙◌, subst, arith, append_assoc, append-nil, length-append, ◌⊎◌, inl, inr}
 use Rattle.kernel_base.specs.declared.ends.Exc.TheVariants.{Overflow}
 use Rattle.kernel_base.specs.declared.request.Request.TheVariants.{Start, Get}
 use Rattle.world_model.specs.Session.{Session}
-use Rattle.world_model.specs.Lists.{scalars_at}
 use Rattle.modes.specs.declared.mode.Bounds.{Bounds}
 use Rattle.modes.specs.Bounds.{count_between}
 use Rattle.modes.specs.Scalars.{repeated, lowest_of}
 use Rattle.checked_program.specs.declared.program.Parameter.{Parameter}
-use Rattle.checked_program.specs.declared.expr.Base.{Base}
 use Rattle.checked_program.specs.declared.expr.Binary.{Binary}
 use Rattle.checked_program.specs.declared.expr.Binary.TheVariants.{AndIf, OrIf}
-use Rattle.program_trees.specs.ExprTree.{ExprTree, expr, OperationTree, constant, own_instance, contents, part_of, receive, start, call, powerset, parts, uniform, routine, get_int, prefixed, binary, ReceivedTree, received, ReceivedNodes, no_received, more_received, PartNodes, no_parts, field, element, RangeNodes, no_ranges, one_member, members, LocationTree, location, StartTree, started, CallTree, called, ArgumentNodes, no_arguments, in_argument, out_argument, inout_argument, count_of, received_count}
+use Rattle.program_trees.specs.ExprTree.{expr, OperationTree, constant, own_instance, contents, part_of, receive, start, call, powerset, parts, uniform, routine, get_int, prefixed, binary, ReceivedTree, received, ReceivedNodes, no_received, more_received, PartNodes, no_parts, field, element, RangeNodes, no_ranges, one_member, members, LocationTree, location, started, called, ArgumentNodes, no_arguments, in_argument, out_argument, inout_argument, count_of, received_count}
 use Rattle.program_trees.specs.ProgramTree.{LocalRowTree, BodyRowTree}
-use Rattle.scalar_operators.specs.Numbers.{int_result}
 use Rattle.scalar_operators.specs.Powersets.{union, span_of}
 use Rattle.scalar_operators.specs.Members.{no_members}
 use Rattle.code_types.specs.declared.instr.Instr.{Instr}
@@ -21,33 +18,34 @@ use Rattle.code_types.specs.declared.instr.Instr.TheVariants as i
 use Rattle.code_types.specs.Actions.{result_or}
 use Rattle.source_meaning.specs.Store.{Store, brings, lowest, address_of}
 use Rattle.source_meaning.specs.Flow.{Flow, Goes, Meaning, then_do}
-use Rattle.source_meaning.specs.Operators.{sole_number, one, offset_within, with_span, empty_within, binary_value, takes_second}
-use Rattle.source_meaning.specs.ExprMeaning.{Calls, Setting, CopyOut, Passed, takens, all_copied_out, call_with, call_mean, arguments_mean, place_mean, or_rangefail, read_at, as_computed, asked_value, tested, expr_mean, operation_mean, received_mean, all_received_mean, offset_mean, members_mean, start_mean}
+use Rattle.source_meaning.specs.Operators.{sole_number, one, offset_within, empty_within, binary_value, takes_second}
+use Rattle.source_meaning.specs.ExprMeaning.{Calls, Setting, CopyOut, Passed, takens, all_copied_out, call_with, call_mean, arguments_mean, place_mean, or_rangefail, read_at, as_computed, tested, expr_mean, operation_mean, received_mean, all_received_mean, offset_mean, members_mean}
 use Rattle.source_meaning.specs.BodyMeaning.{Bodies, calls_in}
 use Rattle.source_meaning.specs.Fitting.{has_instances}
-use Rattle.code_scheme.specs.Pieces.{Layout, scalars_code, copies_code, check_code, bounds_to_test, bounds_of_value, between_code, between_size, behind_code, behind_size, prefix_code, routine_code, member_code, has_index, first_of_parts, needs_offset, contents_code, contents_at, pushes, tested_in, offsets_kept, keep_code, kept_code, copies_out, kept_behind, lowest_in_row, rows_of}
-use Rattle.code_scheme.specs.ExprSizes.{sum_size, expr_size, operation_size, place_size, indices_size, received_size, received_sizes, members_size, start_size, copies_out_size, arguments_size}
-use Rattle.code_scheme.specs.ExprCode.{counts_of, sum_code, cut_code, member_offset, expr_code, operation_code, place_code, indices_code, received_code, received_codes, members_code, start_code, arguments_code}
-use Rattle.code_laws.specs.Follows.{HasAt, Around, scalars_in, free_in, keeping, here, Holds, GetsTo, Follows, always, HoldsWith, on_top, IsLong, Gives}
-use Rattle.code_laws.specs.Calls.{taken_scalars, parameters_back, results_back, result_scalars, open_in, BodiesWithin}
-use Rattle.code_laws.specs.InRange.{IsOffset, AreMembers, OperandsFit, FitsExpr, FitsOperation, FitsReceived, FitsAll, FitsParts, FitsRanges, FitsLocation, FitsStart, FitsArguments}
-use Rattle.code_laws.specs.OwnBounds.{CallsWithin, where_goes, copies_within, arguments_within, expr_within, operation_within, received_within, all_within, parts_within, members_within, start_within}
+use Rattle.code_scheme.specs.Pieces.{Layout, copies_code, check_code, bounds_to_test, bounds_of_value, between_code, between_size, behind_code, behind_size, prefix_code, routine_code, member_code, has_index, first_of_parts, needs_offset, contents_code, contents_at, pushes, tested_in, offsets_kept, keep_code, kept_code, copies_out, kept_behind, lowest_in_row, rows_of}
+use Rattle.code_scheme.specs.ExprSizes.{sum_size, expr_size, operation_size, place_size, indices_size, received_size, received_sizes, members_size, copies_out_size, arguments_size}
+use Rattle.code_scheme.specs.ExprCode.{counts_of, sum_code, cut_code, member_offset, expr_code, operation_code, place_code, indices_code, received_code, received_codes, members_code, arguments_code}
+use Rattle.follow_laws.specs.Follows.{HasAt, Around, scalars_in, free_in, keeping, here, Holds, GetsTo, Follows, always, HoldsWith, on_top, IsLong, Gives}
+use Rattle.code_laws.specs.BodyBounds.{BodiesWithin}
+use Rattle.code_laws.specs.Calls.{taken_scalars, parameters_back, results_back, result_scalars, open_in}
+use Rattle.code_laws.specs.InRange.{IsOffset, AreMembers, OperandsFit, FitsOperation, FitsReceived, FitsAll, FitsParts, FitsRanges, FitsArguments}
+use Rattle.code_laws.specs.OwnBounds.{where_goes, copies_within, arguments_within, expr_within, operation_within, received_within, all_within, parts_within, members_within}
 use Rattle.code_laws.specs.Expressions.{Suited, NamesIn, calls_at, ExprLaw}
-use Rattle.code_laws.proofs.Running.{has_front, has_back, gets_then, after, follows_then, follows_then_is, comes, forgetting}
-use Rattle.code_laws.proofs.Requesting.{none_takes, value_by}
-use Rattle.code_laws.proofs.Instructions.{pushes_by, puts_on, renamed, offset_on, index_by, sole}
+use Rattle.follow_laws.proofs.Running.{has_front, has_back, gets_then, after, follows_then, follows_then_is, comes, forgetting}
+use Rattle.follow_laws.proofs.Requesting.{none_takes, value_by}
+use Rattle.follow_laws.proofs.Instructions.{pushes_by, puts_on, renamed, offset_on, index_by}
 use Rattle.code_laws.proofs.Sizes.{copies_from_length, between_length, expr_length, received_length, all_length, place_length, indices_length, arguments_length, AreFrom, all_from, first_from, others_from, place_by, where_length, pushes_length, contents_length}
 use Rattle.code_laws.proofs.Values.{both_true, IsWithin, offset_found, repeated_length, copies_of, scalars_run, pushes_run}
 use Rattle.code_laws.proofs.OperatorRuns.{held, behind_runs}
 use Rattle.code_laws.proofs.BetweenRuns.{result_int, between_runs, over_runs, prefix_runs, routine_runs}
-use Rattle.code_laws.proofs.PlaceRuns.{IsPlace, place_stack, contents_runs, offset_stack, stays_first, stays_later, LeadsTo, as_place}
+use Rattle.code_laws.proofs.PlaceRuns.{contents_runs, offset_stack, stays_first, LeadsTo, as_place}
 use Rattle.code_laws.proofs.ExprPieces.{reshaped, assoc, there, value_lies, tested_runs, cut_runs, small_int, IndicesFollow, place_runs, width_one, span_one, over_one}
 use Rattle.code_laws.proofs.ReceiveRuns.{receive_runs}
 use Rattle.code_laws.proofs.CallRuns.{call_runs}
-use Rattle.code_laws.proofs.CallPieces.{PassedFit, kept_offset, kept_of, takens_long, keep_none, keep_runs, found_runs, after_unit, as_lies, copies_runs, kept_suited, kept_free, kept_more, kept_end, forgetting_holds}
+use Rattle.code_laws.proofs.CallPieces.{PassedFit, kept_offset, kept_of, takens_fit, keep_none, keep_runs, found_runs, after_unit, as_lies, copies_runs, kept_suited, kept_free, kept_more, kept_end, forgetting_holds}
 
 -- fields alone lead inside
-fields_fit : (lay : Layout) (ps : PartNodes) (of n : ℕ) → FitsParts lay of ps n → first_of_parts ps + n ≤ of ⊎ (has_index ps ≡ true)
+pub fields_fit : (lay : Layout) (ps : PartNodes) (of n : ℕ) → FitsParts lay of ps n → first_of_parts ps + n ≤ of ⊎ (has_index ps ≡ true)
 fields_fit lay no_parts of n fits = inl (omega (arith, fits))
 fields_fit lay (field first count ps) of n fits = more (fields_fit lay ps count n fits.1)
   where
@@ -95,7 +93,7 @@ sum_end true at p e = e
 sum_end false at p e = e
 
 -- ANDIF and ORIF have nothing behind their second operand
-over_end : (o : Binary) (own : Option Bounds) (xs : List ℤ) (second at to : ℕ) → takes_second o xs ≡ false → at + (between_size o own + (second + behind_size o)) ≡ to → at + (between_size o own + second) ≡ to
+pub over_end : (o : Binary) (own : Option Bounds) (xs : List ℤ) (second at to : ℕ) → takes_second o xs ≡ false → at + (between_size o own + (second + behind_size o)) ≡ to → at + (between_size o own + second) ≡ to
 over_end AndIf own xs second at to takes e = omega arith
 over_end OrIf own xs second at to takes e = omega arith
 over_end o own xs second at to takes e = absurd (let no : ⊥ = cc in no)
@@ -120,7 +118,7 @@ call_runs_on w v lay bodies inside lo hi free b body as' qs at to stack locals s
     subst (λ (o : Flow Store). Gives w (here w at (stack ++ taken_scalars body.locals (takens qs)) locals s) lo hi to (on_top stack) (IsLong (result_scalars body.result)) (then_do o (λ final store1 s1. then_do (all_copied_out qs final.locals store1 s1) (λ x. Goes final.result)))) (sym calls_is)
     (forgetting_holds w (kept_of as' qs)
     (follows_then_is
-    (call_runs w1 lay.program bodies inside b body (takens qs) at lo hi [] stack locals store s suited.follow is_body procedure suited.entered (takens_long lay as' body.parameters body.locals qs fits passed) has low (omega arith) (none_takes at) h both.0)
+    (call_runs w1 lay.program bodies inside b body (takens qs) at lo hi [] stack locals store s suited.follow is_body procedure suited.entered (takens_fit lay as' body.parameters body.locals qs fits passed) has low (omega arith) (none_takes at) h both.0)
     (λ final store1 s1 locals1 q is.
     after (renamed w1 (at + 1) (at + 1) (stack ++ results_back body final) ((stack ++ final.result) ++ parameters_back body.parameters final.locals) locals1 s1 refl (sym (append_assoc stack final.result (parameters_back body.parameters final.locals))))
     (follows_then
@@ -133,7 +131,7 @@ mutual
   expr_runs w v lay bodies inside lo hi free (expr n own o) at to stack locals store s suited names free_is fits e low high has within h =
       operation_runs w v lay bodies inside lo hi free n o at to stack locals store s suited names free_is fits e low high has (both_true _ _ within).0 h
 
-  operation_runs : (w : Around) (v : Setting) (lay : Layout) (bodies : Bodies) (inside : BodiesWithin) (lo hi free n : ℕ) (o : OperationTree) (at to : ℕ) (stack locals : List ℤ) (store : Store) (s : Session)
+  pub operation_runs : (w : Around) (v : Setting) (lay : Layout) (bodies : Bodies) (inside : BodiesWithin) (lo hi free n : ℕ) (o : OperationTree) (at to : ℕ) (stack locals : List ℤ) (store : Store) (s : Session)
       → Suited w v lay bodies inside → NamesIn w lo hi → free ≡ free_in w → FitsOperation lay n o
       → at + operation_size o ≡ to → lo ≤ at → to ≤ hi
       → HasAt w.code.instrs at (operation_code lay free n o at)

@@ -1,42 +1,33 @@
 -- Operators and routines: what stands between and behind their operands.
-use Rattle.std.proofs.Common.{◌≡◌, ℕ, zero, suc, ◌+◌, ◌-◌, ◌*◌, ◌<◌, ◌≤◌, min, nat_le, nat_lt, if◌then◌else◌, Bool, true, false, not, ◌&&◌, ◌||◌, List, [], ◌∷◌, ◌++◌, ℤ, pos, negsuc, ◌+ℤ◌, ◌-ℤ◌, ◌*ℤ◌, neg_ℤ, int_le, int_lt, map, length, take, drop, Option, Some, None, slice_get, refl, sym, ap, ◌∙◌, subst, arith, length-append, append_assoc, append-nil, length-take-le, length-drop}
+use Rattle.std.proofs.Common.{◌≡◌, ℕ, ◌+◌, ◌-◌, ◌*◌, ◌<◌, ◌≤◌, nat_lt, if◌then◌else◌, Bool, true, false, not, ◌&&◌, List, [], ◌∷◌, ◌++◌, ℤ, pos, negsuc, ◌+ℤ◌, ◌-ℤ◌, ◌*ℤ◌, length, take, drop, Option, Some, None, slice_get, refl, sym, ap, ◌∙◌, subst, arith, length-append, append_assoc, append-nil}
 use Rattle.std.proofs.Math.Seq.{take-append_seam, drop-append_seam}
-use Rattle.std.specs.List.{filter}
-use Rattle.std.proofs.lemmas.Int.{ints}
 use Rattle.kernel_base.specs.declared.ends.Exc.{Exc}
-use Rattle.kernel_base.specs.declared.ends.Exc.TheVariants.{Overflow, Empty}
+use Rattle.kernel_base.specs.declared.ends.Exc.TheVariants.{Overflow}
 use Rattle.world_model.specs.Session.{Session}
 use Rattle.modes.specs.declared.mode.Bounds.{Bounds}
-use Rattle.modes.specs.Bounds.{natural_of, count_between}
 use Rattle.checked_program.specs.declared.expr.Binary.{Binary}
 use Rattle.checked_program.specs.declared.expr.Binary.TheVariants.{Add, Subtract, Multiply, Divide, Modulo, Remainder, And, Or, Xor, AndIf, OrIf, Equal, NotEqual, Less, LessOrEqual, Greater, GreaterOrEqual, Union, Intersection, SymmetricDifference, Difference, Included, ProperlyIncluded, Includes, ProperlyIncludes, Member}
-use Rattle.checked_program.specs.declared.expr.Prefix.{Prefix}
-use Rattle.checked_program.specs.declared.expr.Prefix.TheVariants.{Minus, Not, Complement}
-use Rattle.checked_program.specs.declared.expr.Routine.{Routine}
-use Rattle.checked_program.specs.declared.expr.Routine.TheVariants.{Number, Absolute, Cardinality, Successor, Predecessor, Least, Greatest}
-use Rattle.scalar_operators.specs.Numbers.{is_between, is_int, is_scalar, where_true, truth_number, truth_of, int_result, quotient, remainder, modulus, magnitude, same_numbers, comes_before, least_int, greatest_int}
-use Rattle.scalar_operators.specs.Powersets.{members_each, members_of, has_member, numbers_up, offsets, complement_in, intersection, union, symmetric_difference, difference, is_included, has_offset, span_of, first_of_list, last_of_list}
-use Rattle.scalar_operators.specs.Members.{is_subset, has_offset_of, has_member_at, offsets_of}
+use Rattle.scalar_operators.specs.Numbers.{is_between, truth_number, truth_of, int_result, quotient, remainder, modulus, same_numbers, comes_before}
+use Rattle.scalar_operators.specs.Powersets.{members_each, has_member, is_included, has_offset}
+use Rattle.scalar_operators.specs.Members.{is_subset, has_offset_of, has_member_at}
 use Rattle.code_types.specs.declared.instr.Instr.{Instr}
 use Rattle.code_types.specs.declared.instr.Instr.TheVariants as i
 use Rattle.code_types.specs.declared.code.Handler.{Handler}
-use Rattle.code_types.specs.Actions.{Action, Pushes, GoesTo, Throws, result_or, member_or_empty, in_frame, truth as truth_action}
+use Rattle.code_types.specs.Actions.{result_or, in_frame, truth as truth_action}
 use Rattle.code_types.specs.Places.{finds}
 use Rattle.code_types.specs.Operands.{part_of}
 use Rattle.code_types.specs.Steps.{Run}
 use Rattle.source_meaning.specs.Store.{Store}
-use Rattle.source_meaning.specs.Flow.{Flow, Goes, Meaning, then_do}
-use Rattle.source_meaning.specs.Operators.{sole_number, is_true, one, truth, Computed, Yields, Throws as ThrowsIt, yields_or, in_int, is_member, binary_value, takes_second, prefix_value, member_at, routine_value}
+use Rattle.source_meaning.specs.Flow.{Goes}
+use Rattle.source_meaning.specs.Operators.{sole_number, one, truth, Computed, yields_or, is_member, binary_value}
 use Rattle.source_meaning.specs.ExprMeaning.{as_computed}
-use Rattle.code_scheme.specs.Pieces.{bounds_to_test, are_same, member_code, offset_code, member_or_none, between_code, between_size, swap_code, properly_code, behind_code, behind_size, prefix_code, routine_code}
-use Rattle.code_laws.specs.Follows.{HasAt, Around, here, Holds, GetsTo, Follows, always, HoldsWith, on_top, IsLong, action_in}
-use Rattle.code_laws.specs.InRange.{AreInts, AreMembers, OperandsFit}
-use Rattle.code_laws.specs.OwnBounds.{lies_in}
-use Rattle.code_laws.proofs.Running.{has_front, has_back, stays, gets_then, after, comes, makes, raises}
-use Rattle.code_laws.proofs.Holding.{middle}
-use Rattle.code_laws.proofs.Requesting.{Untaken}
-use Rattle.code_laws.proofs.Instructions.{pushes_by, jumps_by, puts_on, renamed, as_action, YieldsSuch, computed_by, sole}
-use Rattle.code_laws.proofs.Values.{both_true, same_int}
+use Rattle.code_scheme.specs.Pieces.{swap_code, properly_code, behind_code, behind_size}
+use Rattle.follow_laws.specs.Follows.{is_of_language, HasAt, Around, here, Holds, GetsTo, Follows, always, HoldsWith, on_top, IsLong, action_in}
+use Rattle.code_laws.specs.InRange.{OperandsFit}
+use Rattle.follow_laws.proofs.Running.{has_front, has_back, gets_then, after, comes}
+use Rattle.follow_laws.proofs.Holding.{middle}
+use Rattle.follow_laws.proofs.Requesting.{Untaken}
+use Rattle.follow_laws.proofs.Instructions.{pushes_by, renamed, as_action, YieldsSuch, computed_by, sole}
 
 -- ---- results
 
@@ -44,9 +35,9 @@ pub result_action : (x : Exc) (o : Option ℤ) → result_or x o ≡ as_action (
 result_action x None = refl
 result_action x (Some z) = refl
 
-pub result_yields : (x : Exc) (o : Option ℤ) → YieldsSuch (IsLong 1) (yields_or x o)
-result_yields x None = tt
-result_yields x (Some z) = refl
+pub result_yields : (x : Exc) → is_of_language x ≡ true → (o : Option ℤ) → YieldsSuch (IsLong 1) (yields_or x o)
+result_yields x own None = own
+result_yields x own (Some z) = refl
 
 pub truth_back : (b : Bool) → truth_of (truth_number b) ≡ b
 truth_back true = refl
@@ -92,7 +83,7 @@ same_run w n at base xs ys locals s long long2 has =
     back : (xs ys : List ℤ) (n : ℕ) → length xs ≡ n → drop n (xs ++ ys) ≡ ys
     back xs ys n e = ap (λ (j : ℕ). drop j (xs ++ ys)) (sym e) ∙ drop-append_seam xs ys
 
-less_run : (w : Around) (n at : ℕ) (base xs ys locals : List ℤ) (s : Session)
+pub less_run : (w : Around) (n at : ℕ) (base xs ys locals : List ℤ) (s : Session)
     → length xs ≡ n → length ys ≡ n → slice_get w.code.instrs at ≡ Some (i.Less n)
     → GetsTo w.code (here w at (base ++ (xs ++ ys)) locals s) (here w (at + 1) (base ++ truth (comes_before xs ys)) locals s)
 less_run w n at base xs ys locals s long long2 has =
@@ -225,12 +216,12 @@ pub behind_runs : (w : Around) (o : Binary) (n : ℕ) (xs ys : List ℤ) (at to 
     → length xs ≡ n → OperandsFit o n (length ys) → HasAt w.code.instrs at (behind_code o n)
     → at + behind_size o ≡ to → lo ≤ at → to ≤ hi → Holds w store locals
     → Follows w (here w at ((base ++ held o xs) ++ ys) locals s) lo hi [] (always to) (on_top base) (HoldsWith w (IsLong 1)) (as_computed (binary_value o xs ys) store s)
-behind_runs w Add n xs ys at to lo hi base locals store s long fits has e low high h = simple w i.Add Add xs ys at to lo hi base locals store s refl (λ x y stack. result_action Overflow (int_result (x +ℤ y))) (λ x y. result_yields Overflow (int_result (x +ℤ y))) (long ∙ fits.0) fits.1 has.0 e low (omega arith) h
-behind_runs w Subtract n xs ys at to lo hi base locals store s long fits has e low high h = simple w i.Sub Subtract xs ys at to lo hi base locals store s refl (λ x y stack. result_action Overflow (int_result (x -ℤ y))) (λ x y. result_yields Overflow (int_result (x -ℤ y))) (long ∙ fits.0) fits.1 has.0 e low (omega arith) h
-behind_runs w Multiply n xs ys at to lo hi base locals store s long fits has e low high h = simple w i.Mul Multiply xs ys at to lo hi base locals store s refl (λ x y stack. result_action Overflow (int_result (x *ℤ y))) (λ x y. result_yields Overflow (int_result (x *ℤ y))) (long ∙ fits.0) fits.1 has.0 e low (omega arith) h
-behind_runs w Divide n xs ys at to lo hi base locals store s long fits has e low high h = simple w i.Div Divide xs ys at to lo hi base locals store s refl (λ x y stack. result_action Overflow (quotient x y)) (λ x y. result_yields Overflow (quotient x y)) (long ∙ fits.0) fits.1 has.0 e low (omega arith) h
-behind_runs w Modulo n xs ys at to lo hi base locals store s long fits has e low high h = simple w i.Mod Modulo xs ys at to lo hi base locals store s refl (λ x y stack. result_action Overflow (modulus x y)) (λ x y. result_yields Overflow (modulus x y)) (long ∙ fits.0) fits.1 has.0 e low (omega arith) h
-behind_runs w Remainder n xs ys at to lo hi base locals store s long fits has e low high h = simple w i.Rem Remainder xs ys at to lo hi base locals store s refl (λ x y stack. result_action Overflow (remainder x y)) (λ x y. result_yields Overflow (remainder x y)) (long ∙ fits.0) fits.1 has.0 e low (omega arith) h
+behind_runs w Add n xs ys at to lo hi base locals store s long fits has e low high h = simple w i.Add Add xs ys at to lo hi base locals store s refl (λ x y stack. result_action Overflow (int_result (x +ℤ y))) (λ x y. result_yields Overflow refl (int_result (x +ℤ y))) (long ∙ fits.0) fits.1 has.0 e low (omega arith) h
+behind_runs w Subtract n xs ys at to lo hi base locals store s long fits has e low high h = simple w i.Sub Subtract xs ys at to lo hi base locals store s refl (λ x y stack. result_action Overflow (int_result (x -ℤ y))) (λ x y. result_yields Overflow refl (int_result (x -ℤ y))) (long ∙ fits.0) fits.1 has.0 e low (omega arith) h
+behind_runs w Multiply n xs ys at to lo hi base locals store s long fits has e low high h = simple w i.Mul Multiply xs ys at to lo hi base locals store s refl (λ x y stack. result_action Overflow (int_result (x *ℤ y))) (λ x y. result_yields Overflow refl (int_result (x *ℤ y))) (long ∙ fits.0) fits.1 has.0 e low (omega arith) h
+behind_runs w Divide n xs ys at to lo hi base locals store s long fits has e low high h = simple w i.Div Divide xs ys at to lo hi base locals store s refl (λ x y stack. result_action Overflow (quotient x y)) (λ x y. result_yields Overflow refl (quotient x y)) (long ∙ fits.0) fits.1 has.0 e low (omega arith) h
+behind_runs w Modulo n xs ys at to lo hi base locals store s long fits has e low high h = simple w i.Mod Modulo xs ys at to lo hi base locals store s refl (λ x y stack. result_action Overflow (modulus x y)) (λ x y. result_yields Overflow refl (modulus x y)) (long ∙ fits.0) fits.1 has.0 e low (omega arith) h
+behind_runs w Remainder n xs ys at to lo hi base locals store s long fits has e low high h = simple w i.Rem Remainder xs ys at to lo hi base locals store s refl (λ x y stack. result_action Overflow (remainder x y)) (λ x y. result_yields Overflow refl (remainder x y)) (long ∙ fits.0) fits.1 has.0 e low (omega arith) h
 behind_runs w And n xs ys at to lo hi base locals store s long fits has e low high h = simple w i.And And xs ys at to lo hi base locals store s refl (λ x y stack. refl) (λ x y. refl) (long ∙ fits.0) fits.1 has.0 e low (omega arith) h
 behind_runs w Or n xs ys at to lo hi base locals store s long fits has e low high h = simple w i.Or Or xs ys at to lo hi base locals store s refl (λ x y stack. refl) (λ x y. refl) (long ∙ fits.0) fits.1 has.0 e low (omega arith) h
 behind_runs w Xor n xs ys at to lo hi base locals store s long fits has e low high h = simple w i.Xor Xor xs ys at to lo hi base locals store s refl (λ x y stack. refl) (λ x y. refl) (long ∙ fits.0) fits.1 has.0 e low (omega arith) h

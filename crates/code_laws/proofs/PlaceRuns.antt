@@ -1,22 +1,21 @@
 -- Where locations lie: their contents and assignment, once their place stands on the stack.
-use Rattle.std.proofs.Common.{◌≡◌, ℕ, zero, suc, ◌+◌, ◌-◌, ◌<◌, ◌≤◌, if◌then◌else◌, Bool, true, false, List, [], ◌∷◌, ◌++◌, ℤ, pos, length, Option, Some, None, slice_get, refl, sym, ap, ◌∙◌, subst, arith, append_assoc, append-nil}
+use Rattle.std.proofs.Common.{◌≡◌, ℕ, ◌+◌, ◌-◌, ◌<◌, ◌≤◌, if◌then◌else◌, Bool, true, false, List, [], ◌∷◌, ◌++◌, ℤ, pos, length, Option, Some, slice_get, refl, sym, ap, ◌∙◌, subst, arith, append_assoc}
 use Rattle.world_model.specs.Session.{Session}
 use Rattle.checked_program.specs.declared.expr.Base.{Base}
 use Rattle.checked_program.specs.declared.expr.Base.TheVariants.{Shared, Local}
 use Rattle.program_trees.specs.ExprTree.{PartNodes, no_parts, field, element}
 use Rattle.program_trees.specs.ProgramTree.{LocalRowTree}
-use Rattle.code_types.specs.declared.instr.Instr.{Instr}
 use Rattle.code_types.specs.declared.instr.Instr.TheVariants as i
 use Rattle.source_meaning.specs.Store.{Store, address_of}
-use Rattle.source_meaning.specs.Flow.{Flow, Goes, Meaning}
+use Rattle.source_meaning.specs.Flow.{Goes}
 use Rattle.source_meaning.specs.Operators.{one}
 use Rattle.source_meaning.specs.ExprMeaning.{Setting, read_at, assign_at, offset_mean}
 use Rattle.code_scheme.specs.Pieces.{Layout, has_index, first_of_parts, needs_offset, first_in, first_at, contents_at, store_at}
-use Rattle.code_laws.specs.Follows.{HasAt, Around, here, Holds, GetsTo, Follows, always, HoldsWith, Nothing, on_top, IsLong}
-use Rattle.code_laws.specs.InRange.{BaseFits, IsOffset, FitsParts}
-use Rattle.code_laws.proofs.Running.{after, gets_then}
-use Rattle.code_laws.proofs.Requesting.{Untaken, none_takes}
-use Rattle.code_laws.proofs.Instructions.{renamed, local_by, local_at_by, shared_by, set_by, set_at_by, write_by}
+use Rattle.follow_laws.specs.Follows.{HasAt, Around, here, Holds, Follows, always, HoldsWith, Nothing, on_top, IsLong}
+use Rattle.code_laws.specs.InRange.{BaseFits, IsOffset}
+use Rattle.follow_laws.proofs.Running.{after}
+use Rattle.follow_laws.proofs.Requesting.{none_takes}
+use Rattle.follow_laws.proofs.Instructions.{renamed, local_by, local_at_by, shared_by, set_by, set_at_by, write_by}
 
 -- the first scalar of a part, among so many: its fields lead to one from which its indices go on, and its own have room
 pub record IsPlace (ps : PartNodes) (of n k : ℕ) : Type 0 where

@@ -1,6 +1,5 @@
 -- A value that is received from a buffer.
-use Rattle.std.proofs.Common.{◌≡◌, ℕ, zero, suc, ◌+◌, ◌<◌, ◌≤◌, nat_le, le-leb, eqb-true, eq-eqb, ◌==◌, if◌then◌else◌, Bool, true, false, ◌&&◌, ◌||◌, List, [], ◌∷◌, ◌++◌, ℤ, pos, length, Option, Some, None, slice_get, refl, sym, ap, ◌∙◌, subst, arith, append_assoc, append-nil}
-use Rattle.kernel_base.specs.declared.request.Alternative.{Alternative}
+use Rattle.std.proofs.Common.{◌≡◌, ℕ, zero, suc, ◌+◌, ◌≤◌, nat_le, le-leb, eqb-true, eq-eqb, ◌==◌, if◌then◌else◌, Bool, true, false, ◌&&◌, ◌||◌, List, [], ◌∷◌, ◌++◌, ℤ, pos, length, Some, None, refl, sym, ap, ◌∙◌, subst, arith, append_assoc}
 use Rattle.kernel_base.specs.declared.request.Request.{Request}
 use Rattle.kernel_base.specs.declared.request.Request.TheVariants.{ReceiveBuffer}
 use Rattle.kernel_base.specs.declared.answer.Answer.{Answer}
@@ -9,22 +8,22 @@ use Rattle.world_model.specs.Session.{Session}
 use Rattle.world_model.specs.Lists.{with_scalars}
 use Rattle.scalar_operators.specs.Numbers.{where_true}
 use Rattle.code_types.specs.declared.instr.Instr.TheVariants as i
-use Rattle.code_types.specs.Operands.{number_in, offset_of, slot_in, with_triple, Triples}
-use Rattle.code_types.specs.Actions.{Action, Requests, receives, in_frame}
+use Rattle.code_types.specs.Operands.{number_in, offset_of, slot_in, with_triple}
+use Rattle.code_types.specs.Actions.{Requests, receives, in_frame}
 use Rattle.code_types.specs.Answers.{is_listed, is_some_number, goes_on}
 use Rattle.code_types.specs.State.{Slot, Asking}
 use Rattle.code_types.specs.Steps.{At}
 use Rattle.source_meaning.specs.Store.{Store}
-use Rattle.source_meaning.specs.Flow.{Flow, Goes, takes_answer}
+use Rattle.source_meaning.specs.Flow.{Goes, takes_answer}
 use Rattle.source_meaning.specs.Operators.{one}
 use Rattle.source_meaning.specs.ExprMeaning.{brought_by, asked_value}
 use Rattle.code_scheme.specs.ExprCode.{receive_code}
-use Rattle.code_laws.specs.Follows.{HasAt, Around, free_in, keeping, frame_at, state_at, here, Holds, GetsTo, Follows, always, HoldsWith, on_top, IsLong, action_in}
+use Rattle.follow_laws.specs.Follows.{HasAt, Around, free_in, keeping, frame_at, state_at, here, Holds, Follows, always, HoldsWith, on_top, IsLong, action_in}
 use Rattle.code_laws.specs.InRange.{IsNumber32}
-use Rattle.code_laws.proofs.Running.{gets_then, after, comes, forgotten}
-use Rattle.code_laws.proofs.Requesting.{IsNoFailure, asks_by, none_takes}
-use Rattle.code_laws.proofs.Holding.{HasPart, IsSet, scratch_set, scratch_read}
-use Rattle.code_laws.proofs.Instructions.{puts_on, renamed, offset_is}
+use Rattle.follow_laws.proofs.Running.{after, comes, forgotten}
+use Rattle.follow_laws.proofs.Requesting.{IsNoFailure, asks_by, none_takes}
+use Rattle.follow_laws.proofs.Holding.{HasPart, IsSet, scratch_set, scratch_read}
+use Rattle.follow_laws.proofs.Instructions.{puts_on, renamed, offset_is}
 use Rattle.code_laws.proofs.Values.{both_true}
 use Rattle.code_laws.proofs.BetweenRuns.{pop_run}
 

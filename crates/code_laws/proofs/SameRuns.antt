@@ -1,18 +1,17 @@
 -- The runs of a code that has a program's talk are the program's.
-use Rattle.std.proofs.Common.{◌≡◌, ℕ, suc, ◌+◌, List, ◌++◌, ℤ, Some, refl, sym, subst}
-use Rattle.kernel_base.specs.declared.facts.Facts.{Facts}
+use Rattle.std.proofs.Common.{◌≡◌, ℕ, suc, List, ℤ, sym, subst}
 use Rattle.kernel_base.specs.declared.answer.Answer.{Answer}
 use Rattle.kernel_base.specs.declared.event.Event.{Event}
 use Rattle.world_model.specs.Session.{Item}
-use Rattle.world_model.specs.Journal.{line_of, answers_of, Birth, born_of}
+use Rattle.world_model.specs.Journal.{line_of, answers_of, Birth}
 use Rattle.program_trees.specs.ProgramTree.{CheckedTree}
 use Rattle.code_types.specs.declared.code.Code.{Code}
 use Rattle.code_types.specs.Talk.{CodeTalk, TalkFrom}
-use Rattle.code_types.specs.Runs.{Begins, FollowsCode, IsCodeRun, ticks_in}
+use Rattle.code_types.specs.Runs.{Begins, FollowsCode, ticks_in}
 use Rattle.code_types.proofs.ManySteps.{one_talk}
 use Rattle.source_meaning.specs.Talk.{talk}
-use Rattle.source_meaning.specs.Runs.{talk_in_journal, FollowsText, IsSourceRun}
-use Rattle.code_laws.specs.Calls.{TalksAs, TalksInJournal, SameRunsLaw}
+use Rattle.source_meaning.specs.Runs.{talk_in_journal, FollowsText}
+use Rattle.code_laws.specs.Assembly.{TalksAs, SameRunsLaw}
 
 pub code_talks : (p : CheckedTree) (code : Code) (instance process : ℕ) (xs : List ℤ) (answers : List Answer) (n : ℕ) → TalksAs p code instance process xs answers n → CodeTalk code instance process xs answers n (talk p instance process xs answers n).trace
 code_talks p code instance process xs answers n t =

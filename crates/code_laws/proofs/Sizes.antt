@@ -1,19 +1,17 @@
 -- The code of each expression has as many instructions as its size says.
-use Rattle.std.proofs.Common.{◌≡◌, ℕ, zero, suc, ◌+◌, ◌-◌, ◌*◌, min, nat_lt, if◌then◌else◌, Bool, true, false, List, [], ◌∷◌, ◌++◌, ℤ, pos, map, length, Option, Some, None, slice_get, refl, sym, ap, ◌∙◌, subst, arith, length-append}
+use Rattle.std.proofs.Common.{◌≡◌, ℕ, zero, suc, ◌+◌, ◌-◌, ◌*◌, min, nat_lt, if◌then◌else◌, Bool, true, false, List, [], ◌∷◌, ◌++◌, ℤ, pos, length, Option, Some, None, slice_get, refl, sym, ap, ◌∙◌, arith, length-append}
 use Rattle.modes.specs.declared.mode.Bounds.{Bounds}
-use Rattle.modes.specs.Scalars.{lowest_of}
 use Rattle.checked_program.specs.declared.program.Parameter.{Parameter}
-use Rattle.checked_program.specs.declared.expr.Base.{Base}
 use Rattle.checked_program.specs.declared.expr.Base.TheVariants.{Shared, Local}
 use Rattle.checked_program.specs.declared.expr.Binary.{Binary}
-use Rattle.checked_program.specs.declared.expr.Binary.TheVariants.{Add, Subtract, Multiply, Divide, Modulo, Remainder, And, Or, Xor, AndIf, OrIf, Equal, NotEqual, Less, LessOrEqual, Greater, GreaterOrEqual, Union, Intersection, SymmetricDifference, Difference, Included, ProperlyIncluded, Includes, ProperlyIncludes, Member}
+use Rattle.checked_program.specs.declared.expr.Binary.TheVariants.{AndIf, OrIf, Member}
 use Rattle.checked_program.specs.declared.expr.Prefix.{Prefix}
 use Rattle.checked_program.specs.declared.expr.Prefix.TheVariants.{Minus, Not, Complement}
-use Rattle.program_trees.specs.ExprTree.{ExprTree, expr, OperationTree, constant, own_instance, contents, part_of, receive, start, call, powerset, parts, uniform, routine, get_int, prefixed, binary, ReceivedTree, received, ReceivedNodes, no_received, more_received, PartNodes, no_parts, field, element, RangeNodes, no_ranges, one_member, members, LocationTree, location, StartTree, started, CallTree, called, ArgumentNodes, no_arguments, in_argument, out_argument, inout_argument, count_of, received_count, location_count}
+use Rattle.program_trees.specs.ExprTree.{ExprTree, expr, OperationTree, constant, own_instance, contents, part_of, receive, start, call, powerset, parts, uniform, routine, get_int, prefixed, binary, ReceivedTree, received, ReceivedNodes, no_received, more_received, PartNodes, no_parts, field, element, RangeNodes, no_ranges, one_member, members, LocationTree, location, StartTree, started, CallTree, called, ArgumentNodes, no_arguments, in_argument, out_argument, inout_argument, count_of, received_count}
 use Rattle.program_trees.specs.ProgramTree.{LocalRowTree, BodyRowTree}
 use Rattle.code_types.specs.declared.instr.Instr.{Instr}
 use Rattle.code_types.specs.declared.instr.Instr.TheVariants as i
-use Rattle.code_scheme.specs.Pieces.{Layout, pushes, copies_from, copies_code, check_code, bounds_to_test, tested, tested_in, tested_out, tested_back, bounds_of_value, member_code, offset_code, member_or_none, between_code, between_size, behind_code, behind_size, prefix_code, routine_code, has_index, first_of_parts, needs_offset, has_offset, contents_code, contents_at, store_code, store_at, where_offset, offsets_kept, keep_code, kept_code, under_code, copy_out_code, copies_out, kept_behind, lowest_in_row, rows_of}
+use Rattle.code_scheme.specs.Pieces.{Layout, pushes, copies_from, copies_code, check_code, bounds_to_test, tested, tested_in, tested_out, tested_back, bounds_of_value, member_code, offset_code, member_or_none, between_code, between_size, behind_code, behind_size, prefix_code, routine_code, has_index, first_of_parts, needs_offset, has_offset, contents_code, store_code, where_offset, offsets_kept, keep_code, kept_code, under_code, copy_out_code, copies_out, kept_behind, lowest_in_row, rows_of}
 use Rattle.code_scheme.specs.ExprSizes.{sum_size, copy_out_size, copies_out_size, expr_size, operation_size, place_size, indices_size, received_size, received_sizes, members_size, start_size, call_size, arguments_size}
 use Rattle.code_scheme.specs.ExprCode.{counts_of, member_offset, sum_code, cut_code, expr_code, operation_code, place_code, indices_code, received_code, received_codes, members_code, start_code, call_code, arguments_code}
 use Rattle.code_laws.specs.InRange.{FitsExpr, FitsOperation, FitsReceived, FitsAll, FitsParts, FitsRanges, FitsLocation, FitsStart, FitsCall, FitsArguments}
@@ -139,7 +137,7 @@ mutual
   pub expr_length : (lay : Layout) (free : ℕ) (e : ExprTree) (at : ℕ) → FitsExpr lay e → length (expr_code lay free e at) ≡ expr_size e
   expr_length lay free (expr n own o) at fits = operation_length lay free n o at fits
 
-  operation_length : (lay : Layout) (free n : ℕ) (o : OperationTree) (at : ℕ) → FitsOperation lay n o → length (operation_code lay free n o at) ≡ operation_size o
+  pub operation_length : (lay : Layout) (free n : ℕ) (o : OperationTree) (at : ℕ) → FitsOperation lay n o → length (operation_code lay free n o at) ≡ operation_size o
   operation_length lay free n (constant xs) at fits = refl
   operation_length lay free n own_instance at fits = refl
   operation_length lay free n (contents l) at fits = omega (arith, length-append (place_code lay free l at) (contents_code lay l), place_length lay free l at fits.0, contents_length lay l)

@@ -1,19 +1,19 @@
 -- Offsets, equal scalars, and scalars that are pushed or copied.
-use Rattle.std.proofs.Common.{◌≡◌, ℕ, zero, suc, ◌+◌, ◌-◌, ◌*◌, ◌<◌, ◌≤◌, min, nat_le, nat_lt, if◌then◌else◌, Bool, true, false, ◌&&◌, List, [], ◌∷◌, ◌++◌, ℤ, pos, negsuc, ◌+ℤ◌, ◌-ℤ◌, ◌*ℤ◌, int_le, nat_abs, map, length, Option, Some, None, slice_get, refl, sym, ap, ◌∙◌, subst, arith, length-append, append_assoc, append-nil}
+use Rattle.std.proofs.Common.{◌≡◌, ℕ, zero, suc, ◌+◌, ◌-◌, ◌*◌, ◌<◌, ◌≤◌, min, nat_le, nat_lt, if◌then◌else◌, Bool, true, false, ◌&&◌, List, [], ◌∷◌, ◌++◌, ℤ, pos, negsuc, ◌+ℤ◌, ◌-ℤ◌, ◌*ℤ◌, int_le, nat_abs, length, Some, None, slice_get, refl, sym, ap, ◌∙◌, subst, arith, length-append, append_assoc, append-nil}
 use Rattle.std.proofs.lemmas.Int.{ints}
 use Rattle.world_model.specs.Session.{Session}
 use Rattle.modes.specs.declared.mode.Bounds.{Bounds}
 use Rattle.modes.specs.Bounds.{natural_of, count_between}
 use Rattle.modes.specs.Scalars.{repeated}
-use Rattle.scalar_operators.specs.Numbers.{is_between, is_int, is_scalar, where_true, least_int, greatest_int}
+use Rattle.scalar_operators.specs.Numbers.{is_between, is_scalar, where_true, least_int, greatest_int}
 use Rattle.code_types.specs.declared.instr.Instr.{Instr}
 use Rattle.code_types.specs.declared.instr.Instr.TheVariants as i
 use Rattle.source_meaning.specs.Operators.{one, offset_within}
 use Rattle.code_scheme.specs.Pieces.{pushes, copies_from, copies_code, run_code, are_same, scalars_from, scalars_code}
-use Rattle.code_laws.specs.Follows.{HasAt, Around, here, GetsTo}
+use Rattle.follow_laws.specs.Follows.{HasAt, Around, here, GetsTo}
 use Rattle.code_laws.specs.InRange.{AreInts}
-use Rattle.code_laws.proofs.Running.{has_front, has_back, stays, gets_then}
-use Rattle.code_laws.proofs.Instructions.{pushes_by, puts_on, renamed}
+use Rattle.follow_laws.proofs.Running.{has_front, has_back, gets_then}
+use Rattle.follow_laws.proofs.Instructions.{pushes_by, puts_on, renamed}
 
 -- ---- tests
 

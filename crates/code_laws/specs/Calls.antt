@@ -1,11 +1,7 @@
--- What it is that the instructions of bodies follow their meaning on every caller, and the law of assembly.
-use Rattle.std.specs.Prelude.{◌≡◌, ℕ, zero, suc, ◌+◌, ◌<◌, ◌≤◌, ◌↔◌, Bool, true, false, List, [], ◌∷◌, ◌++◌, ℤ, pos, length, reverse, map, Option, Some, None, slice_get, nat_lt, if◌then◌else◌, MatchBool}
+-- What it is that the instructions of bodies follow their meaning on every caller.
+use Rattle.std.specs.Prelude.{◌≡◌, ℕ, suc, ◌+◌, ◌<◌, ◌≤◌, true, false, List, [], ◌∷◌, ◌++◌, ℤ, length, map, Option, Some, None, slice_get}
 use Rattle.kernel_base.specs.declared.ends.Exc.{Exc}
-use Rattle.kernel_base.specs.declared.answer.Answer.{Answer}
-use Rattle.kernel_base.specs.declared.event.Event.{Event}
-use Rattle.kernel_base.specs.declared.facts.Facts.{Facts}
-use Rattle.world_model.specs.Session.{Item, Session, session_of, Ticked, GoesOn, Last, tick}
-use Rattle.world_model.specs.Journal.{line_of, answers_of, Birth, born_of}
+use Rattle.world_model.specs.Session.{Session}
 use Rattle.modes.specs.ModeTree.{ModeTree}
 use Rattle.modes.specs.Scalars.{scalars_of, lowest_of}
 use Rattle.checked_program.specs.declared.program.Parameter.{Parameter}
@@ -16,19 +12,15 @@ use Rattle.code_types.specs.declared.instr.Instr.TheVariants as i
 use Rattle.code_types.specs.declared.code.BodyRow.{BodyRow}
 use Rattle.code_types.specs.declared.code.Code.{Code}
 use Rattle.code_types.specs.declared.code.Handler.{Handler}
-use Rattle.code_types.specs.Actions.{most_frames}
-use Rattle.code_types.specs.Places.{taker}
-use Rattle.code_types.specs.State.{Frame, OpenRegion, State, Mode, Running, Raising}
-use Rattle.code_types.specs.Steps.{Run, At, Over, new_frame, moved, steps}
-use Rattle.code_types.specs.Talk.{start_of}
-use Rattle.code_types.specs.Runs.{ticks_in, IsCodeRun}
-use Rattle.source_meaning.specs.Store.{Store, OpenCall, Taken, brings, lowest}
-use Rattle.source_meaning.specs.Flow.{Flow, Goes, Stops, Gone, Bound}
-use Rattle.source_meaning.specs.BodyMeaning.{Ending, Through, Out, Halted, Ended, Unknown, Bodies, calls_in, body_mean}
-use Rattle.source_meaning.specs.Talk.{talk, process_end, split_over, parameter_scalars}
+use Rattle.code_types.specs.Places.{taker, names_exception}
+use Rattle.code_types.specs.State.{Frame, OpenRegion, Running, Raising}
+use Rattle.code_types.specs.Steps.{Run, At, new_frame, moved}
+use Rattle.source_meaning.specs.Store.{Store, Taken, brings, lowest, begins_with}
+use Rattle.source_meaning.specs.BodyMeaning.{Ending, Through, Out, Halted, Ended, Unknown, Bodies, calls_in}
+use Rattle.source_meaning.specs.Talk.{parameter_scalars}
 use Rattle.source_meaning.specs.Fitting.{has_instances}
-use Rattle.source_meaning.specs.Runs.{IsSourceRun}
-use Rattle.code_laws.specs.Follows.{Around, here, FitRows, Holds, GetsTo, IsFrameOf, AreFramesOf, StopsOpen, HasGone, always, HoldsWith, Follows}
+use Rattle.follow_laws.specs.Follows.{Around, here, FitRows, Holds, GetsTo, IsFrameOf, StopsOpen, HasGone, always, HoldsWith, Follows}
+use Rattle.code_laws.specs.BodyBounds.{BodiesWithin, called_within}
 
 -- ---- what a call takes and gives back
 
@@ -63,12 +55,15 @@ in_frame_of instance b row xs below regions s = At (record { instance = instance
 abbrev pub back_in : ℕ → List ℤ → Frame → List Frame → List OpenRegion → Session → Run
 back_in instance results caller below regions s = At (record { instance = instance; frames = moved caller (caller.place + 1) (caller.stack ++ results) ∷ below; regions = regions; mode = Running }) s
 
--- an exception that no handler of the body takes is on its way out of its frame, which holds the store
-pub record GoesOut (code : Code) (instance b : ℕ) (x : Exc) (below : List Frame) (regions : List OpenRegion) (store : Store) (s : Session) (m : Run) : Type 0 where
+-- An exception that no handler of the body takes is on its way out of its frame, which holds the store. Where the caller gets it
+-- the regions are open that were open before; where it ends the process that of the body may be open besides.
+pub record GoesOut (code : Code) (instance b : ℕ) (listed : List ℕ) (x : Exc) (below : List Frame) (regions : List OpenRegion) (store : Store) (s : Session) (m : Run) : Type 0 where
   pub frame : Frame
   pub shows : IsFrameOf frame (record { body = b; store = store })
   pub untaken : taker code.handlers frame.place x ≡ None
-  pub by : GetsTo code m (At (record { instance = instance; frames = frame ∷ below; regions = regions; mode = Raising x }) s)
+  pub still_open : List OpenRegion
+  pub same : names_exception listed x ≡ true → still_open ≡ regions
+  pub by : GetsTo code m (At (record { instance = instance; frames = frame ∷ below; regions = still_open; mode = Raising x }) s)
 
 -- how many scalars a result has; none without RETURNS
 abbrev pub result_scalars : Option ModeTree → ℕ
@@ -83,7 +78,7 @@ pub record EndsFitting (b : BodyRowTree) (store : Store) : Type 0 where
 -- what a body's end says of the machine, on a caller
 abbrev pub Returns : Code → ℕ → ℕ → BodyRowTree → Frame → List Frame → List OpenRegion → Run → Ending → Type 0
 Returns code instance b body caller below regions m (Through store s) = EndsFitting body store × GetsTo code m (back_in instance (results_back body store) caller below regions s)
-Returns code instance b body caller below regions m (Out x store s) = GoesOut code instance b x (caller ∷ below) regions store s m
+Returns code instance b body caller below regions m (Out x store s) = GoesOut code instance b body.listed x (caller ∷ below) regions store s m
 Returns code instance b body caller below regions m (Halted t inner store) = StopsOpen code (caller ∷ below) m t (record { body = b; store = store } ∷ inner)
 Returns code instance b body caller below regions m (Ended t) = HasGone code m t
 Returns code instance b body caller below regions m Unknown = Unit {0}
@@ -97,10 +92,13 @@ EnteredBelow n (q ∷ qs) = (q.frame ≤ n) × EnteredBelow n qs
 abbrev pub open_in : List OpenRegion → List ℕ
 open_in regions = map (λ q. q.region) regions
 
--- Of a body in frame number so many, where these regions are open, with what its parameters begin with: whether each value in
--- it, along what it does, lies in its own bounds.
-abbrev pub BodiesWithin : Type 0
-BodiesWithin = ℕ → ℕ → List ℕ → List Taken → Session → Bool
+-- What parameters begin with has as many scalars as their rows say, and is there for each of them.
+abbrev pub FitTaken : List LocalRowTree → List Parameter → List Taken → Type 0
+FitTaken rows [] [] = Unit {0}
+FitTaken rows [] (t ∷ ts) = ⊥
+FitTaken rows (p ∷ ps) [] = ⊥
+FitTaken [] (p ∷ ps) (t ∷ ts) = ⊥
+FitTaken (row ∷ rows) (p ∷ ps) (t ∷ ts) = (length (begins_with row t) ≡ row.count) × FitTaken rows ps ts
 
 -- the row of a body has as many parameters, and lists what it lists
 pub record IsRowOf (body : BodyRowTree) (row : BodyRow) : Type 0 where
@@ -113,17 +111,9 @@ pub record BodiesFollow (p : CheckedTree) (code : Code) (instance : ℕ) (bodies
   pub at : (b : ℕ) (body : BodyRowTree) (row : BodyRow) (caller : Frame) (below : List Frame) (regions : List OpenRegion) (ts : List Taken) (s : Session)
       → slice_get p.bodies b ≡ Some body → slice_get code.bodies b ≡ Some row → has_instances body.sort ≡ false
       → EnteredBelow (length (caller ∷ below)) regions
-      → length (taken_scalars body.locals ts) ≡ row.params
+      → FitTaken body.locals body.parameters ts
       → within b (suc (length (caller ∷ below))) (open_in regions) ts s ≡ true
       → Returns code instance b body caller below regions (in_frame_of instance b row (taken_scalars body.locals ts) (caller ∷ below) regions s) (bodies b (suc (length (caller ∷ below))) (open_in regions) ts s)
-
--- whether the body that is called behind a tick keeps within
-abbrev pub within_behind : Ticked → (Session → Bool) → Bool
-within_behind (GoesOn s) within = within s
-within_behind (Last t) within = true
-
-abbrev pub call_within : BodiesWithin → ℕ → ℕ → List ℕ → List Taken → Session → Bool
-call_within within b frames open_now ts s = if nat_lt frames most_frames then within_behind (tick s) (λ s1. within b (frames + 1) open_now ts s1) else true
 
 -- A call, once its arguments are on the stack, follows its meaning where the bodies do.
 abbrev pub CallLaw : Type 0
@@ -131,90 +121,9 @@ CallLaw = (w : Around) (p : CheckedTree) (bodies : Bodies) (within : BodiesWithi
     → BodiesFollow p w.code w.instance bodies within
     → slice_get p.bodies b ≡ Some body → has_instances body.sort ≡ false
     → EnteredBelow (suc (length w.below)) w.regions
-    → length (taken_scalars body.locals ts) ≡ parameter_scalars body.locals body.parameters
+    → FitTaken body.locals body.parameters ts
     → slice_get w.code.instrs at ≡ Some (i.Call b)
     → lo ≤ at → at < hi → ((x : Exc) → taker rows at x ≡ None) → Holds w store locals
-    → call_within within b (suc (length w.below)) (open_in w.regions) ts s ≡ true
+    → called_within within (suc (length w.below)) (open_in w.regions) b ts s ≡ true
     → Follows w (here w at (base ++ taken_scalars body.locals ts) locals s) lo hi rows (always (at + 1)) (λ final. base ++ results_back body final) (HoldsWith w (EndsFitting body))
     (calls_in p bodies (suc (length w.below)) (open_in w.regions) b ts store s)
-
--- ---- the law of assembly
-
--- what a process's end says of the machine
-abbrev pub Tells : Code → ℕ → Run → Flow (Unit {0}) → Type 0
-Tells code b m (Stops t inner store) = StopsOpen code [] m t (record { body = b; store = store } ∷ inner)
-Tells code b m (Gone t) = HasGone code m t
-Tells code b m Bound = Unit {0}
-Tells code b m o = ⊥
-
--- Along what bodies do that nest at most so deep, whether each value lies in its own bounds.
-abbrev pub NestedWithin : Type 0
-NestedWithin = ℕ → BodiesWithin
-
--- In this code the procedure's instructions do what it means, where the bodies that it calls do.
-pub record CarriesProcedure (p : CheckedTree) (code : Code) (within : NestedWithin) (instance b : ℕ) (body : BodyRowTree) (row : BodyRow) : Type 0 where
-  pub returns : (n : ℕ) (caller : Frame) (below : List Frame) (regions : List OpenRegion) (ts : List Taken) (s : Session)
-      → BodiesFollow p code instance (body_mean p instance n) (within n)
-      → EnteredBelow (length (caller ∷ below)) regions
-      → length (taken_scalars body.locals ts) ≡ row.params
-      → within (suc n) b (suc (length (caller ∷ below))) (open_in regions) ts s ≡ true
-      → Returns code instance b body caller below regions (in_frame_of instance b row (taken_scalars body.locals ts) (caller ∷ below) regions s)
-      (body_mean p instance (suc n) b (suc (length (caller ∷ below))) (open_in regions) ts s)
-
--- So do the instructions of a process, which has no caller.
-pub record CarriesProcess (p : CheckedTree) (code : Code) (within : NestedWithin) (instance b : ℕ) (body : BodyRowTree) (row : BodyRow) : Type 0 where
-  pub tells : (n : ℕ) (ts : List Taken) (s : Session)
-      → BodiesFollow p code instance (body_mean p instance n) (within n)
-      → length (taken_scalars body.locals ts) ≡ row.params
-      → within (suc n) b 1 [] ts s ≡ true
-      → Tells code b (in_frame_of instance b row (taken_scalars body.locals ts) [] [] s) (process_end (body_mean p instance (suc n) b 1 [] ts s))
-
-abbrev pub Carries : CheckedTree → Code → NestedWithin → ℕ → ℕ → BodyRowTree → BodyRow → Type 0
-Carries p code within instance b body row = MatchBool (has_instances body.sort) (CarriesProcess p code within instance b body row) (CarriesProcedure p code within instance b body row)
-
--- the code has each body of the program, and each does what it means
-pub record CarriesAll (p : CheckedTree) (code : Code) (within : NestedWithin) (instance : ℕ) : Type 0 where
-  pub body : (b : ℕ) (body : BodyRowTree) → slice_get p.bodies b ≡ Some body → (row : BodyRow) × (slice_get code.bodies b ≡ Some row) × IsRowOf body row × Carries p code within instance b body row
-
--- a process with as many arguments as its parameters have scalars
-pub record FitsBirth (p : CheckedTree) (b : ℕ) (xs : List ℤ) : Type 0 where
-  pub body : BodyRowTree
-  pub is_body : slice_get p.bodies b ≡ Some body
-  pub process : has_instances body.sort ≡ true
-  pub counted : parameter_scalars body.locals body.parameters ≡ length xs
-
--- the code's trace is that of the text, and where it stops its frames hold the stores of the open calls
-pub record TalksAs (p : CheckedTree) (code : Code) (instance process : ℕ) (xs : List ℤ) (answers : List Answer) (n : ℕ) : Type 0 where
-  pub start : State
-  pub starts : start_of code instance process xs ≡ Some start
-  pub count : ℕ
-  pub state : State
-  pub by : steps code count (At start (session_of answers n)) ≡ Over state (talk p instance process xs answers n).trace
-  pub stands : AreFramesOf (reverse state.frames) (talk p instance process xs answers n).stand
-
--- The code has the text's talk, as an instance of a process, wherever each value lies in its own bounds.
-abbrev pub HasTalkOf : CheckedTree → Code → NestedWithin → ℕ → Type 0
-HasTalkOf p code within instance = (process : ℕ) (fits_body : BodyRowTree) (xs : List ℤ) (answers : List Answer) (n : ℕ) → 1 ≤ n
-    → FitsBirth p process xs
-    → slice_get p.bodies process ≡ Some fits_body
-    → within n process 1 [] (split_over fits_body.locals fits_body.parameters xs) (session_of answers n) ≡ true
-    → TalksAs p code instance process xs answers n
-
--- As many turns and calls as there are ticks are enough for every talk.
-abbrev pub IsEnough : CheckedTree → ℕ → Type 0
-IsEnough p instance = (process : ℕ) (ts : List Taken) (answers : List Answer) (n : ℕ) → 1 ≤ n → process_end (body_mean p instance n process 1 [] ts (session_of answers n)) ≡ Bound → ⊥
-
--- A code that has each body of the program has its talk.
-abbrev pub LawOfAssembly : Type 0
-LawOfAssembly = (p : CheckedTree) (code : Code) (within : NestedWithin) (instance : ℕ) → CarriesAll p code within instance → IsEnough p instance → HasTalkOf p code within instance
-
--- ---- runs
-
--- the code has the text's talk of each instance of a journal, with what the journal gave it
-abbrev pub TalksInJournal : CheckedTree → Code → List Event → Type 0
-TalksInJournal p code events = (who : ℕ) (birth : Birth) → born_of who events ≡ Some birth
-    → TalksAs p code who birth.process birth.arguments (answers_of who events) (suc (ticks_in (line_of who events)))
-
--- A journal in which it has is a run of the code exactly when it is one of the program.
-abbrev pub SameRunsLaw : Type 0
-SameRunsLaw = (p : CheckedTree) (code : Code) (facts : Facts) (events : List Event) → TalksInJournal p code events → IsCodeRun code facts events ↔ IsSourceRun p facts events

@@ -10,8 +10,9 @@ use Rattle.source_meaning.specs.BodyMeaning.{Bodies, calls_in}
 use Rattle.code_scheme.specs.Pieces.{Layout}
 use Rattle.code_scheme.specs.ExprSizes.{expr_size}
 use Rattle.code_scheme.specs.ExprCode.{expr_code}
-use Rattle.code_laws.specs.Follows.{HasAt, Around, free_in, here, Holds, on_top, IsLong, Gives}
-use Rattle.code_laws.specs.Calls.{EnteredBelow, open_in, BodiesWithin, BodiesFollow, call_within}
+use Rattle.follow_laws.specs.Follows.{HasAt, Around, free_in, here, Holds, on_top, IsLong, Gives}
+use Rattle.code_laws.specs.BodyBounds.{BodiesWithin, called_within}
+use Rattle.code_laws.specs.Calls.{EnteredBelow, open_in, BodiesFollow}
 use Rattle.code_laws.specs.InRange.{FitsExpr}
 use Rattle.code_laws.specs.OwnBounds.{CallsWithin, expr_within}
 
@@ -31,7 +32,7 @@ NamesIn w lo hi = (place : ℕ) (instr : Instr) → lo ≤ place → place < hi 
 
 -- whether what a call does here keeps within
 abbrev pub calls_at : BodiesWithin → Around → CallsWithin
-calls_at inside w b ts s = call_within inside b (suc (length w.below)) (open_in w.regions) ts s
+calls_at inside w = called_within inside (suc (length w.below)) (open_in w.regions)
 
 -- An expression whose numbers are in range, between two places. Where each value along what it does lies in its own bounds, its
 -- instructions follow its meaning, and leave its scalars on the stack.

@@ -1,5 +1,5 @@
 -- When the numbers in an expression are in range, as a program's are that may be compiled.
-use Rattle.std.specs.Prelude.{◌≡◌, ℕ, suc, ◌+◌, ◌*◌, ◌<◌, ◌≤◌, Bool, true, false, List, [], ◌∷◌, ℤ, length, Option, Some, None, slice_get}
+use Rattle.std.specs.Prelude.{◌≡◌, ℕ, ◌+◌, ◌*◌, ◌<◌, ◌≤◌, true, false, List, [], ◌∷◌, length, Option, Some, None, slice_get}
 use Rattle.modes.specs.declared.mode.Bounds.{Bounds}
 use Rattle.modes.specs.Bounds.{count_between}
 use Rattle.modes.specs.Scalars.{lowest_of}
@@ -10,7 +10,7 @@ use Rattle.checked_program.specs.declared.expr.Binary.TheVariants.{Equal, NotEqu
 use Rattle.checked_program.specs.declared.program.Passing.TheVariants.{In, Out, InOut}
 use Rattle.checked_program.specs.declared.program.Parameter.{Parameter}
 use Rattle.program_trees.specs.ExprTree.{ExprTree, expr, OperationTree, constant, own_instance, contents, part_of, receive, start, call, powerset, parts, uniform, routine, get_int, prefixed, binary, ReceivedTree, received, ReceivedNodes, no_received, more_received, PartNodes, no_parts, field, element, RangeNodes, no_ranges, one_member, members, LocationTree, location, StartTree, started, CallTree, called, ArgumentNodes, no_arguments, in_argument, out_argument, inout_argument, count_of, received_count, location_count}
-use Rattle.program_trees.specs.ProgramTree.{LocalRowTree, BodyRowTree, CheckedTree}
+use Rattle.program_trees.specs.ProgramTree.{LocalRowTree, BodyRowTree}
 use Rattle.scalar_operators.specs.Numbers.{is_int}
 use Rattle.source_meaning.specs.Fitting.{has_instances}
 use Rattle.code_scheme.specs.Pieces.{Layout}

@@ -1,14 +1,14 @@
 -- Whether each value of an expression, along what it does, lies in its own bounds: those in which it lies by what it is. Compiled
 -- code leaves out the tests of values whose own bounds lie in those of what takes them.
 use Rattle.std.specs.Prelude.{ℕ, Bool, true, ◌&&◌, List, [], ◌∷◌, ℤ, Option, Some, None, if◌then◌else◌}
-use Rattle.world_model.specs.Session.{Session, tick}
+use Rattle.world_model.specs.Session.{Session}
 use Rattle.modes.specs.declared.mode.Bounds.{Bounds}
 use Rattle.modes.specs.ModeTree.{int}
 use Rattle.modes.specs.Bounds.{bounds_of}
 use Rattle.scalar_operators.specs.Numbers.{is_between}
 use Rattle.program_trees.specs.ExprTree.{ExprTree, expr, OperationTree, constant, own_instance, contents, part_of, receive, start, call, powerset, parts, uniform, routine, get_int, prefixed, binary, ReceivedTree, received, ReceivedNodes, no_received, more_received, PartNodes, no_parts, field, element, RangeNodes, no_ranges, one_member, members, LocationTree, location, StartTree, started, CallTree, called, ArgumentNodes, no_arguments, in_argument, out_argument, inout_argument}
 use Rattle.source_meaning.specs.Store.{Store, Taken}
-use Rattle.source_meaning.specs.Flow.{Flow, Goes, Raised, Exits, Returned, Stops, Gone, Bound}
+use Rattle.source_meaning.specs.Flow.{Flow, Goes}
 use Rattle.source_meaning.specs.Operators.{sole_number, offset_within, takes_second}
 use Rattle.source_meaning.specs.ExprMeaning.{Setting, or_rangefail, tested, read_at, takens, expr_mean, operation_mean, received_mean, arguments_mean, place_mean}
 use Rattle.code_scheme.specs.Pieces.{bounds_of_value}

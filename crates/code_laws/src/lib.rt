@@ -1,12 +1,11 @@
-//! Laws by which compiled code has the text's talk: what it is that instructions follow the meaning of a part, and that they do.
+//! Laws by which compiled code has the text's talk: expressions, calls, and the assembly of bodies.
 //!
-//! The crate has definitions and laws. It stands on `code_scheme` and `source_meaning`.
+//! The crate has definitions and laws. It stands on `code_scheme` and `follow_laws`.
 #![tactic(auto)]
 
 mod laws;
 
 pub use laws::{
-    assign_law, call_law, check_law, contents_law, expr_law, handled_law, index_law,
-    instruction_law, law_of_assembly, prefix_law, request_law, routine_law, same_runs_law,
-    turns_law,
+    begins_law, call_law, ends_law, expr_law, gives_back_law, law_of_assembly, leaves_law,
+    loop_law, prefix_law, routine_law, same_runs_law, skips_law, talk_joined,
 };

@@ -1,5 +1,5 @@
 use Rattle.code_laws.proofs.laws.prefix_law.Goals as goal
-use Rattle.code_laws.proofs.Gathered.{prefix_law}
+use Rattle.code_laws.proofs.BetweenRuns.{prefix_runs}
 
 pub returns : goal.returns
-returns c = prefix_law
+returns c = prefix_runs

@@ -1,5 +1,5 @@
 use Rattle.code_laws.proofs.laws.routine_law.Goals as goal
-use Rattle.code_laws.proofs.Gathered.{routine_law}
+use Rattle.code_laws.proofs.BetweenRuns.{routine_runs}
 
 pub returns : goal.returns
-returns c = routine_law
+returns c = routine_runs

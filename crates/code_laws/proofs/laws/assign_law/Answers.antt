@@ -1,5 +1,0 @@
-use Rattle.code_laws.proofs.laws.assign_law.Goals as goal
-use Rattle.code_laws.proofs.Gathered.{assign_law}
-
-pub returns : goal.returns
-returns c = assign_law

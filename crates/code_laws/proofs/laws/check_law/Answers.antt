@@ -1,5 +1,0 @@
-use Rattle.code_laws.proofs.laws.check_law.Goals as goal
-use Rattle.code_laws.proofs.Gathered.{check_law}
-
-pub returns : goal.returns
-returns c = check_law

@@ -1,5 +1,0 @@
-use Rattle.code_laws.proofs.laws.handled_law.Goals as goal
-use Rattle.code_laws.proofs.HandledRuns.{handled_runs}
-
-pub returns : goal.returns
-returns c = handled_runs

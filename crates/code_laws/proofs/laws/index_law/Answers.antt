@@ -1,5 +1,0 @@
-use Rattle.code_laws.proofs.laws.index_law.Goals as goal
-use Rattle.code_laws.proofs.Gathered.{index_law}
-
-pub returns : goal.returns
-returns c = index_law

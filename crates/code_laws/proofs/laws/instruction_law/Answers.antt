@@ -1,5 +1,0 @@
-use Rattle.code_laws.proofs.laws.instruction_law.Goals as goal
-use Rattle.code_laws.proofs.Gathered.{instruction_law}
-
-pub returns : goal.returns
-returns c = instruction_law
