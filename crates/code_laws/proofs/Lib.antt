@@ -25,3 +25,4 @@ pub mod BodyBegins
 pub mod BodyEnds
 pub mod BodySkips
 pub mod ProcessEnds
+pub mod RaisedAgain

@@ -9,6 +9,7 @@ pub mod Counters
 pub mod Leaving
 pub mod Expressions
 pub mod Bodies
+pub mod Regions
 pub mod Statements
 pub mod Loops
 pub mod Assembly

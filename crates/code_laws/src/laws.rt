@@ -5,6 +5,7 @@ ghost use Rattle.code_laws.specs.Calls.{CallLaw};
 ghost use Rattle.code_laws.specs.Bodies.{BeginsLaw, SkipsLaw, GivesBackLaw};
 ghost use Rattle.code_laws.specs.Leaving.{LeavesLaw};
 ghost use Rattle.code_laws.specs.Loops.{LoopLaw};
+ghost use Rattle.code_laws.specs.Regions.{RaisedAgainLaw};
 ghost use Rattle.code_laws.specs.Assembly.{EndsLaw, LawOfAssembly, SameRunsLaw};
 ghost use Rattle.code_laws.specs.Talk.{TalkJoined};
 
@@ -51,6 +52,11 @@ pub fn skips_law()
 /// A procedure gives its result and its parameters back.
 pub fn gives_back_law()
     ensures { GivesBackLaw }
+{}
+
+/// Each exception that can arise in a region is raised again behind its release.
+pub fn raised_again_law()
+    ensures { RaisedAgainLaw }
 {}
 
 /// A process ends behind its body, or with an exception that goes out of it.

@@ -7,5 +7,5 @@ mod laws;
 
 pub use laws::{
     begins_law, call_law, ends_law, expr_law, gives_back_law, law_of_assembly, leaves_law,
-    loop_law, prefix_law, routine_law, same_runs_law, skips_law, talk_joined,
+    loop_law, prefix_law, raised_again_law, routine_law, same_runs_law, skips_law, talk_joined,
 };
