@@ -1,4 +1,5 @@
 pub mod Pieces
 pub mod InputLemmas
+pub mod TextRuns
 pub mod StageLemmas
 pub mod AnswerLemmas

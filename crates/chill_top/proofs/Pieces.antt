@@ -1,7 +1,6 @@
 -- Texts that are read and written piece by piece.
-use Rattle.std.proofs.Common.{◌≡◌, inl, inr, ℕ, ◌+◌, ◌-◌, ◌<◌, ◌≤◌, List, ◌++◌, length, take, drop, refl, sym, ap, ◌∙◌, subst, arith, append_assoc, length-append, length-take, IfOk}
-use Rattle.std.specs.Prelude.{None, Some, Ok, Err}
-use Rattle.std.specs.declared.result.Result.{Result}
+use Rattle.std.proofs.Common.{◌≡◌, inl, inr, ℕ, ◌+◌, ◌-◌, ◌<◌, ◌≤◌, List, ◌++◌, length, take, drop, refl, sym, ap, ◌∙◌, subst, arith, append_assoc, length-append, length-take}
+use Rattle.std.specs.Prelude.{None, Some, Ok}
 use Rattle.checked_program.specs.declared.program.Checked.{Checked}
 use Rattle.code_types.specs.declared.code.Code.{Code}
 use Rattle.diagnostics.specs.declared.diagnostic.Diagnostic.{Diagnostic}

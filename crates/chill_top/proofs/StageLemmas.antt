@@ -1,5 +1,5 @@
 -- The input of a program, and how far a command comes.
-use Rattle.std.proofs.Common.{◌≡◌, ◌⊎◌, inl, inr, ℕ, ◌<◌, ◌≤◌, Bool, true, false, List, [], ◌∷◌, length, take, refl, sym, ap, ◌∙◌, subst, arith, length-take, IfOk, IsErrOf}
+use Rattle.std.proofs.Common.{◌≡◌, ◌⊎◌, inl, inr, ℕ, ◌<◌, ◌≤◌, Bool, true, false, List, [], length, take, refl, sym, ap, ◌∙◌, subst, arith, length-take, IfOk, IsErrOf}
 use Rattle.std.specs.Prelude.{◌↔◌, None, Some, Ok, Err, Any, IfSome, IsTrue, MatchBool}
 use Rattle.std.specs.Global.{Box}
 use Rattle.std.specs.declared.option.Option.{Option}
@@ -26,7 +26,7 @@ use Rattle.word_reader.specs.declared.command.Command.{Command}
 use Rattle.word_reader.specs.declared.command.Command.TheVariants as words
 use Rattle.chill_top.specs.Causes.{IsFeedFault}
 use Rattle.chill_top.specs.Commands.{task_of, IsRunning, IsRunningTask, IsTextBy, IsTextOf}
-use Rattle.chill_top.specs.Plan.{AreFactsOf, HasNoFacts, IsInputOf, IsInputTooLong, IsRefusedFor, IsRunFor, IsBuildPlan, IsFormatPlan, IsPlanFor, IsPlanOf, IsReadyFor, IsStageFor, IsStageOf, IsNotBuilt, IsPlanAfter, Completes, HasProgram, ReadsInput, unfounded, unsuited}
+use Rattle.chill_top.specs.Plan.{AreFactsOf, HasNoFacts, IsInputOf, IsInputTooLong, IsRefusedFor, IsRunFor, IsBuildPlan, IsFormatPlan, IsPlanFor, IsPlanOf, IsReadyFor, IsStageFor, IsStageOf, IsNotBuilt, IsPlanAfter, Completes, HasProgram, ReadsInput, IsUnrun, unfounded, unsuited}
 use Rattle.chill_top.specs.Runs.{IsAttempt}
 use Rattle.chill_top.specs.declared.run.Attempt.{Attempt}
 use Rattle.chill_top.specs.declared.run.Attempt.TheVariants as attempts
@@ -43,6 +43,7 @@ use Rattle.chill_top.specs.declared.task.Task.TheVariants.{Format, Build}
 use Rattle.chill_top.specs.declared.task.Purpose.{Purpose}
 use Rattle.chill_top.specs.declared.task.Purpose.TheVariants.{Run, Check, List as Listing}
 use Rattle.chill_top.proofs.Pieces.{Tells-reading}
+use Rattle.chill_top.proofs.TextRuns.{has_text_runs, is_run, run_of_text}
 
 -- an input that was read past the greatest length is too long
 too_long_input : (reads : Bool) (told : Option (List ℕ)) (input : List ℕ) → MatchBool reads (IsInputRead told input) (input ≡ []) → 1048576 < length input → IsInputTooLong told
@@ -149,7 +150,16 @@ pub unfounded_for : (units : ℕ) (text : List ℕ) (program : Checked) (code : 
     → IsAccepted text program code → IsInputOf program feed left input → HasNoFacts program input units → IsNotBuilt told
     → IsRefusedFor (Run units) text feed left told
 unfounded_for units text program code feed left input told accepted reads none is =
-    inr (record { program = program; code = code; accepted = accepted; input = input; reads = reads; cause = unfounded none; is = is })
+    inr (record {
+      program = program;
+      code = code;
+      accepted = accepted;
+      input = input;
+      reads = reads;
+      cause = unfounded none;
+      not_of_text = is_run program code input units (unfounded none);
+      is = is;
+    })
 
 -- the facts aren't sound, or there are none
 pub unsound_facts : (program other : Checked) (input : List ℕ) (units : ℕ) (facts : Facts) (said : Bool) → other ≡ program → facts ≡ facts_of other input units → IsTrue said ↔ IsSound facts → said ≡ false
@@ -171,14 +181,17 @@ completed : (task : Task) (text : List ℕ) (feed left : Option (List ℕ)) (rea
     → IsPlanAfter ready.built.value attempt plan → IsPlanFor task text feed left plan
 completed task text feed left ready attempt plans.Usage is ran after = absurd after
 completed task text feed left ready attempt (plans.Refused told) is ran after =
+    let program : Checked = ready.built.value.program.checked.value in
     let unsuited_to : IsAttempt ready.built.value.code ready.facts attempts.NotBuilt = subst (IsAttempt ready.built.value.code ready.facts) after.0 ran in
+    let cause : IsUnrun program ready.built.value.code is.input is.units = unsuited (subst (λ (f : Facts). Suits ready.built.value.code f → ⊥) is.facts.are unsuited_to) in
     run_plan task is.units text feed left (plans.Refused told) is.is_task (inr (record {
-      program = ready.built.value.program.checked.value;
+      program = program;
       code = ready.built.value.code;
       accepted = is.accepted;
       input = is.input;
       reads = is.reads;
-      cause = unsuited (subst (λ (f : Facts). Suits ready.built.value.code f → ⊥) is.facts.are unsuited_to);
+      cause = cause;
+      not_of_text = is_run program ready.built.value.code is.input is.units cause;
       is = after.1;
     }))
 completed task text feed left ready attempt plans.Accepted is ran after = absurd after
@@ -186,13 +199,19 @@ completed task text feed left ready attempt (plans.Listed built) is ran after = 
 completed task text feed left ready attempt (plans.Formatted canonical) is ran after = absurd after
 completed task text feed left ready attempt plans.InputTooLong is ran after = absurd after
 completed task text feed left ready attempt (plans.Ran one) is ran after =
+    let program : Checked = ready.built.value.program.checked.value in
+    let sound : IsSound (facts_of program is.input is.units) = subst IsSound is.facts.are is.facts.sound in
+    let run : IsDriven ready.built.value.code (facts_of program is.input is.units) one.driven.value =
+    subst (λ (f : Facts). IsDriven ready.built.value.code f one.driven.value) is.facts.are (subst (IsAttempt ready.built.value.code ready.facts) after.0 ran) in
     run_plan task is.units text feed left (plans.Ran one) is.is_task
     (subst (λ (b : Built). IsRunFor (Run is.units) text b.program.checked.value b.code feed left one.driven.value) (sym after.1) (record {
       accepted = is.accepted;
       input = is.input;
       reads = is.reads;
-      sound = subst IsSound is.facts.are is.facts.sound;
-      run = subst (λ (f : Facts). IsDriven ready.built.value.code f one.driven.value) is.facts.are (subst (IsAttempt ready.built.value.code ready.facts) after.0 ran);
+      sound = sound;
+      run = run;
+      of_text = run_of_text program ready.built.value.code is.input is.units one.driven.value.events sound run.run;
+      same_runs = has_text_runs program ready.built.value.code;
     }))
 
 pub ok-plan-completed : (command : Command) (contents : List ℕ → Contents) (feed left : Option (List ℕ)) (ready : Ready) (plan : Plan) → IsStageOf command contents feed left (stages.Ready ready) → Completes ready plan

@@ -1,5 +1,5 @@
 -- What commands do, and where their texts come from.
-use Rattle.std.specs.Prelude.{◌≡◌, ℕ, Bool, true, false, List, None, Some}
+use Rattle.std.specs.Prelude.{◌≡◌, ℕ, Bool, false, List, None, Some}
 use Rattle.std.specs.declared.option.Option.{Option}
 use Rattle.exchange_text.specs.Exchange.{exchange_text}
 use Rattle.outside_ports.specs.Library.{Contents, untold, missing, held}

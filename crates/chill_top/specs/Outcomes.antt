@@ -1,5 +1,5 @@
 -- What a call hands back, and what its ports and watchers are like before and behind it.
-use Rattle.std.specs.Prelude.{◌≡◌, ◌⊎◌, ℕ, Bool, true, false, List, [], ◌++◌, if◌then◌else◌, None, Some, Ok, Err}
+use Rattle.std.specs.Prelude.{◌≡◌, ◌⊎◌, ℕ, Bool, false, List, [], ◌++◌, if◌then◌else◌, None, Some, Ok, Err}
 use Rattle.std.specs.List.{flat_map}
 use Rattle.std.specs.declared.option.Option.{Option}
 use Rattle.std.specs.declared.result.Result.{Result}
@@ -176,7 +176,8 @@ events_shown said events = if watch_of said then Some events else None
 
 -- The journal of an outcome: the text of the command has a program, whose code the outcome holds, and the events are a run of that
 -- code to its end, from the facts of that program with its input and the budget; the machines stand where the events leave them.
--- The texts that were written are the output of the events, and their report with the names of that program.
+-- The texts that were written are the output of the events, and their report with the names of that program. Where that code is
+-- the text's, the events are a run of the text, and the runs of the code are those of the text, `run (of_text, same_runs)`.
 pub record IsJournal (said : Option Command) (contents : List ℕ → Contents) (watchers : List Watching) (sources left : Sources) (before behind : Sinks) (outcome : Outcome) (over : Over) : Type 0 where
   pub command : Command
   pub named : said ≡ Some command

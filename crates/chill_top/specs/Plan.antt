@@ -16,6 +16,7 @@ use Rattle.rules_model.specs.TokensCut.{first_place}
 use Rattle.rules_model.specs.Diagnoses.{plain}
 use Rattle.run_texts.specs.Report.{report_of}
 use Rattle.outside_ports.specs.Library.{Contents}
+use Rattle.program_trees.specs.ProgramTree.{checked_tree}
 use Rattle.serial_run.specs.declared.serial.Driven.{Driven}
 use Rattle.serial_run.specs.Driven.{IsDriven}
 use Rattle.text_to_code.specs.Telling.{IsAccepted, IsUnread, IsCanonicalOf, Refuses}
@@ -24,6 +25,7 @@ use Rattle.word_reader.specs.declared.command.Command.{Command}
 use Rattle.world_model.specs.Journal.{output_of}
 use Rattle.chill_top.specs.Commands.{task_of, IsTextBy, IsRunning}
 use Rattle.chill_top.specs.Runs.{IsAttempt, status_of_run}
+use Rattle.chill_top.specs.TextRuns.{HasTextRuns, IsBudget, IsCodeOfText, IsRunOfText}
 use Rattle.chill_top.specs.declared.run.Attempt.{Attempt}
 use Rattle.chill_top.specs.declared.run.Attempt.TheVariants as attempts
 use Rattle.chill_top.specs.declared.plan.Plan.{Plan}
@@ -73,13 +75,16 @@ pub record AreFactsOf (program : Checked) (input : List ℕ) (units : ℕ) (fact
   pub are : facts ≡ facts_of program input units
   pub sound : IsSound facts
 
--- a run of the code of a text from the facts of its program
+-- A run of the code of a text from the facts of its program. Where the code is the text's, it is a run of the text, and from all
+-- facts of the program the code has the runs of the text.
 pub record IsRunOf (units : ℕ) (text : List ℕ) (program : Checked) (code : Code) (feed left : Option (List ℕ)) (driven : Driven) : Type 0 where
   pub accepted : IsAccepted text program code
   pub input : List ℕ
   pub reads : IsInputOf program feed left input
   pub sound : IsSound (facts_of program input units)
   pub run : IsDriven code (facts_of program input units) driven
+  pub of_text : IsCodeOfText program code → IsRunOfText (checked_tree program) (facts_of program input units) driven.events
+  pub same_runs : IsCodeOfText program code → HasTextRuns program code
 
 -- the same for a purpose
 abbrev pub IsRunFor : Purpose → List ℕ → Checked → Code → Option (List ℕ) → Option (List ℕ) → Driven → Type 0
@@ -100,7 +105,7 @@ pub data IsUnrun (program : Checked) (code : Code) (input : List ℕ) (units : �
 abbrev pub IsNotBuilt : List Diagnostic → Type 0
 IsNotBuilt told = told ≡ plain first_place rules.B1 ∷ []
 
--- an accepted text isn't run, and is told so
+-- An accepted text isn't run, and is told so. With a budget that there may be this comes of no code that is the text's.
 pub record TellsUnrun (units : ℕ) (text : List ℕ) (feed left : Option (List ℕ)) (told : List Diagnostic) : Type 0 where
   pub program : Checked
   pub code : Code
@@ -108,6 +113,7 @@ pub record TellsUnrun (units : ℕ) (text : List ℕ) (feed left : Option (List 
   pub input : List ℕ
   pub reads : IsInputOf program feed left input
   pub cause : IsUnrun program code input units
+  pub not_of_text : IsBudget units → IsCodeOfText program code → ⊥
   pub is : IsNotBuilt told
 
 -- the same for a purpose

@@ -1,10 +1,8 @@
 -- The run of a program.
 use Rattle.std.specs.Prelude.{ℕ, List, [], ◌∷◌, if◌then◌else◌, Bool, true, false}
-use Rattle.kernel_base.specs.declared.ends.How.{How}
-use Rattle.kernel_base.specs.declared.ends.How.TheVariants.{Normal, Stopped, Raised}
+use Rattle.kernel_base.specs.declared.ends.How.TheVariants.{Raised}
 use Rattle.kernel_base.specs.declared.ends.Over.{Over}
 use Rattle.kernel_base.specs.declared.ends.Over.TheVariants.{AllEnded, Still, Spent}
-use Rattle.kernel_base.specs.declared.request.Request.{Request}
 use Rattle.kernel_base.specs.declared.request.Request.TheVariants.{End}
 use Rattle.kernel_base.specs.declared.event.Event.{Event}
 use Rattle.kernel_base.specs.declared.event.Event.TheVariants.{Did}

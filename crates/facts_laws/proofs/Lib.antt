@@ -1,0 +1,2 @@
+pub mod LowestValues
+pub mod Facts
