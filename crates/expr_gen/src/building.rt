@@ -1,6 +1,7 @@
 // The code while it is made.
-ghost use Rattle.std.specs.Prelude.{◌≡◌, OnOk, OnErr};
+ghost use Rattle.std.specs.Prelude.{◌≡◌, ℕ, ◌+◌, length, IfOk, OnOk, OnErr};
 ghost use Rattle.code_types.specs.declared.instr.Instr.TheVariants.{Call};
+ghost use Rattle.code_scheme.specs.Pieces.{capped};
 ghost use Rattle.expr_gen.specs.Putting.{Puts};
 
 use crate::refusal::PartRefusal;
@@ -51,13 +52,24 @@ impl Draft {
     }
 
     /// The present place: that of the next instruction.
-    pub fn place(&self) -> u32 {
+    pub fn place(&self) -> u32
+        ensures { result ≡ capped (length self.now.code.instrs) }
+    {
         (self.code.instrs.len() as u64).min(u32::MAX as u64) as u32
     }
 
     /// The place so many instructions behind the present one.
-    pub fn place_behind(&self, count: u32) -> u32 {
+    pub fn place_behind(&self, count: u32) -> u32
+        ensures { result ≡ capped (length self.now.code.instrs + count) }
+    {
         self.place().saturating_add(count)
+    }
+
+    /// The place so many instructions behind the present one, to which a jump may lead.
+    pub fn target_behind(&self, count: u32) -> Result<u32, PartRefusal>
+        ensures { IfOk result (λ target. (k : ℕ) → count ≡ capped k → target ≡ length self.now.code.instrs + k) }
+    {
+        uncapped(self.place_behind(count))
     }
 
     /// Appends an instruction other than a call.
@@ -118,6 +130,25 @@ impl Draft {
         self.height = height;
         self.greatest = self.greatest.max(height);
     }
+}
+
+/// A number that isn't the greatest of 32 bits, which stands for all that are greater. There is no memory for so many
+/// instructions, locals or scalars.
+pub fn uncapped(number: u32) -> Result<u32, PartRefusal>
+    ensures { IfOk result (λ whole. (k : ℕ) → number ≡ capped k → whole ≡ k) }
+{
+    if number == u32::MAX {
+        Err(PartRefusal::Memory)
+    } else {
+        Ok(number)
+    }
+}
+
+/// The sum of two numbers, where it is one of 32 bits.
+pub fn sum(one: u32, other: u32) -> Result<u32, PartRefusal>
+    ensures { IfOk result (λ sum. sum ≡ one + other) }
+{
+    uncapped(one.saturating_add(other))
 }
 
 // How many locals a body has at least that has the instruction.

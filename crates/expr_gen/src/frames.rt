@@ -1,4 +1,6 @@
 // Where things stand in the frame of a body: its locals, its result, and the scratch locals behind them.
+ghost use Rattle.std.specs.Prelude.{◌≡◌, Some, slice_get, IfOk};
+
 use crate::refusal::PartRefusal;
 use checked_program::{Body, Checked, LocalRow, Passing};
 use modes::number_of_scalars;
@@ -11,7 +13,9 @@ pub struct Site<'a> {
 }
 
 /// The body of this number, or Unsound where there is none.
-pub fn body_of(program: &Checked, number: u32) -> Result<&Body, PartRefusal> {
+pub fn body_of(program: &Checked, number: u32) -> Result<&Body, PartRefusal>
+    ensures { IfOk result (λ body. slice_get program.now.bodies number ≡ Some body.now) }
+{
     match program.bodies.as_slice().get(number as usize) {
         Some(body) => Ok(body),
         None => Err(PartRefusal::Unsound),
@@ -19,7 +23,9 @@ pub fn body_of(program: &Checked, number: u32) -> Result<&Body, PartRefusal> {
 }
 
 /// The local of this number of a body, or Unsound where there is none.
-pub fn local_of(body: &Body, number: u32) -> Result<&LocalRow, PartRefusal> {
+pub fn local_of(body: &Body, number: u32) -> Result<&LocalRow, PartRefusal>
+    ensures { IfOk result (λ local. slice_get body.now.locals number ≡ Some local.now) }
+{
     match body.locals.as_slice().get(number as usize) {
         Some(local) => Ok(local),
         None => Err(PartRefusal::Unsound),

@@ -1,5 +1,11 @@
 // Locations: contents and assignment, where the place stands on the stack if it has an offset.
-use crate::building::Draft;
+ghost use Rattle.std.specs.Prelude.{◌≡◌, length, OnOk};
+ghost use Rattle.program_trees.specs.ExprTree.{location_tree};
+ghost use Rattle.code_scheme.specs.Pieces.{capped, has_index, first_of_parts, has_offset, again_code, contents_code, store_code, check_code};
+ghost use Rattle.expr_gen.specs.Trees.{parts_of};
+ghost use Rattle.expr_gen.specs.Putting.{Appends, layout_of};
+
+use crate::building::{Draft, uncapped};
 use crate::frames::{Site, local_of};
 use crate::refusal::PartRefusal;
 use checked_program::{Base, Location, Part};
@@ -7,7 +13,10 @@ use code_types::Instr;
 use modes::Bounds;
 
 /// Whether there is an index among the parts.
-pub fn has_index(parts: &[Part]) -> bool {
+#[tactic(auto, using(crate::proofs::Views::tree_built))]
+pub fn has_index(parts: &[Part]) -> bool
+    ensures { result ≡ has_index (parts_of parts.now) }
+{
     let mut found = false;
     for part in parts {
         match part {
@@ -19,7 +28,10 @@ pub fn has_index(parts: &[Part]) -> bool {
 }
 
 /// The number of the first scalar that the fields among the parts lead to.
-pub fn first_of_parts(parts: &[Part]) -> u32 {
+#[tactic(auto, using(crate::proofs::Views::tree_built))]
+pub fn first_of_parts(parts: &[Part]) -> u32
+    ensures { result ≡ capped (first_of_parts (parts_of parts.now)) }
+{
     let mut first = 0u32;
     for part in parts {
         match part {
@@ -32,7 +44,10 @@ pub fn first_of_parts(parts: &[Part]) -> u32 {
 
 /// Whether the place of a location is an offset on the stack: that of every shared location, and of a local with an index.
 /// Else it is nothing.
-pub fn has_offset(location: &Location) -> bool {
+#[tactic(auto, using(crate::proofs::Views::tree_built))]
+pub fn has_offset(location: &Location) -> bool
+    ensures { result ≡ has_offset (location_tree location.now) }
+{
     match location.base {
         Base::Shared(_) => true,
         Base::Local(_) => has_index(location.parts.as_slice()),
@@ -40,7 +55,9 @@ pub fn has_offset(location: &Location) -> bool {
 }
 
 /// The place once more, where it stands on top.
-pub fn put_again(location: &Location, draft: &mut Draft) -> Result<(), PartRefusal> {
+pub fn put_again(location: &Location, draft: &mut Draft) -> Result<(), PartRefusal>
+    ensures appends { let made = again_code (location_tree location.now) in OnOk result (Appends made (length made) draft.old.code draft.new.code) }
+{
     if has_offset(location) {
         draft.put(Instr::Copy(1))
     } else {
@@ -49,17 +66,20 @@ pub fn put_again(location: &Location, draft: &mut Draft) -> Result<(), PartRefus
 }
 
 /// The contents of a location, whose place stands on top.
+#[tactic(auto, using(crate::proofs::Views::tree_built))]
 pub fn put_contents(
     location: &Location,
     site: &Site,
     draft: &mut Draft,
-) -> Result<(), PartRefusal> {
+) -> Result<(), PartRefusal>
+    ensures appends { OnOk result (Appends (contents_code (layout_of site.now.program.now site.now.body.now) (location_tree location.now)) 1 draft.old.code draft.new.code) }
+{
     let count = location.count;
-    let fields = first_of_parts(location.parts.as_slice());
+    let fields = uncapped(first_of_parts(location.parts.as_slice()))?;
     match location.base {
         Base::Shared(number) => draft.put(Instr::Read(number, fields, count)),
         Base::Local(number) => {
-            let first = local_of(site.body, number)?.first.saturating_add(fields);
+            let first = uncapped(local_of(site.body, number)?.first.saturating_add(fields))?;
             if has_index(location.parts.as_slice()) {
                 draft.put(Instr::LocalAt(first, count))
             } else {
@@ -70,13 +90,16 @@ pub fn put_contents(
 }
 
 /// Assigns the value on top to a location, whose place stands below it.
-pub fn put_store(location: &Location, site: &Site, draft: &mut Draft) -> Result<(), PartRefusal> {
+#[tactic(auto, using(crate::proofs::Views::tree_built))]
+pub fn put_store(location: &Location, site: &Site, draft: &mut Draft) -> Result<(), PartRefusal>
+    ensures appends { OnOk result (Appends (store_code (layout_of site.now.program.now site.now.body.now) (location_tree location.now)) 1 draft.old.code draft.new.code) }
+{
     let count = location.count;
-    let fields = first_of_parts(location.parts.as_slice());
+    let fields = uncapped(first_of_parts(location.parts.as_slice()))?;
     match location.base {
         Base::Shared(number) => draft.put(Instr::Write(number, fields, count)),
         Base::Local(number) => {
-            let first = local_of(site.body, number)?.first.saturating_add(fields);
+            let first = uncapped(local_of(site.body, number)?.first.saturating_add(fields))?;
             if has_index(location.parts.as_slice()) {
                 draft.put(Instr::SetLocalAt(first, count))
             } else {
@@ -87,7 +110,9 @@ pub fn put_store(location: &Location, site: &Site, draft: &mut Draft) -> Result<
 }
 
 /// The test of the value on top, where there are bounds to test it against.
-pub fn put_check(bounds: Option<Bounds>, draft: &mut Draft) -> Result<(), PartRefusal> {
+pub fn put_check(bounds: Option<Bounds>, draft: &mut Draft) -> Result<(), PartRefusal>
+    ensures appends { OnOk result (Appends (check_code bounds) (length (check_code bounds)) draft.old.code draft.new.code) }
+{
     match bounds {
         Some(bounds) => draft.put(Instr::Check(bounds.low, bounds.high)),
         None => Ok(()),
@@ -95,7 +120,9 @@ pub fn put_check(bounds: Option<Bounds>, draft: &mut Draft) -> Result<(), PartRe
 }
 
 /// How many instructions test a value.
-pub fn check_size(bounds: Option<Bounds>) -> u32 {
+pub fn check_size(bounds: Option<Bounds>) -> u32
+    ensures { result ≡ length (check_code bounds) }
+{
     match bounds {
         Some(_) => 1,
         None => 0,

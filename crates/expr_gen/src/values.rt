@@ -1,6 +1,16 @@
 // Values: one recursion over expressions, the parts of locations, and arguments. `free` is the first free scratch local.
+ghost use Rattle.std.specs.Prelude.{◌≡◌, ◌+◌, true, pos, length, IfOk, OnOk, if◌then◌else◌, slice_get};
+ghost use Rattle.program_trees.specs.ExprTree.{expr_tree, location_tree, received_tree, received_of, call_tree, start_tree, range_tree, argument_tree};
+ghost use Rattle.program_trees.specs.ProgramTree.{body_row_tree};
+ghost use Rattle.code_scheme.specs.Pieces.{capped, has_index, first_of_parts, member_code, kept_behind};
+ghost use Rattle.code_types.specs.declared.instr.Instr.TheVariants as code;
+ghost use Rattle.code_scheme.specs.ExprSizes.{expr_size, place_size, indices_size, received_size, received_sizes, members_size, start_size, call_size, arguments_size};
+ghost use Rattle.code_scheme.specs.ExprCode.{expr_code, place_code, indices_code, received_code, received_codes, members_code, start_code, call_code, arguments_code, sum_code, cut_code, receive_code, counts_of};
+ghost use Rattle.expr_gen.specs.Trees.{parts_of, ranges_of, arguments_of, argument_code, argument_size, range_code, range_size};
+ghost use Rattle.expr_gen.specs.Putting.{Appends, layout_of};
+
 use crate::bounds::{bounds_of_value, tested};
-use crate::building::Draft;
+use crate::building::{Draft, sum, uncapped};
 use crate::copying::{keep_place, places_kept, put_copies_out, put_kept, put_lowest, tested_in};
 use crate::frames::{Site, body_of, call_results, first_free, parameter_scalars};
 use crate::locations::{first_of_parts, has_index, has_offset, put_check, put_contents};
@@ -9,7 +19,7 @@ use crate::refusal::PartRefusal;
 use crate::repeating::{put_copies, put_scalars};
 use crate::sizes::expr_size;
 use checked_program::{
-    Argument, Call, Checked, Expr, Location, Operation, Part, Range, Received, Start,
+    Argument, Body, Call, Checked, Expr, Location, Operation, Part, Range, Received, Start,
 };
 use code_types::Instr;
 use modes::Bounds;
@@ -27,8 +37,11 @@ pub fn expr_code(
 }
 
 /// Appends the code of an expression, which leaves its value on the stack.
+#[tactic(auto, using(crate::proofs::Views::tree_built))]
 #[cycle(value)]
-pub fn put_expr(expr: &Expr, site: &Site, free: u32, draft: &mut Draft) -> Result<(), PartRefusal> {
+pub fn put_expr(expr: &Expr, site: &Site, free: u32, draft: &mut Draft) -> Result<(), PartRefusal>
+    ensures appends { OnOk result (Appends (expr_code (layout_of site.now.program.now site.now.body.now) free (expr_tree expr.now) (length draft.old.code.instrs)) (expr_size (expr_tree expr.now)) draft.old.code draft.new.code) }
+{
     match &expr.operation {
         Operation::Constant(scalars) => put_scalars(scalars.as_slice(), draft),
         Operation::This => draft.put(Instr::This),
@@ -38,16 +51,8 @@ pub fn put_expr(expr: &Expr, site: &Site, free: u32, draft: &mut Draft) -> Resul
         }
         Operation::PartOf { of, parts } => {
             put_expr(of, site, free, draft)?;
-            put_part(
-                parts.as_slice(),
-                site,
-                free,
-                Cut {
-                    of: of.count,
-                    count: expr.count,
-                },
-                draft,
-            )
+            put_indices(parts.as_slice(), site, free, draft)?;
+            put_cut(parts.as_slice(), of.count, expr.count, draft)
         }
         Operation::Receive { buffer } => put_receive(*buffer, expr.count, free, draft),
         Operation::Start(start) => put_start(start, site, free, draft),
@@ -82,39 +87,30 @@ pub fn put_expr(expr: &Expr, site: &Site, free: u32, draft: &mut Draft) -> Resul
     }
 }
 
-// How many scalars a part has, and the value that it is a part of.
-#[derive(Clone, Copy)]
-struct Cut {
-    of: u32,
-    count: u32,
-}
-
-// The part of the value on top.
-#[cycle(value)]
-fn put_part(
-    parts: &[Part],
-    site: &Site,
-    free: u32,
-    cut: Cut,
-    draft: &mut Draft,
-) -> Result<(), PartRefusal> {
-    let fields = first_of_parts(parts);
-    if !has_index(parts) {
-        return draft.put(Instr::Part(fields, cut.count, cut.of));
+// The part of so many scalars of the value of so many scalars on top, behind its indices.
+fn put_cut(parts: &[Part], of: u32, count: u32, draft: &mut Draft) -> Result<(), PartRefusal>
+    ensures appends { OnOk result (Appends (cut_code (parts_of parts.now) count of) ((if has_index (parts_of parts.now) then length (member_code (pos (first_of_parts (parts_of parts.now)))) else 0) + 1) draft.old.code draft.new.code) }
+{
+    let fields = uncapped(first_of_parts(parts))?;
+    if has_index(parts) {
+        put_member(i64::from(fields), draft)?;
+        draft.put(Instr::PartAt(count, of))
+    } else {
+        draft.put(Instr::Part(fields, count, of))
     }
-    put_indices(parts, site, free, draft)?;
-    put_member(i64::from(fields), draft)?;
-    draft.put(Instr::PartAt(cut.count, cut.of))
 }
 
-// The offset to which the indices among the parts lead, of which there is one.
+// The offset to which the indices among the parts lead, where there is one.
+#[tactic(auto, using(crate::proofs::Views::tree_built))]
 #[cycle(value)]
 fn put_indices(
     parts: &[Part],
     site: &Site,
     free: u32,
     draft: &mut Draft,
-) -> Result<(), PartRefusal> {
+) -> Result<(), PartRefusal>
+    ensures appends { OnOk result (Appends (indices_code (layout_of site.now.program.now site.now.body.now) free true (parts_of parts.now) (length draft.old.code.instrs)) (indices_size true (parts_of parts.now)) draft.old.code draft.new.code) }
+{
     let mut is_first = true;
     for part in parts {
         match part {
@@ -135,7 +131,9 @@ fn put_indices(
 }
 
 // The sum of the offset on top and the one below it, where that isn't the first one.
-fn put_sum(is_first: bool, draft: &mut Draft) -> Result<(), PartRefusal> {
+fn put_sum(is_first: bool, draft: &mut Draft) -> Result<(), PartRefusal>
+    ensures appends { OnOk result (Appends (sum_code is_first) (length (sum_code is_first)) draft.old.code draft.new.code) }
+{
     if is_first {
         Ok(())
     } else {
@@ -145,13 +143,16 @@ fn put_sum(is_first: bool, draft: &mut Draft) -> Result<(), PartRefusal> {
 
 /// Appends the code of a location's place: the offset of its indices, where it has one. It stands below a value that is
 /// assigned.
+#[tactic(auto, using(crate::proofs::Views::tree_built))]
 #[cycle(value)]
 pub fn put_place(
     location: &Location,
     site: &Site,
     free: u32,
     draft: &mut Draft,
-) -> Result<(), PartRefusal> {
+) -> Result<(), PartRefusal>
+    ensures appends { OnOk result (Appends (place_code (layout_of site.now.program.now site.now.body.now) free (location_tree location.now) (length draft.old.code.instrs)) (place_size (location_tree location.now)) draft.old.code draft.new.code) }
+{
     let parts = location.parts.as_slice();
     if has_index(parts) {
         put_indices(parts, site, free, draft)
@@ -163,7 +164,9 @@ pub fn put_place(
 }
 
 // A value that is received from a buffer.
-fn put_receive(buffer: u32, count: u32, free: u32, draft: &mut Draft) -> Result<(), PartRefusal> {
+fn put_receive(buffer: u32, count: u32, free: u32, draft: &mut Draft) -> Result<(), PartRefusal>
+    ensures appends { OnOk result (Appends (receive_code buffer count free) 6 draft.old.code draft.new.code) }
+{
     draft.put(Instr::Thing(buffer))?;
     draft.put(Instr::Push(i64::from(free)))?;
     draft.put(Instr::Push(i64::from(count)))?;
@@ -173,25 +176,31 @@ fn put_receive(buffer: u32, count: u32, free: u32, draft: &mut Draft) -> Result<
 }
 
 /// Appends the code of a value that something takes, with its test.
+#[tactic(auto, using(crate::proofs::Views::tree_built))]
 #[cycle(value)]
 pub fn put_received(
     received: &Received,
     site: &Site,
     free: u32,
     draft: &mut Draft,
-) -> Result<(), PartRefusal> {
+) -> Result<(), PartRefusal>
+    ensures appends { OnOk result (Appends (received_code (layout_of site.now.program.now site.now.body.now) free (received_tree received.now) (length draft.old.code.instrs)) (received_size (received_tree received.now)) draft.old.code draft.new.code) }
+{
     put_expr(&received.value, site, free, draft)?;
     put_check(tested(received), draft)
 }
 
 /// Appends the code of values that are taken one behind the other, each with its test.
+#[tactic(auto, using(crate::proofs::Views::tree_built))]
 #[cycle(value)]
 pub fn put_all_received(
     all: &[Received],
     site: &Site,
     free: u32,
     draft: &mut Draft,
-) -> Result<(), PartRefusal> {
+) -> Result<(), PartRefusal>
+    ensures appends { OnOk result (Appends (received_codes (layout_of site.now.program.now site.now.body.now) free (received_of all.now) (length draft.old.code.instrs)) (received_sizes (received_of all.now)) draft.old.code draft.new.code) }
+{
     for received in all {
         put_received(received, site, free, draft)?;
     }
@@ -199,20 +208,27 @@ pub fn put_all_received(
 }
 
 /// Appends the code of a process's start, which leaves its instance on the stack.
+#[tactic(auto, using(crate::proofs::Views::tree_built))]
 #[cycle(value)]
 pub fn put_start(
     start: &Start,
     site: &Site,
     free: u32,
     draft: &mut Draft,
-) -> Result<(), PartRefusal> {
+) -> Result<(), PartRefusal>
+    ensures appends { OnOk result (Appends (start_code (layout_of site.now.program.now site.now.body.now) free (start_tree start.now) (length draft.old.code.instrs)) (start_size (start_tree start.now)) draft.old.code draft.new.code) }
+{
     let arguments = start.arguments.as_slice();
     put_all_received(arguments, site, free, draft)?;
-    draft.put(Instr::Start(start.process, scalars_of(arguments)))
+    let count = uncapped(scalars_of(arguments))?;
+    draft.put(Instr::Start(start.process, count))
 }
 
 /// How many scalars values have together.
-pub fn scalars_of(all: &[Received]) -> u32 {
+#[tactic(auto, using(crate::proofs::Views::tree_built))]
+pub fn scalars_of(all: &[Received]) -> u32
+    ensures { result ≡ capped (counts_of (received_of all.now)) }
+{
     let mut count = 0u32;
     for received in all {
         count = count.saturating_add(received.value.count);
@@ -221,6 +237,7 @@ pub fn scalars_of(all: &[Received]) -> u32 {
 }
 
 // A powerset of members from the first bound to the second.
+#[tactic(auto, using(crate::proofs::Views::tree_built))]
 #[cycle(value)]
 fn put_powerset(
     members: &[Range],
@@ -228,56 +245,104 @@ fn put_powerset(
     site: &Site,
     free: u32,
     draft: &mut Draft,
-) -> Result<(), PartRefusal> {
-    let offset = Instr::Index(bounds.low, bounds.high, 1);
+) -> Result<(), PartRefusal>
+    ensures appends { OnOk result (Appends (code.Push (pos 0) ∷ members_code (layout_of site.now.program.now site.now.body.now) free bounds (ranges_of members.now) (length draft.old.code.instrs + 1)) (1 + members_size (ranges_of members.now)) draft.old.code draft.new.code) }
+{
     draft.put(Instr::Push(0))?;
     for range in members {
-        put_expr(&range.first, site, free, draft)?;
-        draft.put(offset)?;
-        match &range.last {
-            Some(last) => {
-                put_expr(last, site, free, draft)?;
-                draft.put(offset)?;
-            }
-            None => draft.put(Instr::Copy(1))?,
-        }
-        draft.put(Instr::Span)?;
-        draft.put(Instr::BitOr)?;
+        put_range(range, bounds, site, free, draft)?;
     }
     Ok(())
 }
 
+// The powerset on top with the members of a range besides.
+#[tactic(auto, using(crate::proofs::Views::tree_built))]
+#[cycle(value)]
+fn put_range(
+    range: &Range,
+    bounds: Bounds,
+    site: &Site,
+    free: u32,
+    draft: &mut Draft,
+) -> Result<(), PartRefusal>
+    ensures appends { OnOk result (Appends (range_code (layout_of site.now.program.now site.now.body.now) free bounds (range_tree range.now) (length draft.old.code.instrs)) (range_size (range_tree range.now)) draft.old.code draft.new.code) }
+{
+    let offset = Instr::Index(bounds.low, bounds.high, 1);
+    put_expr(&range.first, site, free, draft)?;
+    draft.put(offset)?;
+    match &range.last {
+        Some(last) => {
+            put_expr(last, site, free, draft)?;
+            draft.put(offset)?;
+        }
+        None => draft.put(Instr::Copy(1))?,
+    }
+    draft.put(Instr::Span)?;
+    draft.put(Instr::BitOr)
+}
+
 /// Appends the code of a call, which leaves the scalars of its result on the stack. The places of its OUT and INOUT
 /// arguments that have an offset are kept in scratch locals, one behind the other.
+#[tactic(auto, using(crate::proofs::Views::tree_built))]
 #[cycle(value)]
-pub fn put_call(call: &Call, site: &Site, free: u32, draft: &mut Draft) -> Result<(), PartRefusal> {
+pub fn put_call(call: &Call, site: &Site, free: u32, draft: &mut Draft) -> Result<(), PartRefusal>
+    ensures appends { OnOk result (Appends (call_code (layout_of site.now.program.now site.now.body.now) free (call_tree call.now) (length draft.old.code.instrs)) (call_size (call_tree call.now)) draft.old.code draft.new.code) }
+{
     let callee = body_of(site.program, call.body)?;
     let arguments = call.arguments.as_slice();
-    let mut kept = free;
-    let mut parameter = 0u32;
-    for argument in arguments {
-        put_argument(argument, site, kept, draft)?;
-        put_lowest(argument, callee, parameter, draft)?;
-        kept = kept.saturating_add(places_kept(argument));
-        parameter = parameter.saturating_add(1);
-    }
+    let kept = put_arguments(arguments, callee, site, free, draft)?;
     draft.put_call(call.body, parameter_scalars(callee), call_results(callee))?;
     put_copies_out(arguments, site, free, kept, draft)
 }
 
-// What an argument gives to its parameter where that is copied in, and the place of its location, which is kept.
+// The arguments of a call, and the scratch local behind the places that are kept.
+#[tactic(auto, using(crate::proofs::Views::tree_built))]
 #[cycle(value)]
-fn put_argument(
-    argument: &Argument,
+fn put_arguments(
+    arguments: &[Argument],
+    callee: &Body,
     site: &Site,
     free: u32,
     draft: &mut Draft,
-) -> Result<(), PartRefusal> {
+) -> Result<u32, PartRefusal>
+    ensures appends { OnOk result (Appends (arguments_code (layout_of site.now.program.now site.now.body.now) (body_row_tree callee.now).locals 0 free (arguments_of arguments.now) (length draft.old.code.instrs)) (arguments_size (arguments_of arguments.now)) draft.old.code draft.new.code) }
+    ensures kept { IfOk result (λ kept. kept ≡ kept_behind (arguments_of arguments.now) free) }
+{
+    let mut kept = free;
+    let mut parameter = 0u32;
+    for argument in arguments {
+        put_argument(argument, Taker { callee, parameter }, site, kept, draft)?;
+        kept = sum(kept, places_kept(argument))?;
+        parameter = sum(parameter, 1)?;
+    }
+    Ok(kept)
+}
+
+// The parameter of a procedure that an argument is for.
+#[derive(Clone, Copy)]
+struct Taker<'a> {
+    callee: &'a Body,
+    parameter: u32,
+}
+
+// What an argument gives to its parameter, and the place of its location, which is kept.
+#[tactic(auto, using(crate::proofs::Views::tree_built))]
+#[cycle(value)]
+fn put_argument(
+    argument: &Argument,
+    taker: Taker,
+    site: &Site,
+    free: u32,
+    draft: &mut Draft,
+) -> Result<(), PartRefusal>
+    ensures appends { OnOk result (Appends (argument_code (layout_of site.now.program.now site.now.body.now) (body_row_tree taker.entry.callee.now).locals taker.entry.parameter free (argument_tree argument.now) (length draft.old.code.instrs)) (argument_size (argument_tree argument.now)) draft.old.code draft.new.code) }
+{
     match argument {
         Argument::In(received) => put_received(received, site, free, draft),
         Argument::Out { target, .. } => {
             put_place(target, site, free, draft)?;
-            keep_place(target, free, draft)
+            keep_place(target, free, draft)?;
+            put_lowest(taker.callee, taker.parameter, target.count, draft)
         }
         Argument::InOut {
             target,
