@@ -11,5 +11,3 @@ pub mod StatementCode
 pub mod StatementRows
 pub mod BodyItems
 pub mod BodyCode
-pub mod ExprParts
-pub mod Appended

@@ -10,8 +10,8 @@ pub nothing : (x : Code) → Appends [] 0 x x
 nothing x = record { instrs = sym (append-nil x.instrs); length = omega arith; handlers = refl; bodies = refl }
 
 -- one part behind another
-pub then : {a b : List Instr} {m n : ℕ} {x y z : Code} → Appends a m x y → Appends b n y z → Appends (a ++ b) (m + n) x z
-then {a} {b} {m} {n} {x} {y} {z} p q = record {
+pub and_then : {a b : List Instr} {m n : ℕ} {x y z : Code} → Appends a m x y → Appends b n y z → Appends (a ++ b) (m + n) x z
+and_then {a} {b} {m} {n} {x} {y} {z} p q = record {
   instrs = q.instrs ∙ ap (λ is. is ++ b) p.instrs ∙ append_assoc x.instrs a b;
   length = omega (arith, p.length, q.length);
   handlers = q.handlers ∙ p.handlers;

@@ -13,13 +13,13 @@ use Rattle.checked_program.specs.declared.expr.Expr.{Expr, out-Expr}
 use Rattle.checked_program.specs.declared.expr.Part.{Part}
 use Rattle.program_trees.specs.ExprTree.{ExprTree, expr, OperationTree, part_of, call, binary, ReceivedTree, ReceivedNodes, received, more_received, PartNodes, no_parts, field, element, PartTree, one_field, one_element, with_part, RangeTree, RangeNodes, alone, between, with_range, LocationTree, location, StartTree, started, CallTree, called, ArgumentTree, ArgumentNodes, taken, given, both, with_argument, root_bounds, count_of, expr_tree, operation_tree}
 use Rattle.program_trees.specs.ProgramTree.{LocalRowTree}
-use Rattle.code_scheme.specs.Pieces.{Layout, check_code, tested, bounds_of_value, between_code, between_size, behind_code, behind_size, has_index, first_of_parts, member_code, copies_out, kept_behind, rows_of}
-use Rattle.code_scheme.specs.ExprSizes.{expr_size, operation_size, indices_size, received_size, received_sizes, members_size, start_size, call_size, arguments_size, copies_out_size, sum_size}
-use Rattle.code_scheme.specs.ExprCode.{expr_code, operation_code, indices_code, received_code, received_codes, members_code, start_code, call_code, arguments_code, sum_code, cut_code, counts_of}
+use Rattle.code_scheme.specs.Pieces.{Layout, check_code, tested, bounds_of_value, between_code, between_size, behind_code, behind_size, branch_code, branch_size, straight, turned, has_index, first_of_parts, member_code, copies_out, kept_behind, rows_of}
+use Rattle.code_scheme.specs.ExprSizes.{expr_size, operation_size, indices_size, received_size, received_sizes, members_size, start_size, call_size, arguments_size, copies_out_size, sum_size, condition_size}
+use Rattle.code_scheme.specs.ExprCode.{expr_code, operation_code, indices_code, received_code, received_codes, members_code, start_code, call_code, arguments_code, sum_code, cut_code, counts_of, condition_code}
 use Rattle.code_scheme.proofs.Lemmas.{no_index-size}
 use Rattle.expr_gen.specs.Putting.{Appends}
-use Rattle.expr_gen.specs.Trees.{range_code, range_size, argument_code, argument_size, places_kept, copy_out, copying_size}
-use Rattle.expr_gen.proofs.Appending.{then, resized}
+use Rattle.expr_gen.specs.Trees.{compared_code, compared_size, plain_condition, plain_size, range_code, range_size, argument_code, argument_size, places_kept, copy_out, copying_size}
+use Rattle.expr_gen.proofs.Appending.{and_then, resized}
 use Rattle.expr_gen.proofs.Views.{expr_tree-out}
 
 -- a part at a place that is told in another form
@@ -46,8 +46,8 @@ pub binary_made : (lay : Layout) (free n : ℕ) (o : Binary) (a b : ExprTree) {x
     → Appends (behind_code o (count_of a)) (behind_size o) y3 z
     → Appends (operation_code lay free n (binary o a b) (length x.instrs)) (operation_size (binary o a b)) x z
 binary_made lay free n o a b {x} p q r s =
-    then p (then (moved (λ at. between_code o (bounds_of_value a) at (expr_size b)) p.length q)
-    (then (moved (λ at. expr_code lay free b at) (omega (arith, p.length, q.length)) r) s))
+    and_then p (and_then (moved (λ at. between_code o (bounds_of_value a) at (expr_size b)) p.length q)
+    (and_then (moved (λ at. expr_code lay free b at) (omega (arith, p.length, q.length)) r) s))
 
 -- ---- parts
 
@@ -62,8 +62,8 @@ pub part_made : (lay : Layout) (free n : ℕ) (e : ExprTree) (ps : PartNodes) {x
     → Appends (cut_code ps n (count_of e)) ((if has_index ps then length (member_code (pos (first_of_parts ps))) else 0) + 1) y2 z
     → Appends (operation_code lay free n (part_of e ps) (length x.instrs)) (operation_size (part_of e ps)) x z
 part_made lay free n e ps p q r =
-    then p (resized (no_index (has_index ps) (indices_size true ps) (length (member_code (pos (first_of_parts ps)))) (no_index-size true ps))
-    (then (moved (λ at. indices_code lay free true ps at) p.length q) r))
+    and_then p (resized (no_index (has_index ps) (indices_size true ps) (length (member_code (pos (first_of_parts ps)))) (no_index-size true ps))
+    (and_then (moved (λ at. indices_code lay free true ps at) p.length q) r))
 
 -- an index, behind which there are further parts
 pub index_made : (lay : Layout) (free : ℕ) (is_first : Bool) (e : ExprTree) (b : Bounds) (count : ℕ) (ps : PartNodes) {x y1 y2 y3 z : Code}
@@ -73,7 +73,7 @@ pub index_made : (lay : Layout) (free : ℕ) (is_first : Bool) (e : ExprTree) (b
     → Appends (indices_code lay free false ps (length y3.instrs)) (indices_size false ps) y3 z
     → Appends (indices_code lay free is_first (element e b count ps) (length x.instrs)) (indices_size is_first (element e b count ps)) x z
 index_made lay free is_first e b count ps p q r s =
-    then p (then q (then r (moved (λ at. indices_code lay free false ps at) (omega (arith, p.length, q.length, r.length)) s)))
+    and_then p (and_then q (and_then r (moved (λ at. indices_code lay free false ps at) (omega (arith, p.length, q.length, r.length)) s)))
 
 -- ---- values that something takes
 
@@ -81,13 +81,13 @@ pub received_made : (lay : Layout) (free : ℕ) (e : ExprTree) (b : Option Bound
     → Appends (expr_code lay free e (length x.instrs)) (expr_size e) x y
     → Appends (check_code (tested (received e b))) (length (check_code (tested (received e b)))) y z
     → Appends (received_code lay free (received e b) (length x.instrs)) (received_size (received e b)) x z
-received_made lay free e b p q = then p q
+received_made lay free e b p q = and_then p q
 
 pub more_made : (lay : Layout) (free : ℕ) (r : ReceivedTree) (rs : ReceivedNodes) {x y z : Code}
     → Appends (received_code lay free r (length x.instrs)) (received_size r) x y
     → Appends (received_codes lay free rs (length y.instrs)) (received_sizes rs) y z
     → Appends (received_codes lay free (more_received r rs) (length x.instrs)) (received_sizes (more_received r rs)) x z
-more_made lay free r rs p q = then p (moved (λ at. received_codes lay free rs at) p.length q)
+more_made lay free r rs p q = and_then p (moved (λ at. received_codes lay free rs at) p.length q)
 
 -- ---- members of powersets
 
@@ -97,7 +97,7 @@ pub range_made : (lay : Layout) (free : ℕ) (b : Bounds) (r : RangeTree) (rs : 
     → Appends (members_code lay free b (with_range r rs) (length x.instrs)) (members_size (with_range r rs)) x z
 range_made lay free b (alone e) rs {x} {y} {z} p q =
     let at : length y.instrs ≡ length x.instrs + expr_size e + 4 = omega (arith, p.length) in
-    let all = then p (moved (λ at. members_code lay free b rs at) at q) in
+    let all = and_then p (moved (λ at. members_code lay free b rs at) at q) in
     record {
       instrs = all.instrs ∙ ap (λ is. x.instrs ++ is) (append_assoc (expr_code lay free e (length x.instrs)) _ _);
       length = omega (arith, all.length);
@@ -106,7 +106,7 @@ range_made lay free b (alone e) rs {x} {y} {z} p q =
     }
 range_made lay free b (between e f) rs {x} {y} {z} p q =
     let at : length y.instrs ≡ length x.instrs + expr_size e + 1 + expr_size f + 3 = omega (arith, p.length) in
-    let all = then p (moved (λ at. members_code lay free b rs at) at q) in
+    let all = and_then p (moved (λ at. members_code lay free b rs at) at q) in
     record {
       instrs = all.instrs ∙ ap (λ is. x.instrs ++ is) (append_assoc (expr_code lay free e (length x.instrs)) _ _ ∙ ap (λ is. expr_code lay free e (length x.instrs) ++ is) (ap (λ is. i.Index b.low b.high 1 ∷ is) (append_assoc (expr_code lay free f (length x.instrs + expr_size e + 1)) _ _)));
       length = omega (arith, all.length);
@@ -120,21 +120,48 @@ pub argument_made : (lay : Layout) (rows : List LocalRowTree) (k kept : ℕ) (a 
     → Appends (argument_code lay rows k kept a (length x.instrs)) (argument_size a) x y
     → Appends (arguments_code lay rows (k + 1) (kept + places_kept a) as' (length y.instrs)) (arguments_size as') y z
     → Appends (arguments_code lay rows k kept (with_argument a as') (length x.instrs)) (arguments_size (with_argument a as')) x z
-argument_made lay rows k kept (taken r) as' p q = then p (moved (λ at. arguments_code lay rows (k + 1) kept as' at) p.length (subst (λ m. Appends (arguments_code lay rows (k + 1) m as' _) _ _ _) (omega arith) q))
-argument_made lay rows k kept (given (location b ps n) bounds) as' p q = then p (moved (λ at. arguments_code lay rows (k + 1) _ as' at) p.length q)
-argument_made lay rows k kept (both l taken_by bounds) as' p q = then p (moved (λ at. arguments_code lay rows (k + 1) _ as' at) p.length q)
+argument_made lay rows k kept (taken r) as' p q = and_then p (moved (λ at. arguments_code lay rows (k + 1) kept as' at) p.length (subst (λ m. Appends (arguments_code lay rows (k + 1) m as' _) _ _ _) (omega arith) q))
+argument_made lay rows k kept (given (location b ps n) bounds) as' p q = and_then p (moved (λ at. arguments_code lay rows (k + 1) _ as' at) p.length q)
+argument_made lay rows k kept (both l taken_by bounds) as' p q = and_then p (moved (λ at. arguments_code lay rows (k + 1) _ as' at) p.length q)
 
 pub copied_made : (lay : Layout) (kept free : ℕ) (a : ArgumentTree) (as' : ArgumentNodes) {x y z : Code}
     → Appends (copy_out lay a kept free) (copying_size a) x y
     → Appends (copies_out lay as' (kept + places_kept a) free) (copies_out_size as') y z
     → Appends (copies_out lay (with_argument a as') kept free) (copies_out_size (with_argument a as')) x z
-copied_made lay kept free (taken r) as' p q = then p (subst (λ m. Appends (copies_out lay as' m free) _ _ _) (omega arith) q)
-copied_made lay kept free (given l bounds) as' p q = then p q
-copied_made lay kept free (both l taken_by bounds) as' p q = then p q
+copied_made lay kept free (taken r) as' p q = and_then p (subst (λ m. Appends (copies_out lay as' m free) _ _ _) (omega arith) q)
+copied_made lay kept free (given l bounds) as' p q = and_then p q
+copied_made lay kept free (both l taken_by bounds) as' p q = and_then p q
 
 pub call_made : (lay : Layout) (free b : ℕ) (as' : ArgumentNodes) {x y1 y2 z : Code}
     → Appends (arguments_code lay (rows_of (slice_get lay.program.bodies b)) 0 free as' (length x.instrs)) (arguments_size as') x y1
     → Appends (i.Call b ∷ []) 1 y1 y2
     → Appends (copies_out lay as' free (kept_behind as' free)) (copies_out_size as') y2 z
     → Appends (call_code lay free (called b as') (length x.instrs)) (call_size (called b as')) x z
-call_made lay free b as' p q r = then p (then q r)
+call_made lay free b as' p q r = and_then p (and_then q r)
+
+-- ---- conditions
+
+pub compared_made : (lay : Layout) (free : ℕ) (o : Binary) (a b : ExprTree) (when : Bool) (target : ℕ) {x y1 y2 y3 y4 z : Code}
+    → Appends (expr_code lay free a (length x.instrs)) (expr_size a) x y1
+    → Appends (between_code o (bounds_of_value a) (length y1.instrs) (expr_size b)) (between_size o (bounds_of_value a)) y1 y2
+    → Appends (expr_code lay free b (length y2.instrs)) (expr_size b) y2 y3
+    → Appends (behind_code (straight o) (count_of a)) (behind_size (straight o)) y3 y4
+    → Appends (branch_code (turned o when) target (length y4.instrs)) (branch_size (turned o when)) y4 z
+    → Appends (compared_code lay free o a b when target (length x.instrs)) (compared_size o a b when) x z
+compared_made lay free o a b when target {x} p q r s t =
+    and_then p (and_then (moved (λ at. between_code o (bounds_of_value a) at (expr_size b)) p.length q)
+    (and_then (moved (λ at. expr_code lay free b at) (omega (arith, p.length, q.length)) r)
+    (and_then s (moved (λ at. branch_code (turned o when) target at) (omega (arith, p.length, q.length, r.length, s.length)) t))))
+
+pub plain_made : (lay : Layout) (free : ℕ) (e : ExprTree) (when : Bool) (target : ℕ) {x y z : Code}
+    → Appends (expr_code lay free e (length x.instrs)) (expr_size e) x y
+    → Appends (branch_code when target (length y.instrs)) (branch_size when) y z
+    → Appends (plain_condition lay free e when target (length x.instrs)) (plain_size e when) x z
+plain_made lay free e when target p q = and_then p (moved (λ at. branch_code when target at) p.length q)
+
+-- two conditions, of which one value decides the whole
+pub both_made : (lay : Layout) (free : ℕ) (a b : ExprTree) (value when : Bool) (target first : ℕ) {x y z : Code}
+    → Appends (condition_code lay free a value first (length x.instrs)) (condition_size a value) x y
+    → Appends (condition_code lay free b when target (length y.instrs)) (condition_size b when) y z
+    → Appends (condition_code lay free a value first (length x.instrs) ++ condition_code lay free b when target (length x.instrs + condition_size a value)) (condition_size a value + condition_size b when) x z
+both_made lay free a b value when target first p q = and_then p (moved (λ at. condition_code lay free b when target at) p.length q)
