@@ -14,6 +14,13 @@ pub record Appends (made : List Instr) (size : ℕ) (old new : Code) : Type 0 wh
   pub handlers : new.handlers ≡ old.handlers
   pub bodies : new.bodies ≡ old.bodies
 
+-- What stood in the code stands there still. Instructions may stand behind it, and nothing else in it is changed.
+pub record Keeps (old new : Code) : Type 0 where
+  pub more : List Instr
+  pub instrs : new.instrs ≡ old.instrs ++ more
+  pub handlers : new.handlers ≡ old.handlers
+  pub bodies : new.bodies ≡ old.bodies
+
 -- One instruction is appended to the code, and nothing else in it is changed.
 abbrev pub Puts : Instr → Code → Code → Type 0
 Puts instr old new = Appends (instr ∷ []) 1 old new

@@ -2,7 +2,7 @@
 ghost use Rattle.std.specs.Prelude.{◌≡◌, ℕ, ◌+◌, length, IfOk, OnOk, OnErr};
 ghost use Rattle.code_types.specs.declared.instr.Instr.TheVariants.{Call};
 ghost use Rattle.code_scheme.specs.Pieces.{capped};
-ghost use Rattle.expr_gen.specs.Putting.{Puts};
+ghost use Rattle.expr_gen.specs.Putting.{Puts, Keeps};
 
 use crate::refusal::PartRefusal;
 use chill_base::{List, Numbers};
@@ -76,6 +76,7 @@ impl Draft {
     pub fn put(&mut self, instr: Instr) -> Result<(), PartRefusal>
         ensures puts { OnOk result (Puts instr self.old.code self.new.code) }
         ensures left { OnErr result (self.new.code ≡ self.old.code) }
+        ensures keeps { Keeps self.old.code self.new.code }
     {
         self.put_counted(instr, taken(instr), given(instr))
     }
@@ -84,13 +85,16 @@ impl Draft {
     pub fn put_call(&mut self, body: u32, params: u32, results: u32) -> Result<(), PartRefusal>
         ensures puts { OnOk result (Puts (Call body) self.old.code self.new.code) }
         ensures left { OnErr result (self.new.code ≡ self.old.code) }
+        ensures keeps { Keeps self.old.code self.new.code }
     {
         self.put_counted(Instr::Call(body), params, results)
     }
 
+    #[tactic(auto, using(crate::proofs::Appending::keeping))]
     fn put_counted(&mut self, instr: Instr, taken: u32, given: u32) -> Result<(), PartRefusal>
         ensures puts { OnOk result (Puts instr self.old.code self.new.code) }
         ensures left { OnErr result (self.new.code ≡ self.old.code) }
+        ensures keeps { Keeps self.old.code self.new.code }
     {
         self.code.instrs.push(instr)?;
         self.height = self.height.saturating_sub(taken).saturating_add(given);
@@ -162,7 +166,7 @@ fn locals_named(instr: Instr) -> u32 {
     }
 }
 
-// How many numbers an instruction other than Call takes off the stack. What Return takes nobody asks.
+// How many numbers an instruction takes off the stack. What Call takes its body says; what Return takes nobody asks.
 fn taken(instr: Instr) -> u32 {
     match instr {
         Instr::Pop(count) | Instr::SetLocal(_, count) => count,
@@ -182,11 +186,15 @@ fn taken(instr: Instr) -> u32 {
         Instr::And | Instr::Or | Instr::Xor => 2,
         Instr::BitAnd | Instr::BitOr | Instr::BitXor | Instr::BitMinus => 2,
         Instr::Within | Instr::Has | Instr::Span => 2,
-        _ => 0,
+        Instr::Push(_) | Instr::Copy(_) | Instr::Thing(_) | Instr::Local(_, _) => 0,
+        Instr::Check(_, _) | Instr::This | Instr::GetInt => 0,
+        Instr::Jump(_) | Instr::Again(_) | Instr::Call(_) | Instr::Return => 0,
+        Instr::Enter(_) | Instr::Leave(_) | Instr::Raise(_) | Instr::Continue(_) => 0,
+        Instr::PutLine | Instr::Stop | Instr::Finish => 0,
     }
 }
 
-// How many numbers an instruction other than Call puts onto the stack.
+// How many numbers an instruction puts onto the stack. What Call gives its body says.
 fn given(instr: Instr) -> u32 {
     match instr {
         Instr::Copy(count) | Instr::Local(_, count) | Instr::LocalAt(_, count) => count,
@@ -201,6 +209,10 @@ fn given(instr: Instr) -> u32 {
         Instr::BitNot(_) | Instr::Card | Instr::Least | Instr::Most => 1,
         Instr::BitAnd | Instr::BitOr | Instr::BitXor | Instr::BitMinus => 1,
         Instr::Within | Instr::Has | Instr::Span => 1,
-        _ => 0,
+        Instr::Pop(_) | Instr::SetLocal(_, _) | Instr::SetLocalAt(_, _) | Instr::Check(_, _) => 0,
+        Instr::Jump(_) | Instr::Unless(_) | Instr::Again(_) | Instr::Call(_) | Instr::Return => 0,
+        Instr::Enter(_) | Instr::Leave(_) | Instr::Raise(_) | Instr::Write(_, _, _) => 0,
+        Instr::Continue(_) | Instr::Send(_, _, _) | Instr::Signal(_, _, _, _) => 0,
+        Instr::PutInt | Instr::PutText(_) | Instr::PutLine | Instr::Stop | Instr::Finish => 0,
     }
 }

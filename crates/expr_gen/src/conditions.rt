@@ -1,4 +1,5 @@
 // Conditions: control goes on behind them or jumps, by what they are. No Boolean is made where a jump tells it.
+#![tactic(auto, using(crate::proofs::Appending::keeping))]
 
 ghost use Rattle.std.specs.Prelude.{◌≡◌, ◌+◌, ◌++◌, not, length, IfOk, OnOk, if◌then◌else◌};
 ghost use Rattle.program_trees.specs.ExprTree.{expr_tree};
@@ -6,7 +7,7 @@ ghost use Rattle.code_scheme.specs.Pieces.{capped, branch_code, branch_size, dec
 ghost use Rattle.code_scheme.specs.ExprSizes.{expr_size, condition_size};
 ghost use Rattle.code_scheme.specs.ExprCode.{expr_code, condition_code, first_target};
 ghost use Rattle.expr_gen.specs.Trees.{compared_code, compared_size, plain_condition, plain_size};
-ghost use Rattle.expr_gen.specs.Putting.{Appends, layout_of};
+ghost use Rattle.expr_gen.specs.Putting.{Appends, Keeps, layout_of};
 
 use crate::bounds::bounds_of_value;
 use crate::building::{Draft, uncapped};
@@ -53,7 +54,7 @@ struct Operands<'a> {
 }
 
 /// Appends the code of a condition, which leaves nothing on the stack.
-#[tactic(auto, using(crate::proofs::Views::tree_built))]
+#[tactic(auto, using(crate::proofs::Views::tree_built, crate::proofs::Appending::keeping))]
 #[cycle(condition)]
 pub fn put_condition(
     condition: &Expr,
@@ -63,6 +64,7 @@ pub fn put_condition(
     draft: &mut Draft,
 ) -> Result<(), PartRefusal>
     ensures appends { OnOk result (Appends (condition_code (layout_of site.now.program.now site.now.body.now) free (expr_tree condition.now) branch.when branch.target (length draft.old.code.instrs)) (condition_size (expr_tree condition.now) branch.when) draft.old.code draft.new.code) }
+    ensures keeps { Keeps draft.old.code draft.new.code }
 {
     match &condition.operation {
         Operation::Prefixed { operator, operand } => match operator {
@@ -114,6 +116,7 @@ fn put_plain(
     draft: &mut Draft,
 ) -> Result<(), PartRefusal>
     ensures appends { OnOk result (Appends (plain_condition (layout_of site.now.program.now site.now.body.now) free (expr_tree condition.now) branch.when branch.target (length draft.old.code.instrs)) (plain_size (expr_tree condition.now) branch.when) draft.old.code draft.new.code) }
+    ensures keeps { Keeps draft.old.code draft.new.code }
 {
     put_expr(condition, site, free, draft)?;
     put_branch(branch, draft)
@@ -161,6 +164,7 @@ fn put_compared(
     draft: &mut Draft,
 ) -> Result<(), PartRefusal>
     ensures appends { OnOk result (Appends (compared_code (layout_of site.now.program.now site.now.body.now) free operands.entry.operator (expr_tree operands.entry.left.now) (expr_tree operands.entry.right.now) branch.when branch.target (length draft.old.code.instrs)) (compared_size operands.entry.operator (expr_tree operands.entry.left.now) (expr_tree operands.entry.right.now) branch.when) draft.old.code draft.new.code) }
+    ensures keeps { Keeps draft.old.code draft.new.code }
 {
     let Operands {
         operator,
@@ -199,6 +203,7 @@ fn is_turned(operator: Binary) -> bool
 /// Jumps by the Boolean on top.
 pub fn put_branch(branch: Branch, draft: &mut Draft) -> Result<(), PartRefusal>
     ensures appends { OnOk result (Appends (branch_code branch.when branch.target (length draft.old.code.instrs)) (branch_size branch.when) draft.old.code draft.new.code) }
+    ensures keeps { Keeps draft.old.code draft.new.code }
 {
     if !branch.when {
         return draft.put(Instr::Unless(branch.target));
@@ -209,7 +214,7 @@ pub fn put_branch(branch: Branch, draft: &mut Draft) -> Result<(), PartRefusal>
 }
 
 /// How many instructions the code of a condition has that jumps where it has this value.
-#[tactic(auto, using(crate::proofs::Views::tree_built))]
+#[tactic(auto, using(crate::proofs::Views::tree_built, crate::proofs::Appending::keeping))]
 #[cycle(condition_size)]
 pub fn condition_size(condition: &Expr, when: bool) -> u32
     ensures { result ≡ capped (condition_size (expr_tree condition.now) when) }

@@ -1,11 +1,12 @@
 // OUT and INOUT arguments: places that are kept over a call, the lowest values that go in, and what is copied out.
+#![tactic(auto, using(crate::proofs::Appending::keeping))]
 ghost use Rattle.std.specs.Prelude.{◌≡◌, ◌+◌, length, slice_get, OnOk};
 ghost use Rattle.program_trees.specs.ExprTree.{argument_tree, location_tree};
 ghost use Rattle.program_trees.specs.ProgramTree.{body_row_tree};
 ghost use Rattle.code_scheme.specs.Pieces.{pushes, lowest_in_row, offsets_kept, keep_code, kept_code, under_code, tested_in, copies_out};
 ghost use Rattle.code_scheme.specs.ExprSizes.{copies_out_size, copy_out_size};
 ghost use Rattle.expr_gen.specs.Trees.{arguments_of, places_kept, copy_out, copying_size};
-ghost use Rattle.expr_gen.specs.Putting.{Appends, layout_of};
+ghost use Rattle.expr_gen.specs.Putting.{Appends, Keeps, layout_of};
 
 use crate::bounds::{INT, bounds_to_test};
 use crate::building::{Draft, sum};
@@ -18,7 +19,7 @@ use code_types::Instr;
 use modes::{Bounds, add_lowest};
 
 /// How many scratch locals an argument keeps over the call: one for a place with an offset.
-#[tactic(auto, using(crate::proofs::Views::tree_built))]
+#[tactic(auto, using(crate::proofs::Views::tree_built, crate::proofs::Appending::keeping))]
 pub fn places_kept(argument: &Argument) -> u32
     ensures { result ≡ places_kept (argument_tree argument.now) }
 {
@@ -38,6 +39,7 @@ pub fn offsets_kept(target: &Location) -> u32
 /// Keeps the place on top in a scratch local, where it has an offset.
 pub fn keep_place(target: &Location, kept: u32, draft: &mut Draft) -> Result<(), PartRefusal>
     ensures appends { OnOk result (Appends (keep_code (location_tree target.now) kept) (offsets_kept (location_tree target.now)) draft.old.code draft.new.code) }
+    ensures keeps { Keeps draft.old.code draft.new.code }
 {
     if has_offset(target) {
         draft.put(Instr::SetLocal(kept, 1))
@@ -49,6 +51,7 @@ pub fn keep_place(target: &Location, kept: u32, draft: &mut Draft) -> Result<(),
 /// The place that was kept in a scratch local, where it has an offset.
 pub fn put_kept(target: &Location, kept: u32, draft: &mut Draft) -> Result<(), PartRefusal>
     ensures appends { OnOk result (Appends (kept_code (location_tree target.now) kept) (offsets_kept (location_tree target.now)) draft.old.code draft.new.code) }
+    ensures keeps { Keeps draft.old.code draft.new.code }
 {
     if has_offset(target) {
         draft.put(Instr::Local(kept, 1))
@@ -65,6 +68,7 @@ pub fn put_lowest(
     draft: &mut Draft,
 ) -> Result<(), PartRefusal>
     ensures appends { OnOk result (Appends (pushes (lowest_in_row (slice_get (body_row_tree callee.now).locals parameter))) count draft.old.code draft.new.code) }
+    ensures keeps { Keeps draft.old.code draft.new.code }
 {
     let mut lowest = Scalars::new(draft.allocator());
     add_lowest(&local_of(callee, parameter)?.mode, &mut lowest)?;
@@ -77,6 +81,7 @@ pub fn put_lowest(
 // Each of these scalars, pushed by itself: the size of a call goes by their number alone.
 fn put_each(scalars: &[i64], draft: &mut Draft) -> Result<(), PartRefusal>
     ensures appends { OnOk result (Appends (pushes scalars.now) (length scalars.now) draft.old.code draft.new.code) }
+    ensures keeps { Keeps draft.old.code draft.new.code }
 {
     for scalar in scalars {
         draft.put(Instr::Push(*scalar))?;
@@ -94,6 +99,7 @@ pub fn put_copies_out(
     draft: &mut Draft,
 ) -> Result<(), PartRefusal>
     ensures appends { OnOk result (Appends (copies_out (layout_of site.now.program.now site.now.body.now) (arguments_of arguments.now) kept free) (copies_out_size (arguments_of arguments.now)) draft.old.code draft.new.code) }
+    ensures keeps { Keeps draft.old.code draft.new.code }
 {
     let mut own = kept;
     for argument in arguments {
@@ -104,7 +110,7 @@ pub fn put_copies_out(
 }
 
 // The parameter of one argument is copied out.
-#[tactic(auto, using(crate::proofs::Views::tree_built))]
+#[tactic(auto, using(crate::proofs::Views::tree_built, crate::proofs::Appending::keeping))]
 fn put_copy_out(
     argument: &Argument,
     site: &Site,
@@ -113,6 +119,7 @@ fn put_copy_out(
     draft: &mut Draft,
 ) -> Result<(), PartRefusal>
     ensures appends { OnOk result (Appends (copy_out (layout_of site.now.program.now site.now.body.now) (argument_tree argument.now) kept free) (copying_size (argument_tree argument.now)) draft.old.code draft.new.code) }
+    ensures keeps { Keeps draft.old.code draft.new.code }
 {
     match argument {
         Argument::In(_) => Ok(()),
@@ -141,7 +148,7 @@ pub fn tested_in(taken: Option<Bounds>, bounds: Option<Bounds>) -> Option<Bounds
 }
 
 /// Puts a place that is kept in a scratch local below the value on top, by way of the scratch locals from `free` on.
-#[tactic(auto, using(crate::proofs::Views::tree_built))]
+#[tactic(auto, using(crate::proofs::Views::tree_built, crate::proofs::Appending::keeping))]
 pub fn put_under(
     target: &Location,
     kept: u32,
@@ -149,6 +156,7 @@ pub fn put_under(
     draft: &mut Draft,
 ) -> Result<(), PartRefusal>
     ensures appends { OnOk result (Appends (under_code (location_tree target.now) kept free) (length (under_code (location_tree target.now) 0 0)) draft.old.code draft.new.code) }
+    ensures keeps { Keeps draft.old.code draft.new.code }
 {
     if has_offset(target) {
         draft.put(Instr::SetLocal(free, target.count))?;
@@ -160,7 +168,7 @@ pub fn put_under(
 }
 
 /// How many instructions copy out the parameter of an argument.
-#[tactic(auto, using(crate::proofs::Views::tree_built))]
+#[tactic(auto, using(crate::proofs::Views::tree_built, crate::proofs::Appending::keeping))]
 pub fn copy_out_size(argument: &Argument) -> u32
     ensures { result ≡ copying_size (argument_tree argument.now) }
 {

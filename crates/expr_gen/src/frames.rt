@@ -1,8 +1,11 @@
 // Where things stand in the frame of a body: its locals, its result, and the scratch locals behind them.
-ghost use Rattle.std.specs.Prelude.{◌≡◌, Some, slice_get, IfOk};
+ghost use Rattle.std.specs.Prelude.{◌≡◌, Some, slice_get, IfOk, map};
+ghost use Rattle.program_trees.specs.ProgramTree.{body_row_tree, local_row_tree};
+ghost use Rattle.code_scheme.specs.Pieces.{capped};
+ghost use Rattle.code_scheme.specs.StatementSite.{scalars_in, parameter_scalars, declared_scalars, result_scalars, first_free, back_scalars, call_results};
 
 use crate::refusal::PartRefusal;
-use checked_program::{Body, Checked, LocalRow, Passing};
+use checked_program::{Body, Checked, LocalRow, Parameter, Passing};
 use modes::number_of_scalars;
 
 /// Where a part of a program stands.
@@ -32,27 +35,37 @@ pub fn local_of(body: &Body, number: u32) -> Result<&LocalRow, PartRefusal>
     }
 }
 
-/// How many scalars the parameters of a body have, or those of its locals up to some number of them.
-pub fn scalars_until(body: &Body, number: usize) -> u32 {
+// How many scalars locals have.
+fn scalars_in(locals: &[LocalRow]) -> u32
+    ensures { result ≡ capped (scalars_in (map local_row_tree locals.now)) }
+{
     let mut scalars = 0u32;
-    for local in body.locals.as_slice().iter().take(number) {
+    for local in locals {
         scalars = scalars.saturating_add(local.count);
     }
     scalars
 }
 
 /// How many scalars the parameters of a body have, which are its first locals.
-pub fn parameter_scalars(body: &Body) -> u32 {
-    scalars_until(body, body.parameters.len())
+pub fn parameter_scalars(body: &Body) -> u32
+    ensures { result ≡ capped (parameter_scalars (body_row_tree body.now)) }
+{
+    let locals = body.locals.as_slice();
+    let count = body.parameters.len().min(locals.len());
+    scalars_in(&locals[..count])
 }
 
 /// How many scalars the locals of a body have that the program declares. The result stands behind them.
-pub fn declared_scalars(body: &Body) -> u32 {
-    scalars_until(body, body.locals.len())
+pub fn declared_scalars(body: &Body) -> u32
+    ensures { result ≡ capped (declared_scalars (body_row_tree body.now)) }
+{
+    scalars_in(body.locals.as_slice())
 }
 
 /// How many scalars the result of a body has; none without RETURNS.
-pub fn result_scalars(body: &Body) -> u32 {
+pub fn result_scalars(body: &Body) -> u32
+    ensures { result ≡ result_scalars (body_row_tree body.now) }
+{
     match &body.result {
         Some(mode) => number_of_scalars(mode),
         None => 0,
@@ -60,15 +73,26 @@ pub fn result_scalars(body: &Body) -> u32 {
 }
 
 /// The first scratch local of a body, behind its locals and its result.
-pub fn first_free(body: &Body) -> u32 {
+pub fn first_free(body: &Body) -> u32
+    ensures { result ≡ capped (first_free (body_row_tree body.now)) }
+{
     declared_scalars(body).saturating_add(result_scalars(body))
 }
 
 /// How many scalars a call of the body gives back: the result, and the OUT and INOUT parameters.
-pub fn call_results(body: &Body) -> u32 {
-    let mut scalars = result_scalars(body);
-    let locals = body.locals.as_slice().iter();
-    for (parameter, local) in body.parameters.as_slice().iter().zip(locals) {
+pub fn call_results(body: &Body) -> u32
+    ensures { result ≡ capped (call_results (body_row_tree body.now)) }
+{
+    let back = back_scalars(body.parameters.as_slice(), body.locals.as_slice());
+    result_scalars(body).saturating_add(back)
+}
+
+// How many scalars a call gives back of its parameters, which are the first locals.
+fn back_scalars(parameters: &[Parameter], locals: &[LocalRow]) -> u32
+    ensures { result ≡ capped (back_scalars parameters.now (map local_row_tree locals.now)) }
+{
+    let mut scalars = 0u32;
+    for (parameter, local) in parameters.iter().zip(locals) {
         match parameter.passing {
             Passing::In => {}
             Passing::Out | Passing::InOut => scalars = scalars.saturating_add(local.count),

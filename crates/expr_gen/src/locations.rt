@@ -1,9 +1,10 @@
 // Locations: contents and assignment, where the place stands on the stack if it has an offset.
+#![tactic(auto, using(crate::proofs::Appending::keeping))]
 ghost use Rattle.std.specs.Prelude.{◌≡◌, length, OnOk};
 ghost use Rattle.program_trees.specs.ExprTree.{location_tree};
 ghost use Rattle.code_scheme.specs.Pieces.{capped, has_index, first_of_parts, has_offset, again_code, contents_code, store_code, check_code};
 ghost use Rattle.expr_gen.specs.Trees.{parts_of};
-ghost use Rattle.expr_gen.specs.Putting.{Appends, layout_of};
+ghost use Rattle.expr_gen.specs.Putting.{Appends, Keeps, layout_of};
 
 use crate::building::{Draft, uncapped};
 use crate::frames::{Site, local_of};
@@ -13,7 +14,7 @@ use code_types::Instr;
 use modes::Bounds;
 
 /// Whether there is an index among the parts.
-#[tactic(auto, using(crate::proofs::Views::tree_built))]
+#[tactic(auto, using(crate::proofs::Views::tree_built, crate::proofs::Appending::keeping))]
 pub fn has_index(parts: &[Part]) -> bool
     ensures { result ≡ has_index (parts_of parts.now) }
 {
@@ -28,7 +29,7 @@ pub fn has_index(parts: &[Part]) -> bool
 }
 
 /// The number of the first scalar that the fields among the parts lead to.
-#[tactic(auto, using(crate::proofs::Views::tree_built))]
+#[tactic(auto, using(crate::proofs::Views::tree_built, crate::proofs::Appending::keeping))]
 pub fn first_of_parts(parts: &[Part]) -> u32
     ensures { result ≡ capped (first_of_parts (parts_of parts.now)) }
 {
@@ -44,7 +45,7 @@ pub fn first_of_parts(parts: &[Part]) -> u32
 
 /// Whether the place of a location is an offset on the stack: that of every shared location, and of a local with an index.
 /// Else it is nothing.
-#[tactic(auto, using(crate::proofs::Views::tree_built))]
+#[tactic(auto, using(crate::proofs::Views::tree_built, crate::proofs::Appending::keeping))]
 pub fn has_offset(location: &Location) -> bool
     ensures { result ≡ has_offset (location_tree location.now) }
 {
@@ -57,6 +58,7 @@ pub fn has_offset(location: &Location) -> bool
 /// The place once more, where it stands on top.
 pub fn put_again(location: &Location, draft: &mut Draft) -> Result<(), PartRefusal>
     ensures appends { let made = again_code (location_tree location.now) in OnOk result (Appends made (length made) draft.old.code draft.new.code) }
+    ensures keeps { Keeps draft.old.code draft.new.code }
 {
     if has_offset(location) {
         draft.put(Instr::Copy(1))
@@ -66,13 +68,14 @@ pub fn put_again(location: &Location, draft: &mut Draft) -> Result<(), PartRefus
 }
 
 /// The contents of a location, whose place stands on top.
-#[tactic(auto, using(crate::proofs::Views::tree_built))]
+#[tactic(auto, using(crate::proofs::Views::tree_built, crate::proofs::Appending::keeping))]
 pub fn put_contents(
     location: &Location,
     site: &Site,
     draft: &mut Draft,
 ) -> Result<(), PartRefusal>
     ensures appends { OnOk result (Appends (contents_code (layout_of site.now.program.now site.now.body.now) (location_tree location.now)) 1 draft.old.code draft.new.code) }
+    ensures keeps { Keeps draft.old.code draft.new.code }
 {
     let count = location.count;
     let fields = uncapped(first_of_parts(location.parts.as_slice()))?;
@@ -90,9 +93,10 @@ pub fn put_contents(
 }
 
 /// Assigns the value on top to a location, whose place stands below it.
-#[tactic(auto, using(crate::proofs::Views::tree_built))]
+#[tactic(auto, using(crate::proofs::Views::tree_built, crate::proofs::Appending::keeping))]
 pub fn put_store(location: &Location, site: &Site, draft: &mut Draft) -> Result<(), PartRefusal>
     ensures appends { OnOk result (Appends (store_code (layout_of site.now.program.now site.now.body.now) (location_tree location.now)) 1 draft.old.code draft.new.code) }
+    ensures keeps { Keeps draft.old.code draft.new.code }
 {
     let count = location.count;
     let fields = uncapped(first_of_parts(location.parts.as_slice()))?;
@@ -112,6 +116,7 @@ pub fn put_store(location: &Location, site: &Site, draft: &mut Draft) -> Result<
 /// The test of the value on top, where there are bounds to test it against.
 pub fn put_check(bounds: Option<Bounds>, draft: &mut Draft) -> Result<(), PartRefusal>
     ensures appends { OnOk result (Appends (check_code bounds) (length (check_code bounds)) draft.old.code draft.new.code) }
+    ensures keeps { Keeps draft.old.code draft.new.code }
 {
     match bounds {
         Some(bounds) => draft.put(Instr::Check(bounds.low, bounds.high)),

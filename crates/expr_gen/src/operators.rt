@@ -1,8 +1,10 @@
 // Operators and routines: what stands between and behind their operands.
-ghost use Rattle.std.specs.Prelude.{◌≡◌, ℕ, length, IfOk, OnOk, ◌+ℤ◌};
+#![tactic(auto, using(crate::proofs::Appending::keeping))]
+ghost use Rattle.std.specs.Prelude.{◌≡◌, ℕ, [], ◌∷◌, length, IfOk, OnOk, ◌+ℤ◌};
+ghost use Rattle.code_types.specs.declared.instr.Instr.TheVariants as code;
 ghost use Rattle.checked_program.specs.declared.expr.Binary.TheVariants as binaries;
 ghost use Rattle.code_scheme.specs.Pieces.{capped, between_code, between_size, behind_code, behind_size, prefix_code, routine_code, member_code, offset_code, member_or_none, swap_code, properly_code, bounds_to_test};
-ghost use Rattle.expr_gen.specs.Putting.{Appends};
+ghost use Rattle.expr_gen.specs.Putting.{Appends, Keeps};
 
 use crate::bounds::bounds_to_test;
 use crate::building::{Draft, uncapped};
@@ -19,6 +21,7 @@ pub fn put_between(
     draft: &mut Draft,
 ) -> Result<(), PartRefusal>
     ensures appends { OnOk result ((n : ℕ) → second ≡ capped n → Appends (between_code operator own (length draft.old.code.instrs) n) (between_size operator own) draft.old.code draft.new.code) }
+    ensures keeps { Keeps draft.old.code draft.new.code }
 {
     match operator {
         Binary::AndIf => put_and_if(second, draft),
@@ -31,6 +34,7 @@ pub fn put_between(
 // Over the second operand where the first is FALSE.
 fn put_and_if(second: u32, draft: &mut Draft) -> Result<(), PartRefusal>
     ensures appends { OnOk result ((n : ℕ) → second ≡ capped n → Appends (between_code binaries.AndIf None (length draft.old.code.instrs) n) 3 draft.old.code draft.new.code) }
+    ensures keeps { Keeps draft.old.code draft.new.code }
 {
     let behind = draft.target_behind(second.saturating_add(3))?;
     draft.put(Instr::Copy(1))?;
@@ -41,6 +45,7 @@ fn put_and_if(second: u32, draft: &mut Draft) -> Result<(), PartRefusal>
 // Over the second operand where the first is TRUE.
 fn put_or_if(second: u32, draft: &mut Draft) -> Result<(), PartRefusal>
     ensures appends { OnOk result ((n : ℕ) → second ≡ capped n → Appends (between_code binaries.OrIf None (length draft.old.code.instrs) n) 4 draft.old.code draft.new.code) }
+    ensures keeps { Keeps draft.old.code draft.new.code }
 {
     let behind = draft.target_behind(second.saturating_add(4))?;
     let on = draft.target_behind(3)?;
@@ -57,6 +62,7 @@ fn put_offset_in(
     draft: &mut Draft,
 ) -> Result<(), PartRefusal>
     ensures appends { OnOk result (Appends (between_code (binaries.Member bounds) own (length draft.old.code.instrs) 0) (between_size (binaries.Member bounds) own) draft.old.code draft.new.code) }
+    ensures keeps { Keeps draft.old.code draft.new.code }
 {
     put_some_member(bounds_to_test(Some(bounds), own), draft)?;
     put_offset_from(bounds.low, draft)
@@ -65,6 +71,7 @@ fn put_offset_in(
 // The number on top, or one without an offset, where there are bounds to test it against.
 fn put_some_member(bounds: Option<Bounds>, draft: &mut Draft) -> Result<(), PartRefusal>
     ensures appends { OnOk result (Appends (member_or_none bounds (length draft.old.code.instrs)) (length (member_or_none bounds 0)) draft.old.code draft.new.code) }
+    ensures keeps { Keeps draft.old.code draft.new.code }
 {
     match bounds {
         Some(bounds) => put_member_or_none(bounds, draft),
@@ -76,18 +83,43 @@ fn put_some_member(bounds: Option<Bounds>, draft: &mut Draft) -> Result<(), Part
 // before the offset is found, since a difference may lie outside INT.
 fn put_member_or_none(bounds: Bounds, draft: &mut Draft) -> Result<(), PartRefusal>
     ensures appends { OnOk result (Appends (member_or_none (Some bounds) (length draft.old.code.instrs)) 12 draft.old.code draft.new.code) }
+    ensures keeps { Keeps draft.old.code draft.new.code }
 {
     let inside = draft.target_behind(12)?;
     let above = plus(bounds.high, 1)?;
     let none = plus(bounds.low, 32)?;
+    put_is_below(bounds.low, draft)?;
+    put_is_none_above(above, draft)?;
+    put_unless_inside(inside, none, draft)
+}
+
+// Whether the number on top is less than this one.
+fn put_is_below(low: i64, draft: &mut Draft) -> Result<(), PartRefusal>
+    ensures appends { OnOk result (Appends (code.Copy 1 ∷ code.Push low ∷ code.Less 1 ∷ []) 3 draft.old.code draft.new.code) }
+    ensures keeps { Keeps draft.old.code draft.new.code }
+{
     draft.put(Instr::Copy(1))?;
-    draft.put(Instr::Push(bounds.low))?;
-    draft.put(Instr::Less(1))?;
+    draft.put(Instr::Push(low))?;
+    draft.put(Instr::Less(1))
+}
+
+// Whether the number below the Boolean on top isn't less than this one.
+fn put_is_none_above(above: i64, draft: &mut Draft) -> Result<(), PartRefusal>
+    ensures appends { OnOk result (Appends (code.Copy 2 ∷ code.Pop 1 ∷ code.Push above ∷ code.Less 1 ∷ code.Not ∷ []) 5 draft.old.code draft.new.code) }
+    ensures keeps { Keeps draft.old.code draft.new.code }
+{
     draft.put(Instr::Copy(2))?;
     draft.put(Instr::Pop(1))?;
     draft.put(Instr::Push(above))?;
     draft.put(Instr::Less(1))?;
-    draft.put(Instr::Not)?;
+    draft.put(Instr::Not)
+}
+
+// Where one of two Booleans is TRUE, another number in place of the one below them.
+fn put_unless_inside(inside: u32, none: i64, draft: &mut Draft) -> Result<(), PartRefusal>
+    ensures appends { OnOk result (Appends (code.Or ∷ code.Unless inside ∷ code.Pop 1 ∷ code.Push none ∷ []) 4 draft.old.code draft.new.code) }
+    ensures keeps { Keeps draft.old.code draft.new.code }
+{
     draft.put(Instr::Or)?;
     draft.put(Instr::Unless(inside))?;
     draft.put(Instr::Pop(1))?;
@@ -107,6 +139,7 @@ fn plus(bound: i64, number: i64) -> Result<i64, PartRefusal>
 // The offset of the number on top from the least member.
 fn put_offset_from(low: i64, draft: &mut Draft) -> Result<(), PartRefusal>
     ensures appends { OnOk result (Appends (offset_code low) (length (offset_code low)) draft.old.code draft.new.code) }
+    ensures keeps { Keeps draft.old.code draft.new.code }
 {
     if low == 0 {
         return Ok(());
@@ -140,6 +173,7 @@ pub fn member_size(low: i64) -> u32
 /// What stands behind two operands of so many scalars each.
 pub fn put_behind(operator: Binary, count: u32, draft: &mut Draft) -> Result<(), PartRefusal>
     ensures appends { OnOk result (Appends (behind_code operator count) (behind_size operator) draft.old.code draft.new.code) }
+    ensures keeps { Keeps draft.old.code draft.new.code }
 {
     match operator {
         Binary::Add => draft.put(Instr::Add),
@@ -173,6 +207,7 @@ pub fn put_behind(operator: Binary, count: u32, draft: &mut Draft) -> Result<(),
 // Whether two values differ.
 fn put_not_same(count: u32, draft: &mut Draft) -> Result<(), PartRefusal>
     ensures appends { OnOk result (Appends (behind_code binaries.NotEqual count) 2 draft.old.code draft.new.code) }
+    ensures keeps { Keeps draft.old.code draft.new.code }
 {
     draft.put(Instr::Same(count))?;
     draft.put(Instr::Not)
@@ -181,6 +216,7 @@ fn put_not_same(count: u32, draft: &mut Draft) -> Result<(), PartRefusal>
 // Whether the lower value doesn't come before the upper.
 fn put_not_less(count: u32, draft: &mut Draft) -> Result<(), PartRefusal>
     ensures appends { OnOk result (Appends (behind_code binaries.GreaterOrEqual count) 2 draft.old.code draft.new.code) }
+    ensures keeps { Keeps draft.old.code draft.new.code }
 {
     draft.put(Instr::Less(count))?;
     draft.put(Instr::Not)
@@ -189,6 +225,7 @@ fn put_not_less(count: u32, draft: &mut Draft) -> Result<(), PartRefusal>
 // Whether the upper value comes before the lower.
 fn put_greater(count: u32, draft: &mut Draft) -> Result<(), PartRefusal>
     ensures appends { OnOk result (Appends (behind_code binaries.Greater count) 3 draft.old.code draft.new.code) }
+    ensures keeps { Keeps draft.old.code draft.new.code }
 {
     put_swap(count, draft)?;
     draft.put(Instr::Less(count))
@@ -197,6 +234,7 @@ fn put_greater(count: u32, draft: &mut Draft) -> Result<(), PartRefusal>
 // Whether the upper value doesn't come before the lower.
 fn put_not_greater(count: u32, draft: &mut Draft) -> Result<(), PartRefusal>
     ensures appends { OnOk result (Appends (behind_code binaries.LessOrEqual count) 4 draft.old.code draft.new.code) }
+    ensures keeps { Keeps draft.old.code draft.new.code }
 {
     put_greater(count, draft)?;
     draft.put(Instr::Not)
@@ -205,6 +243,7 @@ fn put_not_greater(count: u32, draft: &mut Draft) -> Result<(), PartRefusal>
 // Whether the upper powerset is included in the lower.
 fn put_includes(draft: &mut Draft) -> Result<(), PartRefusal>
     ensures appends { OnOk result (Appends (behind_code binaries.Includes 0) 3 draft.old.code draft.new.code) }
+    ensures keeps { Keeps draft.old.code draft.new.code }
 {
     put_swap(1, draft)?;
     draft.put(Instr::Within)
@@ -213,6 +252,7 @@ fn put_includes(draft: &mut Draft) -> Result<(), PartRefusal>
 // Whether the upper powerset is included in the lower and differs from it.
 fn put_properly_includes(draft: &mut Draft) -> Result<(), PartRefusal>
     ensures appends { OnOk result (Appends (behind_code binaries.ProperlyIncludes 0) 9 draft.old.code draft.new.code) }
+    ensures keeps { Keeps draft.old.code draft.new.code }
 {
     put_swap(1, draft)?;
     put_properly_included(draft)
@@ -221,6 +261,7 @@ fn put_properly_includes(draft: &mut Draft) -> Result<(), PartRefusal>
 // Two values of so many scalars change places.
 fn put_swap(count: u32, draft: &mut Draft) -> Result<(), PartRefusal>
     ensures appends { OnOk result (Appends (swap_code count) 2 draft.old.code draft.new.code) }
+    ensures keeps { Keeps draft.old.code draft.new.code }
 {
     let both = uncapped(count.saturating_mul(2))?;
     let twice = uncapped(count.saturating_mul(4))?;
@@ -231,14 +272,23 @@ fn put_swap(count: u32, draft: &mut Draft) -> Result<(), PartRefusal>
 // Whether the lower powerset is included in the upper and differs from it.
 fn put_properly_included(draft: &mut Draft) -> Result<(), PartRefusal>
     ensures appends { OnOk result (Appends (properly_code) 7 draft.old.code draft.new.code) }
+    ensures keeps { Keeps draft.old.code draft.new.code }
 {
     draft.put(Instr::Copy(2))?;
     draft.put(Instr::Within)?;
+    put_differ(draft)?;
+    draft.put(Instr::And)
+}
+
+// Whether two powersets below the Boolean on top differ.
+fn put_differ(draft: &mut Draft) -> Result<(), PartRefusal>
+    ensures appends { OnOk result (Appends (code.Copy 3 ∷ code.Part 2 3 6 ∷ code.Same 1 ∷ code.Not ∷ []) 4 draft.old.code draft.new.code) }
+    ensures keeps { Keeps draft.old.code draft.new.code }
+{
     draft.put(Instr::Copy(3))?;
     draft.put(Instr::Part(2, 3, 6))?;
     draft.put(Instr::Same(1))?;
-    draft.put(Instr::Not)?;
-    draft.put(Instr::And)
+    draft.put(Instr::Not)
 }
 
 /// How many instructions stand behind two operands.
@@ -259,6 +309,7 @@ pub fn size_behind(operator: Binary) -> u32
 /// What stands behind the operand of an operator before it.
 pub fn put_prefix(operator: Prefix, draft: &mut Draft) -> Result<(), PartRefusal>
     ensures appends { OnOk result (Appends (prefix_code operator) 1 draft.old.code draft.new.code) }
+    ensures keeps { Keeps draft.old.code draft.new.code }
 {
     match operator {
         Prefix::Minus => draft.put(Instr::Neg),
@@ -270,6 +321,7 @@ pub fn put_prefix(operator: Prefix, draft: &mut Draft) -> Result<(), PartRefusal
 /// What stands behind the argument of a routine.
 pub fn put_routine(routine: Routine, draft: &mut Draft) -> Result<(), PartRefusal>
     ensures appends { OnOk result (Appends (routine_code routine) (length (routine_code routine)) draft.old.code draft.new.code) }
+    ensures keeps { Keeps draft.old.code draft.new.code }
 {
     match routine {
         Routine::Number => Ok(()),
@@ -291,6 +343,7 @@ pub fn put_routine(routine: Routine, draft: &mut Draft) -> Result<(), PartRefusa
 /// The member of the offset on top, where the least one is this number.
 pub fn put_member(low: i64, draft: &mut Draft) -> Result<(), PartRefusal>
     ensures appends { OnOk result (Appends (member_code low) (length (member_code low)) draft.old.code draft.new.code) }
+    ensures keeps { Keeps draft.old.code draft.new.code }
 {
     if low == 0 {
         return Ok(());

@@ -1,7 +1,8 @@
 // Scalars that are pushed, and copies of what stands on top.
+#![tactic(auto, using(crate::proofs::Appending::keeping))]
 ghost use Rattle.std.specs.Prelude.{◌≡◌, ◌+◌, ◌&&◌, nat_lt, pos, length, OnOk};
 ghost use Rattle.code_scheme.specs.Pieces.{capped, copies_code, run_code, run_ended, run_behind, are_same, scalars_code};
-ghost use Rattle.expr_gen.specs.Putting.{Appends};
+ghost use Rattle.expr_gen.specs.Putting.{Appends, Keeps};
 
 use crate::building::{Draft, uncapped};
 use crate::refusal::PartRefusal;
@@ -47,9 +48,10 @@ impl Run {
 }
 
 /// Each of these scalars, in order. Of equal ones behind each other the first is pushed and the others are copied.
-#[tactic(auto, using(code_scheme::proofs::Lemmas::scalars_step))]
+#[tactic(auto, using(code_scheme::proofs::Lemmas::scalars_step, crate::proofs::Appending::keeping))]
 pub fn put_scalars(scalars: &[i64], draft: &mut Draft) -> Result<(), PartRefusal>
     ensures appends { OnOk result (Appends (scalars_code scalars.now) (length (scalars_code scalars.now)) draft.old.code draft.new.code) }
+    ensures keeps { Keeps draft.old.code draft.new.code }
 {
     let mut run = Run::none();
     for scalar in scalars {
@@ -63,6 +65,7 @@ pub fn put_scalars(scalars: &[i64], draft: &mut Draft) -> Result<(), PartRefusal
 // A run that a scalar ends: one of another scalar.
 fn put_ended(run: Run, scalar: i64, draft: &mut Draft) -> Result<(), PartRefusal>
     ensures appends { let made = run_ended run.scalar run.count scalar in OnOk result (Appends made (length made) draft.old.code draft.new.code) }
+    ensures keeps { Keeps draft.old.code draft.new.code }
 {
     if run.has(scalar) {
         Ok(())
@@ -74,6 +77,7 @@ fn put_ended(run: Run, scalar: i64, draft: &mut Draft) -> Result<(), PartRefusal
 // A scalar as often as it stands there.
 fn put_run(run: Run, draft: &mut Draft) -> Result<(), PartRefusal>
     ensures appends { let made = run_code run.scalar run.count in OnOk result (Appends made (length made) draft.old.code draft.new.code) }
+    ensures keeps { Keeps draft.old.code draft.new.code }
 {
     if run.count == 0 {
         return Ok(());
@@ -118,6 +122,7 @@ fn run_size(run: Run) -> u32
 /// wanting.
 pub fn put_copies(elements: u32, count: u32, draft: &mut Draft) -> Result<(), PartRefusal>
     ensures appends { OnOk result (Appends (copies_code elements count) (length (copies_code elements 0)) draft.old.code draft.new.code) }
+    ensures keeps { Keeps draft.old.code draft.new.code }
 {
     let mut there = 1u32;
     for _time in 0..32u32 {

@@ -2,8 +2,8 @@
 ghost use Rattle.std.specs.Prelude.{◌≡◌, ◌+◌, pos, true, length, if◌then◌else◌};
 ghost use Rattle.program_trees.specs.ExprTree.{expr_tree, location_tree, received_tree, received_of, call_tree, argument_tree};
 ghost use Rattle.code_scheme.specs.Pieces.{capped, has_index, first_of_parts, member_code};
-ghost use Rattle.code_scheme.specs.ExprSizes.{expr_size, place_size, indices_size, received_size, received_sizes, members_size, call_size};
-ghost use Rattle.expr_gen.specs.Trees.{parts_of, ranges_of, argument_size};
+ghost use Rattle.code_scheme.specs.ExprSizes.{expr_size, place_size, indices_size, received_size, received_sizes, members_size, call_size, arguments_size, copies_out_size};
+ghost use Rattle.expr_gen.specs.Trees.{parts_of, ranges_of, arguments_of, argument_size};
 
 use crate::bounds::{bounds_of_value, tested};
 use crate::copying::{copy_out_size, offsets_kept, tested_in};
@@ -149,8 +149,17 @@ fn powerset_size(members: &[Range]) -> u32
 pub fn call_size(call: &Call) -> u32
     ensures { result ≡ capped (call_size (call_tree call.now)) }
 {
+    arguments_size(call.arguments.as_slice())
+}
+
+// How many instructions a call has, with those for its arguments before and behind it.
+#[tactic(auto, using(crate::proofs::Views::tree_built))]
+#[cycle(size)]
+fn arguments_size(arguments: &[Argument]) -> u32
+    ensures { result ≡ capped (1 + (arguments_size (arguments_of arguments.now) + copies_out_size (arguments_of arguments.now))) }
+{
     let mut size = 1u32;
-    for argument in call.arguments.as_slice() {
+    for argument in arguments {
         size = size
             .saturating_add(argument_size(argument))
             .saturating_add(copy_out_size(argument));

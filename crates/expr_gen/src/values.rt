@@ -1,4 +1,5 @@
 // Values: one recursion over expressions, the parts of locations, and arguments. `free` is the first free scratch local.
+#![tactic(auto, using(crate::proofs::Appending::keeping))]
 ghost use Rattle.std.specs.Prelude.{◌≡◌, ◌+◌, true, pos, length, IfOk, OnOk, if◌then◌else◌, slice_get};
 ghost use Rattle.program_trees.specs.ExprTree.{expr_tree, location_tree, received_tree, received_of, call_tree, start_tree, range_tree, argument_tree};
 ghost use Rattle.program_trees.specs.ProgramTree.{body_row_tree};
@@ -7,7 +8,7 @@ ghost use Rattle.code_types.specs.declared.instr.Instr.TheVariants as code;
 ghost use Rattle.code_scheme.specs.ExprSizes.{expr_size, place_size, indices_size, received_size, received_sizes, members_size, start_size, call_size, arguments_size};
 ghost use Rattle.code_scheme.specs.ExprCode.{expr_code, place_code, indices_code, received_code, received_codes, members_code, start_code, call_code, arguments_code, sum_code, cut_code, receive_code, counts_of};
 ghost use Rattle.expr_gen.specs.Trees.{parts_of, ranges_of, arguments_of, argument_code, argument_size, range_code, range_size};
-ghost use Rattle.expr_gen.specs.Putting.{Appends, layout_of};
+ghost use Rattle.expr_gen.specs.Putting.{Appends, Keeps, layout_of};
 
 use crate::bounds::{bounds_of_value, tested};
 use crate::building::{Draft, sum, uncapped};
@@ -37,10 +38,11 @@ pub fn expr_code(
 }
 
 /// Appends the code of an expression, which leaves its value on the stack.
-#[tactic(auto, using(crate::proofs::Views::tree_built))]
+#[tactic(auto, using(crate::proofs::Views::tree_built, crate::proofs::Appending::keeping))]
 #[cycle(value)]
 pub fn put_expr(expr: &Expr, site: &Site, free: u32, draft: &mut Draft) -> Result<(), PartRefusal>
     ensures appends { OnOk result (Appends (expr_code (layout_of site.now.program.now site.now.body.now) free (expr_tree expr.now) (length draft.old.code.instrs)) (expr_size (expr_tree expr.now)) draft.old.code draft.new.code) }
+    ensures keeps { Keeps draft.old.code draft.new.code }
 {
     match &expr.operation {
         Operation::Constant(scalars) => put_scalars(scalars.as_slice(), draft),
@@ -90,6 +92,7 @@ pub fn put_expr(expr: &Expr, site: &Site, free: u32, draft: &mut Draft) -> Resul
 // The part of so many scalars of the value of so many scalars on top, behind its indices.
 fn put_cut(parts: &[Part], of: u32, count: u32, draft: &mut Draft) -> Result<(), PartRefusal>
     ensures appends { OnOk result (Appends (cut_code (parts_of parts.now) count of) ((if has_index (parts_of parts.now) then length (member_code (pos (first_of_parts (parts_of parts.now)))) else 0) + 1) draft.old.code draft.new.code) }
+    ensures keeps { Keeps draft.old.code draft.new.code }
 {
     let fields = uncapped(first_of_parts(parts))?;
     if has_index(parts) {
@@ -101,7 +104,7 @@ fn put_cut(parts: &[Part], of: u32, count: u32, draft: &mut Draft) -> Result<(),
 }
 
 // The offset to which the indices among the parts lead, where there is one.
-#[tactic(auto, using(crate::proofs::Views::tree_built))]
+#[tactic(auto, using(crate::proofs::Views::tree_built, crate::proofs::Appending::keeping))]
 #[cycle(value)]
 fn put_indices(
     parts: &[Part],
@@ -110,6 +113,7 @@ fn put_indices(
     draft: &mut Draft,
 ) -> Result<(), PartRefusal>
     ensures appends { OnOk result (Appends (indices_code (layout_of site.now.program.now site.now.body.now) free true (parts_of parts.now) (length draft.old.code.instrs)) (indices_size true (parts_of parts.now)) draft.old.code draft.new.code) }
+    ensures keeps { Keeps draft.old.code draft.new.code }
 {
     let mut is_first = true;
     for part in parts {
@@ -133,6 +137,7 @@ fn put_indices(
 // The sum of the offset on top and the one below it, where that isn't the first one.
 fn put_sum(is_first: bool, draft: &mut Draft) -> Result<(), PartRefusal>
     ensures appends { OnOk result (Appends (sum_code is_first) (length (sum_code is_first)) draft.old.code draft.new.code) }
+    ensures keeps { Keeps draft.old.code draft.new.code }
 {
     if is_first {
         Ok(())
@@ -143,7 +148,7 @@ fn put_sum(is_first: bool, draft: &mut Draft) -> Result<(), PartRefusal>
 
 /// Appends the code of a location's place: the offset of its indices, where it has one. It stands below a value that is
 /// assigned.
-#[tactic(auto, using(crate::proofs::Views::tree_built))]
+#[tactic(auto, using(crate::proofs::Views::tree_built, crate::proofs::Appending::keeping))]
 #[cycle(value)]
 pub fn put_place(
     location: &Location,
@@ -152,6 +157,7 @@ pub fn put_place(
     draft: &mut Draft,
 ) -> Result<(), PartRefusal>
     ensures appends { OnOk result (Appends (place_code (layout_of site.now.program.now site.now.body.now) free (location_tree location.now) (length draft.old.code.instrs)) (place_size (location_tree location.now)) draft.old.code draft.new.code) }
+    ensures keeps { Keeps draft.old.code draft.new.code }
 {
     let parts = location.parts.as_slice();
     if has_index(parts) {
@@ -166,6 +172,7 @@ pub fn put_place(
 // A value that is received from a buffer.
 fn put_receive(buffer: u32, count: u32, free: u32, draft: &mut Draft) -> Result<(), PartRefusal>
     ensures appends { OnOk result (Appends (receive_code buffer count free) 6 draft.old.code draft.new.code) }
+    ensures keeps { Keeps draft.old.code draft.new.code }
 {
     draft.put(Instr::Thing(buffer))?;
     draft.put(Instr::Push(i64::from(free)))?;
@@ -176,7 +183,7 @@ fn put_receive(buffer: u32, count: u32, free: u32, draft: &mut Draft) -> Result<
 }
 
 /// Appends the code of a value that something takes, with its test.
-#[tactic(auto, using(crate::proofs::Views::tree_built))]
+#[tactic(auto, using(crate::proofs::Views::tree_built, crate::proofs::Appending::keeping))]
 #[cycle(value)]
 pub fn put_received(
     received: &Received,
@@ -185,13 +192,14 @@ pub fn put_received(
     draft: &mut Draft,
 ) -> Result<(), PartRefusal>
     ensures appends { OnOk result (Appends (received_code (layout_of site.now.program.now site.now.body.now) free (received_tree received.now) (length draft.old.code.instrs)) (received_size (received_tree received.now)) draft.old.code draft.new.code) }
+    ensures keeps { Keeps draft.old.code draft.new.code }
 {
     put_expr(&received.value, site, free, draft)?;
     put_check(tested(received), draft)
 }
 
 /// Appends the code of values that are taken one behind the other, each with its test.
-#[tactic(auto, using(crate::proofs::Views::tree_built))]
+#[tactic(auto, using(crate::proofs::Views::tree_built, crate::proofs::Appending::keeping))]
 #[cycle(value)]
 pub fn put_all_received(
     all: &[Received],
@@ -200,6 +208,7 @@ pub fn put_all_received(
     draft: &mut Draft,
 ) -> Result<(), PartRefusal>
     ensures appends { OnOk result (Appends (received_codes (layout_of site.now.program.now site.now.body.now) free (received_of all.now) (length draft.old.code.instrs)) (received_sizes (received_of all.now)) draft.old.code draft.new.code) }
+    ensures keeps { Keeps draft.old.code draft.new.code }
 {
     for received in all {
         put_received(received, site, free, draft)?;
@@ -208,7 +217,7 @@ pub fn put_all_received(
 }
 
 /// Appends the code of a process's start, which leaves its instance on the stack.
-#[tactic(auto, using(crate::proofs::Views::tree_built))]
+#[tactic(auto, using(crate::proofs::Views::tree_built, crate::proofs::Appending::keeping))]
 #[cycle(value)]
 pub fn put_start(
     start: &Start,
@@ -217,6 +226,7 @@ pub fn put_start(
     draft: &mut Draft,
 ) -> Result<(), PartRefusal>
     ensures appends { OnOk result (Appends (start_code (layout_of site.now.program.now site.now.body.now) free (start_tree start.now) (length draft.old.code.instrs)) (start_size (start_tree start.now)) draft.old.code draft.new.code) }
+    ensures keeps { Keeps draft.old.code draft.new.code }
 {
     let arguments = start.arguments.as_slice();
     put_all_received(arguments, site, free, draft)?;
@@ -225,7 +235,7 @@ pub fn put_start(
 }
 
 /// How many scalars values have together.
-#[tactic(auto, using(crate::proofs::Views::tree_built))]
+#[tactic(auto, using(crate::proofs::Views::tree_built, crate::proofs::Appending::keeping))]
 pub fn scalars_of(all: &[Received]) -> u32
     ensures { result ≡ capped (counts_of (received_of all.now)) }
 {
@@ -237,7 +247,7 @@ pub fn scalars_of(all: &[Received]) -> u32
 }
 
 // A powerset of members from the first bound to the second.
-#[tactic(auto, using(crate::proofs::Views::tree_built))]
+#[tactic(auto, using(crate::proofs::Views::tree_built, crate::proofs::Appending::keeping))]
 #[cycle(value)]
 fn put_powerset(
     members: &[Range],
@@ -247,6 +257,7 @@ fn put_powerset(
     draft: &mut Draft,
 ) -> Result<(), PartRefusal>
     ensures appends { OnOk result (Appends (code.Push (pos 0) ∷ members_code (layout_of site.now.program.now site.now.body.now) free bounds (ranges_of members.now) (length draft.old.code.instrs + 1)) (1 + members_size (ranges_of members.now)) draft.old.code draft.new.code) }
+    ensures keeps { Keeps draft.old.code draft.new.code }
 {
     draft.put(Instr::Push(0))?;
     for range in members {
@@ -256,7 +267,7 @@ fn put_powerset(
 }
 
 // The powerset on top with the members of a range besides.
-#[tactic(auto, using(crate::proofs::Views::tree_built))]
+#[tactic(auto, using(crate::proofs::Views::tree_built, crate::proofs::Appending::keeping))]
 #[cycle(value)]
 fn put_range(
     range: &Range,
@@ -266,6 +277,7 @@ fn put_range(
     draft: &mut Draft,
 ) -> Result<(), PartRefusal>
     ensures appends { OnOk result (Appends (range_code (layout_of site.now.program.now site.now.body.now) free bounds (range_tree range.now) (length draft.old.code.instrs)) (range_size (range_tree range.now)) draft.old.code draft.new.code) }
+    ensures keeps { Keeps draft.old.code draft.new.code }
 {
     let offset = Instr::Index(bounds.low, bounds.high, 1);
     put_expr(&range.first, site, free, draft)?;
@@ -283,10 +295,11 @@ fn put_range(
 
 /// Appends the code of a call, which leaves the scalars of its result on the stack. The places of its OUT and INOUT
 /// arguments that have an offset are kept in scratch locals, one behind the other.
-#[tactic(auto, using(crate::proofs::Views::tree_built))]
+#[tactic(auto, using(crate::proofs::Views::tree_built, crate::proofs::Appending::keeping))]
 #[cycle(value)]
 pub fn put_call(call: &Call, site: &Site, free: u32, draft: &mut Draft) -> Result<(), PartRefusal>
     ensures appends { OnOk result (Appends (call_code (layout_of site.now.program.now site.now.body.now) free (call_tree call.now) (length draft.old.code.instrs)) (call_size (call_tree call.now)) draft.old.code draft.new.code) }
+    ensures keeps { Keeps draft.old.code draft.new.code }
 {
     let callee = body_of(site.program, call.body)?;
     let arguments = call.arguments.as_slice();
@@ -296,7 +309,7 @@ pub fn put_call(call: &Call, site: &Site, free: u32, draft: &mut Draft) -> Resul
 }
 
 // The arguments of a call, and the scratch local behind the places that are kept.
-#[tactic(auto, using(crate::proofs::Views::tree_built))]
+#[tactic(auto, using(crate::proofs::Views::tree_built, crate::proofs::Appending::keeping))]
 #[cycle(value)]
 fn put_arguments(
     arguments: &[Argument],
@@ -306,6 +319,7 @@ fn put_arguments(
     draft: &mut Draft,
 ) -> Result<u32, PartRefusal>
     ensures appends { OnOk result (Appends (arguments_code (layout_of site.now.program.now site.now.body.now) (body_row_tree callee.now).locals 0 free (arguments_of arguments.now) (length draft.old.code.instrs)) (arguments_size (arguments_of arguments.now)) draft.old.code draft.new.code) }
+    ensures keeps { Keeps draft.old.code draft.new.code }
     ensures kept { IfOk result (λ kept. kept ≡ kept_behind (arguments_of arguments.now) free) }
 {
     let mut kept = free;
@@ -326,7 +340,7 @@ struct Taker<'a> {
 }
 
 // What an argument gives to its parameter, and the place of its location, which is kept.
-#[tactic(auto, using(crate::proofs::Views::tree_built))]
+#[tactic(auto, using(crate::proofs::Views::tree_built, crate::proofs::Appending::keeping))]
 #[cycle(value)]
 fn put_argument(
     argument: &Argument,
@@ -336,6 +350,7 @@ fn put_argument(
     draft: &mut Draft,
 ) -> Result<(), PartRefusal>
     ensures appends { OnOk result (Appends (argument_code (layout_of site.now.program.now site.now.body.now) (body_row_tree taker.entry.callee.now).locals taker.entry.parameter free (argument_tree argument.now) (length draft.old.code.instrs)) (argument_size (argument_tree argument.now)) draft.old.code draft.new.code) }
+    ensures keeps { Keeps draft.old.code draft.new.code }
 {
     match argument {
         Argument::In(received) => put_received(received, site, free, draft),

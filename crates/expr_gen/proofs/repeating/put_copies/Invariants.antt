@@ -1,5 +1,6 @@
 use Rattle.std.proofs.Common.{◌≡◌, ◌+◌, ◌-◌, ◌++◌, ◌≤◌, length}
 use Rattle.code_scheme.specs.Pieces.{copies_from, copies_code}
+use Rattle.expr_gen.specs.Putting.{Keeps}
 use Rattle.expr_gen.proofs.repeating.put_copies.Given as goal
 
 abbrev pub invariant-loop-time : goal.invariant-loop-time
@@ -8,4 +9,5 @@ invariant-loop-time l = record {
   length : length l.draft.code.instrs + length (copies_from (32 - l._time) l.there l.elements 0) ≡ length l.initial.draft.code.instrs + length (copies_code l.elements 0);
   handlers : l.draft.code.handlers ≡ l.initial.draft.code.handlers;
   bodies : l.draft.code.bodies ≡ l.initial.draft.code.bodies;
+  keeps : Keeps l.initial.draft.code l.draft.code;
 }
