@@ -1,5 +1,5 @@
 -- What is appended for each expression, part after part.
-use Rattle.std.proofs.Common.{◌≡◌, ℕ, zero, suc, ◌+◌, Bool, true, false, List, [], ◌∷◌, ◌++◌, ℤ, pos, Option, Some, None, length, refl, sym, ap, subst, ◌∙◌, arith, append_assoc, if◌then◌else◌}
+use Rattle.std.proofs.Common.{◌≡◌, ℕ, zero, suc, ◌+◌, Bool, true, false, List, [], ◌∷◌, ◌++◌, ℤ, pos, Option, Some, None, length, refl, sym, ap, subst, ◌∙◌, arith, append_assoc, if◌then◌else◌, Result, Ok, Err, OnOk}
 use Rattle.std.specs.Prelude.{map, slice_get, option_map}
 use Rattle.std.specs.declared.alloc.Global.{Global}
 use Rattle.std.specs.declared.boxed.Box.{Box}
@@ -19,7 +19,7 @@ use Rattle.code_scheme.specs.ExprCode.{expr_code, operation_code, indices_code, 
 use Rattle.code_scheme.proofs.Lemmas.{no_index-size}
 use Rattle.expr_gen.specs.Putting.{Appends}
 use Rattle.expr_gen.specs.Trees.{compared_code, compared_size, plain_condition, plain_size, range_code, range_size, argument_code, argument_size, places_kept, copy_out, copying_size}
-use Rattle.expr_gen.proofs.Appending.{and_then, resized}
+use Rattle.expr_gen.proofs.Appending.{and_then, resized, StillTo, step}
 use Rattle.expr_gen.proofs.Views.{expr_tree-out}
 
 -- a part at a place that is told in another form
@@ -165,3 +165,105 @@ pub both_made : (lay : Layout) (free : ℕ) (a b : ExprTree) (value when : Bool)
     → Appends (condition_code lay free b when target (length y.instrs)) (condition_size b when) y z
     → Appends (condition_code lay free a value first (length x.instrs) ++ condition_code lay free b when target (length x.instrs + condition_size a value)) (condition_size a value + condition_size b when) x z
 both_made lay free a b value when target first p q = and_then p (moved (λ at. condition_code lay free b when target at) p.length q)
+
+-- ---- what is told of a node's parts is told of the node
+
+pub told : {T E : Type 0} (r : Result T E) (lay : Layout) (free at : ℕ) (x z : Code) (e : Expr) (o : OperationTree) → operation_tree (out-Expr e).operation ≡ o
+    → OnOk r (Appends (operation_code lay free (out-Expr e).count o at) (operation_size o) x z)
+    → OnOk r (Appends (expr_code lay free (expr_tree e) at) (expr_size (expr_tree e)) x z)
+told (Ok v) lay free at x z e o is p = made_of e o is p
+told (Err v) lay free at x z e o is p = tt
+
+-- ---- steps of loops
+
+pub indices_step : {a : ℕ → List Instr} {m : ℕ} (lay : Layout) (free : ℕ) (is_first : Bool) (e : ExprTree) (b : Bounds) (count : ℕ) (ps : PartNodes) {x y y1 y2 z : Code}
+    → StillTo a m (λ at. indices_code lay free is_first (element e b count ps) at) (indices_size is_first (element e b count ps)) x y
+    → Appends (expr_code lay free e (length y.instrs)) (expr_size e) y y1
+    → Appends (i.Index b.low b.high count ∷ []) 1 y1 y2
+    → Appends (sum_code is_first) (sum_size is_first) y2 z
+    → StillTo a m (λ at. indices_code lay free false ps at) (indices_size false ps) x z
+indices_step lay free is_first e b count ps {x} {y} p q r s =
+    let at : ℕ = length y.instrs in
+    let there : at + expr_size e + (1 + sum_size is_first) ≡ at + (expr_size e + (1 + sum_size is_first)) = omega arith in
+    step (λ at. indices_code lay free false ps at) (indices_size false ps)
+    (ap (λ (j : ℕ). expr_code lay free e at ++ (i.Index b.low b.high count ∷ (sum_code is_first ++ indices_code lay free false ps j))) there
+    ∙ sym (append_assoc (expr_code lay free e at) (i.Index b.low b.high count ∷ sum_code is_first) (indices_code lay free false ps (at + (expr_size e + (1 + sum_size is_first))))))
+    (omega arith) p (and_then q (and_then r s))
+
+pub received_step : {a : ℕ → List Instr} {m : ℕ} (lay : Layout) (free : ℕ) (r : ReceivedTree) (rs : ReceivedNodes) {x y z : Code}
+    → StillTo a m (λ at. received_codes lay free (more_received r rs) at) (received_sizes (more_received r rs)) x y
+    → Appends (received_code lay free r (length y.instrs)) (received_size r) y z
+    → StillTo a m (λ at. received_codes lay free rs at) (received_sizes rs) x z
+received_step lay free r rs p q = step (λ at. received_codes lay free rs at) (received_sizes rs) refl refl p q
+
+range_code_on : (lay : Layout) (free : ℕ) (b : Bounds) (r : RangeTree) (rs : RangeNodes) (at : ℕ)
+    → members_code lay free b (with_range r rs) at ≡ range_code lay free b r at ++ members_code lay free b rs (at + range_size r)
+range_code_on lay free b (alone e) rs at =
+    let there : at + expr_size e + 4 ≡ at + (expr_size e + 4) = omega arith in
+    ap (λ (j : ℕ). expr_code lay free e at ++ (i.Index b.low b.high 1 ∷ i.Copy 1 ∷ i.Span ∷ i.BitOr ∷ members_code lay free b rs j)) there
+    ∙ sym (append_assoc (expr_code lay free e at) _ _)
+range_code_on lay free b (between e f) rs at =
+    let there : at + expr_size e + 1 + expr_size f + 3 ≡ at + (expr_size e + (1 + (expr_size f + 3))) = omega arith in
+    ap (λ (is : List Instr). expr_code lay free e at ++ (i.Index b.low b.high 1 ∷ is))
+    (ap (λ (j : ℕ). expr_code lay free f (at + expr_size e + 1) ++ (i.Index b.low b.high 1 ∷ i.Span ∷ i.BitOr ∷ members_code lay free b rs j)) there
+    ∙ sym (append_assoc (expr_code lay free f (at + expr_size e + 1)) _ _))
+    ∙ sym (append_assoc (expr_code lay free e at) _ _)
+
+range_size_on : (r : RangeTree) (rs : RangeNodes) → members_size (with_range r rs) ≡ range_size r + members_size rs
+range_size_on (alone e) rs = omega arith
+range_size_on (between e f) rs = omega arith
+
+pub members_step : {a : ℕ → List Instr} {m : ℕ} (lay : Layout) (free : ℕ) (b : Bounds) (r : RangeTree) (rs : RangeNodes) {x y z : Code}
+    → StillTo a m (λ at. members_code lay free b (with_range r rs) at) (members_size (with_range r rs)) x y
+    → Appends (range_code lay free b r (length y.instrs)) (range_size r) y z
+    → StillTo a m (λ at. members_code lay free b rs at) (members_size rs) x z
+members_step lay free b r rs {x} {y} p q = step (λ at. members_code lay free b rs at) (members_size rs) (range_code_on lay free b r rs (length y.instrs)) (range_size_on r rs) p q
+
+argument_code_on : (lay : Layout) (rows : List LocalRowTree) (k kept : ℕ) (t : ArgumentTree) (ts : ArgumentNodes) (at : ℕ)
+    → arguments_code lay rows k kept (with_argument t ts) at ≡ argument_code lay rows k kept t at ++ arguments_code lay rows (k + 1) (kept + places_kept t) ts (at + argument_size t)
+argument_code_on lay rows k kept (taken r) ts at =
+    let same : kept ≡ kept + 0 = omega arith in
+    ap (λ (j : ℕ). received_code lay kept r at ++ arguments_code lay rows (k + 1) j ts (at + received_size r)) same
+argument_code_on lay rows k kept (given (location b ps n) bounds) ts at = refl
+argument_code_on lay rows k kept (both l taken_by bounds) ts at = refl
+
+argument_size_on : (t : ArgumentTree) (ts : ArgumentNodes) → arguments_size (with_argument t ts) ≡ argument_size t + arguments_size ts
+argument_size_on (taken r) ts = refl
+argument_size_on (given (location b ps n) bounds) ts = refl
+argument_size_on (both l taken_by bounds) ts = refl
+
+pub arguments_step : {a : ℕ → List Instr} {m : ℕ} (lay : Layout) (rows : List LocalRowTree) (k kept j next : ℕ) (t : ArgumentTree) (ts : ArgumentNodes) {x y z : Code}
+    → j ≡ k + 1 → next ≡ kept + places_kept t
+    → StillTo a m (λ at. arguments_code lay rows k kept (with_argument t ts) at) (arguments_size (with_argument t ts)) x y
+    → Appends (argument_code lay rows k kept t (length y.instrs)) (argument_size t) y z
+    → StillTo a m (λ at. arguments_code lay rows j next ts at) (arguments_size ts) x z
+arguments_step {a} {m} lay rows k kept j next t ts {x} {y} {z} e f p q =
+    let all : StillTo a m (λ at. arguments_code lay rows (k + 1) (kept + places_kept t) ts at) (arguments_size ts) x z =
+        step (λ at. arguments_code lay rows (k + 1) (kept + places_kept t) ts at) (arguments_size ts) (argument_code_on lay rows k kept t ts (length y.instrs)) (argument_size_on t ts) p q in
+    rw (e, f) all
+
+pub places_step : (t : ArgumentTree) (ts : ArgumentNodes) (kept : ℕ) → kept_behind (with_argument t ts) kept ≡ kept_behind ts (kept + places_kept t)
+places_step (taken r) ts kept = ap (λ (j : ℕ). kept_behind ts j) (omega arith)
+places_step (given l bounds) ts kept = refl
+places_step (both l taken_by bounds) ts kept = refl
+
+copy_out_on : (lay : Layout) (kept free : ℕ) (t : ArgumentTree) (ts : ArgumentNodes)
+    → copies_out lay (with_argument t ts) kept free ≡ copy_out lay t kept free ++ copies_out lay ts (kept + places_kept t) free
+copy_out_on lay kept free (taken r) ts = ap (λ (j : ℕ). copies_out lay ts j free) (omega arith)
+copy_out_on lay kept free (given l bounds) ts = refl
+copy_out_on lay kept free (both l taken_by bounds) ts = refl
+
+copying_size_on : (t : ArgumentTree) (ts : ArgumentNodes) → copies_out_size (with_argument t ts) ≡ copying_size t + copies_out_size ts
+copying_size_on (taken r) ts = refl
+copying_size_on (given l bounds) ts = refl
+copying_size_on (both l taken_by bounds) ts = refl
+
+pub copies_step : {a : ℕ → List Instr} {m : ℕ} (lay : Layout) (kept next free : ℕ) (t : ArgumentTree) (ts : ArgumentNodes) {x y z : Code}
+    → next ≡ kept + places_kept t
+    → StillTo a m (λ at. copies_out lay (with_argument t ts) kept free) (copies_out_size (with_argument t ts)) x y
+    → Appends (copy_out lay t kept free) (copying_size t) y z
+    → StillTo a m (λ at. copies_out lay ts next free) (copies_out_size ts) x z
+copies_step {a} {m} lay kept next free t ts {x} {y} {z} f p q =
+    let all : StillTo a m (λ at. copies_out lay ts (kept + places_kept t) free) (copies_out_size ts) x z =
+        step (λ at. copies_out lay ts (kept + places_kept t) free) (copies_out_size ts) (copy_out_on lay kept free t ts) (copying_size_on t ts) p q in
+    rw f all

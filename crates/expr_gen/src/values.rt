@@ -1,9 +1,10 @@
 // Values: one recursion over expressions, the parts of locations, and arguments. `free` is the first free scratch local.
 #![tactic(auto, using(crate::proofs::Appending::keeping))]
-ghost use Rattle.std.specs.Prelude.{◌≡◌, ◌+◌, true, pos, length, IfOk, OnOk, if◌then◌else◌, slice_get};
+ghost use Rattle.std.specs.Prelude.{◌≡◌, ◌+◌, ◌<◌, ◌∷◌, Some, true, pos, length, IfOk, OnOk, if◌then◌else◌, slice_get};
 ghost use Rattle.program_trees.specs.ExprTree.{expr_tree, location_tree, received_tree, received_of, call_tree, start_tree, range_tree, argument_tree};
-ghost use Rattle.program_trees.specs.ProgramTree.{body_row_tree};
-ghost use Rattle.code_scheme.specs.Pieces.{capped, has_index, first_of_parts, member_code, kept_behind};
+ghost use Rattle.program_trees.specs.ProgramTree.{BodyRowTree, checked_tree, body_row_tree};
+ghost use Rattle.code_scheme.specs.StatementSite.{first_free};
+ghost use Rattle.code_scheme.specs.Pieces.{capped, has_index, first_of_parts, member_code, kept_behind, layout_in};
 ghost use Rattle.code_types.specs.declared.instr.Instr.TheVariants as code;
 ghost use Rattle.code_scheme.specs.ExprSizes.{expr_size, place_size, indices_size, received_size, received_sizes, members_size, start_size, call_size, arguments_size};
 ghost use Rattle.code_scheme.specs.ExprCode.{expr_code, place_code, indices_code, received_code, received_codes, members_code, start_code, call_code, arguments_code, sum_code, cut_code, receive_code, counts_of};
@@ -31,10 +32,14 @@ pub fn expr_code(
     program: &Checked,
     body: u32,
     draft: &mut Draft,
-) -> Result<(), PartRefusal> {
+) -> Result<(), PartRefusal>
+    ensures there { OnOk result (body < length program.now.bodies) }
+    ensures appends { OnOk result ((row : BodyRowTree) → slice_get (checked_tree program.now).bodies body ≡ Some row → Appends (expr_code (layout_in (checked_tree program.now) row) (first_free row) (expr_tree expr.now) (length draft.old.code.instrs)) (expr_size (expr_tree expr.now)) draft.old.code draft.new.code) }
+    ensures keeps { Keeps draft.old.code draft.new.code }
+{
     let body = body_of(program, body)?;
     let site = Site { program, body };
-    put_expr(expr, &site, first_free(body), draft)
+    put_expr(expr, &site, uncapped(first_free(body))?, draft)
 }
 
 /// Appends the code of an expression, which leaves its value on the stack.
