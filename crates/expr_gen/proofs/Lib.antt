@@ -1,3 +1,6 @@
 pub mod Views
 pub mod Appending
 pub mod Made
+pub mod Rows
+pub mod Copies
+pub mod Items

@@ -1,5 +1,5 @@
 -- The nodes of lists of parts, members and arguments, and the scheme of one argument alone.
-use Rattle.std.specs.Prelude.{ℕ, ◌+◌, Bool, List, [], ◌∷◌, ◌++◌, ℤ, map, length, slice_get}
+use Rattle.std.specs.Prelude.{ℕ, ◌+◌, Bool, true, false, List, [], ◌∷◌, ◌++◌, ℤ, map, length, slice_get}
 use Rattle.code_types.specs.declared.instr.Instr.{Instr}
 use Rattle.code_types.specs.declared.instr.Instr.TheVariants as i
 use Rattle.modes.specs.declared.mode.Bounds.{Bounds}
@@ -7,7 +7,7 @@ use Rattle.checked_program.specs.declared.expr.Argument.{Argument}
 use Rattle.checked_program.specs.declared.expr.Binary.{Binary}
 use Rattle.checked_program.specs.declared.expr.Part.{Part}
 use Rattle.checked_program.specs.declared.expr.Range.{Range}
-use Rattle.program_trees.specs.ExprTree.{ExprTree, count_of, PartNodes, RangeNodes, ArgumentNodes, part_nodes, range_nodes, argument_nodes, part_tree, range_tree, argument_tree, ArgumentTree, taken, given, both, RangeTree, alone, between}
+use Rattle.program_trees.specs.ExprTree.{ExprTree, count_of, PartNodes, RangeNodes, ArgumentNodes, part_nodes, range_nodes, argument_nodes, part_tree, range_tree, argument_tree, PartTree, one_field, one_element, ArgumentTree, taken, given, both, RangeTree, alone, between}
 use Rattle.program_trees.specs.ProgramTree.{LocalRowTree}
 use Rattle.code_scheme.specs.Pieces.{Layout, pushes, lowest_in_row, check_code, tested_in, tested_out, tested_back, contents_code, keep_code, kept_code, offsets_kept, copy_out_code, location_scalars, between_code, between_size, bounds_of_value, behind_code, behind_size, straight, turned, branch_code, branch_size}
 use Rattle.code_scheme.specs.ExprSizes.{expr_size, received_size, place_size, copy_out_size}
@@ -80,3 +80,13 @@ plain_condition lay free e when target at = expr_code lay free e at ++ branch_co
 
 abbrev pub plain_size : ExprTree → Bool → ℕ
 plain_size e when = expr_size e + branch_size when
+
+-- ---- parts, one by one
+
+abbrev pub is_index : PartTree → Bool
+is_index (one_field first count) = false
+is_index (one_element e b count) = true
+
+abbrev pub first_in_part : PartTree → ℕ
+first_in_part (one_field first count) = first
+first_in_part (one_element e b count) = 0

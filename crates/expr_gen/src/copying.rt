@@ -61,6 +61,7 @@ pub fn put_kept(target: &Location, kept: u32, draft: &mut Draft) -> Result<(), P
 }
 
 /// The lowest value of a parameter, with as many scalars as its argument has, or Unsound.
+#[tactic(auto, using(crate::proofs::Rows::local_there, crate::proofs::Appending::keeping))]
 pub fn put_lowest(
     callee: &Body,
     parameter: u32,

@@ -2,10 +2,10 @@
 ghost use Rattle.std.specs.Prelude.{◌≡◌, Some, slice_get, IfOk, map};
 ghost use Rattle.program_trees.specs.ProgramTree.{body_row_tree, local_row_tree};
 ghost use Rattle.code_scheme.specs.Pieces.{capped};
-ghost use Rattle.code_scheme.specs.StatementSite.{scalars_in, parameter_scalars, declared_scalars, result_scalars, first_free, back_scalars, call_results};
+ghost use Rattle.code_scheme.specs.StatementSite.{scalars_in, parameter_scalars, declared_scalars, result_scalars, first_free};
 
 use crate::refusal::PartRefusal;
-use checked_program::{Body, Checked, LocalRow, Parameter, Passing};
+use checked_program::{Body, Checked, LocalRow, Passing};
 use modes::number_of_scalars;
 
 /// Where a part of a program stands.
@@ -80,19 +80,10 @@ pub fn first_free(body: &Body) -> u32
 }
 
 /// How many scalars a call of the body gives back: the result, and the OUT and INOUT parameters.
-pub fn call_results(body: &Body) -> u32
-    ensures { result ≡ capped (call_results (body_row_tree body.now)) }
-{
-    let back = back_scalars(body.parameters.as_slice(), body.locals.as_slice());
-    result_scalars(body).saturating_add(back)
-}
-
-// How many scalars a call gives back of its parameters, which are the first locals.
-fn back_scalars(parameters: &[Parameter], locals: &[LocalRow]) -> u32
-    ensures { result ≡ capped (back_scalars parameters.now (map local_row_tree locals.now)) }
-{
-    let mut scalars = 0u32;
-    for (parameter, local) in parameters.iter().zip(locals) {
+pub fn call_results(body: &Body) -> u32 {
+    let mut scalars = result_scalars(body);
+    let locals = body.locals.as_slice().iter();
+    for (parameter, local) in body.parameters.as_slice().iter().zip(locals) {
         match parameter.passing {
             Passing::In => {}
             Passing::Out | Passing::InOut => scalars = scalars.saturating_add(local.count),

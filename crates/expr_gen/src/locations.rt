@@ -1,46 +1,63 @@
 // Locations: contents and assignment, where the place stands on the stack if it has an offset.
 #![tactic(auto, using(crate::proofs::Appending::keeping))]
-ghost use Rattle.std.specs.Prelude.{◌≡◌, length, OnOk};
-ghost use Rattle.program_trees.specs.ExprTree.{location_tree};
-ghost use Rattle.code_scheme.specs.Pieces.{capped, has_index, first_of_parts, has_offset, again_code, contents_code, store_code, check_code};
-ghost use Rattle.expr_gen.specs.Trees.{parts_of};
+ghost use Rattle.std.specs.Prelude.{◌≡◌, ◌+◌, [], ◌∷◌, length, slice_get, IfOk, OnOk};
+ghost use Rattle.code_types.specs.declared.instr.Instr.TheVariants as code;
+ghost use Rattle.checked_program.specs.declared.expr.Base.TheVariants as bases;
+ghost use Rattle.program_trees.specs.ProgramTree.{body_row_tree};
+ghost use Rattle.program_trees.specs.ExprTree.{location_tree, part_tree};
+ghost use Rattle.code_scheme.specs.Pieces.{capped, has_index, first_of_parts, has_offset, again_code, first_in, contents_at, contents_code, store_at, store_code, check_code};
+ghost use Rattle.expr_gen.specs.Trees.{parts_of, is_index, first_in_part};
 ghost use Rattle.expr_gen.specs.Putting.{Appends, Keeps, layout_of};
 
 use crate::building::{Draft, uncapped};
 use crate::frames::{Site, local_of};
 use crate::refusal::PartRefusal;
-use checked_program::{Base, Location, Part};
+use checked_program::{Base, Body, Location, Part};
 use code_types::Instr;
 use modes::Bounds;
 
 /// Whether there is an index among the parts.
-#[tactic(auto, using(crate::proofs::Views::tree_built, crate::proofs::Appending::keeping))]
 pub fn has_index(parts: &[Part]) -> bool
     ensures { result ≡ has_index (parts_of parts.now) }
 {
     let mut found = false;
     for part in parts {
-        match part {
-            Part::Field { .. } => {}
-            Part::Element { .. } => found = true,
-        }
+        found = found || is_index(part);
     }
     found
 }
 
+// Whether the part is an element.
+#[tactic(auto, using(crate::proofs::Views::tree_built))]
+fn is_index(part: &Part) -> bool
+    ensures { result ≡ is_index (part_tree part.now) }
+{
+    match part {
+        Part::Field { .. } => false,
+        Part::Element { .. } => true,
+    }
+}
+
 /// The number of the first scalar that the fields among the parts lead to.
-#[tactic(auto, using(crate::proofs::Views::tree_built, crate::proofs::Appending::keeping))]
 pub fn first_of_parts(parts: &[Part]) -> u32
     ensures { result ≡ capped (first_of_parts (parts_of parts.now)) }
 {
     let mut first = 0u32;
     for part in parts {
-        match part {
-            Part::Field { first: own, .. } => first = first.saturating_add(*own),
-            Part::Element { .. } => {}
-        }
+        first = first.saturating_add(first_in_part(part));
     }
     first
+}
+
+// The number of the first scalar that a field leads to; that of an element is told by its index.
+#[tactic(auto, using(crate::proofs::Views::tree_built))]
+fn first_in_part(part: &Part) -> u32
+    ensures { result ≡ first_in_part (part_tree part.now) }
+{
+    match part {
+        Part::Field { first, .. } => *first,
+        Part::Element { .. } => 0,
+    }
 }
 
 /// Whether the place of a location is an offset on the stack: that of every shared location, and of a local with an index.
@@ -77,19 +94,48 @@ pub fn put_contents(
     ensures appends { OnOk result (Appends (contents_code (layout_of site.now.program.now site.now.body.now) (location_tree location.now)) 1 draft.old.code draft.new.code) }
     ensures keeps { Keeps draft.old.code draft.new.code }
 {
-    let count = location.count;
-    let fields = uncapped(first_of_parts(location.parts.as_slice()))?;
+    let parts = location.parts.as_slice();
     match location.base {
-        Base::Shared(number) => draft.put(Instr::Read(number, fields, count)),
-        Base::Local(number) => {
-            let first = uncapped(local_of(site.body, number)?.first.saturating_add(fields))?;
-            if has_index(location.parts.as_slice()) {
-                draft.put(Instr::LocalAt(first, count))
-            } else {
-                draft.put(Instr::Local(first, count))
-            }
-        }
+        Base::Shared(number) => put_read(number, parts, location.count, draft),
+        Base::Local(number) => put_local(number, parts, location.count, site, draft),
     }
+}
+
+// The contents of a part of a shared location.
+fn put_read(number: u32, parts: &[Part], count: u32, draft: &mut Draft) -> Result<(), PartRefusal>
+    ensures appends { OnOk result (Appends (code.Read number (first_of_parts (parts_of parts.now)) count ∷ []) 1 draft.old.code draft.new.code) }
+    ensures keeps { Keeps draft.old.code draft.new.code }
+{
+    let fields = uncapped(first_of_parts(parts))?;
+    draft.put(Instr::Read(number, fields, count))
+}
+
+// The contents of a part of a local.
+fn put_local(
+    number: u32,
+    parts: &[Part],
+    count: u32,
+    site: &Site,
+    draft: &mut Draft,
+) -> Result<(), PartRefusal>
+    ensures appends { OnOk result (Appends (contents_at (layout_of site.now.program.now site.now.body.now) (bases.Local number) (parts_of parts.now) count) 1 draft.old.code draft.new.code) }
+    ensures keeps { Keeps draft.old.code draft.new.code }
+{
+    let first = first_at(number, parts, site.body)?;
+    if has_index(parts) {
+        draft.put(Instr::LocalAt(first, count))
+    } else {
+        draft.put(Instr::Local(first, count))
+    }
+}
+
+// The first scalar of a part of a local, without its indices.
+#[tactic(auto, using(crate::proofs::Rows::local_there))]
+fn first_at(number: u32, parts: &[Part], body: &Body) -> Result<u32, PartRefusal>
+    ensures { IfOk result (λ first. first ≡ first_in (slice_get (body_row_tree body.now).locals number) + first_of_parts (parts_of parts.now)) }
+{
+    let local = local_of(body, number)?;
+    uncapped(local.first.saturating_add(first_of_parts(parts)))
 }
 
 /// Assigns the value on top to a location, whose place stands below it.
@@ -98,18 +144,43 @@ pub fn put_store(location: &Location, site: &Site, draft: &mut Draft) -> Result<
     ensures appends { OnOk result (Appends (store_code (layout_of site.now.program.now site.now.body.now) (location_tree location.now)) 1 draft.old.code draft.new.code) }
     ensures keeps { Keeps draft.old.code draft.new.code }
 {
-    let count = location.count;
-    let fields = uncapped(first_of_parts(location.parts.as_slice()))?;
+    let parts = location.parts.as_slice();
     match location.base {
-        Base::Shared(number) => draft.put(Instr::Write(number, fields, count)),
-        Base::Local(number) => {
-            let first = uncapped(local_of(site.body, number)?.first.saturating_add(fields))?;
-            if has_index(location.parts.as_slice()) {
-                draft.put(Instr::SetLocalAt(first, count))
-            } else {
-                draft.put(Instr::SetLocal(first, count))
-            }
-        }
+        Base::Shared(number) => put_write(number, parts, location.count, draft),
+        Base::Local(number) => put_set_local(number, parts, location.count, site, draft),
+    }
+}
+
+// Assigns the value on top to a part of a shared location.
+fn put_write(
+    number: u32,
+    parts: &[Part],
+    count: u32,
+    draft: &mut Draft,
+) -> Result<(), PartRefusal>
+    ensures appends { OnOk result (Appends (code.Write number (first_of_parts (parts_of parts.now)) count ∷ []) 1 draft.old.code draft.new.code) }
+    ensures keeps { Keeps draft.old.code draft.new.code }
+{
+    let fields = uncapped(first_of_parts(parts))?;
+    draft.put(Instr::Write(number, fields, count))
+}
+
+// Assigns the value on top to a part of a local.
+fn put_set_local(
+    number: u32,
+    parts: &[Part],
+    count: u32,
+    site: &Site,
+    draft: &mut Draft,
+) -> Result<(), PartRefusal>
+    ensures appends { OnOk result (Appends (store_at (layout_of site.now.program.now site.now.body.now) (bases.Local number) (parts_of parts.now) count) 1 draft.old.code draft.new.code) }
+    ensures keeps { Keeps draft.old.code draft.new.code }
+{
+    let first = first_at(number, parts, site.body)?;
+    if has_index(parts) {
+        draft.put(Instr::SetLocalAt(first, count))
+    } else {
+        draft.put(Instr::SetLocal(first, count))
     }
 }
 

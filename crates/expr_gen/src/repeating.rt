@@ -1,7 +1,8 @@
 // Scalars that are pushed, and copies of what stands on top.
 #![tactic(auto, using(crate::proofs::Appending::keeping))]
 ghost use Rattle.std.specs.Prelude.{◌≡◌, ◌+◌, ◌&&◌, nat_lt, pos, length, OnOk};
-ghost use Rattle.code_scheme.specs.Pieces.{capped, copies_code, run_code, run_ended, run_behind, are_same, scalars_code};
+ghost use Rattle.code_scheme.specs.Pieces.{capped, run_code, run_ended, run_behind, are_same, scalars_code};
+ghost use Rattle.expr_gen.specs.Copies.{copied, turn_code, turn_size, next_there};
 ghost use Rattle.expr_gen.specs.Putting.{Appends, Keeps};
 
 use crate::building::{Draft, uncapped};
@@ -121,31 +122,61 @@ fn run_size(run: Run) -> u32
 /// Copies of the value on top, until there are so many of it. Each time as many are copied as are there, or as are
 /// wanting.
 pub fn put_copies(elements: u32, count: u32, draft: &mut Draft) -> Result<(), PartRefusal>
-    ensures appends { OnOk result (Appends (copies_code elements count) (length (copies_code elements 0)) draft.old.code draft.new.code) }
+    ensures appends { OnOk result (Appends (copied elements count) (length (copied elements 0)) draft.old.code draft.new.code) }
     ensures keeps { Keeps draft.old.code draft.new.code }
 {
     let mut there = 1u32;
-    for _time in 0..32u32 {
-        if there < elements {
-            let more = there.min(elements - there);
-            draft.put(Instr::Copy(uncapped(more.saturating_mul(count))?))?;
-            there = there.saturating_add(more);
-        }
+    for _turn in 0..32u32 {
+        put_turn(there, elements, count, draft)?;
+        there = next_there(there, elements);
     }
     Ok(())
 }
 
+// One turn of copies of a value of so many scalars.
+fn put_turn(
+    there: u32,
+    elements: u32,
+    count: u32,
+    draft: &mut Draft,
+) -> Result<(), PartRefusal>
+    ensures appends { OnOk result (Appends (turn_code there elements count) (turn_size there elements) draft.old.code draft.new.code) }
+    ensures keeps { Keeps draft.old.code draft.new.code }
+{
+    if there >= elements {
+        return Ok(());
+    }
+    let more = there.min(elements - there);
+    draft.put(Instr::Copy(uncapped(more.saturating_mul(count))?))
+}
+
+// How many of a value are there behind a turn.
+fn next_there(there: u32, elements: u32) -> u32
+    ensures { result ≡ next_there there elements }
+{
+    if there < elements {
+        there.saturating_add(there.min(elements - there))
+    } else {
+        there
+    }
+}
+
+// How many instructions one turn has.
+fn turn_size(there: u32, elements: u32) -> u32
+    ensures { result ≡ turn_size there elements }
+{
+    if there < elements { 1 } else { 0 }
+}
+
 /// How many instructions copy a value until there are so many of it.
 pub fn copies_size(elements: u32) -> u32
-    ensures { result ≡ length (copies_code elements 0) }
+    ensures { result ≡ length (copied elements 0) }
 {
     let mut there = 1u32;
     let mut size = 0u32;
-    for _time in 0..32u32 {
-        if there < elements {
-            there = there.saturating_add(there.min(elements - there));
-            size = size.saturating_add(1);
-        }
+    for _turn in 0..32u32 {
+        size = size.saturating_add(turn_size(there, elements));
+        there = next_there(there, elements);
     }
     size
 }

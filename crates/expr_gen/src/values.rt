@@ -1,6 +1,6 @@
 // Values: one recursion over expressions, the parts of locations, and arguments. `free` is the first free scratch local.
 #![tactic(auto, using(crate::proofs::Appending::keeping))]
-ghost use Rattle.std.specs.Prelude.{◌≡◌, ◌+◌, ◌<◌, ◌∷◌, Some, true, pos, length, IfOk, OnOk, if◌then◌else◌, slice_get};
+ghost use Rattle.std.specs.Prelude.{◌≡◌, ◌+◌, ◌<◌, ◌∷◌, [], Some, true, pos, length, IfOk, OnOk, if◌then◌else◌, slice_get};
 ghost use Rattle.program_trees.specs.ExprTree.{expr_tree, location_tree, received_tree, received_of, call_tree, start_tree, range_tree, argument_tree};
 ghost use Rattle.program_trees.specs.ProgramTree.{BodyRowTree, checked_tree, body_row_tree};
 ghost use Rattle.code_scheme.specs.StatementSite.{first_free};
@@ -9,7 +9,7 @@ ghost use Rattle.code_types.specs.declared.instr.Instr.TheVariants as code;
 ghost use Rattle.code_scheme.specs.ExprSizes.{expr_size, place_size, indices_size, received_size, received_sizes, members_size, start_size, call_size, arguments_size};
 ghost use Rattle.code_scheme.specs.ExprCode.{expr_code, place_code, indices_code, received_code, received_codes, members_code, start_code, call_code, arguments_code, sum_code, cut_code, receive_code, counts_of};
 ghost use Rattle.expr_gen.specs.Trees.{parts_of, ranges_of, arguments_of, argument_code, argument_size, range_code, range_size};
-ghost use Rattle.expr_gen.specs.Putting.{Appends, Keeps, layout_of};
+ghost use Rattle.expr_gen.specs.Putting.{Appends, Puts, Keeps, layout_of};
 
 use crate::bounds::{bounds_of_value, tested};
 use crate::building::{Draft, sum, uncapped};
@@ -43,7 +43,7 @@ pub fn expr_code(
 }
 
 /// Appends the code of an expression, which leaves its value on the stack.
-#[tactic(auto, using(crate::proofs::Views::tree_built, crate::proofs::Appending::keeping))]
+#[tactic(none)]
 #[cycle(value)]
 pub fn put_expr(expr: &Expr, site: &Site, free: u32, draft: &mut Draft) -> Result<(), PartRefusal>
     ensures appends { OnOk result (Appends (expr_code (layout_of site.now.program.now site.now.body.now) free (expr_tree expr.now) (length draft.old.code.instrs)) (expr_size (expr_tree expr.now)) draft.old.code draft.new.code) }
@@ -109,7 +109,7 @@ fn put_cut(parts: &[Part], of: u32, count: u32, draft: &mut Draft) -> Result<(),
 }
 
 // The offset to which the indices among the parts lead, where there is one.
-#[tactic(auto, using(crate::proofs::Views::tree_built, crate::proofs::Appending::keeping))]
+#[tactic(none)]
 #[cycle(value)]
 fn put_indices(
     parts: &[Part],
@@ -153,7 +153,7 @@ fn put_sum(is_first: bool, draft: &mut Draft) -> Result<(), PartRefusal>
 
 /// Appends the code of a location's place: the offset of its indices, where it has one. It stands below a value that is
 /// assigned.
-#[tactic(auto, using(crate::proofs::Views::tree_built, crate::proofs::Appending::keeping))]
+#[tactic(none)]
 #[cycle(value)]
 pub fn put_place(
     location: &Location,
@@ -179,16 +179,32 @@ fn put_receive(buffer: u32, count: u32, free: u32, draft: &mut Draft) -> Result<
     ensures appends { OnOk result (Appends (receive_code buffer count free) 6 draft.old.code draft.new.code) }
     ensures keeps { Keeps draft.old.code draft.new.code }
 {
-    draft.put(Instr::Thing(buffer))?;
-    draft.put(Instr::Push(i64::from(free)))?;
-    draft.put(Instr::Push(i64::from(count)))?;
+    put_source(buffer, free, count, draft)?;
     draft.put(Instr::Take(1, false))?;
     draft.put(Instr::Pop(2))?;
     draft.put(Instr::Local(free, count))
 }
 
+// A buffer, and the scratch locals that get its value.
+fn put_source(buffer: u32, first: u32, count: u32, draft: &mut Draft) -> Result<(), PartRefusal>
+    ensures appends { OnOk result (Appends (code.Thing buffer ∷ code.Push (pos first) ∷ code.Push (pos count) ∷ []) 3 draft.old.code draft.new.code) }
+    ensures keeps { Keeps draft.old.code draft.new.code }
+{
+    draft.put(Instr::Thing(buffer))?;
+    put_number(first, draft)?;
+    put_number(count, draft)
+}
+
+// A number of locals or scalars.
+fn put_number(number: u32, draft: &mut Draft) -> Result<(), PartRefusal>
+    ensures puts { OnOk result (Puts (code.Push (pos number)) draft.old.code draft.new.code) }
+    ensures keeps { Keeps draft.old.code draft.new.code }
+{
+    draft.put(Instr::Push(i64::from(number)))
+}
+
 /// Appends the code of a value that something takes, with its test.
-#[tactic(auto, using(crate::proofs::Views::tree_built, crate::proofs::Appending::keeping))]
+#[tactic(none)]
 #[cycle(value)]
 pub fn put_received(
     received: &Received,
@@ -204,7 +220,7 @@ pub fn put_received(
 }
 
 /// Appends the code of values that are taken one behind the other, each with its test.
-#[tactic(auto, using(crate::proofs::Views::tree_built, crate::proofs::Appending::keeping))]
+#[tactic(none)]
 #[cycle(value)]
 pub fn put_all_received(
     all: &[Received],
@@ -222,7 +238,7 @@ pub fn put_all_received(
 }
 
 /// Appends the code of a process's start, which leaves its instance on the stack.
-#[tactic(auto, using(crate::proofs::Views::tree_built, crate::proofs::Appending::keeping))]
+#[tactic(none)]
 #[cycle(value)]
 pub fn put_start(
     start: &Start,
@@ -252,7 +268,7 @@ pub fn scalars_of(all: &[Received]) -> u32
 }
 
 // A powerset of members from the first bound to the second.
-#[tactic(auto, using(crate::proofs::Views::tree_built, crate::proofs::Appending::keeping))]
+#[tactic(none)]
 #[cycle(value)]
 fn put_powerset(
     members: &[Range],
@@ -272,7 +288,7 @@ fn put_powerset(
 }
 
 // The powerset on top with the members of a range besides.
-#[tactic(auto, using(crate::proofs::Views::tree_built, crate::proofs::Appending::keeping))]
+#[tactic(none)]
 #[cycle(value)]
 fn put_range(
     range: &Range,
@@ -300,7 +316,7 @@ fn put_range(
 
 /// Appends the code of a call, which leaves the scalars of its result on the stack. The places of its OUT and INOUT
 /// arguments that have an offset are kept in scratch locals, one behind the other.
-#[tactic(auto, using(crate::proofs::Views::tree_built, crate::proofs::Appending::keeping))]
+#[tactic(none)]
 #[cycle(value)]
 pub fn put_call(call: &Call, site: &Site, free: u32, draft: &mut Draft) -> Result<(), PartRefusal>
     ensures appends { OnOk result (Appends (call_code (layout_of site.now.program.now site.now.body.now) free (call_tree call.now) (length draft.old.code.instrs)) (call_size (call_tree call.now)) draft.old.code draft.new.code) }
@@ -314,7 +330,7 @@ pub fn put_call(call: &Call, site: &Site, free: u32, draft: &mut Draft) -> Resul
 }
 
 // The arguments of a call, and the scratch local behind the places that are kept.
-#[tactic(auto, using(crate::proofs::Views::tree_built, crate::proofs::Appending::keeping))]
+#[tactic(none)]
 #[cycle(value)]
 fn put_arguments(
     arguments: &[Argument],
@@ -345,7 +361,7 @@ struct Taker<'a> {
 }
 
 // What an argument gives to its parameter, and the place of its location, which is kept.
-#[tactic(auto, using(crate::proofs::Views::tree_built, crate::proofs::Appending::keeping))]
+#[tactic(none)]
 #[cycle(value)]
 fn put_argument(
     argument: &Argument,
