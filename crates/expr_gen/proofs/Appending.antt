@@ -74,3 +74,12 @@ done {a} {b} {m} {n} {x} {y} p code size = record {
   handlers = p.handlers;
   bodies = p.bodies;
 }
+
+-- the last of what is left is appended
+pub finish : {a b : ℕ → List Instr} {m n : ℕ} {x y z : Code} → StillTo a m b n x y → Appends (b (length y.instrs)) n y z → Appends (a (length x.instrs)) m x z
+finish p q = record {
+  instrs = q.instrs ∙ p.instrs;
+  length = q.length ∙ p.length;
+  handlers = q.handlers ∙ p.handlers;
+  bodies = q.bodies ∙ p.bodies;
+}

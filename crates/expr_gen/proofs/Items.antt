@@ -1,6 +1,6 @@
 -- The items of lists that a loop goes along, and the nodes of those that are left.
 use Rattle.std.proofs.Common.{◌≡◌, ℕ, ◌+◌, ◌<◌, ◌≤◌, Bool, true, false, List, [], ◌∷◌, length, get_or, drop, map, refl, sym, ap, ◌∙◌, add-one, drop-cons, arith, if◌then◌else◌}
-use Rattle.std.proofs.lemmas.List.{drop_all}
+use Rattle.std.proofs.lemmas.List.{at_drop_all}
 use Rattle.checked_program.specs.declared.expr.Argument.{Argument}
 use Rattle.checked_program.specs.declared.expr.Part.{Part}
 use Rattle.checked_program.specs.declared.expr.Range.{Range}
@@ -21,25 +21,25 @@ pub parts_at : (xs : List Part) (k : ℕ) (x : Part) → k < length xs → x ≡
 parts_at xs k x h e = ap parts_of (item_at xs k x h e)
 
 pub parts_end : (xs : List Part) (k : ℕ) → length xs ≤ k → parts_of (drop k xs) ≡ no_parts
-parts_end xs k h = ap parts_of (drop_all xs k h)
+parts_end xs k h = at_drop_all parts_of xs k h
 
 pub received_at : (xs : List Received) (k : ℕ) (x : Received) → k < length xs → x ≡ get_or xs k x → received_of (drop k xs) ≡ more_received (received_tree x) (received_of (drop (k + 1) xs))
 received_at xs k x h e = ap received_of (item_at xs k x h e)
 
 pub received_end : (xs : List Received) (k : ℕ) → length xs ≤ k → received_of (drop k xs) ≡ no_received
-received_end xs k h = ap received_of (drop_all xs k h)
+received_end xs k h = at_drop_all received_of xs k h
 
 pub ranges_at : (xs : List Range) (k : ℕ) (x : Range) → k < length xs → x ≡ get_or xs k x → ranges_of (drop k xs) ≡ with_range (range_tree x) (ranges_of (drop (k + 1) xs))
 ranges_at xs k x h e = ap ranges_of (item_at xs k x h e)
 
 pub ranges_end : (xs : List Range) (k : ℕ) → length xs ≤ k → ranges_of (drop k xs) ≡ no_ranges
-ranges_end xs k h = ap ranges_of (drop_all xs k h)
+ranges_end xs k h = at_drop_all ranges_of xs k h
 
 pub arguments_at : (xs : List Argument) (k : ℕ) (x : Argument) → k < length xs → x ≡ get_or xs k x → arguments_of (drop k xs) ≡ with_argument (argument_tree x) (arguments_of (drop (k + 1) xs))
 arguments_at xs k x h e = ap arguments_of (item_at xs k x h e)
 
 pub arguments_end : (xs : List Argument) (k : ℕ) → length xs ≤ k → arguments_of (drop k xs) ≡ no_arguments
-arguments_end xs k h = ap arguments_of (drop_all xs k h)
+arguments_end xs k h = at_drop_all arguments_of xs k h
 
 -- ---- what loops count
 
@@ -49,7 +49,7 @@ index_on (one_element e b count) ps = refl
 
 pub first_on : (p : PartTree) (ps : PartNodes) → first_of_parts (with_part p ps) ≡ first_in_part p + first_of_parts ps
 first_on (one_field first count) ps = refl
-first_on (one_element e b count) ps = refl
+first_on (one_element e b count) ps = omega arith
 
 found_or : (a b c : Bool) → (if a then true else (if b then true else c)) ≡ (if (if a then true else b) then true else c)
 found_or true b c = refl
@@ -89,4 +89,4 @@ pub locals_step : (xs : List LocalRow) (k : ℕ) (x : LocalRow) → k < length x
 locals_step xs k x h e = ap (λ (rows : List LocalRow). scalars_in (map local_row_tree rows)) (item_at xs k x h e)
 
 pub locals_end : (xs : List LocalRow) (k : ℕ) → length xs ≤ k → scalars_in (map local_row_tree (drop k xs)) ≡ 0
-locals_end xs k h = ap (λ (rows : List LocalRow). scalars_in (map local_row_tree rows)) (drop_all xs k h)
+locals_end xs k h = at_drop_all (λ (rows : List LocalRow). scalars_in (map local_row_tree rows)) xs k h

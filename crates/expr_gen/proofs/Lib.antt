@@ -4,3 +4,4 @@ pub mod Made
 pub mod Rows
 pub mod Copies
 pub mod Items
+pub mod Told

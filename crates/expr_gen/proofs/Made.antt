@@ -1,5 +1,5 @@
 -- What is appended for each expression, part after part.
-use Rattle.std.proofs.Common.{◌≡◌, ℕ, zero, suc, ◌+◌, Bool, true, false, List, [], ◌∷◌, ◌++◌, ℤ, pos, Option, Some, None, length, refl, sym, ap, subst, ◌∙◌, arith, append_assoc, if◌then◌else◌, Result, Ok, Err, OnOk}
+use Rattle.std.proofs.Common.{◌≡◌, ℕ, zero, suc, ◌+◌, Bool, true, false, List, [], ◌∷◌, ◌++◌, ℤ, pos, Option, Some, None, length, refl, sym, ap, subst, ◌∙◌, arith, append_assoc, if◌then◌else◌, Result, Ok, Err, OnOk, ◌&&◌, not, ◌<◌, ◌≤◌, get_or, drop}
 use Rattle.std.specs.Prelude.{map, slice_get, option_map}
 use Rattle.std.specs.declared.alloc.Global.{Global}
 use Rattle.std.specs.declared.boxed.Box.{Box}
@@ -10,17 +10,21 @@ use Rattle.modes.specs.declared.mode.Bounds.{Bounds}
 use Rattle.modes.specs.ModeTree.{class_tree}
 use Rattle.checked_program.specs.declared.expr.Binary.{Binary}
 use Rattle.checked_program.specs.declared.expr.Expr.{Expr, out-Expr}
+use Rattle.checked_program.specs.declared.expr.Argument.{Argument}
 use Rattle.checked_program.specs.declared.expr.Part.{Part}
-use Rattle.program_trees.specs.ExprTree.{ExprTree, expr, OperationTree, part_of, call, binary, ReceivedTree, ReceivedNodes, received, more_received, PartNodes, no_parts, field, element, PartTree, one_field, one_element, with_part, RangeTree, RangeNodes, alone, between, with_range, LocationTree, location, StartTree, started, CallTree, called, ArgumentTree, ArgumentNodes, taken, given, both, with_argument, root_bounds, count_of, expr_tree, operation_tree}
+use Rattle.checked_program.specs.declared.expr.Range.{Range}
+use Rattle.checked_program.specs.declared.expr.Received.{Received}
+use Rattle.program_trees.specs.ExprTree.{ExprTree, expr, OperationTree, part_of, call, binary, ReceivedTree, ReceivedNodes, received, more_received, PartNodes, no_parts, field, element, PartTree, one_field, one_element, with_part, RangeTree, RangeNodes, alone, between, with_range, LocationTree, location, StartTree, started, CallTree, called, ArgumentTree, ArgumentNodes, taken, given, both, with_argument, root_bounds, count_of, expr_tree, operation_tree, part_tree, received_tree, received_of, range_tree, argument_tree}
 use Rattle.program_trees.specs.ProgramTree.{LocalRowTree}
 use Rattle.code_scheme.specs.Pieces.{Layout, check_code, tested, bounds_of_value, between_code, between_size, behind_code, behind_size, branch_code, branch_size, straight, turned, has_index, first_of_parts, member_code, copies_out, kept_behind, rows_of}
 use Rattle.code_scheme.specs.ExprSizes.{expr_size, operation_size, indices_size, received_size, received_sizes, members_size, start_size, call_size, arguments_size, copies_out_size, sum_size, condition_size}
 use Rattle.code_scheme.specs.ExprCode.{expr_code, operation_code, indices_code, received_code, received_codes, members_code, start_code, call_code, arguments_code, sum_code, cut_code, counts_of, condition_code}
 use Rattle.code_scheme.proofs.Lemmas.{no_index-size}
 use Rattle.expr_gen.specs.Putting.{Appends}
-use Rattle.expr_gen.specs.Trees.{compared_code, compared_size, plain_condition, plain_size, range_code, range_size, argument_code, argument_size, places_kept, copy_out, copying_size}
-use Rattle.expr_gen.proofs.Appending.{and_then, resized, StillTo, step}
+use Rattle.expr_gen.specs.Trees.{parts_of, ranges_of, arguments_of, is_index, index_code, index_size, compared_code, compared_size, plain_condition, plain_size, range_code, range_size, argument_code, argument_size, places_kept, copy_out, copying_size}
+use Rattle.expr_gen.proofs.Appending.{and_then, resized, StillTo, step, done}
 use Rattle.expr_gen.proofs.Views.{expr_tree-out}
+use Rattle.expr_gen.proofs.Items.{parts_at, parts_end, received_at, received_end, ranges_at, ranges_end, arguments_at, arguments_end}
 
 -- a part at a place that is told in another form
 pub moved : {m n k : ℕ} {x y : Code} (f : ℕ → List Instr) → m ≡ n → Appends (f m) k x y → Appends (f n) k x y
@@ -176,19 +180,31 @@ told (Err v) lay free at x z e o is p = tt
 
 -- ---- steps of loops
 
-pub indices_step : {a : ℕ → List Instr} {m : ℕ} (lay : Layout) (free : ℕ) (is_first : Bool) (e : ExprTree) (b : Bounds) (count : ℕ) (ps : PartNodes) {x y y1 y2 z : Code}
-    → StillTo a m (λ at. indices_code lay free is_first (element e b count ps) at) (indices_size is_first (element e b count ps)) x y
-    → Appends (expr_code lay free e (length y.instrs)) (expr_size e) y y1
-    → Appends (i.Index b.low b.high count ∷ []) 1 y1 y2
-    → Appends (sum_code is_first) (sum_size is_first) y2 z
-    → StillTo a m (λ at. indices_code lay free false ps at) (indices_size false ps) x z
-indices_step lay free is_first e b count ps {x} {y} p q r s =
-    let at : ℕ = length y.instrs in
-    let there : at + expr_size e + (1 + sum_size is_first) ≡ at + (expr_size e + (1 + sum_size is_first)) = omega arith in
-    step (λ at. indices_code lay free false ps at) (indices_size false ps)
-    (ap (λ (j : ℕ). expr_code lay free e at ++ (i.Index b.low b.high count ∷ (sum_code is_first ++ indices_code lay free false ps j))) there
-    ∙ sym (append_assoc (expr_code lay free e at) (i.Index b.low b.high count ∷ sum_code is_first) (indices_code lay free false ps (at + (expr_size e + (1 + sum_size is_first))))))
-    (omega arith) p (and_then q (and_then r s))
+indices_code_on : (lay : Layout) (free : ℕ) (first : Bool) (p : PartTree) (ps : PartNodes) (at : ℕ)
+    → indices_code lay free first (with_part p ps) at ≡ index_code lay free first p at ++ indices_code lay free (first && not (is_index p)) ps (at + index_size first p)
+indices_code_on lay free true (one_field n count) ps at = ap (λ (j : ℕ). indices_code lay free true ps j) (omega arith)
+indices_code_on lay free false (one_field n count) ps at = ap (λ (j : ℕ). indices_code lay free false ps j) (omega arith)
+indices_code_on lay free true (one_element e b count) ps at =
+    let there : at + expr_size e + (1 + sum_size true) ≡ at + (expr_size e + (1 + sum_size true)) = omega arith in
+    ap (λ (j : ℕ). expr_code lay free e at ++ (i.Index b.low b.high count ∷ (sum_code true ++ indices_code lay free false ps j))) there
+    ∙ sym (append_assoc (expr_code lay free e at) (i.Index b.low b.high count ∷ sum_code true) (indices_code lay free false ps (at + (expr_size e + (1 + sum_size true)))))
+indices_code_on lay free false (one_element e b count) ps at =
+    let there : at + expr_size e + (1 + sum_size false) ≡ at + (expr_size e + (1 + sum_size false)) = omega arith in
+    ap (λ (j : ℕ). expr_code lay free e at ++ (i.Index b.low b.high count ∷ (sum_code false ++ indices_code lay free false ps j))) there
+    ∙ sym (append_assoc (expr_code lay free e at) (i.Index b.low b.high count ∷ sum_code false) (indices_code lay free false ps (at + (expr_size e + (1 + sum_size false)))))
+
+pub indices_size_on : (first : Bool) (p : PartTree) (ps : PartNodes) → indices_size first (with_part p ps) ≡ index_size first p + indices_size (first && not (is_index p)) ps
+indices_size_on true (one_field n count) ps = refl
+indices_size_on false (one_field n count) ps = refl
+indices_size_on true (one_element e b count) ps = omega arith
+indices_size_on false (one_element e b count) ps = omega arith
+
+pub indices_step : {a : ℕ → List Instr} {m : ℕ} (lay : Layout) (free : ℕ) (first : Bool) (p : PartTree) (ps : PartNodes) {x y z : Code}
+    → StillTo a m (λ at. indices_code lay free first (with_part p ps) at) (indices_size first (with_part p ps)) x y
+    → Appends (index_code lay free first p (length y.instrs)) (index_size first p) y z
+    → StillTo a m (λ at. indices_code lay free (first && not (is_index p)) ps at) (indices_size (first && not (is_index p)) ps) x z
+indices_step lay free first p ps {x} {y} q r =
+    step (λ at. indices_code lay free (first && not (is_index p)) ps at) (indices_size (first && not (is_index p)) ps) (indices_code_on lay free first p ps (length y.instrs)) (indices_size_on first p ps) q r
 
 pub received_step : {a : ℕ → List Instr} {m : ℕ} (lay : Layout) (free : ℕ) (r : ReceivedTree) (rs : ReceivedNodes) {x y z : Code}
     → StillTo a m (λ at. received_codes lay free (more_received r rs) at) (received_sizes (more_received r rs)) x y
@@ -209,7 +225,7 @@ range_code_on lay free b (between e f) rs at =
     ∙ sym (append_assoc (expr_code lay free f (at + expr_size e + 1)) _ _))
     ∙ sym (append_assoc (expr_code lay free e at) _ _)
 
-range_size_on : (r : RangeTree) (rs : RangeNodes) → members_size (with_range r rs) ≡ range_size r + members_size rs
+pub range_size_on : (r : RangeTree) (rs : RangeNodes) → members_size (with_range r rs) ≡ range_size r + members_size rs
 range_size_on (alone e) rs = omega arith
 range_size_on (between e f) rs = omega arith
 
@@ -227,7 +243,7 @@ argument_code_on lay rows k kept (taken r) ts at =
 argument_code_on lay rows k kept (given (location b ps n) bounds) ts at = refl
 argument_code_on lay rows k kept (both l taken_by bounds) ts at = refl
 
-argument_size_on : (t : ArgumentTree) (ts : ArgumentNodes) → arguments_size (with_argument t ts) ≡ argument_size t + arguments_size ts
+pub argument_size_on : (t : ArgumentTree) (ts : ArgumentNodes) → arguments_size (with_argument t ts) ≡ argument_size t + arguments_size ts
 argument_size_on (taken r) ts = refl
 argument_size_on (given (location b ps n) bounds) ts = refl
 argument_size_on (both l taken_by bounds) ts = refl
@@ -253,7 +269,7 @@ copy_out_on lay kept free (taken r) ts = ap (λ (j : ℕ). copies_out lay ts j f
 copy_out_on lay kept free (given l bounds) ts = refl
 copy_out_on lay kept free (both l taken_by bounds) ts = refl
 
-copying_size_on : (t : ArgumentTree) (ts : ArgumentNodes) → copies_out_size (with_argument t ts) ≡ copying_size t + copies_out_size ts
+pub copying_size_on : (t : ArgumentTree) (ts : ArgumentNodes) → copies_out_size (with_argument t ts) ≡ copying_size t + copies_out_size ts
 copying_size_on (taken r) ts = refl
 copying_size_on (given l bounds) ts = refl
 copying_size_on (both l taken_by bounds) ts = refl
@@ -267,3 +283,80 @@ copies_step {a} {m} lay kept next free t ts {x} {y} {z} f p q =
     let all : StillTo a m (λ at. copies_out lay ts (kept + places_kept t) free) (copies_out_size ts) x z =
         step (λ at. copies_out lay ts (kept + places_kept t) free) (copies_out_size ts) (copy_out_on lay kept free t ts) (copying_size_on t ts) p q in
     rw f all
+
+-- ---- turns of loops along lists
+
+pub indices_turn : {a : ℕ → List Instr} {m : ℕ} (lay : Layout) (free : ℕ) (first next : Bool) (xs : List Part) (k : ℕ) (it : Part) {x y z : Code} → k < length xs → it ≡ get_or xs k it
+    → next ≡ (first && not (is_index (part_tree it)))
+    → StillTo a m (λ at. indices_code lay free first (parts_of (drop k xs)) at) (indices_size first (parts_of (drop k xs))) x y
+    → Appends (index_code lay free first (part_tree it) (length y.instrs)) (index_size first (part_tree it)) y z
+    → StillTo a m (λ at. indices_code lay free next (parts_of (drop (k + 1) xs)) at) (indices_size next (parts_of (drop (k + 1) xs))) x z
+indices_turn {a} {m} lay free first next xs k it {x} {y} {z} h e f p q =
+    subst (λ (b : Bool). StillTo a m (λ at. indices_code lay free b (parts_of (drop (k + 1) xs)) at) (indices_size b (parts_of (drop (k + 1) xs))) x z) (sym f)
+    (indices_step lay free first (part_tree it) (parts_of (drop (k + 1) xs)) (subst (λ (ps : PartNodes). StillTo a m (λ at. indices_code lay free first ps at) (indices_size first ps) x y) (parts_at xs k it h e) p) q)
+
+pub received_turn : {a : ℕ → List Instr} {m : ℕ} (lay : Layout) (free : ℕ) (xs : List Received) (k : ℕ) (it : Received) {x y z : Code} → k < length xs → it ≡ get_or xs k it
+    → StillTo a m (λ at. received_codes lay free (received_of (drop k xs)) at) (received_sizes (received_of (drop k xs))) x y
+    → Appends (received_code lay free (received_tree it) (length y.instrs)) (received_size (received_tree it)) y z
+    → StillTo a m (λ at. received_codes lay free (received_of (drop (k + 1) xs)) at) (received_sizes (received_of (drop (k + 1) xs))) x z
+received_turn {a} {m} lay free xs k it {x} {y} h e p q =
+    received_step lay free (received_tree it) (received_of (drop (k + 1) xs)) (subst (λ (rs : ReceivedNodes). StillTo a m (λ at. received_codes lay free rs at) (received_sizes rs) x y) (received_at xs k it h e) p) q
+
+pub members_turn : {a : ℕ → List Instr} {m : ℕ} (lay : Layout) (free : ℕ) (b : Bounds) (xs : List Range) (k : ℕ) (it : Range) {x y z : Code} → k < length xs → it ≡ get_or xs k it
+    → StillTo a m (λ at. members_code lay free b (ranges_of (drop k xs)) at) (members_size (ranges_of (drop k xs))) x y
+    → Appends (range_code lay free b (range_tree it) (length y.instrs)) (range_size (range_tree it)) y z
+    → StillTo a m (λ at. members_code lay free b (ranges_of (drop (k + 1) xs)) at) (members_size (ranges_of (drop (k + 1) xs))) x z
+members_turn {a} {m} lay free b xs k it {x} {y} h e p q =
+    members_step lay free b (range_tree it) (ranges_of (drop (k + 1) xs)) (subst (λ (rs : RangeNodes). StillTo a m (λ at. members_code lay free b rs at) (members_size rs) x y) (ranges_at xs k it h e) p) q
+
+pub arguments_turn : {a : ℕ → List Instr} {m : ℕ} (lay : Layout) (rows : List LocalRowTree) (n kept j next : ℕ) (xs : List Argument) (k : ℕ) (it : Argument) {x y z : Code} → k < length xs → it ≡ get_or xs k it
+    → j ≡ n + 1 → next ≡ kept + places_kept (argument_tree it)
+    → StillTo a m (λ at. arguments_code lay rows n kept (arguments_of (drop k xs)) at) (arguments_size (arguments_of (drop k xs))) x y
+    → Appends (argument_code lay rows n kept (argument_tree it) (length y.instrs)) (argument_size (argument_tree it)) y z
+    → StillTo a m (λ at. arguments_code lay rows j next (arguments_of (drop (k + 1) xs)) at) (arguments_size (arguments_of (drop (k + 1) xs))) x z
+arguments_turn {a} {m} lay rows n kept j next xs k it {x} {y} h e u v p q =
+    arguments_step lay rows n kept j next (argument_tree it) (arguments_of (drop (k + 1) xs)) u v
+    (subst (λ (ts : ArgumentNodes). StillTo a m (λ at. arguments_code lay rows n kept ts at) (arguments_size ts) x y) (arguments_at xs k it h e) p) q
+
+pub places_turn : (xs : List Argument) (k : ℕ) (it : Argument) (kept next all : ℕ) → k < length xs → it ≡ get_or xs k it → next ≡ kept + places_kept (argument_tree it)
+    → kept_behind (arguments_of (drop k xs)) kept ≡ all → kept_behind (arguments_of (drop (k + 1) xs)) next ≡ all
+places_turn xs k it kept next all h e v p =
+    ap (λ (j : ℕ). kept_behind (arguments_of (drop (k + 1) xs)) j) v ∙ sym (places_step (argument_tree it) (arguments_of (drop (k + 1) xs)) kept)
+    ∙ sym (ap (λ (ts : ArgumentNodes). kept_behind ts kept) (arguments_at xs k it h e)) ∙ p
+
+pub copies_turn : {a : ℕ → List Instr} {m : ℕ} (lay : Layout) (kept next free : ℕ) (xs : List Argument) (k : ℕ) (it : Argument) {x y z : Code} → k < length xs → it ≡ get_or xs k it
+    → next ≡ kept + places_kept (argument_tree it)
+    → StillTo a m (λ at. copies_out lay (arguments_of (drop k xs)) kept free) (copies_out_size (arguments_of (drop k xs))) x y
+    → Appends (copy_out lay (argument_tree it) kept free) (copying_size (argument_tree it)) y z
+    → StillTo a m (λ at. copies_out lay (arguments_of (drop (k + 1) xs)) next free) (copies_out_size (arguments_of (drop (k + 1) xs))) x z
+copies_turn {a} {m} lay kept next free xs k it {x} {y} h e v p q =
+    copies_step lay kept next free (argument_tree it) (arguments_of (drop (k + 1) xs)) v
+    (subst (λ (ts : ArgumentNodes). StillTo a m (λ at. copies_out lay ts kept free) (copies_out_size ts) x y) (arguments_at xs k it h e) p) q
+
+pub indices_done : {a : ℕ → List Instr} {m : ℕ} (lay : Layout) (free : ℕ) (first : Bool) (xs : List Part) (k : ℕ) {x y : Code} → length xs ≤ k
+    → StillTo a m (λ at. indices_code lay free first (parts_of (drop k xs)) at) (indices_size first (parts_of (drop k xs))) x y → Appends (a (length x.instrs)) m x y
+indices_done lay free first xs k {x} {y} h p =
+    done p (ap (λ (ps : PartNodes). indices_code lay free first ps (length y.instrs)) (parts_end xs k h)) (ap (λ (ps : PartNodes). indices_size first ps) (parts_end xs k h))
+
+pub received_done : {a : ℕ → List Instr} {m : ℕ} (lay : Layout) (free : ℕ) (xs : List Received) (k : ℕ) {x y : Code} → length xs ≤ k
+    → StillTo a m (λ at. received_codes lay free (received_of (drop k xs)) at) (received_sizes (received_of (drop k xs))) x y → Appends (a (length x.instrs)) m x y
+received_done lay free xs k {x} {y} h p =
+    done p (ap (λ (rs : ReceivedNodes). received_codes lay free rs (length y.instrs)) (received_end xs k h)) (ap (λ (rs : ReceivedNodes). received_sizes rs) (received_end xs k h))
+
+pub members_done : {a : ℕ → List Instr} {m : ℕ} (lay : Layout) (free : ℕ) (b : Bounds) (xs : List Range) (k : ℕ) {x y : Code} → length xs ≤ k
+    → StillTo a m (λ at. members_code lay free b (ranges_of (drop k xs)) at) (members_size (ranges_of (drop k xs))) x y → Appends (a (length x.instrs)) m x y
+members_done lay free b xs k {x} {y} h p =
+    done p (ap (λ (rs : RangeNodes). members_code lay free b rs (length y.instrs)) (ranges_end xs k h)) (ap (λ (rs : RangeNodes). members_size rs) (ranges_end xs k h))
+
+pub arguments_done : {a : ℕ → List Instr} {m : ℕ} (lay : Layout) (rows : List LocalRowTree) (n kept : ℕ) (xs : List Argument) (k : ℕ) {x y : Code} → length xs ≤ k
+    → StillTo a m (λ at. arguments_code lay rows n kept (arguments_of (drop k xs)) at) (arguments_size (arguments_of (drop k xs))) x y → Appends (a (length x.instrs)) m x y
+arguments_done lay rows n kept xs k {x} {y} h p =
+    done p (ap (λ (ts : ArgumentNodes). arguments_code lay rows n kept ts (length y.instrs)) (arguments_end xs k h)) (ap (λ (ts : ArgumentNodes). arguments_size ts) (arguments_end xs k h))
+
+pub places_done : (xs : List Argument) (k kept all : ℕ) → length xs ≤ k → kept_behind (arguments_of (drop k xs)) kept ≡ all → kept ≡ all
+places_done xs k kept all h p = sym (ap (λ (ts : ArgumentNodes). kept_behind ts kept) (arguments_end xs k h)) ∙ p
+
+pub copies_done : {a : ℕ → List Instr} {m : ℕ} (lay : Layout) (kept free : ℕ) (xs : List Argument) (k : ℕ) {x y : Code} → length xs ≤ k
+    → StillTo a m (λ at. copies_out lay (arguments_of (drop k xs)) kept free) (copies_out_size (arguments_of (drop k xs))) x y → Appends (a (length x.instrs)) m x y
+copies_done lay kept free xs k {x} {y} h p =
+    done p (ap (λ (ts : ArgumentNodes). copies_out lay ts kept free) (arguments_end xs k h)) (ap (λ (ts : ArgumentNodes). copies_out_size ts) (arguments_end xs k h))

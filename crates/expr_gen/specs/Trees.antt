@@ -10,8 +10,8 @@ use Rattle.checked_program.specs.declared.expr.Range.{Range}
 use Rattle.program_trees.specs.ExprTree.{ExprTree, count_of, PartNodes, RangeNodes, ArgumentNodes, part_nodes, range_nodes, argument_nodes, part_tree, range_tree, argument_tree, PartTree, one_field, one_element, ArgumentTree, taken, given, both, RangeTree, alone, between}
 use Rattle.program_trees.specs.ProgramTree.{LocalRowTree}
 use Rattle.code_scheme.specs.Pieces.{Layout, pushes, lowest_in_row, check_code, tested_in, tested_out, tested_back, contents_code, keep_code, kept_code, offsets_kept, copy_out_code, location_scalars, between_code, between_size, bounds_of_value, behind_code, behind_size, straight, turned, branch_code, branch_size}
-use Rattle.code_scheme.specs.ExprSizes.{expr_size, received_size, place_size, copy_out_size}
-use Rattle.code_scheme.specs.ExprCode.{expr_code, received_code, place_code, member_offset}
+use Rattle.code_scheme.specs.ExprSizes.{expr_size, received_size, place_size, copy_out_size, sum_size}
+use Rattle.code_scheme.specs.ExprCode.{expr_code, received_code, place_code, member_offset, sum_code}
 
 abbrev pub parts_of : List Part → PartNodes
 parts_of ps = part_nodes (map part_tree ps)
@@ -90,3 +90,12 @@ is_index (one_element e b count) = true
 abbrev pub first_in_part : PartTree → ℕ
 first_in_part (one_field first count) = first
 first_in_part (one_element e b count) = 0
+
+-- the offset of an index, added to the one below it where it isn't the first
+abbrev pub index_code : Layout → ℕ → Bool → PartTree → ℕ → List Instr
+index_code lay free is_first (one_field first count) at = []
+index_code lay free is_first (one_element e b count) at = expr_code lay free e at ++ (i.Index b.low b.high count ∷ sum_code is_first)
+
+abbrev pub index_size : Bool → PartTree → ℕ
+index_size is_first (one_field first count) = 0
+index_size is_first (one_element e b count) = expr_size e + (1 + sum_size is_first)

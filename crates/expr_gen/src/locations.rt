@@ -1,6 +1,6 @@
 // Locations: contents and assignment, where the place stands on the stack if it has an offset.
 #![tactic(auto, using(crate::proofs::Appending::keeping))]
-ghost use Rattle.std.specs.Prelude.{◌≡◌, ◌+◌, [], ◌∷◌, length, slice_get, IfOk, OnOk};
+ghost use Rattle.std.specs.Prelude.{◌≡◌, ◌+◌, ◌&&◌, not, [], ◌∷◌, length, slice_get, IfOk, OnOk};
 ghost use Rattle.code_types.specs.declared.instr.Instr.TheVariants as code;
 ghost use Rattle.checked_program.specs.declared.expr.Base.TheVariants as bases;
 ghost use Rattle.program_trees.specs.ProgramTree.{body_row_tree};
@@ -36,6 +36,13 @@ fn is_index(part: &Part) -> bool
         Part::Field { .. } => false,
         Part::Element { .. } => true,
     }
+}
+
+/// Whether an index behind the part would be the first one.
+pub fn is_still_first(part: &Part, is_first: bool) -> bool
+    ensures { result ≡ (is_first && not (is_index (part_tree part.now))) }
+{
+    is_first && !is_index(part)
 }
 
 /// The number of the first scalar that the fields among the parts lead to.

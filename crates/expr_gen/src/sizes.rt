@@ -1,13 +1,13 @@
 // How many instructions the code of each construct has: what the targets of jumps are found from.
 ghost use Rattle.std.specs.Prelude.{◌≡◌, ◌+◌, pos, true, length, if◌then◌else◌};
-ghost use Rattle.program_trees.specs.ExprTree.{expr_tree, location_tree, received_tree, received_of, call_tree, argument_tree};
+ghost use Rattle.program_trees.specs.ExprTree.{expr_tree, location_tree, received_tree, received_of, call_tree, argument_tree, part_tree, range_tree};
 ghost use Rattle.code_scheme.specs.Pieces.{capped, has_index, first_of_parts, member_code};
 ghost use Rattle.code_scheme.specs.ExprSizes.{expr_size, place_size, indices_size, received_size, received_sizes, members_size, call_size, arguments_size, copies_out_size};
-ghost use Rattle.expr_gen.specs.Trees.{parts_of, ranges_of, arguments_of, argument_size};
+ghost use Rattle.expr_gen.specs.Trees.{parts_of, ranges_of, arguments_of, argument_size, index_size, range_size};
 
 use crate::bounds::{bounds_of_value, tested};
 use crate::copying::{copy_out_size, offsets_kept, tested_in};
-use crate::locations::{check_size, first_of_parts, has_index, has_offset};
+use crate::locations::{check_size, first_of_parts, has_index, has_offset, is_still_first};
 use crate::operators::{member_size, routine_size, size_behind, size_between};
 use crate::repeating::{copies_size, scalars_size};
 use checked_program::{Argument, Call, Expr, Location, Operation, Part, Range, Received};
@@ -70,19 +70,25 @@ fn indices_size(parts: &[Part]) -> u32
     let mut size = 0u32;
     let mut is_first = true;
     for part in parts {
-        match part {
-            Part::Field { .. } => {}
-            Part::Element { index, .. } => {
-                let sum = if is_first { 0 } else { 1 };
-                size = size
-                    .saturating_add(expr_size(index))
-                    .saturating_add(1)
-                    .saturating_add(sum);
-                is_first = false;
-            }
-        }
+        size = size.saturating_add(index_size(part, is_first));
+        is_first = is_still_first(part, is_first);
     }
     size
+}
+
+// How many instructions find the offset of an index.
+#[tactic(none)]
+#[cycle(size)]
+fn index_size(part: &Part, is_first: bool) -> u32
+    ensures { result ≡ capped (index_size is_first (part_tree part.now)) }
+{
+    match part {
+        Part::Field { .. } => 0,
+        Part::Element { index, .. } => {
+            let sum = if is_first { 1 } else { 2 };
+            expr_size(index).saturating_add(sum)
+        }
+    }
 }
 
 /// How many instructions the code of a location's place has.
@@ -131,16 +137,22 @@ fn powerset_size(members: &[Range]) -> u32
 {
     let mut size = 1u32;
     for range in members {
-        let last = match &range.last {
-            Some(last) => expr_size(last),
-            None => 0,
-        };
-        size = size
-            .saturating_add(expr_size(&range.first))
-            .saturating_add(last)
-            .saturating_add(4);
+        size = size.saturating_add(range_size(range));
     }
     size
+}
+
+// How many instructions add the members of a range.
+#[tactic(none)]
+#[cycle(size)]
+fn range_size(range: &Range) -> u32
+    ensures { result ≡ capped (range_size (range_tree range.now)) }
+{
+    let last = match &range.last {
+        Some(last) => expr_size(last),
+        None => 0,
+    };
+    expr_size(&range.first).saturating_add(last).saturating_add(4)
 }
 
 /// How many instructions the code of a call has.

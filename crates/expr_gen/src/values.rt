@@ -1,21 +1,23 @@
 // Values: one recursion over expressions, the parts of locations, and arguments. `free` is the first free scratch local.
 #![tactic(auto, using(crate::proofs::Appending::keeping))]
 ghost use Rattle.std.specs.Prelude.{◌≡◌, ◌+◌, ◌<◌, ◌∷◌, [], Some, true, pos, length, IfOk, OnOk, if◌then◌else◌, slice_get};
-ghost use Rattle.program_trees.specs.ExprTree.{expr_tree, location_tree, received_tree, received_of, call_tree, start_tree, range_tree, argument_tree};
+ghost use Rattle.program_trees.specs.ExprTree.{expr_tree, location_tree, received_tree, received_of, call_tree, start_tree, range_tree, argument_tree, part_tree, received_count};
 ghost use Rattle.program_trees.specs.ProgramTree.{BodyRowTree, checked_tree, body_row_tree};
 ghost use Rattle.code_scheme.specs.StatementSite.{first_free};
 ghost use Rattle.code_scheme.specs.Pieces.{capped, has_index, first_of_parts, member_code, kept_behind, layout_in};
 ghost use Rattle.code_types.specs.declared.instr.Instr.TheVariants as code;
 ghost use Rattle.code_scheme.specs.ExprSizes.{expr_size, place_size, indices_size, received_size, received_sizes, members_size, start_size, call_size, arguments_size};
 ghost use Rattle.code_scheme.specs.ExprCode.{expr_code, place_code, indices_code, received_code, received_codes, members_code, start_code, call_code, arguments_code, sum_code, cut_code, receive_code, counts_of};
-ghost use Rattle.expr_gen.specs.Trees.{parts_of, ranges_of, arguments_of, argument_code, argument_size, range_code, range_size};
+ghost use Rattle.expr_gen.specs.Trees.{index_code, index_size, parts_of, ranges_of, arguments_of, argument_code, argument_size, range_code, range_size};
 ghost use Rattle.expr_gen.specs.Putting.{Appends, Puts, Keeps, layout_of};
 
 use crate::bounds::{bounds_of_value, tested};
 use crate::building::{Draft, sum, uncapped};
 use crate::copying::{keep_place, places_kept, put_copies_out, put_kept, put_lowest, tested_in};
 use crate::frames::{Site, body_of, call_results, first_free, parameter_scalars};
-use crate::locations::{first_of_parts, has_index, has_offset, put_check, put_contents};
+use crate::locations::{
+    first_of_parts, has_index, has_offset, is_still_first, put_check, put_contents,
+};
 use crate::operators::{put_behind, put_between, put_member, put_prefix, put_routine};
 use crate::refusal::PartRefusal;
 use crate::repeating::{put_copies, put_scalars};
@@ -43,7 +45,7 @@ pub fn expr_code(
 }
 
 /// Appends the code of an expression, which leaves its value on the stack.
-#[tactic(none)]
+#[tactic(auto, using(crate::proofs::Appending::keeping))]
 #[cycle(value)]
 pub fn put_expr(expr: &Expr, site: &Site, free: u32, draft: &mut Draft) -> Result<(), PartRefusal>
     ensures appends { OnOk result (Appends (expr_code (layout_of site.now.program.now site.now.body.now) free (expr_tree expr.now) (length draft.old.code.instrs)) (expr_size (expr_tree expr.now)) draft.old.code draft.new.code) }
@@ -109,7 +111,7 @@ fn put_cut(parts: &[Part], of: u32, count: u32, draft: &mut Draft) -> Result<(),
 }
 
 // The offset to which the indices among the parts lead, where there is one.
-#[tactic(none)]
+#[tactic(auto, using(crate::proofs::Appending::keeping))]
 #[cycle(value)]
 fn put_indices(
     parts: &[Part],
@@ -122,21 +124,37 @@ fn put_indices(
 {
     let mut is_first = true;
     for part in parts {
-        match part {
-            Part::Field { .. } => {}
-            Part::Element {
-                index,
-                bounds,
-                count,
-            } => {
-                put_expr(index, site, free, draft)?;
-                draft.put(Instr::Index(bounds.low, bounds.high, *count))?;
-                put_sum(is_first, draft)?;
-                is_first = false;
-            }
-        }
+        put_index(part, is_first, site, free, draft)?;
+        is_first = is_still_first(part, is_first);
     }
     Ok(())
+}
+
+// The offset of an index, added to the one below it where it isn't the first one. A field has none.
+#[tactic(auto, using(crate::proofs::Appending::keeping))]
+#[cycle(value)]
+fn put_index(
+    part: &Part,
+    is_first: bool,
+    site: &Site,
+    free: u32,
+    draft: &mut Draft,
+) -> Result<(), PartRefusal>
+    ensures appends { OnOk result (Appends (index_code (layout_of site.now.program.now site.now.body.now) free is_first (part_tree part.now) (length draft.old.code.instrs)) (index_size is_first (part_tree part.now)) draft.old.code draft.new.code) }
+    ensures keeps { Keeps draft.old.code draft.new.code }
+{
+    match part {
+        Part::Field { .. } => Ok(()),
+        Part::Element {
+            index,
+            bounds,
+            count,
+        } => {
+            put_expr(index, site, free, draft)?;
+            draft.put(Instr::Index(bounds.low, bounds.high, *count))?;
+            put_sum(is_first, draft)
+        }
+    }
 }
 
 // The sum of the offset on top and the one below it, where that isn't the first one.
@@ -153,7 +171,7 @@ fn put_sum(is_first: bool, draft: &mut Draft) -> Result<(), PartRefusal>
 
 /// Appends the code of a location's place: the offset of its indices, where it has one. It stands below a value that is
 /// assigned.
-#[tactic(none)]
+#[tactic(auto, using(crate::proofs::Appending::keeping))]
 #[cycle(value)]
 pub fn put_place(
     location: &Location,
@@ -204,7 +222,7 @@ fn put_number(number: u32, draft: &mut Draft) -> Result<(), PartRefusal>
 }
 
 /// Appends the code of a value that something takes, with its test.
-#[tactic(none)]
+#[tactic(auto, using(crate::proofs::Appending::keeping))]
 #[cycle(value)]
 pub fn put_received(
     received: &Received,
@@ -220,7 +238,7 @@ pub fn put_received(
 }
 
 /// Appends the code of values that are taken one behind the other, each with its test.
-#[tactic(none)]
+#[tactic(auto, using(crate::proofs::Appending::keeping))]
 #[cycle(value)]
 pub fn put_all_received(
     all: &[Received],
@@ -238,7 +256,7 @@ pub fn put_all_received(
 }
 
 /// Appends the code of a process's start, which leaves its instance on the stack.
-#[tactic(none)]
+#[tactic(auto, using(crate::proofs::Appending::keeping))]
 #[cycle(value)]
 pub fn put_start(
     start: &Start,
@@ -256,19 +274,26 @@ pub fn put_start(
 }
 
 /// How many scalars values have together.
-#[tactic(auto, using(crate::proofs::Views::tree_built, crate::proofs::Appending::keeping))]
 pub fn scalars_of(all: &[Received]) -> u32
     ensures { result ≡ capped (counts_of (received_of all.now)) }
 {
     let mut count = 0u32;
     for received in all {
-        count = count.saturating_add(received.value.count);
+        count = count.saturating_add(received_count(received));
     }
     count
 }
 
+// How many scalars a value has that something takes.
+#[tactic(auto, using(crate::proofs::Views::tree_built))]
+fn received_count(received: &Received) -> u32
+    ensures { result ≡ received_count (received_tree received.now) }
+{
+    received.value.count
+}
+
 // A powerset of members from the first bound to the second.
-#[tactic(none)]
+#[tactic(auto, using(crate::proofs::Appending::keeping))]
 #[cycle(value)]
 fn put_powerset(
     members: &[Range],
@@ -288,7 +313,7 @@ fn put_powerset(
 }
 
 // The powerset on top with the members of a range besides.
-#[tactic(none)]
+#[tactic(auto, using(crate::proofs::Appending::keeping))]
 #[cycle(value)]
 fn put_range(
     range: &Range,
@@ -316,7 +341,7 @@ fn put_range(
 
 /// Appends the code of a call, which leaves the scalars of its result on the stack. The places of its OUT and INOUT
 /// arguments that have an offset are kept in scratch locals, one behind the other.
-#[tactic(none)]
+#[tactic(auto, using(crate::proofs::Appending::keeping))]
 #[cycle(value)]
 pub fn put_call(call: &Call, site: &Site, free: u32, draft: &mut Draft) -> Result<(), PartRefusal>
     ensures appends { OnOk result (Appends (call_code (layout_of site.now.program.now site.now.body.now) free (call_tree call.now) (length draft.old.code.instrs)) (call_size (call_tree call.now)) draft.old.code draft.new.code) }
@@ -330,7 +355,7 @@ pub fn put_call(call: &Call, site: &Site, free: u32, draft: &mut Draft) -> Resul
 }
 
 // The arguments of a call, and the scratch local behind the places that are kept.
-#[tactic(none)]
+#[tactic(auto, using(crate::proofs::Appending::keeping))]
 #[cycle(value)]
 fn put_arguments(
     arguments: &[Argument],
@@ -361,7 +386,7 @@ struct Taker<'a> {
 }
 
 // What an argument gives to its parameter, and the place of its location, which is kept.
-#[tactic(none)]
+#[tactic(auto, using(crate::proofs::Appending::keeping))]
 #[cycle(value)]
 fn put_argument(
     argument: &Argument,
