@@ -31,10 +31,10 @@ pub moved : {m n k : ℕ} {x y : Code} (f : ℕ → List Instr) → m ≡ n → 
 moved {m} {n} {k} {x} {y} f e p = subst (λ at. Appends (f at) k x y) e p
 
 -- an expression whose operation has this tree
-pub made_of : {lay : Layout} {free at : ℕ} {x z : Code} (e : Expr) (o : OperationTree) → operation_tree (out-Expr e).operation ≡ o
+pub made_of : (lay : Layout) (free at : ℕ) {x z : Code} (e : Expr) (o : OperationTree) → operation_tree (out-Expr e).operation ≡ o
     → Appends (operation_code lay free (out-Expr e).count o at) (operation_size o) x z
     → Appends (expr_code lay free (expr_tree e) at) (expr_size (expr_tree e)) x z
-made_of {lay} {free} {at} {x} {z} e o is p =
+made_of lay free at {x} {z} e o is p =
     let tree : expr_tree e ≡ expr (out-Expr e).count (root_bounds (class_tree (out-Expr e).class)) o = expr_tree-out e ∙ ap (expr (out-Expr e).count (root_bounds (class_tree (out-Expr e).class))) is in
     subst (λ (t : ExprTree). Appends (expr_code lay free t at) (expr_size t) x z) (sym tree) p
 
@@ -120,22 +120,6 @@ range_made lay free b (between e f) rs {x} {y} {z} p q =
 
 -- ---- calls
 
-pub argument_made : (lay : Layout) (rows : List LocalRowTree) (k kept : ℕ) (a : ArgumentTree) (as' : ArgumentNodes) {x y z : Code}
-    → Appends (argument_code lay rows k kept a (length x.instrs)) (argument_size a) x y
-    → Appends (arguments_code lay rows (k + 1) (kept + places_kept a) as' (length y.instrs)) (arguments_size as') y z
-    → Appends (arguments_code lay rows k kept (with_argument a as') (length x.instrs)) (arguments_size (with_argument a as')) x z
-argument_made lay rows k kept (taken r) as' p q = and_then p (moved (λ at. arguments_code lay rows (k + 1) kept as' at) p.length (subst (λ m. Appends (arguments_code lay rows (k + 1) m as' _) _ _ _) (omega arith) q))
-argument_made lay rows k kept (given (location b ps n) bounds) as' p q = and_then p (moved (λ at. arguments_code lay rows (k + 1) _ as' at) p.length q)
-argument_made lay rows k kept (both l taken_by bounds) as' p q = and_then p (moved (λ at. arguments_code lay rows (k + 1) _ as' at) p.length q)
-
-pub copied_made : (lay : Layout) (kept free : ℕ) (a : ArgumentTree) (as' : ArgumentNodes) {x y z : Code}
-    → Appends (copy_out lay a kept free) (copying_size a) x y
-    → Appends (copies_out lay as' (kept + places_kept a) free) (copies_out_size as') y z
-    → Appends (copies_out lay (with_argument a as') kept free) (copies_out_size (with_argument a as')) x z
-copied_made lay kept free (taken r) as' p q = and_then p (subst (λ m. Appends (copies_out lay as' m free) _ _ _) (omega arith) q)
-copied_made lay kept free (given l bounds) as' p q = and_then p q
-copied_made lay kept free (both l taken_by bounds) as' p q = and_then p q
-
 pub call_made : (lay : Layout) (free b : ℕ) (as' : ArgumentNodes) {x y1 y2 z : Code}
     → Appends (arguments_code lay (rows_of (slice_get lay.program.bodies b)) 0 free as' (length x.instrs)) (arguments_size as') x y1
     → Appends (i.Call b ∷ []) 1 y1 y2
@@ -170,14 +154,6 @@ pub both_made : (lay : Layout) (free : ℕ) (a b : ExprTree) (value when : Bool)
     → Appends (condition_code lay free a value first (length x.instrs) ++ condition_code lay free b when target (length x.instrs + condition_size a value)) (condition_size a value + condition_size b when) x z
 both_made lay free a b value when target first p q = and_then p (moved (λ at. condition_code lay free b when target at) p.length q)
 
--- ---- what is told of a node's parts is told of the node
-
-pub told : {T E : Type 0} (r : Result T E) (lay : Layout) (free at : ℕ) (x z : Code) (e : Expr) (o : OperationTree) → operation_tree (out-Expr e).operation ≡ o
-    → OnOk r (Appends (operation_code lay free (out-Expr e).count o at) (operation_size o) x z)
-    → OnOk r (Appends (expr_code lay free (expr_tree e) at) (expr_size (expr_tree e)) x z)
-told (Ok v) lay free at x z e o is p = made_of e o is p
-told (Err v) lay free at x z e o is p = tt
-
 -- ---- steps of loops
 
 indices_code_on : (lay : Layout) (free : ℕ) (first : Bool) (p : PartTree) (ps : PartNodes) (at : ℕ)
@@ -194,8 +170,8 @@ indices_code_on lay free false (one_element e b count) ps at =
     ∙ sym (append_assoc (expr_code lay free e at) (i.Index b.low b.high count ∷ sum_code false) (indices_code lay free false ps (at + (expr_size e + (1 + sum_size false)))))
 
 pub indices_size_on : (first : Bool) (p : PartTree) (ps : PartNodes) → indices_size first (with_part p ps) ≡ index_size first p + indices_size (first && not (is_index p)) ps
-indices_size_on true (one_field n count) ps = refl
-indices_size_on false (one_field n count) ps = refl
+indices_size_on true (one_field n count) ps = omega arith
+indices_size_on false (one_field n count) ps = omega arith
 indices_size_on true (one_element e b count) ps = omega arith
 indices_size_on false (one_element e b count) ps = omega arith
 
@@ -270,7 +246,7 @@ copy_out_on lay kept free (given l bounds) ts = refl
 copy_out_on lay kept free (both l taken_by bounds) ts = refl
 
 pub copying_size_on : (t : ArgumentTree) (ts : ArgumentNodes) → copies_out_size (with_argument t ts) ≡ copying_size t + copies_out_size ts
-copying_size_on (taken r) ts = refl
+copying_size_on (taken r) ts = omega arith
 copying_size_on (given l bounds) ts = refl
 copying_size_on (both l taken_by bounds) ts = refl
 

@@ -54,7 +54,7 @@ struct Operands<'a> {
 }
 
 /// Appends the code of a condition, which leaves nothing on the stack.
-#[tactic(none)]
+#[tactic(auto, using(crate::proofs::Views::tree_built, crate::proofs::Appending::keeping))]
 #[cycle(condition)]
 pub fn put_condition(
     condition: &Expr,
@@ -214,7 +214,7 @@ pub fn put_branch(branch: Branch, draft: &mut Draft) -> Result<(), PartRefusal>
 }
 
 /// How many instructions the code of a condition has that jumps where it has this value.
-#[tactic(none)]
+#[tactic(auto, using(crate::proofs::Views::tree_built))]
 #[cycle(condition_size)]
 pub fn condition_size(condition: &Expr, when: bool) -> u32
     ensures { result ≡ capped (condition_size (expr_tree condition.now) when) }

@@ -13,7 +13,7 @@ use crate::repeating::{copies_size, scalars_size};
 use checked_program::{Argument, Call, Expr, Location, Operation, Part, Range, Received};
 
 /// How many instructions the code of an expression has.
-#[tactic(none)]
+#[tactic(auto, using(crate::proofs::Views::tree_built))]
 #[cycle(size)]
 pub fn expr_size(expr: &Expr) -> u32
     ensures { result ≡ capped (expr_size (expr_tree expr.now)) }
@@ -49,7 +49,7 @@ pub fn expr_size(expr: &Expr) -> u32
 }
 
 // How many instructions stand before the one that takes out a part of a value.
-#[tactic(none)]
+#[tactic(auto, using(crate::proofs::Views::tree_built))]
 #[cycle(size)]
 fn part_size(parts: &[Part]) -> u32
     ensures { result ≡ capped (if has_index (parts_of parts.now) then indices_size true (parts_of parts.now) + length (member_code (pos (first_of_parts (parts_of parts.now)))) else 0) }
@@ -62,7 +62,7 @@ fn part_size(parts: &[Part]) -> u32
 }
 
 // How many instructions find the offset of indices.
-#[tactic(none)]
+#[tactic(auto, using(crate::proofs::Views::tree_built))]
 #[cycle(size)]
 fn indices_size(parts: &[Part]) -> u32
     ensures { result ≡ capped (indices_size true (parts_of parts.now)) }
@@ -77,7 +77,7 @@ fn indices_size(parts: &[Part]) -> u32
 }
 
 // How many instructions find the offset of an index.
-#[tactic(none)]
+#[tactic(auto, using(crate::proofs::Views::tree_built))]
 #[cycle(size)]
 fn index_size(part: &Part, is_first: bool) -> u32
     ensures { result ≡ capped (index_size is_first (part_tree part.now)) }
@@ -92,7 +92,7 @@ fn index_size(part: &Part, is_first: bool) -> u32
 }
 
 /// How many instructions the code of a location's place has.
-#[tactic(none)]
+#[tactic(auto, using(crate::proofs::Views::tree_built))]
 #[cycle(size)]
 pub fn place_size(location: &Location) -> u32
     ensures { result ≡ capped (place_size (location_tree location.now)) }
@@ -108,7 +108,7 @@ pub fn place_size(location: &Location) -> u32
 }
 
 /// How many instructions the code of a value that something takes has, with its test.
-#[tactic(none)]
+#[tactic(auto, using(crate::proofs::Views::tree_built))]
 #[cycle(size)]
 pub fn received_size(received: &Received) -> u32
     ensures { result ≡ capped (received_size (received_tree received.now)) }
@@ -117,7 +117,7 @@ pub fn received_size(received: &Received) -> u32
 }
 
 /// How many instructions the code of values that are taken one behind the other has.
-#[tactic(none)]
+#[tactic(auto, using(crate::proofs::Views::tree_built))]
 #[cycle(size)]
 pub fn received_sizes(all: &[Received]) -> u32
     ensures { result ≡ capped (received_sizes (received_of all.now)) }
@@ -130,7 +130,7 @@ pub fn received_sizes(all: &[Received]) -> u32
 }
 
 // How many instructions a powerset's tuple has.
-#[tactic(none)]
+#[tactic(auto, using(crate::proofs::Views::tree_built))]
 #[cycle(size)]
 fn powerset_size(members: &[Range]) -> u32
     ensures { result ≡ capped (1 + members_size (ranges_of members.now)) }
@@ -143,7 +143,7 @@ fn powerset_size(members: &[Range]) -> u32
 }
 
 // How many instructions add the members of a range.
-#[tactic(none)]
+#[tactic(auto, using(crate::proofs::Views::tree_built))]
 #[cycle(size)]
 fn range_size(range: &Range) -> u32
     ensures { result ≡ capped (range_size (range_tree range.now)) }
@@ -156,7 +156,7 @@ fn range_size(range: &Range) -> u32
 }
 
 /// How many instructions the code of a call has.
-#[tactic(none)]
+#[tactic(auto, using(crate::proofs::Views::tree_built))]
 #[cycle(size)]
 pub fn call_size(call: &Call) -> u32
     ensures { result ≡ capped (call_size (call_tree call.now)) }
@@ -165,7 +165,7 @@ pub fn call_size(call: &Call) -> u32
 }
 
 // How many instructions a call has, with those for its arguments before and behind it.
-#[tactic(none)]
+#[tactic(auto, using(crate::proofs::Views::tree_built))]
 #[cycle(size)]
 fn arguments_size(arguments: &[Argument]) -> u32
     ensures { result ≡ capped (1 + (arguments_size (arguments_of arguments.now) + copies_out_size (arguments_of arguments.now))) }
@@ -180,7 +180,7 @@ fn arguments_size(arguments: &[Argument]) -> u32
 }
 
 // How many instructions stand before a call for an argument.
-#[tactic(none)]
+#[tactic(auto, using(crate::proofs::Views::tree_built))]
 #[cycle(size)]
 fn argument_size(argument: &Argument) -> u32
     ensures { result ≡ capped (argument_size (argument_tree argument.now)) }

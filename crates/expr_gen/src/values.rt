@@ -332,9 +332,20 @@ fn put_range(
         Some(last) => {
             put_expr(last, site, free, draft)?;
             draft.put(offset)?;
+            put_span(draft)
         }
-        None => draft.put(Instr::Copy(1))?,
+        None => {
+            draft.put(Instr::Copy(1))?;
+            put_span(draft)
+        }
     }
+}
+
+// The powerset on top with the members between two offsets besides.
+fn put_span(draft: &mut Draft) -> Result<(), PartRefusal>
+    ensures appends { OnOk result (Appends (code.Span ∷ code.BitOr ∷ []) 2 draft.old.code draft.new.code) }
+    ensures keeps { Keeps draft.old.code draft.new.code }
+{
     draft.put(Instr::Span)?;
     draft.put(Instr::BitOr)
 }
