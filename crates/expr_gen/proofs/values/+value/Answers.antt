@@ -62,10 +62,10 @@ pub put_arguments-returns-clause-kept : goal.put_arguments-returns-clause-kept
 put_arguments-returns-clause-kept t c = places_done c.args.arguments.now c.loop-argument.argument-index c.loop-argument.kept _ c.loop-argument-test.false c.loop-argument.invariant.places
 
 pub put_argument-returns-in-In-clause-appends : goal.put_argument-returns-in-In-clause-appends
-put_argument-returns-in-In-clause-appends t c = on_ok_weaker c.put_received.result (λ q. in_told _ _ _ _ _ c.args.argument.now c.in-In.received c.in-In.is q) c.put_received.ensures.appends
+put_argument-returns-in-In-clause-appends t c = on_ok_weaker c.put_received.result (λ q. in_told _ (body_row_tree c.args.taker.callee.now).locals c.args.taker.parameter _ _ c.args.argument.now c.in-In.received c.in-In.is q) c.put_received.ensures.appends
 
 pub put_argument-returns-in_ok-keep_place-in-Out-clause-appends : goal.put_argument-returns-in_ok-keep_place-in-Out-clause-appends
-put_argument-returns-in_ok-keep_place-in-Out-clause-appends t c = on_ok_weaker c.put_lowest.result (λ q. out_told _ _ _ _ c.args.argument.now c.in-Out.target c.in-Out.bounds c.in-Out.is c.in_ok-put_place-in-Out.ensures.appends c.in_ok-keep_place-in-Out.ensures.appends q) c.put_lowest.ensures.appends
+put_argument-returns-in_ok-keep_place-in-Out-clause-appends t c = on_ok_weaker c.put_lowest.result (λ q. out_told _ (body_row_tree c.args.taker.callee.now).locals c.args.taker.parameter _ c.args.argument.now c.in-Out.target c.in-Out.bounds c.in-Out.is c.in_ok-put_place-in-Out.ensures.appends c.in_ok-keep_place-in-Out.ensures.appends q) c.put_lowest.ensures.appends
 
 pub put_argument-returns-in_ok-put_contents-in-InOut-clause-appends : goal.put_argument-returns-in_ok-put_contents-in-InOut-clause-appends
 put_argument-returns-in_ok-put_contents-in-InOut-clause-appends t c = on_ok_weaker c.put_check.result (λ q. inout_told _ (body_row_tree c.args.taker.callee.now).locals c.args.taker.parameter _ c.args.argument.now c.in-InOut.target c.in-InOut.taken c.in-InOut.bounds c.tested_in.result c.in-InOut.is c.tested_in.ensures c.in_ok-put_place-in-InOut.ensures.appends c.in_ok-keep_place-in-InOut.ensures.appends c.in_ok-put_kept-in-InOut.ensures.appends c.in_ok-put_contents-in-InOut.ensures.appends q) c.put_check.ensures.appends
