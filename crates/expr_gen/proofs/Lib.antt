@@ -5,3 +5,4 @@ pub mod Rows
 pub mod Copies
 pub mod Items
 pub mod Told
+pub mod Deciding

@@ -37,6 +37,13 @@ impl Branch {
         }
     }
 
+    // Whether control goes to the target where the condition has this value.
+    fn jumps_at(self, value: bool) -> bool
+        ensures { result ≡ (if value then self.when else not self.when) }
+    {
+        self.when == value
+    }
+
     // The same for a value that is turned round, where it is.
     fn turned(self, is_turned: bool) -> Branch
         ensures { result ≡ record self { when = if is_turned then not self.when else self.when } }
@@ -101,7 +108,8 @@ pub fn put_condition(
         Operation::Call(_) | Operation::Powerset { .. } | Operation::Parts(_) => {
             put_plain(condition, branch, site, free, draft)
         }
-        Operation::Uniform { .. } | Operation::Routine { .. } | Operation::GetInt => {
+        Operation::Uniform { .. } => put_plain(condition, branch, site, free, draft),
+        Operation::Routine { .. } | Operation::GetInt => {
             put_plain(condition, branch, site, free, draft)
         }
     }
@@ -143,7 +151,7 @@ fn deciding(
 ) -> Result<Branch, PartRefusal>
     ensures { IfOk result (λ first. first ≡ record { when = value; target = first_target value branch.when branch.target (length draft.now.code.instrs + (condition_size (expr_tree left.now) value + condition_size (expr_tree right.now) branch.when)) }) }
 {
-    let target = if branch.when == value {
+    let target = if branch.jumps_at(value) {
         branch.target
     } else {
         let size = condition_size(left, value).saturating_add(condition_size(right, branch.when));
@@ -250,9 +258,8 @@ pub fn condition_size(condition: &Expr, when: bool) -> u32
         Operation::Call(_) | Operation::Powerset { .. } | Operation::Parts(_) => {
             plain_size(condition, when)
         }
-        Operation::Uniform { .. } | Operation::Routine { .. } | Operation::GetInt => {
-            plain_size(condition, when)
-        }
+        Operation::Uniform { .. } => plain_size(condition, when),
+        Operation::Routine { .. } | Operation::GetInt => plain_size(condition, when),
     }
 }
 
