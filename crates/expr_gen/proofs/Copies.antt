@@ -70,7 +70,7 @@ pub turns_done : (turn there elements n : ℕ) {x y : Code} → 32 ≤ turn
     → Appends (copied elements n) (length (copied elements 0)) x y
 turns_done turn there elements n {x} {y} h p =
     let all : Appends (copies_left 0 1 elements n) (length (copies_left 0 1 elements 0)) x y =
-        done p (no_turn turn there elements n h) (ap (λ (is : List Instr). length is) (no_turn turn there elements 0 h)) in
+    done p (no_turn turn there elements n h) (ap (λ (is : List Instr). length is) (no_turn turn there elements 0 h)) in
     subst (λ (is : List Instr). Appends is (length (copied elements 0)) x y) (all_left elements n)
     (resized (ap (λ (is : List Instr). length is) (all_left elements 0)) all)
 
@@ -85,7 +85,7 @@ pub turn_counted : (turn there next elements size one new all : ℕ) → turn < 
     → size + length (copies_left turn there elements 0) ≡ all → new + length (copies_left (turn + 1) next elements 0) ≡ all
 turn_counted turn there next elements size one new all h e f g p =
     let len : length (copies_left turn there elements 0) ≡ one + length (copies_left (turn + 1) next elements 0) =
-        turn_length turn there elements h ∙ rw (e, f) refl in
+    turn_length turn there elements h ∙ rw (e, f) refl in
     added size one new _ _ all len g p
 
 pub turns_counted : (turn there elements size : ℕ) → 32 ≤ turn → size + length (copies_left turn there elements 0) ≡ length (copies_left 0 1 elements 0) → size ≡ length (copied elements 0)
@@ -173,9 +173,9 @@ pub scalars_turn : {a : ℕ → List Instr} {m : ℕ} (xs : List ℤ) (k : ℕ) 
 scalars_turn {a} {m} xs k y s s' n n' {c} {d} {e} h i f g p q =
     let rest = drop (k + 1) xs in
     let there : StillTo a m (λ at. scalars_from s n (y ∷ rest)) (length (scalars_from s n (y ∷ rest))) c d =
-        subst (λ (ys : List ℤ). StillTo a m (λ at. scalars_from s n ys) (length (scalars_from s n ys)) c d) (number_at xs k y h i) p in
+    subst (λ (ys : List ℤ). StillTo a m (λ at. scalars_from s n ys) (length (scalars_from s n ys)) c d) (number_at xs k y h i) p in
     let all : StillTo a m (λ at. scalars_from y (run_behind s n y) rest) (length (scalars_from y (run_behind s n y) rest)) c e =
-        step (λ at. scalars_from y (run_behind s n y) rest) (length (scalars_from y (run_behind s n y) rest)) (scalars_step s n y rest) (scalars_length s n y rest) there q in
+    step (λ at. scalars_from y (run_behind s n y) rest) (length (scalars_from y (run_behind s n y) rest)) (scalars_step s n y rest) (scalars_length s n y rest) there q in
     rw (f, g) all
 
 pub scalars_done : {a : ℕ → List Instr} {m : ℕ} (xs : List ℤ) (k : ℕ) (s : ℤ) (n : ℕ) {c d e : Code} → length xs ≤ k
@@ -196,7 +196,7 @@ size_turn xs k y s s' whole n ended size new all h i f g o w p =
     let rest = drop (k + 1) xs in
     let same : ended ≡ length (run_ended s whole y) = o ∙ ap (λ (j : ℕ). length (run_ended s j y)) g ∙ ended_capped s whole y in
     let len : length (scalars_from s whole (drop k xs)) ≡ ended + length (scalars_from s' (run_behind s whole y) rest) =
-        ap (λ (ys : List ℤ). length (scalars_from s whole ys)) (number_at xs k y h i) ∙ scalars_length s whole y rest ∙ rw (f, same) refl in
+    ap (λ (ys : List ℤ). length (scalars_from s whole ys)) (number_at xs k y h i) ∙ scalars_length s whole y rest ∙ rw (f, same) refl in
     sum_on size ended new _ _ all len w p
 
 pub count_turn : (s : ℤ) (whole n : ℕ) (y : ℤ) (n' : ℕ) → n ≡ capped whole → n' ≡ capped (run_behind s n y) → n' ≡ capped (run_behind s whole y)

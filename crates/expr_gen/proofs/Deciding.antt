@@ -37,7 +37,7 @@ pub uniform_condition : (lay : Layout) (free at : ℕ) (when : Bool) (target : �
 uniform_condition lay free at when target {x} {z} e m r is p =
     let tree = tree_of e (uniform m (received_tree r)) (ap operation_tree is ∙ operation_tree-Uniform m r) in
     let code : plain_condition lay free (expr_tree e) when target at ≡ condition_code lay free (expr_tree e) when target at =
-        ap (λ (t : ExprTree). plain_condition lay free t when target at) tree ∙ sym (ap (λ (t : ExprTree). condition_code lay free t when target at) tree) in
+    ap (λ (t : ExprTree). plain_condition lay free t when target at) tree ∙ sym (ap (λ (t : ExprTree). condition_code lay free t when target at) tree) in
     subst (λ (is : List Instr). Appends is (condition_size (expr_tree e) when) x z) code (resized (sym (uniform_size e m r when is)) p)
 
 -- ---- two conditions, of which one value decides the whole
@@ -54,8 +54,8 @@ decided_told lay free {x} {y} {z} e o b c l1 r1 l2 r2 value when first target go
     let right : ExprTree = boxed_expr c in
     let to : ℕ = first_target value when target (length x.instrs + (condition_size (boxed_expr b) value + condition_size (boxed_expr c) when)) in
     let goes_to : goes ≡ first_target value when target (length x.instrs + (condition_size (boxed_expr b) value + condition_size (boxed_expr c) when)) =
-        there ∙ ap (λ (v : Expr). first_target value when target (length x.instrs + (condition_size (expr_tree v) value + condition_size (expr_tree r1) when))) left1
-        ∙ ap (λ (v : Expr). first_target value when target (length x.instrs + (condition_size (boxed_expr b) value + condition_size (expr_tree v) when))) right1 in
+    there ∙ ap (λ (v : Expr). first_target value when target (length x.instrs + (condition_size (expr_tree v) value + condition_size (expr_tree r1) when))) left1
+    ∙ ap (λ (v : Expr). first_target value when target (length x.instrs + (condition_size (boxed_expr b) value + condition_size (expr_tree v) when))) right1 in
     let p1 = subst (λ (v : Expr). Appends (condition_code lay free (expr_tree v) first goes (length x.instrs)) (condition_size (expr_tree v) first) x y) left2 p in
     let p2 = subst (λ (w : Bool). Appends (condition_code lay free (boxed_expr b) w goes (length x.instrs)) (condition_size (boxed_expr b) w) x y) same p1 in
     let p3 = subst (λ (j : ℕ). Appends (condition_code lay free (boxed_expr b) value j (length x.instrs)) (condition_size (boxed_expr b) value) x y) goes_to p2 in

@@ -231,7 +231,7 @@ pub arguments_step : {a : ℕ → List Instr} {m : ℕ} (lay : Layout) (rows : L
     → StillTo a m (λ at. arguments_code lay rows j next ts at) (arguments_size ts) x z
 arguments_step {a} {m} lay rows k kept j next t ts {x} {y} {z} e f p q =
     let all : StillTo a m (λ at. arguments_code lay rows (k + 1) (kept + places_kept t) ts at) (arguments_size ts) x z =
-        step (λ at. arguments_code lay rows (k + 1) (kept + places_kept t) ts at) (arguments_size ts) (argument_code_on lay rows k kept t ts (length y.instrs)) (argument_size_on t ts) p q in
+    step (λ at. arguments_code lay rows (k + 1) (kept + places_kept t) ts at) (arguments_size ts) (argument_code_on lay rows k kept t ts (length y.instrs)) (argument_size_on t ts) p q in
     rw (e, f) all
 
 pub places_step : (t : ArgumentTree) (ts : ArgumentNodes) (kept : ℕ) → kept_behind (with_argument t ts) kept ≡ kept_behind ts (kept + places_kept t)
@@ -257,7 +257,7 @@ pub copies_step : {a : ℕ → List Instr} {m : ℕ} (lay : Layout) (kept next f
     → StillTo a m (λ at. copies_out lay ts next free) (copies_out_size ts) x z
 copies_step {a} {m} lay kept next free t ts {x} {y} {z} f p q =
     let all : StillTo a m (λ at. copies_out lay ts (kept + places_kept t) free) (copies_out_size ts) x z =
-        step (λ at. copies_out lay ts (kept + places_kept t) free) (copies_out_size ts) (copy_out_on lay kept free t ts) (copying_size_on t ts) p q in
+    step (λ at. copies_out lay ts (kept + places_kept t) free) (copies_out_size ts) (copy_out_on lay kept free t ts) (copying_size_on t ts) p q in
     rw f all
 
 -- ---- turns of loops along lists

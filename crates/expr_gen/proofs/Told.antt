@@ -71,7 +71,7 @@ pub part_told : (lay : Layout) (free : ℕ) {x y1 y2 z : Code} (e : Expr) (b : B
     → Appends (expr_code lay free (expr_tree e) (length x.instrs)) (expr_size (expr_tree e)) x z
 part_told lay free {x} {y1} {y2} {z} e b of f own ps qs is same same2 parts_are parts_are2 p q r =
     let tree : operation_tree (out-Expr e).operation ≡ part_of (expr_tree of) (parts_of own) =
-        ap operation_tree is ∙ operation_tree-PartOf b own ∙ ap (λ (v : Expr). part_of (expr_tree v) (parts_of own)) (sym same) in
+    ap operation_tree is ∙ operation_tree-PartOf b own ∙ ap (λ (v : Expr). part_of (expr_tree v) (parts_of own)) (sym same) in
     let count : (out-Expr f).count ≡ count_of (expr_tree of) = count_is f ∙ ap (λ (v : Expr). count_of (expr_tree v)) (same2 ∙ sym same) in
     made_of lay free _ e (part_of (expr_tree of) (parts_of own)) tree
     (part_made lay free (out-Expr e).count (expr_tree of) (parts_of own) p
@@ -108,8 +108,8 @@ pub uniform_told : (lay : Layout) (free : ℕ) {x y z : Code} (e : Expr) (m n : 
     → Appends (copied m n) (length (copied m 0)) y z → Appends (expr_code lay free (expr_tree e) (length x.instrs)) (expr_size (expr_tree e)) x z
 uniform_told lay free {x} {y} {z} e m n r is count p q =
     let copies : Appends (copies_code m (received_count (received_tree r))) (length (copies_code m 0)) y z =
-        subst (λ (is : List Instr). Appends is (length (copies_code m 0)) y z) (copied_is m (received_count (received_tree r)))
-        (resized (ap (λ (is : List Instr). length is) (copied_is m 0)) (subst (λ (k : ℕ). Appends (copied m k) (length (copied m 0)) y z) count q)) in
+    subst (λ (is : List Instr). Appends is (length (copies_code m 0)) y z) (copied_is m (received_count (received_tree r)))
+    (resized (ap (λ (is : List Instr). length is) (copied_is m 0)) (subst (λ (k : ℕ). Appends (copied m k) (length (copied m 0)) y z) count q)) in
     made_of lay free _ e (uniform m (received_tree r)) (ap operation_tree is ∙ operation_tree-Uniform m r) (and_then p copies)
 
 pub uniform_count : (r : Received) (e : Expr) → e ≡ (out-Received r).value.value → (out-Expr e).count ≡ received_count (received_tree r)
@@ -160,7 +160,7 @@ pub received_told : (lay : Layout) (free : ℕ) {x y z : Code} (r : Received) (e
 received_told lay free {x} {y} {z} r e bounds same test p q =
     let tree : received_tree r ≡ received (expr_tree e) (out-Received r).bounds = received_tree-out r ∙ ap (λ (v : Expr). received (expr_tree v) (out-Received r).bounds) (sym same) in
     let check : Appends (check_code (tested (received (expr_tree e) (out-Received r).bounds))) (length (check_code (tested (received (expr_tree e) (out-Received r).bounds)))) y z =
-        subst (λ (b : Option Bounds). Appends (check_code b) (length (check_code b)) y z) (test ∙ ap tested tree) q in
+    subst (λ (b : Option Bounds). Appends (check_code b) (length (check_code b)) y z) (test ∙ ap tested tree) q in
     subst (λ (t : ReceivedTree). Appends (received_code lay free t (length x.instrs)) (received_size t) x z) (sym tree) (and_then p check)
 
 -- ---- places
@@ -177,9 +177,9 @@ pub place_indexed : (lay : Layout) (free : ℕ) {x z : Code} (l : Location) (ps 
 place_indexed lay free {x} {z} l ps same yes_index p =
     let base = (out-Location l).base in
     let tree : location_tree l ≡ location (out-Location l).base (parts_of ps) (out-Location l).count =
-        location_tree-out l ∙ ap (λ (v : List Part). location (out-Location l).base (parts_of v) (out-Location l).count) (sym same) in
+    location_tree-out l ∙ ap (λ (v : List Part). location (out-Location l).base (parts_of v) (out-Location l).count) (sym same) in
     let code : place_code lay free (location_tree l) (length x.instrs) ≡ indices_code lay free true (parts_of ps) (length x.instrs) =
-        ap (λ (t : LocationTree). place_code lay free t (length x.instrs)) tree ∙ where_true (has_index (parts_of ps)) _ _ yes_index in
+    ap (λ (t : LocationTree). place_code lay free t (length x.instrs)) tree ∙ where_true (has_index (parts_of ps)) _ _ yes_index in
     let size : place_size (location_tree l) ≡ indices_size true (parts_of ps) = ap place_size tree ∙ where_true (has_index (parts_of ps)) _ _ yes_index in
     rw code (resized (sym size) p)
 
@@ -187,10 +187,10 @@ pub place_zero : (lay : Layout) (free : ℕ) {x z : Code} (l : Location) (ps : L
     → Appends (i.Push (pos 0) ∷ []) 1 x z → Appends (place_code lay free (location_tree l) (length x.instrs)) (place_size (location_tree l)) x z
 place_zero lay free {x} {z} l ps same no_index yes_offset p =
     let tree : location_tree l ≡ location (out-Location l).base (parts_of ps) (out-Location l).count =
-        location_tree-out l ∙ ap (λ (v : List Part). location (out-Location l).base (parts_of v) (out-Location l).count) (sym same) in
+    location_tree-out l ∙ ap (λ (v : List Part). location (out-Location l).base (parts_of v) (out-Location l).count) (sym same) in
     let needs : needs_offset (out-Location l).base (parts_of ps) ≡ true = sym (ap has_offset tree) ∙ yes_offset in
     let code : place_code lay free (location_tree l) (length x.instrs) ≡ i.Push (pos 0) ∷ [] =
-        ap (λ (t : LocationTree). place_code lay free t (length x.instrs)) tree ∙ where_false (has_index (parts_of ps)) _ _ no_index ∙ where_true (needs_offset (out-Location l).base (parts_of ps)) _ _ needs in
+    ap (λ (t : LocationTree). place_code lay free t (length x.instrs)) tree ∙ where_false (has_index (parts_of ps)) _ _ no_index ∙ where_true (needs_offset (out-Location l).base (parts_of ps)) _ _ needs in
     let size : place_size (location_tree l) ≡ 1 = ap place_size tree ∙ where_false (has_index (parts_of ps)) _ _ no_index ∙ where_true (needs_offset (out-Location l).base (parts_of ps)) _ _ needs in
     rw code (resized (sym size) p)
 
@@ -198,10 +198,10 @@ pub place_none : (lay : Layout) (free : ℕ) {x : Code} (l : Location) (ps : Lis
     → Appends (place_code lay free (location_tree l) (length x.instrs)) (place_size (location_tree l)) x x
 place_none lay free {x} l ps same no_index no_offset =
     let tree : location_tree l ≡ location (out-Location l).base (parts_of ps) (out-Location l).count =
-        location_tree-out l ∙ ap (λ (v : List Part). location (out-Location l).base (parts_of v) (out-Location l).count) (sym same) in
+    location_tree-out l ∙ ap (λ (v : List Part). location (out-Location l).base (parts_of v) (out-Location l).count) (sym same) in
     let needs : needs_offset (out-Location l).base (parts_of ps) ≡ false = sym (ap has_offset tree) ∙ no_offset in
     let code : place_code lay free (location_tree l) (length x.instrs) ≡ [] =
-        ap (λ (t : LocationTree). place_code lay free t (length x.instrs)) tree ∙ where_false (has_index (parts_of ps)) _ _ no_index ∙ where_false (needs_offset (out-Location l).base (parts_of ps)) _ _ needs in
+    ap (λ (t : LocationTree). place_code lay free t (length x.instrs)) tree ∙ where_false (has_index (parts_of ps)) _ _ no_index ∙ where_false (needs_offset (out-Location l).base (parts_of ps)) _ _ needs in
     let size : place_size (location_tree l) ≡ 0 = ap place_size tree ∙ where_false (has_index (parts_of ps)) _ _ no_index ∙ where_false (needs_offset (out-Location l).base (parts_of ps)) _ _ needs in
     rw code (resized (sym size) (nothing x))
 
@@ -221,7 +221,7 @@ pub alone_told : (lay : Layout) (free : ℕ) (b : Bounds) {x y1 y2 y3 z : Code} 
     → Appends (range_code lay free b (range_tree r) (length x.instrs)) (range_size (range_tree r)) x z
 alone_told lay free b {x} {y1} {y2} {y3} {z} r e none same p q s t =
     let tree : range_tree r ≡ alone (expr_tree e) =
-        range_tree-out r ∙ ap (λ (o : Option (Box Expr Global)). range_of_boxes (out-Range r).first o) none ∙ ap (λ (v : Expr). alone (expr_tree v)) (sym same) in
+    range_tree-out r ∙ ap (λ (o : Option (Box Expr Global)). range_of_boxes (out-Range r).first o) none ∙ ap (λ (v : Expr). alone (expr_tree v)) (sym same) in
     subst (λ (w : RangeTree). Appends (range_code lay free b w (length x.instrs)) (range_size w) x z) (sym tree) (and_then p (and_then q (and_then s t)))
 
 pub between_told : (lay : Layout) (free : ℕ) (b : Bounds) {x y1 y2 y3 y4 z : Code} (r : Range) (e f : Expr) (last : Box Expr Global) → (out-Range r).last ≡ Some last → e ≡ (out-Range r).first.value → f ≡ last.value
@@ -232,8 +232,8 @@ pub between_told : (lay : Layout) (free : ℕ) (b : Bounds) {x y1 y2 y3 y4 z : C
     → Appends (range_code lay free b (range_tree r) (length x.instrs)) (range_size (range_tree r)) x z
 between_told lay free b {x} {y1} {y2} {y3} {y4} {z} r e f last some same same2 p q s t u =
     let tree : range_tree r ≡ between (expr_tree e) (expr_tree f) =
-        range_tree-out r ∙ ap (λ (o : Option (Box Expr Global)). range_of_boxes (out-Range r).first o) some
-        ∙ ap (λ (v : Expr). between (expr_tree v) (expr_tree last.value)) (sym same) ∙ ap (λ (v : Expr). between (expr_tree e) (expr_tree v)) (sym same2) in
+    range_tree-out r ∙ ap (λ (o : Option (Box Expr Global)). range_of_boxes (out-Range r).first o) some
+    ∙ ap (λ (v : Expr). between (expr_tree v) (expr_tree last.value)) (sym same) ∙ ap (λ (v : Expr). between (expr_tree e) (expr_tree v)) (sym same2) in
     let there : length y2.instrs ≡ length x.instrs + expr_size (expr_tree e) + 1 = omega (arith, p.length, q.length) in
     subst (λ (w : RangeTree). Appends (range_code lay free b w (length x.instrs)) (range_size w) x z) (sym tree)
     (and_then p (and_then q (and_then (moved (λ at. expr_code lay free (expr_tree f) at) there s) (and_then t u))))
@@ -307,7 +307,7 @@ pub under_told : {x z : Code} (l : Location) (kept free : ℕ) → has_offset (l
     → Appends (under_code (location_tree l) kept free) (length (under_code (location_tree l) 0 0)) x z
 under_told {x} {z} l kept free some p =
     let code : under_code (location_tree l) kept free ≡ i.SetLocal free (location_scalars (location_tree l)) ∷ i.Local kept 1 ∷ i.Local free (location_scalars (location_tree l)) ∷ [] =
-        where_true (has_offset (location_tree l)) _ _ some in
+    where_true (has_offset (location_tree l)) _ _ some in
     let size : length (under_code (location_tree l) 0 0) ≡ 3 = ap (λ (is : List Instr). length is) (where_true (has_offset (location_tree l)) _ _ some) in
     rw code (resized (sym size) (subst (λ (n : ℕ). Appends (i.SetLocal free n ∷ i.Local kept 1 ∷ i.Local free n ∷ []) 3 x z) (scalars_are l) p))
 

@@ -1,5 +1,6 @@
 // OUT and INOUT arguments: places that are kept over a call, the lowest values that go in, and what is copied out.
 #![tactic(auto, using(crate::proofs::Appending::keeping))]
+
 ghost use Rattle.std.specs.Prelude.{◌≡◌, ◌+◌, length, slice_get, OnOk};
 ghost use Rattle.program_trees.specs.ExprTree.{argument_tree, location_tree};
 ghost use Rattle.program_trees.specs.ProgramTree.{body_row_tree};

@@ -1,5 +1,6 @@
 // Locations: contents and assignment, where the place stands on the stack if it has an offset.
 #![tactic(auto, using(crate::proofs::Appending::keeping))]
+
 ghost use Rattle.std.specs.Prelude.{◌≡◌, ◌+◌, ◌&&◌, not, [], ◌∷◌, length, slice_get, IfOk, OnOk};
 ghost use Rattle.code_types.specs.declared.instr.Instr.TheVariants as code;
 ghost use Rattle.checked_program.specs.declared.expr.Base.TheVariants as bases;
@@ -93,11 +94,7 @@ pub fn put_again(location: &Location, draft: &mut Draft) -> Result<(), PartRefus
 
 /// The contents of a location, whose place stands on top.
 #[tactic(auto, using(crate::proofs::Views::tree_built, crate::proofs::Appending::keeping))]
-pub fn put_contents(
-    location: &Location,
-    site: &Site,
-    draft: &mut Draft,
-) -> Result<(), PartRefusal>
+pub fn put_contents(location: &Location, site: &Site, draft: &mut Draft) -> Result<(), PartRefusal>
     ensures appends { OnOk result (Appends (contents_code (layout_of site.now.program.now site.now.body.now) (location_tree location.now)) 1 draft.old.code draft.new.code) }
     ensures keeps { Keeps draft.old.code draft.new.code }
 {
@@ -159,12 +156,7 @@ pub fn put_store(location: &Location, site: &Site, draft: &mut Draft) -> Result<
 }
 
 // Assigns the value on top to a part of a shared location.
-fn put_write(
-    number: u32,
-    parts: &[Part],
-    count: u32,
-    draft: &mut Draft,
-) -> Result<(), PartRefusal>
+fn put_write(number: u32, parts: &[Part], count: u32, draft: &mut Draft) -> Result<(), PartRefusal>
     ensures appends { OnOk result (Appends (code.Write number (first_of_parts (parts_of parts.now)) count ∷ []) 1 draft.old.code draft.new.code) }
     ensures keeps { Keeps draft.old.code draft.new.code }
 {

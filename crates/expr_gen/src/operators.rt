@@ -1,5 +1,6 @@
 // Operators and routines: what stands between and behind their operands.
 #![tactic(auto, using(crate::proofs::Appending::keeping))]
+
 ghost use Rattle.std.specs.Prelude.{◌≡◌, ℕ, [], ◌∷◌, length, IfOk, OnOk, ◌+ℤ◌};
 ghost use Rattle.code_types.specs.declared.instr.Instr.TheVariants as code;
 ghost use Rattle.checked_program.specs.declared.expr.Binary.TheVariants as binaries;
@@ -56,11 +57,7 @@ fn put_or_if(second: u32, draft: &mut Draft) -> Result<(), PartRefusal>
 }
 
 // The offset of a member that lies in its own bounds.
-fn put_offset_in(
-    bounds: Bounds,
-    own: Option<Bounds>,
-    draft: &mut Draft,
-) -> Result<(), PartRefusal>
+fn put_offset_in(bounds: Bounds, own: Option<Bounds>, draft: &mut Draft) -> Result<(), PartRefusal>
     ensures appends { OnOk result (Appends (between_code (binaries.Member bounds) own (length draft.old.code.instrs) 0) (between_size (binaries.Member bounds) own) draft.old.code draft.new.code) }
     ensures keeps { Keeps draft.old.code draft.new.code }
 {

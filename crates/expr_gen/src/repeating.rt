@@ -1,5 +1,6 @@
 // Scalars that are pushed, and copies of what stands on top.
 #![tactic(auto, using(crate::proofs::Appending::keeping))]
+
 ghost use Rattle.std.specs.Prelude.{◌≡◌, ◌+◌, ◌&&◌, nat_lt, pos, length, OnOk};
 ghost use Rattle.code_scheme.specs.Pieces.{capped, run_code, run_ended, run_behind, are_same, scalars_code};
 ghost use Rattle.expr_gen.specs.Copies.{copied, turn_code, turn_size, next_there};
@@ -134,12 +135,7 @@ pub fn put_copies(elements: u32, count: u32, draft: &mut Draft) -> Result<(), Pa
 }
 
 // One turn of copies of a value of so many scalars.
-fn put_turn(
-    there: u32,
-    elements: u32,
-    count: u32,
-    draft: &mut Draft,
-) -> Result<(), PartRefusal>
+fn put_turn(there: u32, elements: u32, count: u32, draft: &mut Draft) -> Result<(), PartRefusal>
     ensures appends { OnOk result (Appends (turn_code there elements count) (turn_size there elements) draft.old.code draft.new.code) }
     ensures keeps { Keeps draft.old.code draft.new.code }
 {

@@ -152,7 +152,9 @@ fn range_size(range: &Range) -> u32
         Some(last) => expr_size(last),
         None => 0,
     };
-    expr_size(&range.first).saturating_add(last).saturating_add(4)
+    expr_size(&range.first)
+        .saturating_add(last)
+        .saturating_add(4)
 }
 
 /// How many instructions the code of a call has.

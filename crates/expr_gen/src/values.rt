@@ -1,5 +1,6 @@
 // Values: one recursion over expressions, the parts of locations, and arguments. `free` is the first free scratch local.
 #![tactic(auto, using(crate::proofs::Appending::keeping))]
+
 ghost use Rattle.std.specs.Prelude.{◌≡◌, ◌+◌, ◌<◌, ◌∷◌, [], Some, true, pos, length, IfOk, OnOk, if◌then◌else◌, slice_get};
 ghost use Rattle.program_trees.specs.ExprTree.{expr_tree, location_tree, received_tree, received_of, call_tree, start_tree, range_tree, argument_tree, part_tree, received_count};
 ghost use Rattle.program_trees.specs.ProgramTree.{BodyRowTree, checked_tree, body_row_tree};
@@ -113,12 +114,7 @@ fn put_cut(parts: &[Part], of: u32, count: u32, draft: &mut Draft) -> Result<(),
 // The offset to which the indices among the parts lead, where there is one.
 #[tactic(auto, using(crate::proofs::Appending::keeping))]
 #[cycle(value)]
-fn put_indices(
-    parts: &[Part],
-    site: &Site,
-    free: u32,
-    draft: &mut Draft,
-) -> Result<(), PartRefusal>
+fn put_indices(parts: &[Part], site: &Site, free: u32, draft: &mut Draft) -> Result<(), PartRefusal>
     ensures appends { OnOk result (Appends (indices_code (layout_of site.now.program.now site.now.body.now) free true (parts_of parts.now) (length draft.old.code.instrs)) (indices_size true (parts_of parts.now)) draft.old.code draft.new.code) }
     ensures keeps { Keeps draft.old.code draft.new.code }
 {

@@ -8,6 +8,6 @@ use Rattle.expr_gen.proofs.conditions.deciding.Goals as goal
 pub returns-in_ok-target : goal.returns-in_ok-target
 returns-in_ok-target c =
     let size : c.saturating_add-size.result ≡ capped (condition_size (expr_tree c.args.left.now) c.args.value + condition_size (expr_tree c.args.right.now) c.args.branch.when) =
-        omega (arith, c.condition_size.ensures, c.condition_size-else-jumps_at.ensures) in
+    omega (arith, c.condition_size.ensures, c.condition_size-else-jumps_at.ensures) in
     let behind = c.in_ok-target.ensures (condition_size (expr_tree c.args.left.now) c.args.value + condition_size (expr_tree c.args.right.now) c.args.branch.when) size in
     goes_behind c.args.branch c.args.value c.in_ok-target.target _ (sym c.jumps_at.ensures ∙ c.if-jumps_at.false) behind

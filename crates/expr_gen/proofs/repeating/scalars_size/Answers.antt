@@ -25,4 +25,4 @@ pub returns : goal.returns
 returns c =
     c.saturating_add.ensures
     ∙ size_done c.args.scalars.now c.loop-scalar.scalar-index c.loop-scalar.run.scalar c.loop-scalar.invariant.whole c.loop-scalar.run.count c.run_size.result c.loop-scalar.size _
-        c.loop-scalar-test.false c.loop-scalar.invariant.count c.run_size.ensures c.loop-scalar.invariant.sum
+    c.loop-scalar-test.false c.loop-scalar.invariant.count c.run_size.ensures c.loop-scalar.invariant.sum

@@ -161,4 +161,3 @@ put_received-returns-clause-appends t c = on_ok_weaker c.put_check.result (λ q.
 
 pub put_start-returns-clause-appends : goal.put_start-returns-clause-appends
 put_start-returns-clause-appends t c = on_ok_weaker c.put.result (λ q. start_told _ _ c.args.start.now c.as_slice-arguments.result.now c.in_ok-count.count c.as_slice-arguments.ensures (c.in_ok-count.ensures (counts_of (received_of c.as_slice-arguments.result.now)) c.scalars_of.ensures) c.in_ok-put_all_received.ensures.appends q) c.put.ensures.puts
-
