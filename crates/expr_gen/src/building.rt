@@ -3,6 +3,7 @@ ghost use Rattle.std.specs.Prelude.{◌≡◌, ℕ, ◌+◌, length, IfOk, OnOk,
 ghost use Rattle.code_types.specs.declared.instr.Instr.TheVariants.{Call};
 ghost use Rattle.code_scheme.specs.Pieces.{capped};
 ghost use Rattle.expr_gen.specs.Putting.{Puts, Keeps};
+ghost use Rattle.expr_gen.specs.Puts.{IsBehind};
 
 use crate::refusal::PartRefusal;
 use chill_base::{List, Numbers};
@@ -67,7 +68,7 @@ impl Draft {
 
     /// The place so many instructions behind the present one, to which a jump may lead.
     pub fn target_behind(&self, count: u32) -> Result<u32, PartRefusal>
-        ensures { IfOk result (λ target. (k : ℕ) → count ≡ capped k → target ≡ length self.now.code.instrs + k) }
+        ensures { IfOk result (λ target. IsBehind self.now count target) }
     {
         uncapped(self.place_behind(count))
     }

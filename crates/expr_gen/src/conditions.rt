@@ -8,6 +8,7 @@ ghost use Rattle.code_scheme.specs.ExprSizes.{expr_size, condition_size};
 ghost use Rattle.code_scheme.specs.ExprCode.{expr_code, condition_code, first_target};
 ghost use Rattle.expr_gen.specs.Trees.{compared_code, compared_size, plain_condition, plain_size};
 ghost use Rattle.expr_gen.specs.Putting.{Appends, Keeps, layout_of};
+ghost use Rattle.expr_gen.specs.Puts.{PutsJump, PutsPlain, operands_size, PutsTest, PutsBranch, first_branch};
 
 use crate::bounds::bounds_of_value;
 use crate::building::{Draft, uncapped};
@@ -70,7 +71,7 @@ pub fn put_condition(
     free: u32,
     draft: &mut Draft,
 ) -> Result<(), PartRefusal>
-    ensures appends { OnOk result (Appends (condition_code (layout_of site.now.program.now site.now.body.now) free (expr_tree condition.now) branch.when branch.target (length draft.old.code.instrs)) (condition_size (expr_tree condition.now) branch.when) draft.old.code draft.new.code) }
+    ensures puts { OnOk result (PutsJump site.now free condition.now branch draft.old draft.new) }
     ensures keeps { Keeps draft.old.code draft.new.code }
 {
     match &condition.operation {
@@ -123,7 +124,7 @@ fn put_plain(
     free: u32,
     draft: &mut Draft,
 ) -> Result<(), PartRefusal>
-    ensures appends { OnOk result (Appends (plain_condition (layout_of site.now.program.now site.now.body.now) free (expr_tree condition.now) branch.when branch.target (length draft.old.code.instrs)) (plain_size (expr_tree condition.now) branch.when) draft.old.code draft.new.code) }
+    ensures puts { OnOk result (PutsPlain site.now free condition.now branch draft.old draft.new) }
     ensures keeps { Keeps draft.old.code draft.new.code }
 {
     put_expr(condition, site, free, draft)?;
@@ -149,7 +150,7 @@ fn deciding(
     branch: Branch,
     draft: &Draft,
 ) -> Result<Branch, PartRefusal>
-    ensures { IfOk result (λ first. first ≡ record { when = value; target = first_target value branch.when branch.target (length draft.now.code.instrs + (condition_size (expr_tree left.now) value + condition_size (expr_tree right.now) branch.when)) }) }
+    ensures { IfOk result (λ to. to ≡ first_branch left.now right.now value branch draft.now) }
 {
     let target = if branch.jumps_at(value) {
         branch.target
@@ -171,7 +172,7 @@ fn put_compared(
     free: u32,
     draft: &mut Draft,
 ) -> Result<(), PartRefusal>
-    ensures appends { OnOk result (Appends (compared_code (layout_of site.now.program.now site.now.body.now) free operands.entry.operator (expr_tree operands.entry.left.now) (expr_tree operands.entry.right.now) branch.when branch.target (length draft.old.code.instrs)) (compared_size operands.entry.operator (expr_tree operands.entry.left.now) (expr_tree operands.entry.right.now) branch.when) draft.old.code draft.new.code) }
+    ensures puts { OnOk result (PutsTest site.now free operands.entry branch draft.old draft.new) }
     ensures keeps { Keeps draft.old.code draft.new.code }
 {
     let Operands {
@@ -210,7 +211,7 @@ fn is_turned(operator: Binary) -> bool
 
 /// Jumps by the Boolean on top.
 pub fn put_branch(branch: Branch, draft: &mut Draft) -> Result<(), PartRefusal>
-    ensures appends { OnOk result (Appends (branch_code branch.when branch.target (length draft.old.code.instrs)) (branch_size branch.when) draft.old.code draft.new.code) }
+    ensures puts { OnOk result (PutsBranch branch draft.old draft.new) }
     ensures keeps { Keeps draft.old.code draft.new.code }
 {
     if !branch.when {
@@ -272,7 +273,7 @@ fn plain_size(condition: &Expr, when: bool) -> u32
 
 // How many instructions an operator other than ANDIF and ORIF has, with the jump.
 fn compared_size(operands: Operands, when: bool) -> u32
-    ensures { result ≡ capped (compared_size operands.entry.operator (expr_tree operands.entry.left.now) (expr_tree operands.entry.right.now) when) }
+    ensures { result ≡ capped (operands_size operands.entry when) }
 {
     let Operands {
         operator,

@@ -8,6 +8,7 @@ ghost use Rattle.code_scheme.specs.Pieces.{pushes, lowest_in_row, offsets_kept, 
 ghost use Rattle.code_scheme.specs.ExprSizes.{copies_out_size, copy_out_size};
 ghost use Rattle.expr_gen.specs.Trees.{arguments_of, places_kept, copy_out, copying_size};
 ghost use Rattle.expr_gen.specs.Putting.{Appends, Keeps, layout_of};
+ghost use Rattle.expr_gen.specs.Puts.{PutsEach, PutsKeep, PutsKept, PutsUnder, PutsLowest, PutsBack, PutsOneBack};
 
 use crate::bounds::{INT, bounds_to_test};
 use crate::building::{Draft, sum};
@@ -39,7 +40,7 @@ pub fn offsets_kept(target: &Location) -> u32
 
 /// Keeps the place on top in a scratch local, where it has an offset.
 pub fn keep_place(target: &Location, kept: u32, draft: &mut Draft) -> Result<(), PartRefusal>
-    ensures appends { OnOk result (Appends (keep_code (location_tree target.now) kept) (offsets_kept (location_tree target.now)) draft.old.code draft.new.code) }
+    ensures puts { OnOk result (PutsKeep target.now kept draft.old draft.new) }
     ensures keeps { Keeps draft.old.code draft.new.code }
 {
     if has_offset(target) {
@@ -51,7 +52,7 @@ pub fn keep_place(target: &Location, kept: u32, draft: &mut Draft) -> Result<(),
 
 /// The place that was kept in a scratch local, where it has an offset.
 pub fn put_kept(target: &Location, kept: u32, draft: &mut Draft) -> Result<(), PartRefusal>
-    ensures appends { OnOk result (Appends (kept_code (location_tree target.now) kept) (offsets_kept (location_tree target.now)) draft.old.code draft.new.code) }
+    ensures puts { OnOk result (PutsKept target.now kept draft.old draft.new) }
     ensures keeps { Keeps draft.old.code draft.new.code }
 {
     if has_offset(target) {
@@ -69,7 +70,7 @@ pub fn put_lowest(
     count: u32,
     draft: &mut Draft,
 ) -> Result<(), PartRefusal>
-    ensures appends { OnOk result (Appends (pushes (lowest_in_row (slice_get (body_row_tree callee.now).locals parameter))) count draft.old.code draft.new.code) }
+    ensures puts { OnOk result (PutsLowest callee.now parameter count draft.old draft.new) }
     ensures keeps { Keeps draft.old.code draft.new.code }
 {
     let mut lowest = Scalars::new(draft.allocator());
@@ -82,7 +83,7 @@ pub fn put_lowest(
 
 // Each of these scalars, pushed by itself: the size of a call goes by their number alone.
 fn put_each(scalars: &[i64], draft: &mut Draft) -> Result<(), PartRefusal>
-    ensures appends { OnOk result (Appends (pushes scalars.now) (length scalars.now) draft.old.code draft.new.code) }
+    ensures puts { OnOk result (PutsEach scalars.now draft.old draft.new) }
     ensures keeps { Keeps draft.old.code draft.new.code }
 {
     for scalar in scalars {
@@ -100,7 +101,7 @@ pub fn put_copies_out(
     free: u32,
     draft: &mut Draft,
 ) -> Result<(), PartRefusal>
-    ensures appends { OnOk result (Appends (copies_out (layout_of site.now.program.now site.now.body.now) (arguments_of arguments.now) kept free) (copies_out_size (arguments_of arguments.now)) draft.old.code draft.new.code) }
+    ensures puts { OnOk result (PutsBack site.now arguments.now kept free draft.old draft.new) }
     ensures keeps { Keeps draft.old.code draft.new.code }
 {
     let mut own = kept;
@@ -120,7 +121,7 @@ fn put_copy_out(
     free: u32,
     draft: &mut Draft,
 ) -> Result<(), PartRefusal>
-    ensures appends { OnOk result (Appends (copy_out (layout_of site.now.program.now site.now.body.now) (argument_tree argument.now) kept free) (copying_size (argument_tree argument.now)) draft.old.code draft.new.code) }
+    ensures puts { OnOk result (PutsOneBack site.now argument.now kept free draft.old draft.new) }
     ensures keeps { Keeps draft.old.code draft.new.code }
 {
     match argument {
@@ -157,7 +158,7 @@ pub fn put_under(
     free: u32,
     draft: &mut Draft,
 ) -> Result<(), PartRefusal>
-    ensures appends { OnOk result (Appends (under_code (location_tree target.now) kept free) (length (under_code (location_tree target.now) 0 0)) draft.old.code draft.new.code) }
+    ensures puts { OnOk result (PutsUnder target.now kept free draft.old draft.new) }
     ensures keeps { Keeps draft.old.code draft.new.code }
 {
     if has_offset(target) {

@@ -9,6 +9,7 @@ ghost use Rattle.program_trees.specs.ExprTree.{location_tree, part_tree};
 ghost use Rattle.code_scheme.specs.Pieces.{capped, has_index, first_of_parts, has_offset, again_code, first_in, contents_at, contents_code, store_at, store_code, check_code};
 ghost use Rattle.expr_gen.specs.Trees.{parts_of, is_index, first_in_part};
 ghost use Rattle.expr_gen.specs.Putting.{Appends, Keeps, layout_of};
+ghost use Rattle.expr_gen.specs.Puts.{PutsAll, PutsAgain, PutsRead, PutsWrite, PutsContents, PutsLocal, PutsStore, PutsSetLocal, first_scalar};
 
 use crate::building::{Draft, uncapped};
 use crate::frames::{Site, local_of};
@@ -82,7 +83,7 @@ pub fn has_offset(location: &Location) -> bool
 
 /// The place once more, where it stands on top.
 pub fn put_again(location: &Location, draft: &mut Draft) -> Result<(), PartRefusal>
-    ensures appends { let made = again_code (location_tree location.now) in OnOk result (Appends made (length made) draft.old.code draft.new.code) }
+    ensures puts { OnOk result (PutsAgain location.now draft.old draft.new) }
     ensures keeps { Keeps draft.old.code draft.new.code }
 {
     if has_offset(location) {
@@ -95,7 +96,7 @@ pub fn put_again(location: &Location, draft: &mut Draft) -> Result<(), PartRefus
 /// The contents of a location, whose place stands on top.
 #[tactic(auto, using(crate::proofs::Views::tree_built, crate::proofs::Appending::keeping))]
 pub fn put_contents(location: &Location, site: &Site, draft: &mut Draft) -> Result<(), PartRefusal>
-    ensures appends { OnOk result (Appends (contents_code (layout_of site.now.program.now site.now.body.now) (location_tree location.now)) 1 draft.old.code draft.new.code) }
+    ensures puts { OnOk result (PutsContents site.now location.now draft.old draft.new) }
     ensures keeps { Keeps draft.old.code draft.new.code }
 {
     let parts = location.parts.as_slice();
@@ -107,7 +108,7 @@ pub fn put_contents(location: &Location, site: &Site, draft: &mut Draft) -> Resu
 
 // The contents of a part of a shared location.
 fn put_read(number: u32, parts: &[Part], count: u32, draft: &mut Draft) -> Result<(), PartRefusal>
-    ensures appends { OnOk result (Appends (code.Read number (first_of_parts (parts_of parts.now)) count ∷ []) 1 draft.old.code draft.new.code) }
+    ensures puts { OnOk result (PutsRead number parts.now count draft.old draft.new) }
     ensures keeps { Keeps draft.old.code draft.new.code }
 {
     let fields = uncapped(first_of_parts(parts))?;
@@ -122,7 +123,7 @@ fn put_local(
     site: &Site,
     draft: &mut Draft,
 ) -> Result<(), PartRefusal>
-    ensures appends { OnOk result (Appends (contents_at (layout_of site.now.program.now site.now.body.now) (bases.Local number) (parts_of parts.now) count) 1 draft.old.code draft.new.code) }
+    ensures puts { OnOk result (PutsLocal site.now number parts.now count draft.old draft.new) }
     ensures keeps { Keeps draft.old.code draft.new.code }
 {
     let first = first_at(number, parts, site.body)?;
@@ -136,7 +137,7 @@ fn put_local(
 // The first scalar of a part of a local, without its indices.
 #[tactic(auto, using(crate::proofs::Rows::local_there))]
 fn first_at(number: u32, parts: &[Part], body: &Body) -> Result<u32, PartRefusal>
-    ensures { IfOk result (λ first. first ≡ first_in (slice_get (body_row_tree body.now).locals number) + first_of_parts (parts_of parts.now)) }
+    ensures { IfOk result (λ first. first ≡ first_scalar body.now number parts.now) }
 {
     let local = local_of(body, number)?;
     uncapped(local.first.saturating_add(first_of_parts(parts)))
@@ -145,7 +146,7 @@ fn first_at(number: u32, parts: &[Part], body: &Body) -> Result<u32, PartRefusal
 /// Assigns the value on top to a location, whose place stands below it.
 #[tactic(auto, using(crate::proofs::Views::tree_built, crate::proofs::Appending::keeping))]
 pub fn put_store(location: &Location, site: &Site, draft: &mut Draft) -> Result<(), PartRefusal>
-    ensures appends { OnOk result (Appends (store_code (layout_of site.now.program.now site.now.body.now) (location_tree location.now)) 1 draft.old.code draft.new.code) }
+    ensures puts { OnOk result (PutsStore site.now location.now draft.old draft.new) }
     ensures keeps { Keeps draft.old.code draft.new.code }
 {
     let parts = location.parts.as_slice();
@@ -157,7 +158,7 @@ pub fn put_store(location: &Location, site: &Site, draft: &mut Draft) -> Result<
 
 // Assigns the value on top to a part of a shared location.
 fn put_write(number: u32, parts: &[Part], count: u32, draft: &mut Draft) -> Result<(), PartRefusal>
-    ensures appends { OnOk result (Appends (code.Write number (first_of_parts (parts_of parts.now)) count ∷ []) 1 draft.old.code draft.new.code) }
+    ensures puts { OnOk result (PutsWrite number parts.now count draft.old draft.new) }
     ensures keeps { Keeps draft.old.code draft.new.code }
 {
     let fields = uncapped(first_of_parts(parts))?;
@@ -172,7 +173,7 @@ fn put_set_local(
     site: &Site,
     draft: &mut Draft,
 ) -> Result<(), PartRefusal>
-    ensures appends { OnOk result (Appends (store_at (layout_of site.now.program.now site.now.body.now) (bases.Local number) (parts_of parts.now) count) 1 draft.old.code draft.new.code) }
+    ensures puts { OnOk result (PutsSetLocal site.now number parts.now count draft.old draft.new) }
     ensures keeps { Keeps draft.old.code draft.new.code }
 {
     let first = first_at(number, parts, site.body)?;
@@ -185,7 +186,7 @@ fn put_set_local(
 
 /// The test of the value on top, where there are bounds to test it against.
 pub fn put_check(bounds: Option<Bounds>, draft: &mut Draft) -> Result<(), PartRefusal>
-    ensures appends { OnOk result (Appends (check_code bounds) (length (check_code bounds)) draft.old.code draft.new.code) }
+    ensures puts { OnOk result (PutsAll (check_code bounds) draft.old draft.new) }
     ensures keeps { Keeps draft.old.code draft.new.code }
 {
     match bounds {

@@ -6,6 +6,7 @@ ghost use Rattle.code_types.specs.declared.instr.Instr.TheVariants as code;
 ghost use Rattle.checked_program.specs.declared.expr.Binary.TheVariants as binaries;
 ghost use Rattle.code_scheme.specs.Pieces.{capped, between_code, between_size, behind_code, behind_size, prefix_code, routine_code, member_code, offset_code, member_or_none, swap_code, properly_code, bounds_to_test};
 ghost use Rattle.expr_gen.specs.Putting.{Appends, Keeps};
+ghost use Rattle.expr_gen.specs.Puts.{PutsAll, PutsSome, PutsBetween, PutsOffset, PutsMember, PutsIsBelow, PutsNoneAbove, PutsUnlessInside, PutsDiffer, PutsBehind};
 
 use crate::bounds::bounds_to_test;
 use crate::building::{Draft, uncapped};
@@ -21,7 +22,7 @@ pub fn put_between(
     second: u32,
     draft: &mut Draft,
 ) -> Result<(), PartRefusal>
-    ensures appends { OnOk result ((n : ℕ) → second ≡ capped n → Appends (between_code operator own (length draft.old.code.instrs) n) (between_size operator own) draft.old.code draft.new.code) }
+    ensures puts { OnOk result (PutsBetween operator own second draft.old draft.new) }
     ensures keeps { Keeps draft.old.code draft.new.code }
 {
     match operator {
@@ -34,7 +35,7 @@ pub fn put_between(
 
 // Over the second operand where the first is FALSE.
 fn put_and_if(second: u32, draft: &mut Draft) -> Result<(), PartRefusal>
-    ensures appends { OnOk result ((n : ℕ) → second ≡ capped n → Appends (between_code binaries.AndIf None (length draft.old.code.instrs) n) 3 draft.old.code draft.new.code) }
+    ensures puts { OnOk result (PutsBetween binaries.AndIf None second draft.old draft.new) }
     ensures keeps { Keeps draft.old.code draft.new.code }
 {
     let behind = draft.target_behind(second.saturating_add(3))?;
@@ -45,7 +46,7 @@ fn put_and_if(second: u32, draft: &mut Draft) -> Result<(), PartRefusal>
 
 // Over the second operand where the first is TRUE.
 fn put_or_if(second: u32, draft: &mut Draft) -> Result<(), PartRefusal>
-    ensures appends { OnOk result ((n : ℕ) → second ≡ capped n → Appends (between_code binaries.OrIf None (length draft.old.code.instrs) n) 4 draft.old.code draft.new.code) }
+    ensures puts { OnOk result (PutsBetween binaries.OrIf None second draft.old draft.new) }
     ensures keeps { Keeps draft.old.code draft.new.code }
 {
     let behind = draft.target_behind(second.saturating_add(4))?;
@@ -58,7 +59,7 @@ fn put_or_if(second: u32, draft: &mut Draft) -> Result<(), PartRefusal>
 
 // The offset of a member that lies in its own bounds.
 fn put_offset_in(bounds: Bounds, own: Option<Bounds>, draft: &mut Draft) -> Result<(), PartRefusal>
-    ensures appends { OnOk result (Appends (between_code (binaries.Member bounds) own (length draft.old.code.instrs) 0) (between_size (binaries.Member bounds) own) draft.old.code draft.new.code) }
+    ensures puts { OnOk result (PutsOffset bounds own draft.old draft.new) }
     ensures keeps { Keeps draft.old.code draft.new.code }
 {
     put_some_member(bounds_to_test(Some(bounds), own), draft)?;
@@ -67,7 +68,7 @@ fn put_offset_in(bounds: Bounds, own: Option<Bounds>, draft: &mut Draft) -> Resu
 
 // The number on top, or one without an offset, where there are bounds to test it against.
 fn put_some_member(bounds: Option<Bounds>, draft: &mut Draft) -> Result<(), PartRefusal>
-    ensures appends { OnOk result (Appends (member_or_none bounds (length draft.old.code.instrs)) (length (member_or_none bounds 0)) draft.old.code draft.new.code) }
+    ensures puts { OnOk result (PutsMember bounds draft.old draft.new) }
     ensures keeps { Keeps draft.old.code draft.new.code }
 {
     match bounds {
@@ -79,7 +80,7 @@ fn put_some_member(bounds: Option<Bounds>, draft: &mut Draft) -> Result<(), Part
 // The number on top, or 32 above the least member for one outside the bounds: no powerset has that offset. It compares
 // before the offset is found, since a difference may lie outside INT.
 fn put_member_or_none(bounds: Bounds, draft: &mut Draft) -> Result<(), PartRefusal>
-    ensures appends { OnOk result (Appends (member_or_none (Some bounds) (length draft.old.code.instrs)) 12 draft.old.code draft.new.code) }
+    ensures puts { OnOk result (PutsMember (Some bounds) draft.old draft.new) }
     ensures keeps { Keeps draft.old.code draft.new.code }
 {
     let inside = draft.target_behind(12)?;
@@ -92,7 +93,7 @@ fn put_member_or_none(bounds: Bounds, draft: &mut Draft) -> Result<(), PartRefus
 
 // Whether the number on top is less than this one.
 fn put_is_below(low: i64, draft: &mut Draft) -> Result<(), PartRefusal>
-    ensures appends { OnOk result (Appends (code.Copy 1 ∷ code.Push low ∷ code.Less 1 ∷ []) 3 draft.old.code draft.new.code) }
+    ensures puts { OnOk result (PutsIsBelow low draft.old draft.new) }
     ensures keeps { Keeps draft.old.code draft.new.code }
 {
     draft.put(Instr::Copy(1))?;
@@ -102,7 +103,7 @@ fn put_is_below(low: i64, draft: &mut Draft) -> Result<(), PartRefusal>
 
 // Whether the number below the Boolean on top isn't less than this one.
 fn put_is_none_above(above: i64, draft: &mut Draft) -> Result<(), PartRefusal>
-    ensures appends { OnOk result (Appends (code.Copy 2 ∷ code.Pop 1 ∷ code.Push above ∷ code.Less 1 ∷ code.Not ∷ []) 5 draft.old.code draft.new.code) }
+    ensures puts { OnOk result (PutsNoneAbove above draft.old draft.new) }
     ensures keeps { Keeps draft.old.code draft.new.code }
 {
     draft.put(Instr::Copy(2))?;
@@ -114,7 +115,7 @@ fn put_is_none_above(above: i64, draft: &mut Draft) -> Result<(), PartRefusal>
 
 // Where one of two Booleans is TRUE, another number in place of the one below them.
 fn put_unless_inside(inside: u32, none: i64, draft: &mut Draft) -> Result<(), PartRefusal>
-    ensures appends { OnOk result (Appends (code.Or ∷ code.Unless inside ∷ code.Pop 1 ∷ code.Push none ∷ []) 4 draft.old.code draft.new.code) }
+    ensures puts { OnOk result (PutsUnlessInside inside none draft.old draft.new) }
     ensures keeps { Keeps draft.old.code draft.new.code }
 {
     draft.put(Instr::Or)?;
@@ -135,7 +136,7 @@ fn plus(bound: i64, number: i64) -> Result<i64, PartRefusal>
 
 // The offset of the number on top from the least member.
 fn put_offset_from(low: i64, draft: &mut Draft) -> Result<(), PartRefusal>
-    ensures appends { OnOk result (Appends (offset_code low) (length (offset_code low)) draft.old.code draft.new.code) }
+    ensures puts { OnOk result (PutsAll (offset_code low) draft.old draft.new) }
     ensures keeps { Keeps draft.old.code draft.new.code }
 {
     if low == 0 {
@@ -169,7 +170,7 @@ pub fn member_size(low: i64) -> u32
 
 /// What stands behind two operands of so many scalars each.
 pub fn put_behind(operator: Binary, count: u32, draft: &mut Draft) -> Result<(), PartRefusal>
-    ensures appends { OnOk result (Appends (behind_code operator count) (behind_size operator) draft.old.code draft.new.code) }
+    ensures puts { OnOk result (PutsBehind operator count draft.old draft.new) }
     ensures keeps { Keeps draft.old.code draft.new.code }
 {
     match operator {
@@ -203,7 +204,7 @@ pub fn put_behind(operator: Binary, count: u32, draft: &mut Draft) -> Result<(),
 
 // Whether two values differ.
 fn put_not_same(count: u32, draft: &mut Draft) -> Result<(), PartRefusal>
-    ensures appends { OnOk result (Appends (behind_code binaries.NotEqual count) 2 draft.old.code draft.new.code) }
+    ensures puts { OnOk result (PutsBehind binaries.NotEqual count draft.old draft.new) }
     ensures keeps { Keeps draft.old.code draft.new.code }
 {
     draft.put(Instr::Same(count))?;
@@ -212,7 +213,7 @@ fn put_not_same(count: u32, draft: &mut Draft) -> Result<(), PartRefusal>
 
 // Whether the lower value doesn't come before the upper.
 fn put_not_less(count: u32, draft: &mut Draft) -> Result<(), PartRefusal>
-    ensures appends { OnOk result (Appends (behind_code binaries.GreaterOrEqual count) 2 draft.old.code draft.new.code) }
+    ensures puts { OnOk result (PutsBehind binaries.GreaterOrEqual count draft.old draft.new) }
     ensures keeps { Keeps draft.old.code draft.new.code }
 {
     draft.put(Instr::Less(count))?;
@@ -221,7 +222,7 @@ fn put_not_less(count: u32, draft: &mut Draft) -> Result<(), PartRefusal>
 
 // Whether the upper value comes before the lower.
 fn put_greater(count: u32, draft: &mut Draft) -> Result<(), PartRefusal>
-    ensures appends { OnOk result (Appends (behind_code binaries.Greater count) 3 draft.old.code draft.new.code) }
+    ensures puts { OnOk result (PutsBehind binaries.Greater count draft.old draft.new) }
     ensures keeps { Keeps draft.old.code draft.new.code }
 {
     put_swap(count, draft)?;
@@ -230,7 +231,7 @@ fn put_greater(count: u32, draft: &mut Draft) -> Result<(), PartRefusal>
 
 // Whether the upper value doesn't come before the lower.
 fn put_not_greater(count: u32, draft: &mut Draft) -> Result<(), PartRefusal>
-    ensures appends { OnOk result (Appends (behind_code binaries.LessOrEqual count) 4 draft.old.code draft.new.code) }
+    ensures puts { OnOk result (PutsBehind binaries.LessOrEqual count draft.old draft.new) }
     ensures keeps { Keeps draft.old.code draft.new.code }
 {
     put_greater(count, draft)?;
@@ -239,7 +240,7 @@ fn put_not_greater(count: u32, draft: &mut Draft) -> Result<(), PartRefusal>
 
 // Whether the upper powerset is included in the lower.
 fn put_includes(draft: &mut Draft) -> Result<(), PartRefusal>
-    ensures appends { OnOk result (Appends (behind_code binaries.Includes 0) 3 draft.old.code draft.new.code) }
+    ensures puts { OnOk result (PutsBehind binaries.Includes 0 draft.old draft.new) }
     ensures keeps { Keeps draft.old.code draft.new.code }
 {
     put_swap(1, draft)?;
@@ -248,7 +249,7 @@ fn put_includes(draft: &mut Draft) -> Result<(), PartRefusal>
 
 // Whether the upper powerset is included in the lower and differs from it.
 fn put_properly_includes(draft: &mut Draft) -> Result<(), PartRefusal>
-    ensures appends { OnOk result (Appends (behind_code binaries.ProperlyIncludes 0) 9 draft.old.code draft.new.code) }
+    ensures puts { OnOk result (PutsBehind binaries.ProperlyIncludes 0 draft.old draft.new) }
     ensures keeps { Keeps draft.old.code draft.new.code }
 {
     put_swap(1, draft)?;
@@ -257,7 +258,7 @@ fn put_properly_includes(draft: &mut Draft) -> Result<(), PartRefusal>
 
 // Two values of so many scalars change places.
 fn put_swap(count: u32, draft: &mut Draft) -> Result<(), PartRefusal>
-    ensures appends { OnOk result (Appends (swap_code count) 2 draft.old.code draft.new.code) }
+    ensures puts { OnOk result (PutsSome (swap_code count) 2 draft.old draft.new) }
     ensures keeps { Keeps draft.old.code draft.new.code }
 {
     let both = uncapped(count.saturating_mul(2))?;
@@ -268,7 +269,7 @@ fn put_swap(count: u32, draft: &mut Draft) -> Result<(), PartRefusal>
 
 // Whether the lower powerset is included in the upper and differs from it.
 fn put_properly_included(draft: &mut Draft) -> Result<(), PartRefusal>
-    ensures appends { OnOk result (Appends (properly_code) 7 draft.old.code draft.new.code) }
+    ensures puts { OnOk result (PutsSome properly_code 7 draft.old draft.new) }
     ensures keeps { Keeps draft.old.code draft.new.code }
 {
     draft.put(Instr::Copy(2))?;
@@ -279,7 +280,7 @@ fn put_properly_included(draft: &mut Draft) -> Result<(), PartRefusal>
 
 // Whether two powersets below the Boolean on top differ.
 fn put_differ(draft: &mut Draft) -> Result<(), PartRefusal>
-    ensures appends { OnOk result (Appends (code.Copy 3 ∷ code.Part 2 3 6 ∷ code.Same 1 ∷ code.Not ∷ []) 4 draft.old.code draft.new.code) }
+    ensures puts { OnOk result (PutsDiffer draft.old draft.new) }
     ensures keeps { Keeps draft.old.code draft.new.code }
 {
     draft.put(Instr::Copy(3))?;
@@ -305,7 +306,7 @@ pub fn size_behind(operator: Binary) -> u32
 
 /// What stands behind the operand of an operator before it.
 pub fn put_prefix(operator: Prefix, draft: &mut Draft) -> Result<(), PartRefusal>
-    ensures appends { OnOk result (Appends (prefix_code operator) 1 draft.old.code draft.new.code) }
+    ensures puts { OnOk result (PutsSome (prefix_code operator) 1 draft.old draft.new) }
     ensures keeps { Keeps draft.old.code draft.new.code }
 {
     match operator {
@@ -317,7 +318,7 @@ pub fn put_prefix(operator: Prefix, draft: &mut Draft) -> Result<(), PartRefusal
 
 /// What stands behind the argument of a routine.
 pub fn put_routine(routine: Routine, draft: &mut Draft) -> Result<(), PartRefusal>
-    ensures appends { OnOk result (Appends (routine_code routine) (length (routine_code routine)) draft.old.code draft.new.code) }
+    ensures puts { OnOk result (PutsAll (routine_code routine) draft.old draft.new) }
     ensures keeps { Keeps draft.old.code draft.new.code }
 {
     match routine {
@@ -339,7 +340,7 @@ pub fn put_routine(routine: Routine, draft: &mut Draft) -> Result<(), PartRefusa
 
 /// The member of the offset on top, where the least one is this number.
 pub fn put_member(low: i64, draft: &mut Draft) -> Result<(), PartRefusal>
-    ensures appends { OnOk result (Appends (member_code low) (length (member_code low)) draft.old.code draft.new.code) }
+    ensures puts { OnOk result (PutsAll (member_code low) draft.old draft.new) }
     ensures keeps { Keeps draft.old.code draft.new.code }
 {
     if low == 0 {

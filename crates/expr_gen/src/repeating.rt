@@ -5,6 +5,7 @@ ghost use Rattle.std.specs.Prelude.{◌≡◌, ◌+◌, ◌&&◌, nat_lt, pos, l
 ghost use Rattle.code_scheme.specs.Pieces.{capped, run_code, run_ended, run_behind, are_same, scalars_code};
 ghost use Rattle.expr_gen.specs.Copies.{copied, turn_code, turn_size, next_there};
 ghost use Rattle.expr_gen.specs.Putting.{Appends, Keeps};
+ghost use Rattle.expr_gen.specs.Puts.{PutsAll, PutsCopies, PutsTurn, PutsEnded};
 
 use crate::building::{Draft, uncapped};
 use crate::refusal::PartRefusal;
@@ -52,7 +53,7 @@ impl Run {
 /// Each of these scalars, in order. Of equal ones behind each other the first is pushed and the others are copied.
 #[tactic(auto, using(code_scheme::proofs::Lemmas::scalars_step, crate::proofs::Appending::keeping))]
 pub fn put_scalars(scalars: &[i64], draft: &mut Draft) -> Result<(), PartRefusal>
-    ensures appends { OnOk result (Appends (scalars_code scalars.now) (length (scalars_code scalars.now)) draft.old.code draft.new.code) }
+    ensures puts { OnOk result (PutsAll (scalars_code scalars.now) draft.old draft.new) }
     ensures keeps { Keeps draft.old.code draft.new.code }
 {
     let mut run = Run::none();
@@ -66,7 +67,7 @@ pub fn put_scalars(scalars: &[i64], draft: &mut Draft) -> Result<(), PartRefusal
 
 // A run that a scalar ends: one of another scalar.
 fn put_ended(run: Run, scalar: i64, draft: &mut Draft) -> Result<(), PartRefusal>
-    ensures appends { let made = run_ended run.scalar run.count scalar in OnOk result (Appends made (length made) draft.old.code draft.new.code) }
+    ensures puts { OnOk result (PutsEnded run.scalar run.count scalar draft.old draft.new) }
     ensures keeps { Keeps draft.old.code draft.new.code }
 {
     if run.has(scalar) {
@@ -78,7 +79,7 @@ fn put_ended(run: Run, scalar: i64, draft: &mut Draft) -> Result<(), PartRefusal
 
 // A scalar as often as it stands there.
 fn put_run(run: Run, draft: &mut Draft) -> Result<(), PartRefusal>
-    ensures appends { let made = run_code run.scalar run.count in OnOk result (Appends made (length made) draft.old.code draft.new.code) }
+    ensures puts { OnOk result (PutsAll (run_code run.scalar run.count) draft.old draft.new) }
     ensures keeps { Keeps draft.old.code draft.new.code }
 {
     if run.count == 0 {
@@ -123,7 +124,7 @@ fn run_size(run: Run) -> u32
 /// Copies of the value on top, until there are so many of it. Each time as many are copied as are there, or as are
 /// wanting.
 pub fn put_copies(elements: u32, count: u32, draft: &mut Draft) -> Result<(), PartRefusal>
-    ensures appends { OnOk result (Appends (copied elements count) (length (copied elements 0)) draft.old.code draft.new.code) }
+    ensures puts { OnOk result (PutsCopies elements count draft.old draft.new) }
     ensures keeps { Keeps draft.old.code draft.new.code }
 {
     let mut there = 1u32;
@@ -136,7 +137,7 @@ pub fn put_copies(elements: u32, count: u32, draft: &mut Draft) -> Result<(), Pa
 
 // One turn of copies of a value of so many scalars.
 fn put_turn(there: u32, elements: u32, count: u32, draft: &mut Draft) -> Result<(), PartRefusal>
-    ensures appends { OnOk result (Appends (turn_code there elements count) (turn_size there elements) draft.old.code draft.new.code) }
+    ensures puts { OnOk result (PutsTurn there elements count draft.old draft.new) }
     ensures keeps { Keeps draft.old.code draft.new.code }
 {
     if there >= elements {

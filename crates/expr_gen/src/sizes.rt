@@ -4,6 +4,7 @@ ghost use Rattle.program_trees.specs.ExprTree.{expr_tree, location_tree, receive
 ghost use Rattle.code_scheme.specs.Pieces.{capped, has_index, first_of_parts, member_code};
 ghost use Rattle.code_scheme.specs.ExprSizes.{expr_size, place_size, indices_size, received_size, received_sizes, members_size, call_size, arguments_size, copies_out_size};
 ghost use Rattle.expr_gen.specs.Trees.{parts_of, ranges_of, arguments_of, argument_size, index_size, range_size};
+ghost use Rattle.expr_gen.specs.Puts.{before_cut, call_parts};
 
 use crate::bounds::{bounds_of_value, tested};
 use crate::copying::{copy_out_size, offsets_kept, tested_in};
@@ -52,7 +53,7 @@ pub fn expr_size(expr: &Expr) -> u32
 #[tactic(auto, using(crate::proofs::Views::tree_built))]
 #[cycle(size)]
 fn part_size(parts: &[Part]) -> u32
-    ensures { result ≡ capped (if has_index (parts_of parts.now) then indices_size true (parts_of parts.now) + length (member_code (pos (first_of_parts (parts_of parts.now)))) else 0) }
+    ensures { result ≡ capped (before_cut parts.now) }
 {
     if has_index(parts) {
         indices_size(parts).saturating_add(member_size(i64::from(first_of_parts(parts))))
@@ -170,7 +171,7 @@ pub fn call_size(call: &Call) -> u32
 #[tactic(auto, using(crate::proofs::Views::tree_built))]
 #[cycle(size)]
 fn arguments_size(arguments: &[Argument]) -> u32
-    ensures { result ≡ capped (1 + (arguments_size (arguments_of arguments.now) + copies_out_size (arguments_of arguments.now))) }
+    ensures { result ≡ capped (call_parts arguments.now) }
 {
     let mut size = 1u32;
     for argument in arguments {

@@ -11,6 +11,7 @@ ghost use Rattle.code_scheme.specs.ExprSizes.{expr_size, place_size, indices_siz
 ghost use Rattle.code_scheme.specs.ExprCode.{expr_code, place_code, indices_code, received_code, received_codes, members_code, start_code, call_code, arguments_code, sum_code, cut_code, receive_code, counts_of};
 ghost use Rattle.expr_gen.specs.Trees.{index_code, index_size, parts_of, ranges_of, arguments_of, argument_code, argument_size, range_code, range_size};
 ghost use Rattle.expr_gen.specs.Putting.{Appends, Puts, Keeps, layout_of};
+ghost use Rattle.expr_gen.specs.Puts.{PutsAll, PutsSome, PutsIn, PutsExpr, PutsCut, PutsIndices, PutsIndex, PutsPlace, PutsReceived, PutsAllReceived, PutsStart, PutsPowerset, PutsRange, PutsCall, Gives, PutsFor, PutsSpan, source_code};
 
 use crate::bounds::{bounds_of_value, tested};
 use crate::building::{Draft, sum, uncapped};
@@ -37,7 +38,7 @@ pub fn expr_code(
     draft: &mut Draft,
 ) -> Result<(), PartRefusal>
     ensures there { OnOk result (body < length program.now.bodies) }
-    ensures appends { OnOk result ((row : BodyRowTree) → slice_get (checked_tree program.now).bodies body ≡ Some row → Appends (expr_code (layout_in (checked_tree program.now) row) (first_free row) (expr_tree expr.now) (length draft.old.code.instrs)) (expr_size (expr_tree expr.now)) draft.old.code draft.new.code) }
+    ensures puts { OnOk result (PutsIn program.now body expr.now draft.old draft.new) }
     ensures keeps { Keeps draft.old.code draft.new.code }
 {
     let body = body_of(program, body)?;
@@ -49,7 +50,7 @@ pub fn expr_code(
 #[tactic(auto, using(crate::proofs::Appending::keeping))]
 #[cycle(value)]
 pub fn put_expr(expr: &Expr, site: &Site, free: u32, draft: &mut Draft) -> Result<(), PartRefusal>
-    ensures appends { OnOk result (Appends (expr_code (layout_of site.now.program.now site.now.body.now) free (expr_tree expr.now) (length draft.old.code.instrs)) (expr_size (expr_tree expr.now)) draft.old.code draft.new.code) }
+    ensures puts { OnOk result (PutsExpr site.now free expr.now draft.old draft.new) }
     ensures keeps { Keeps draft.old.code draft.new.code }
 {
     match &expr.operation {
@@ -99,7 +100,7 @@ pub fn put_expr(expr: &Expr, site: &Site, free: u32, draft: &mut Draft) -> Resul
 
 // The part of so many scalars of the value of so many scalars on top, behind its indices.
 fn put_cut(parts: &[Part], of: u32, count: u32, draft: &mut Draft) -> Result<(), PartRefusal>
-    ensures appends { OnOk result (Appends (cut_code (parts_of parts.now) count of) ((if has_index (parts_of parts.now) then length (member_code (pos (first_of_parts (parts_of parts.now)))) else 0) + 1) draft.old.code draft.new.code) }
+    ensures puts { OnOk result (PutsCut parts.now of count draft.old draft.new) }
     ensures keeps { Keeps draft.old.code draft.new.code }
 {
     let fields = uncapped(first_of_parts(parts))?;
@@ -115,7 +116,7 @@ fn put_cut(parts: &[Part], of: u32, count: u32, draft: &mut Draft) -> Result<(),
 #[tactic(auto, using(crate::proofs::Appending::keeping))]
 #[cycle(value)]
 fn put_indices(parts: &[Part], site: &Site, free: u32, draft: &mut Draft) -> Result<(), PartRefusal>
-    ensures appends { OnOk result (Appends (indices_code (layout_of site.now.program.now site.now.body.now) free true (parts_of parts.now) (length draft.old.code.instrs)) (indices_size true (parts_of parts.now)) draft.old.code draft.new.code) }
+    ensures puts { OnOk result (PutsIndices site.now free parts.now draft.old draft.new) }
     ensures keeps { Keeps draft.old.code draft.new.code }
 {
     let mut is_first = true;
@@ -136,7 +137,7 @@ fn put_index(
     free: u32,
     draft: &mut Draft,
 ) -> Result<(), PartRefusal>
-    ensures appends { OnOk result (Appends (index_code (layout_of site.now.program.now site.now.body.now) free is_first (part_tree part.now) (length draft.old.code.instrs)) (index_size is_first (part_tree part.now)) draft.old.code draft.new.code) }
+    ensures puts { OnOk result (PutsIndex site.now free is_first part.now draft.old draft.new) }
     ensures keeps { Keeps draft.old.code draft.new.code }
 {
     match part {
@@ -155,7 +156,7 @@ fn put_index(
 
 // The sum of the offset on top and the one below it, where that isn't the first one.
 fn put_sum(is_first: bool, draft: &mut Draft) -> Result<(), PartRefusal>
-    ensures appends { OnOk result (Appends (sum_code is_first) (length (sum_code is_first)) draft.old.code draft.new.code) }
+    ensures puts { OnOk result (PutsAll (sum_code is_first) draft.old draft.new) }
     ensures keeps { Keeps draft.old.code draft.new.code }
 {
     if is_first {
@@ -175,7 +176,7 @@ pub fn put_place(
     free: u32,
     draft: &mut Draft,
 ) -> Result<(), PartRefusal>
-    ensures appends { OnOk result (Appends (place_code (layout_of site.now.program.now site.now.body.now) free (location_tree location.now) (length draft.old.code.instrs)) (place_size (location_tree location.now)) draft.old.code draft.new.code) }
+    ensures puts { OnOk result (PutsPlace site.now free location.now draft.old draft.new) }
     ensures keeps { Keeps draft.old.code draft.new.code }
 {
     let parts = location.parts.as_slice();
@@ -190,7 +191,7 @@ pub fn put_place(
 
 // A value that is received from a buffer.
 fn put_receive(buffer: u32, count: u32, free: u32, draft: &mut Draft) -> Result<(), PartRefusal>
-    ensures appends { OnOk result (Appends (receive_code buffer count free) 6 draft.old.code draft.new.code) }
+    ensures puts { OnOk result (PutsSome (receive_code buffer count free) 6 draft.old draft.new) }
     ensures keeps { Keeps draft.old.code draft.new.code }
 {
     put_source(buffer, free, count, draft)?;
@@ -201,7 +202,7 @@ fn put_receive(buffer: u32, count: u32, free: u32, draft: &mut Draft) -> Result<
 
 // A buffer, and the scratch locals that get its value.
 fn put_source(buffer: u32, first: u32, count: u32, draft: &mut Draft) -> Result<(), PartRefusal>
-    ensures appends { OnOk result (Appends (code.Thing buffer ∷ code.Push (pos first) ∷ code.Push (pos count) ∷ []) 3 draft.old.code draft.new.code) }
+    ensures puts { OnOk result (PutsSome (source_code buffer first count) 3 draft.old draft.new) }
     ensures keeps { Keeps draft.old.code draft.new.code }
 {
     draft.put(Instr::Thing(buffer))?;
@@ -226,7 +227,7 @@ pub fn put_received(
     free: u32,
     draft: &mut Draft,
 ) -> Result<(), PartRefusal>
-    ensures appends { OnOk result (Appends (received_code (layout_of site.now.program.now site.now.body.now) free (received_tree received.now) (length draft.old.code.instrs)) (received_size (received_tree received.now)) draft.old.code draft.new.code) }
+    ensures puts { OnOk result (PutsReceived site.now free received.now draft.old draft.new) }
     ensures keeps { Keeps draft.old.code draft.new.code }
 {
     put_expr(&received.value, site, free, draft)?;
@@ -242,7 +243,7 @@ pub fn put_all_received(
     free: u32,
     draft: &mut Draft,
 ) -> Result<(), PartRefusal>
-    ensures appends { OnOk result (Appends (received_codes (layout_of site.now.program.now site.now.body.now) free (received_of all.now) (length draft.old.code.instrs)) (received_sizes (received_of all.now)) draft.old.code draft.new.code) }
+    ensures puts { OnOk result (PutsAllReceived site.now free all.now draft.old draft.new) }
     ensures keeps { Keeps draft.old.code draft.new.code }
 {
     for received in all {
@@ -260,7 +261,7 @@ pub fn put_start(
     free: u32,
     draft: &mut Draft,
 ) -> Result<(), PartRefusal>
-    ensures appends { OnOk result (Appends (start_code (layout_of site.now.program.now site.now.body.now) free (start_tree start.now) (length draft.old.code.instrs)) (start_size (start_tree start.now)) draft.old.code draft.new.code) }
+    ensures puts { OnOk result (PutsStart site.now free start.now draft.old draft.new) }
     ensures keeps { Keeps draft.old.code draft.new.code }
 {
     let arguments = start.arguments.as_slice();
@@ -298,7 +299,7 @@ fn put_powerset(
     free: u32,
     draft: &mut Draft,
 ) -> Result<(), PartRefusal>
-    ensures appends { OnOk result (Appends (code.Push (pos 0) ∷ members_code (layout_of site.now.program.now site.now.body.now) free bounds (ranges_of members.now) (length draft.old.code.instrs + 1)) (1 + members_size (ranges_of members.now)) draft.old.code draft.new.code) }
+    ensures puts { OnOk result (PutsPowerset site.now free bounds members.now draft.old draft.new) }
     ensures keeps { Keeps draft.old.code draft.new.code }
 {
     draft.put(Instr::Push(0))?;
@@ -318,7 +319,7 @@ fn put_range(
     free: u32,
     draft: &mut Draft,
 ) -> Result<(), PartRefusal>
-    ensures appends { OnOk result (Appends (range_code (layout_of site.now.program.now site.now.body.now) free bounds (range_tree range.now) (length draft.old.code.instrs)) (range_size (range_tree range.now)) draft.old.code draft.new.code) }
+    ensures puts { OnOk result (PutsRange site.now free bounds range.now draft.old draft.new) }
     ensures keeps { Keeps draft.old.code draft.new.code }
 {
     let offset = Instr::Index(bounds.low, bounds.high, 1);
@@ -339,7 +340,7 @@ fn put_range(
 
 // The powerset on top with the members between two offsets besides.
 fn put_span(draft: &mut Draft) -> Result<(), PartRefusal>
-    ensures appends { OnOk result (Appends (code.Span ∷ code.BitOr ∷ []) 2 draft.old.code draft.new.code) }
+    ensures puts { OnOk result (PutsSpan draft.old draft.new) }
     ensures keeps { Keeps draft.old.code draft.new.code }
 {
     draft.put(Instr::Span)?;
@@ -351,7 +352,7 @@ fn put_span(draft: &mut Draft) -> Result<(), PartRefusal>
 #[tactic(auto, using(crate::proofs::Appending::keeping))]
 #[cycle(value)]
 pub fn put_call(call: &Call, site: &Site, free: u32, draft: &mut Draft) -> Result<(), PartRefusal>
-    ensures appends { OnOk result (Appends (call_code (layout_of site.now.program.now site.now.body.now) free (call_tree call.now) (length draft.old.code.instrs)) (call_size (call_tree call.now)) draft.old.code draft.new.code) }
+    ensures puts { OnOk result (PutsCall site.now free call.now draft.old draft.new) }
     ensures keeps { Keeps draft.old.code draft.new.code }
 {
     let callee = body_of(site.program, call.body)?;
@@ -371,7 +372,7 @@ fn put_arguments(
     free: u32,
     draft: &mut Draft,
 ) -> Result<u32, PartRefusal>
-    ensures appends { OnOk result (Appends (arguments_code (layout_of site.now.program.now site.now.body.now) (body_row_tree callee.now).locals 0 free (arguments_of arguments.now) (length draft.old.code.instrs)) (arguments_size (arguments_of arguments.now)) draft.old.code draft.new.code) }
+    ensures puts { OnOk result (Gives site.now free callee.now arguments.now draft.old draft.new) }
     ensures keeps { Keeps draft.old.code draft.new.code }
     ensures kept { IfOk result (λ kept. kept ≡ kept_behind (arguments_of arguments.now) free) }
 {
@@ -396,16 +397,16 @@ struct Taker<'a> {
 #[tactic(auto, using(crate::proofs::Appending::keeping))]
 #[cycle(value)]
 fn put_argument(
-    argument: &Argument,
+    given: &Argument,
     taker: Taker,
     site: &Site,
     free: u32,
     draft: &mut Draft,
 ) -> Result<(), PartRefusal>
-    ensures appends { OnOk result (Appends (argument_code (layout_of site.now.program.now site.now.body.now) (body_row_tree taker.entry.callee.now).locals taker.entry.parameter free (argument_tree argument.now) (length draft.old.code.instrs)) (argument_size (argument_tree argument.now)) draft.old.code draft.new.code) }
+    ensures puts { OnOk result (PutsFor site.now free taker.entry given.now draft.old draft.new) }
     ensures keeps { Keeps draft.old.code draft.new.code }
 {
-    match argument {
+    match given {
         Argument::In(received) => put_received(received, site, free, draft),
         Argument::Out { target, .. } => {
             put_place(target, site, free, draft)?;

@@ -12,8 +12,8 @@ for_each : {T E : Type 0} (r : Result T E) (second : ℕ) (f : ℕ → List Inst
 for_each (Ok v) second f b k x y z g q = λ n e. g n e q
 for_each (Err v) second f b k x y z g q = tt
 
-pub returns-clause-appends : goal.returns-clause-appends
-returns-clause-appends c = for_each c.put-4.result c.args.second _ _ _ _ _ _ (λ n e q.
+pub returns-clause-puts : goal.returns-clause-puts
+returns-clause-puts c = for_each c.put-4.result c.args.second _ _ _ _ _ _ (λ n e q.
     let step : c.saturating_add.result ≡ capped (n + 4) = omega arith in
     let over : c.in_ok-behind.behind ≡ length c.args.draft.now.code.instrs + (n + 4) = c.in_ok-behind.ensures (n + 4) step in
     let on : c.in_ok-on.on ≡ length c.args.draft.now.code.instrs + 3 = c.in_ok-on.ensures 3 refl in

@@ -11,7 +11,7 @@ pub loop-scalar-preserved : goal.loop-scalar-preserved
 loop-scalar-preserved c =
     let y : ℤ = get_or c.args.scalars.now c.loop-scalar.scalar-index (pos 0) in
     let fits : SFits w64 (get_or c.args.scalars.now c.loop-scalar.scalar-index (pos 0)) = search rules in
-    let ended = simp to_z-of_z at c.in_ok-put_ended.ensures.appends in
+    let ended = simp to_z-of_z at c.in_ok-put_ended.ensures.puts in
     let scalar = simp to_z-of_z at c.with-run.ensures.scalar in
     let count = simp to_z-of_z at c.with-run.ensures.count in
     let own : c.in_ok-uncapped.field-0 ≡ c.with-run.result.count = c.in_ok-uncapped.ensures c.with-run.result.count (omega (arith, count)) in
@@ -22,6 +22,6 @@ loop-scalar-preserved c =
       keeps = kept_on c.loop-scalar.invariant.keeps c.in_ok-put_ended.ensures.keeps;
     }
 
-pub returns-clause-appends : goal.returns-clause-appends
-returns-clause-appends c =
-    on_ok_weaker c.put_run.result (λ q. scalars_done c.args.scalars.now c.loop-scalar.scalar-index c.loop-scalar.run.scalar c.loop-scalar.run.count c.loop-scalar-test.false c.loop-scalar.invariant.left q) c.put_run.ensures.appends
+pub returns-clause-puts : goal.returns-clause-puts
+returns-clause-puts c =
+    on_ok_weaker c.put_run.result (λ q. scalars_done c.args.scalars.now c.loop-scalar.scalar-index c.loop-scalar.run.scalar c.loop-scalar.run.count c.loop-scalar-test.false c.loop-scalar.invariant.left q) c.put_run.ensures.puts
