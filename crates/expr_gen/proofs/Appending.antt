@@ -1,5 +1,5 @@
 -- What is appended in steps.
-use Rattle.std.proofs.Common.{◌≡◌, ℕ, ◌+◌, List, [], ◌∷◌, ◌++◌, length, refl, sym, ap, ◌∙◌, arith, append_assoc, Result, Ok, Err, OnOk}
+use Rattle.std.proofs.Common.{◌≡◌, ℕ, ◌+◌, List, [], ◌++◌, length, refl, sym, ap, ◌∙◌, arith, append_assoc, Result, Ok, Err, OnOk}
 use Rattle.std.proofs.lemmas.List.{append-nil}
 use Rattle.code_types.specs.declared.code.Code.{Code}
 use Rattle.code_types.specs.declared.instr.Instr.{Instr}
@@ -50,9 +50,6 @@ pub record StillTo (all : ℕ → List Instr) (size : ℕ) (left : ℕ → List 
   pub length : length now.instrs + left_size ≡ length old.instrs + size
   pub handlers : now.handlers ≡ old.handlers
   pub bodies : now.bodies ≡ old.bodies
-
-pub begin : (a : ℕ → List Instr) (m : ℕ) (x : Code) → StillTo a m a m x x
-begin a m x = record { instrs = refl; length = refl; handlers = refl; bodies = refl }
 
 -- a part was appended, behind which the others are left
 pub step : {a b : ℕ → List Instr} {c : List Instr} (d : ℕ → List Instr) {m k l : ℕ} (n : ℕ) {x y z : Code}

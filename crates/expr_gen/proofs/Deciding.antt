@@ -1,5 +1,5 @@
 -- What is appended for the parts of a condition is what its tree says.
-use Rattle.std.proofs.Common.{◌≡◌, ℕ, ◌+◌, Bool, List, ◌++◌, Option, Some, length, refl, sym, ap, subst, ◌∙◌, false, not, if◌then◌else◌}
+use Rattle.std.proofs.Common.{◌≡◌, ℕ, ◌+◌, Bool, List, Some, length, refl, sym, ap, subst, ◌∙◌, false, not, if◌then◌else◌}
 use Rattle.std.specs.declared.alloc.Global.{Global}
 use Rattle.std.specs.declared.boxed.Box.{Box}
 use Rattle.code_types.specs.declared.code.Code.{Code}

@@ -1,8 +1,5 @@
 -- What is appended for each expression, part after part.
-use Rattle.std.proofs.Common.{◌≡◌, ℕ, zero, suc, ◌+◌, Bool, true, false, List, [], ◌∷◌, ◌++◌, ℤ, pos, Option, Some, None, length, refl, sym, ap, subst, ◌∙◌, arith, append_assoc, if◌then◌else◌, Result, Ok, Err, OnOk, ◌&&◌, not, ◌<◌, ◌≤◌, get_or, drop}
-use Rattle.std.specs.Prelude.{map, slice_get, option_map}
-use Rattle.std.specs.declared.alloc.Global.{Global}
-use Rattle.std.specs.declared.boxed.Box.{Box}
+use Rattle.std.proofs.Common.{◌≡◌, ℕ, ◌+◌, Bool, true, false, List, ◌∷◌, ◌++◌, pos, length, refl, sym, ap, subst, ◌∙◌, arith, append_assoc, if◌then◌else◌, ◌&&◌, not, ◌<◌, ◌≤◌, get_or, drop}
 use Rattle.code_types.specs.declared.code.Code.{Code}
 use Rattle.code_types.specs.declared.instr.Instr.{Instr}
 use Rattle.code_types.specs.declared.instr.Instr.TheVariants as i
@@ -14,14 +11,14 @@ use Rattle.checked_program.specs.declared.expr.Argument.{Argument}
 use Rattle.checked_program.specs.declared.expr.Part.{Part}
 use Rattle.checked_program.specs.declared.expr.Range.{Range}
 use Rattle.checked_program.specs.declared.expr.Received.{Received}
-use Rattle.program_trees.specs.ExprTree.{ExprTree, expr, OperationTree, part_of, call, binary, ReceivedTree, ReceivedNodes, received, more_received, PartNodes, no_parts, field, element, PartTree, one_field, one_element, with_part, RangeTree, RangeNodes, alone, between, with_range, LocationTree, location, StartTree, started, CallTree, called, ArgumentTree, ArgumentNodes, taken, given, both, with_argument, root_bounds, count_of, expr_tree, operation_tree, part_tree, received_tree, received_of, range_tree, argument_tree}
+use Rattle.program_trees.specs.ExprTree.{ExprTree, expr, OperationTree, part_of, binary, ReceivedTree, ReceivedNodes, more_received, PartNodes, PartTree, one_field, one_element, with_part, RangeTree, RangeNodes, alone, between, with_range, location, ArgumentTree, ArgumentNodes, taken, given, both, with_argument, root_bounds, count_of, expr_tree, operation_tree, part_tree, received_tree, received_of, range_tree, argument_tree}
 use Rattle.program_trees.specs.ProgramTree.{LocalRowTree}
-use Rattle.code_scheme.specs.Pieces.{Layout, check_code, tested, bounds_of_value, between_code, between_size, behind_code, behind_size, branch_code, branch_size, straight, turned, has_index, first_of_parts, member_code, copies_out, kept_behind, rows_of}
-use Rattle.code_scheme.specs.ExprSizes.{expr_size, operation_size, indices_size, received_size, received_sizes, members_size, start_size, call_size, arguments_size, copies_out_size, sum_size, condition_size}
-use Rattle.code_scheme.specs.ExprCode.{expr_code, operation_code, indices_code, received_code, received_codes, members_code, start_code, call_code, arguments_code, sum_code, cut_code, counts_of, condition_code}
+use Rattle.code_scheme.specs.Pieces.{Layout, bounds_of_value, between_code, between_size, behind_code, behind_size, branch_code, branch_size, straight, turned, has_index, first_of_parts, member_code, kept_behind}
+use Rattle.code_scheme.specs.ExprSizes.{expr_size, operation_size, indices_size, received_size, received_sizes, members_size, arguments_size, sum_size, condition_size}
+use Rattle.code_scheme.specs.ExprCode.{expr_code, operation_code, indices_code, received_code, received_codes, members_code, arguments_code, sum_code, cut_code, condition_code}
 use Rattle.code_scheme.proofs.Lemmas.{no_index-size}
 use Rattle.expr_gen.specs.Putting.{Appends}
-use Rattle.expr_gen.specs.Trees.{parts_of, ranges_of, arguments_of, is_index, index_code, index_size, compared_code, compared_size, plain_condition, plain_size, range_code, range_size, argument_code, argument_size, places_kept, copy_out, copying_size}
+use Rattle.expr_gen.specs.Trees.{parts_of, ranges_of, arguments_of, is_index, index_code, index_size, compared_code, compared_size, plain_condition, plain_size, range_code, range_size, argument_code, argument_size, places_kept}
 use Rattle.expr_gen.proofs.Appending.{and_then, resized, StillTo, step, done}
 use Rattle.expr_gen.proofs.Views.{expr_tree-out}
 use Rattle.expr_gen.proofs.Items.{parts_at, parts_end, received_at, received_end, ranges_at, ranges_end, arguments_at, arguments_end}
@@ -68,64 +65,6 @@ pub part_made : (lay : Layout) (free n : ℕ) (e : ExprTree) (ps : PartNodes) {x
 part_made lay free n e ps p q r =
     and_then p (resized (no_index (has_index ps) (indices_size true ps) (length (member_code (pos (first_of_parts ps)))) (no_index-size true ps))
     (and_then (moved (λ at. indices_code lay free true ps at) p.length q) r))
-
--- an index, behind which there are further parts
-pub index_made : (lay : Layout) (free : ℕ) (is_first : Bool) (e : ExprTree) (b : Bounds) (count : ℕ) (ps : PartNodes) {x y1 y2 y3 z : Code}
-    → Appends (expr_code lay free e (length x.instrs)) (expr_size e) x y1
-    → Appends (i.Index b.low b.high count ∷ []) 1 y1 y2
-    → Appends (sum_code is_first) (sum_size is_first) y2 y3
-    → Appends (indices_code lay free false ps (length y3.instrs)) (indices_size false ps) y3 z
-    → Appends (indices_code lay free is_first (element e b count ps) (length x.instrs)) (indices_size is_first (element e b count ps)) x z
-index_made lay free is_first e b count ps p q r s =
-    and_then p (and_then q (and_then r (moved (λ at. indices_code lay free false ps at) (omega (arith, p.length, q.length, r.length)) s)))
-
--- ---- values that something takes
-
-pub received_made : (lay : Layout) (free : ℕ) (e : ExprTree) (b : Option Bounds) {x y z : Code}
-    → Appends (expr_code lay free e (length x.instrs)) (expr_size e) x y
-    → Appends (check_code (tested (received e b))) (length (check_code (tested (received e b)))) y z
-    → Appends (received_code lay free (received e b) (length x.instrs)) (received_size (received e b)) x z
-received_made lay free e b p q = and_then p q
-
-pub more_made : (lay : Layout) (free : ℕ) (r : ReceivedTree) (rs : ReceivedNodes) {x y z : Code}
-    → Appends (received_code lay free r (length x.instrs)) (received_size r) x y
-    → Appends (received_codes lay free rs (length y.instrs)) (received_sizes rs) y z
-    → Appends (received_codes lay free (more_received r rs) (length x.instrs)) (received_sizes (more_received r rs)) x z
-more_made lay free r rs p q = and_then p (moved (λ at. received_codes lay free rs at) p.length q)
-
--- ---- members of powersets
-
-pub range_made : (lay : Layout) (free : ℕ) (b : Bounds) (r : RangeTree) (rs : RangeNodes) {x y z : Code}
-    → Appends (range_code lay free b r (length x.instrs)) (range_size r) x y
-    → Appends (members_code lay free b rs (length y.instrs)) (members_size rs) y z
-    → Appends (members_code lay free b (with_range r rs) (length x.instrs)) (members_size (with_range r rs)) x z
-range_made lay free b (alone e) rs {x} {y} {z} p q =
-    let at : length y.instrs ≡ length x.instrs + expr_size e + 4 = omega (arith, p.length) in
-    let all = and_then p (moved (λ at. members_code lay free b rs at) at q) in
-    record {
-      instrs = all.instrs ∙ ap (λ is. x.instrs ++ is) (append_assoc (expr_code lay free e (length x.instrs)) _ _);
-      length = omega (arith, all.length);
-      handlers = all.handlers;
-      bodies = all.bodies;
-    }
-range_made lay free b (between e f) rs {x} {y} {z} p q =
-    let at : length y.instrs ≡ length x.instrs + expr_size e + 1 + expr_size f + 3 = omega (arith, p.length) in
-    let all = and_then p (moved (λ at. members_code lay free b rs at) at q) in
-    record {
-      instrs = all.instrs ∙ ap (λ is. x.instrs ++ is) (append_assoc (expr_code lay free e (length x.instrs)) _ _ ∙ ap (λ is. expr_code lay free e (length x.instrs) ++ is) (ap (λ is. i.Index b.low b.high 1 ∷ is) (append_assoc (expr_code lay free f (length x.instrs + expr_size e + 1)) _ _)));
-      length = omega (arith, all.length);
-      handlers = all.handlers;
-      bodies = all.bodies;
-    }
-
--- ---- calls
-
-pub call_made : (lay : Layout) (free b : ℕ) (as' : ArgumentNodes) {x y1 y2 z : Code}
-    → Appends (arguments_code lay (rows_of (slice_get lay.program.bodies b)) 0 free as' (length x.instrs)) (arguments_size as') x y1
-    → Appends (i.Call b ∷ []) 1 y1 y2
-    → Appends (copies_out lay as' free (kept_behind as' free)) (copies_out_size as') y2 z
-    → Appends (call_code lay free (called b as') (length x.instrs)) (call_size (called b as')) x z
-call_made lay free b as' p q r = and_then p (and_then q r)
 
 -- ---- conditions
 
@@ -239,27 +178,6 @@ places_step (taken r) ts kept = ap (λ (j : ℕ). kept_behind ts j) (omega arith
 places_step (given l bounds) ts kept = refl
 places_step (both l taken_by bounds) ts kept = refl
 
-copy_out_on : (lay : Layout) (kept free : ℕ) (t : ArgumentTree) (ts : ArgumentNodes)
-    → copies_out lay (with_argument t ts) kept free ≡ copy_out lay t kept free ++ copies_out lay ts (kept + places_kept t) free
-copy_out_on lay kept free (taken r) ts = ap (λ (j : ℕ). copies_out lay ts j free) (omega arith)
-copy_out_on lay kept free (given l bounds) ts = refl
-copy_out_on lay kept free (both l taken_by bounds) ts = refl
-
-pub copying_size_on : (t : ArgumentTree) (ts : ArgumentNodes) → copies_out_size (with_argument t ts) ≡ copying_size t + copies_out_size ts
-copying_size_on (taken r) ts = omega arith
-copying_size_on (given l bounds) ts = refl
-copying_size_on (both l taken_by bounds) ts = refl
-
-pub copies_step : {a : ℕ → List Instr} {m : ℕ} (lay : Layout) (kept next free : ℕ) (t : ArgumentTree) (ts : ArgumentNodes) {x y z : Code}
-    → next ≡ kept + places_kept t
-    → StillTo a m (λ at. copies_out lay (with_argument t ts) kept free) (copies_out_size (with_argument t ts)) x y
-    → Appends (copy_out lay t kept free) (copying_size t) y z
-    → StillTo a m (λ at. copies_out lay ts next free) (copies_out_size ts) x z
-copies_step {a} {m} lay kept next free t ts {x} {y} {z} f p q =
-    let all : StillTo a m (λ at. copies_out lay ts (kept + places_kept t) free) (copies_out_size ts) x z =
-    step (λ at. copies_out lay ts (kept + places_kept t) free) (copies_out_size ts) (copy_out_on lay kept free t ts) (copying_size_on t ts) p q in
-    rw f all
-
 -- ---- turns of loops along lists
 
 pub indices_turn : {a : ℕ → List Instr} {m : ℕ} (lay : Layout) (free : ℕ) (first next : Bool) (xs : List Part) (k : ℕ) (it : Part) {x y z : Code} → k < length xs → it ≡ get_or xs k it
@@ -300,15 +218,6 @@ places_turn xs k it kept next all h e v p =
     ap (λ (j : ℕ). kept_behind (arguments_of (drop (k + 1) xs)) j) v ∙ sym (places_step (argument_tree it) (arguments_of (drop (k + 1) xs)) kept)
     ∙ sym (ap (λ (ts : ArgumentNodes). kept_behind ts kept) (arguments_at xs k it h e)) ∙ p
 
-pub copies_turn : {a : ℕ → List Instr} {m : ℕ} (lay : Layout) (kept next free : ℕ) (xs : List Argument) (k : ℕ) (it : Argument) {x y z : Code} → k < length xs → it ≡ get_or xs k it
-    → next ≡ kept + places_kept (argument_tree it)
-    → StillTo a m (λ at. copies_out lay (arguments_of (drop k xs)) kept free) (copies_out_size (arguments_of (drop k xs))) x y
-    → Appends (copy_out lay (argument_tree it) kept free) (copying_size (argument_tree it)) y z
-    → StillTo a m (λ at. copies_out lay (arguments_of (drop (k + 1) xs)) next free) (copies_out_size (arguments_of (drop (k + 1) xs))) x z
-copies_turn {a} {m} lay kept next free xs k it {x} {y} h e v p q =
-    copies_step lay kept next free (argument_tree it) (arguments_of (drop (k + 1) xs)) v
-    (subst (λ (ts : ArgumentNodes). StillTo a m (λ at. copies_out lay ts kept free) (copies_out_size ts) x y) (arguments_at xs k it h e) p) q
-
 pub indices_done : {a : ℕ → List Instr} {m : ℕ} (lay : Layout) (free : ℕ) (first : Bool) (xs : List Part) (k : ℕ) {x y : Code} → length xs ≤ k
     → StillTo a m (λ at. indices_code lay free first (parts_of (drop k xs)) at) (indices_size first (parts_of (drop k xs))) x y → Appends (a (length x.instrs)) m x y
 indices_done lay free first xs k {x} {y} h p =
@@ -331,8 +240,3 @@ arguments_done lay rows n kept xs k {x} {y} h p =
 
 pub places_done : (xs : List Argument) (k kept all : ℕ) → length xs ≤ k → kept_behind (arguments_of (drop k xs)) kept ≡ all → kept ≡ all
 places_done xs k kept all h p = sym (ap (λ (ts : ArgumentNodes). kept_behind ts kept) (arguments_end xs k h)) ∙ p
-
-pub copies_done : {a : ℕ → List Instr} {m : ℕ} (lay : Layout) (kept free : ℕ) (xs : List Argument) (k : ℕ) {x y : Code} → length xs ≤ k
-    → StillTo a m (λ at. copies_out lay (arguments_of (drop k xs)) kept free) (copies_out_size (arguments_of (drop k xs))) x y → Appends (a (length x.instrs)) m x y
-copies_done lay kept free xs k {x} {y} h p =
-    done p (ap (λ (ts : ArgumentNodes). copies_out lay ts kept free) (arguments_end xs k h)) (ap (λ (ts : ArgumentNodes). copies_out_size ts) (arguments_end xs k h))

@@ -1,5 +1,5 @@
 -- What is appended for the parts of a node of a program is what its tree says.
-use Rattle.std.proofs.Common.{◌≡◌, ℕ, ℤ, ◌+◌, Bool, true, false, List, [], ◌∷◌, ◌++◌, pos, Option, Some, None, length, refl, sym, ap, subst, ◌∙◌, arith, if◌then◌else◌}
+use Rattle.std.proofs.Common.{◌≡◌, ℕ, ℤ, ◌+◌, Bool, true, false, List, [], ◌∷◌, pos, Option, Some, None, length, refl, sym, ap, subst, ◌∙◌, arith, if◌then◌else◌}
 use Rattle.std.specs.Prelude.{slice_get, option_map}
 use Rattle.std.specs.declared.alloc.Global.{Global}
 use Rattle.std.specs.declared.boxed.Box.{Box}
@@ -10,7 +10,6 @@ use Rattle.modes.specs.declared.mode.Bounds.{Bounds}
 use Rattle.modes.specs.ModeTree.{class_tree}
 use Rattle.checked_program.specs.declared.expr.Argument.{Argument}
 use Rattle.checked_program.specs.declared.expr.Argument.TheVariants as arguments
-use Rattle.checked_program.specs.declared.expr.Base.{Base}
 use Rattle.checked_program.specs.declared.expr.Binary.{Binary}
 use Rattle.checked_program.specs.declared.expr.Prefix.{Prefix}
 use Rattle.checked_program.specs.declared.expr.Routine.{Routine}
@@ -23,7 +22,7 @@ use Rattle.checked_program.specs.declared.expr.Part.TheVariants as part_variants
 use Rattle.checked_program.specs.declared.expr.Range.{Range, out-Range}
 use Rattle.checked_program.specs.declared.expr.Received.{Received, out-Received}
 use Rattle.checked_program.specs.declared.expr.Start.{Start, out-Start}
-use Rattle.program_trees.specs.ExprTree.{ExprTree, expr, root_bounds, expr_tree, operation_tree, boxed_expr, count_of, received_count, location_count, constant, own_instance, contents, part_of, receive, start, call, powerset, parts, uniform, routine, get_int, prefixed, binary, ReceivedTree, received, received_tree, received_of, LocationTree, location, location_tree, StartTree, started, start_tree, CallTree, called, call_tree, RangeTree, alone, between, range_of, range_tree, ArgumentTree, taken, given, both, argument_tree, PartNodes, PartTree, one_element, part_tree}
+use Rattle.program_trees.specs.ExprTree.{ExprTree, expr, root_bounds, expr_tree, operation_tree, boxed_expr, count_of, received_count, constant, own_instance, contents, part_of, receive, start, call, powerset, parts, uniform, routine, get_int, prefixed, binary, ReceivedTree, received, received_tree, received_of, LocationTree, location, location_tree, StartTree, started, start_tree, CallTree, called, call_tree, RangeTree, alone, between, range_of, range_tree, ArgumentTree, argument_tree, PartNodes, PartTree, one_element, part_tree}
 use Rattle.program_trees.specs.ProgramTree.{LocalRowTree}
 use Rattle.code_scheme.specs.Pieces.{Layout, capped, pushes, lowest_in_row, scalars_code, copies_code, check_code, tested, tested_in, tested_out, tested_back, under_code, store_code, copy_out_code, bounds_of_value, member_code, between_code, between_size, behind_code, behind_size, prefix_code, routine_code, has_index, first_of_parts, needs_offset, has_offset, contents_code, offsets_kept, location_scalars, keep_code, kept_code, copies_out, kept_behind, rows_of}
 use Rattle.code_scheme.specs.ExprSizes.{expr_size, place_size, indices_size, received_size, received_sizes, members_size, start_size, call_size, arguments_size, copies_out_size, copy_out_size, sum_size}

@@ -51,7 +51,6 @@ impl Run {
 }
 
 /// Each of these scalars, in order. Of equal ones behind each other the first is pushed and the others are copied.
-#[tactic(auto, using(code_scheme::proofs::Lemmas::scalars_step, crate::proofs::Appending::keeping))]
 pub fn put_scalars(scalars: &[i64], draft: &mut Draft) -> Result<(), PartRefusal>
     ensures puts { OnOk result (PutsAll (scalars_code scalars.now) draft.old draft.new) }
     ensures keeps { Keeps draft.old.code draft.new.code }
@@ -90,7 +89,6 @@ fn put_run(run: Run, draft: &mut Draft) -> Result<(), PartRefusal>
 }
 
 /// How many instructions push these scalars.
-#[tactic(auto, using(code_scheme::proofs::Lemmas::scalars_step))]
 pub fn scalars_size(scalars: &[i64]) -> u32
     ensures { result ≡ capped (length (scalars_code scalars.now)) }
 {

@@ -1,4 +1,4 @@
-use Rattle.std.proofs.Common.{ℕ, drop}
+use Rattle.std.proofs.Common.{drop}
 use Rattle.code_scheme.specs.Pieces.{copies_out}
 use Rattle.code_scheme.specs.ExprSizes.{copies_out_size}
 use Rattle.expr_gen.specs.Putting.{Keeps, layout_of}

@@ -1,4 +1,4 @@
-use Rattle.std.proofs.Common.{ℕ, drop, length}
+use Rattle.std.proofs.Common.{drop, length}
 use Rattle.code_scheme.specs.Pieces.{pushes}
 use Rattle.expr_gen.specs.Putting.{Keeps}
 use Rattle.expr_gen.proofs.Appending.{StillTo}

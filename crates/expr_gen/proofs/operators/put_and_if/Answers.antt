@@ -1,4 +1,4 @@
-use Rattle.std.proofs.Common.{◌≡◌, ◌+◌, ℕ, Result, Ok, Err, OnOk, List, length, sym, arith, refl}
+use Rattle.std.proofs.Common.{◌≡◌, ◌+◌, ℕ, Result, Ok, Err, OnOk, List, length, sym, arith}
 use Rattle.code_types.specs.declared.code.Code.{Code}
 use Rattle.code_types.specs.declared.instr.Instr.{Instr}
 use Rattle.code_scheme.specs.Pieces.{capped}

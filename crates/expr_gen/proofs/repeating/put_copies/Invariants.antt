@@ -1,4 +1,4 @@
-use Rattle.std.proofs.Common.{ℕ, length}
+use Rattle.std.proofs.Common.{length}
 use Rattle.expr_gen.specs.Putting.{Keeps}
 use Rattle.expr_gen.proofs.Appending.{StillTo}
 use Rattle.expr_gen.proofs.Copies.{copies_left}

@@ -1,4 +1,4 @@
-use Rattle.std.proofs.Common.{◌≡◌, ◌++◌, length, drop}
+use Rattle.std.proofs.Common.{length, drop}
 use Rattle.code_scheme.specs.Pieces.{scalars_from, scalars_code}
 use Rattle.expr_gen.specs.Putting.{Keeps}
 use Rattle.expr_gen.proofs.Appending.{StillTo}

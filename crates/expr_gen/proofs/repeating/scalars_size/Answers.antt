@@ -1,4 +1,4 @@
-use Rattle.std.proofs.Common.{◌≡◌, ◌∙◌, refl, ℤ, pos, get_or, rules, arith, w64}
+use Rattle.std.proofs.Common.{◌∙◌, refl, ℤ, pos, get_or, rules, arith, w64}
 use mir.Val.{SFits}
 use Rattle.std.proofs.lemmas.Int.{to_z-of_z}
 use Rattle.code_scheme.specs.Pieces.{run_behind}

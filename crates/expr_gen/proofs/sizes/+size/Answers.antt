@@ -1,5 +1,4 @@
-use Rattle.std.proofs.Common.{◌≡◌, length, ap, sym, ◌∙◌, arith, List}
-use Rattle.code_types.specs.declared.instr.Instr.{Instr}
+use Rattle.std.proofs.Common.{ap, arith}
 use Rattle.program_trees.specs.ExprTree.{PartNodes, RangeNodes, ReceivedNodes, ArgumentNodes}
 use Rattle.code_scheme.specs.ExprSizes.{indices_size, received_sizes, members_size, arguments_size, copies_out_size}
 use Rattle.expr_gen.proofs.Items.{parts_end, received_end, ranges_end, arguments_end}

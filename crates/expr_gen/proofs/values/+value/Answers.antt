@@ -1,4 +1,4 @@
-use Rattle.std.proofs.Common.{◌≡◌, ℕ, ◌+◌, OnOk, ap, sym, subst, ◌∙◌, rules, w64}
+use Rattle.std.proofs.Common.{ℕ, ◌+◌, OnOk, ap, sym, subst, ◌∙◌, rules, w64}
 use mir.Val.{SFits}
 use Rattle.std.proofs.lemmas.Int.{to_z-of_z}
 use Rattle.std.proofs.lemmas.Result.{on_ok_weaker}

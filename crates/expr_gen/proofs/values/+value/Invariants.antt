@@ -1,4 +1,4 @@
-use Rattle.std.proofs.Common.{◌≡◌, ℕ, ◌+◌, drop, length, true}
+use Rattle.std.proofs.Common.{◌≡◌, drop, true}
 use Rattle.program_trees.specs.ExprTree.{received_of}
 use Rattle.program_trees.specs.ProgramTree.{body_row_tree}
 use Rattle.code_scheme.specs.Pieces.{kept_behind}
