@@ -1,1 +1,4 @@
 pub mod Putting
+pub mod Trees
+pub mod Copies
+pub mod Puts

@@ -1,7 +1,9 @@
 // The code while it is made.
-ghost use Rattle.std.specs.Prelude.{◌≡◌, OnOk, OnErr};
+ghost use Rattle.std.specs.Prelude.{◌≡◌, ℕ, ◌+◌, length, IfOk, OnOk, OnErr};
 ghost use Rattle.code_types.specs.declared.instr.Instr.TheVariants.{Call};
-ghost use Rattle.expr_gen.specs.Putting.{Puts};
+ghost use Rattle.code_scheme.specs.Pieces.{capped};
+ghost use Rattle.expr_gen.specs.Putting.{Puts, Keeps};
+ghost use Rattle.expr_gen.specs.Puts.{IsBehind};
 
 use crate::refusal::PartRefusal;
 use chill_base::{List, Numbers};
@@ -51,19 +53,31 @@ impl Draft {
     }
 
     /// The present place: that of the next instruction.
-    pub fn place(&self) -> u32 {
+    pub fn place(&self) -> u32
+        ensures { result ≡ capped (length self.now.code.instrs) }
+    {
         (self.code.instrs.len() as u64).min(u32::MAX as u64) as u32
     }
 
     /// The place so many instructions behind the present one.
-    pub fn place_behind(&self, count: u32) -> u32 {
+    pub fn place_behind(&self, count: u32) -> u32
+        ensures { result ≡ capped (length self.now.code.instrs + count) }
+    {
         self.place().saturating_add(count)
+    }
+
+    /// The place so many instructions behind the present one, to which a jump may lead.
+    pub fn target_behind(&self, count: u32) -> Result<u32, PartRefusal>
+        ensures { IfOk result (λ target. IsBehind self.now count target) }
+    {
+        uncapped(self.place_behind(count))
     }
 
     /// Appends an instruction other than a call.
     pub fn put(&mut self, instr: Instr) -> Result<(), PartRefusal>
         ensures puts { OnOk result (Puts instr self.old.code self.new.code) }
         ensures left { OnErr result (self.new.code ≡ self.old.code) }
+        ensures keeps { Keeps self.old.code self.new.code }
     {
         self.put_counted(instr, taken(instr), given(instr))
     }
@@ -72,13 +86,16 @@ impl Draft {
     pub fn put_call(&mut self, body: u32, params: u32, results: u32) -> Result<(), PartRefusal>
         ensures puts { OnOk result (Puts (Call body) self.old.code self.new.code) }
         ensures left { OnErr result (self.new.code ≡ self.old.code) }
+        ensures keeps { Keeps self.old.code self.new.code }
     {
         self.put_counted(Instr::Call(body), params, results)
     }
 
+    #[tactic(auto, using(crate::proofs::Appending::keeping))]
     fn put_counted(&mut self, instr: Instr, taken: u32, given: u32) -> Result<(), PartRefusal>
         ensures puts { OnOk result (Puts instr self.old.code self.new.code) }
         ensures left { OnErr result (self.new.code ≡ self.old.code) }
+        ensures keeps { Keeps self.old.code self.new.code }
     {
         self.code.instrs.push(instr)?;
         self.height = self.height.saturating_sub(taken).saturating_add(given);
@@ -120,6 +137,25 @@ impl Draft {
     }
 }
 
+/// A number that isn't the greatest of 32 bits, which stands for all that are greater. There is no memory for so many
+/// instructions, locals or scalars.
+pub fn uncapped(number: u32) -> Result<u32, PartRefusal>
+    ensures { IfOk result (λ whole. (k : ℕ) → number ≡ capped k → whole ≡ k) }
+{
+    if number == u32::MAX {
+        Err(PartRefusal::Memory)
+    } else {
+        Ok(number)
+    }
+}
+
+/// The sum of two numbers, where it is one of 32 bits.
+pub fn sum(one: u32, other: u32) -> Result<u32, PartRefusal>
+    ensures { IfOk result (λ sum. sum ≡ one + other) }
+{
+    uncapped(one.saturating_add(other))
+}
+
 // How many locals a body has at least that has the instruction.
 fn locals_named(instr: Instr) -> u32 {
     match instr {
@@ -131,7 +167,7 @@ fn locals_named(instr: Instr) -> u32 {
     }
 }
 
-// How many numbers an instruction other than Call takes off the stack. What Return takes nobody asks.
+// How many numbers an instruction takes off the stack. What Call takes its body says; what Return takes nobody asks.
 fn taken(instr: Instr) -> u32 {
     match instr {
         Instr::Pop(count) | Instr::SetLocal(_, count) => count,
@@ -151,11 +187,15 @@ fn taken(instr: Instr) -> u32 {
         Instr::And | Instr::Or | Instr::Xor => 2,
         Instr::BitAnd | Instr::BitOr | Instr::BitXor | Instr::BitMinus => 2,
         Instr::Within | Instr::Has | Instr::Span => 2,
-        _ => 0,
+        Instr::Push(_) | Instr::Copy(_) | Instr::Thing(_) | Instr::Local(_, _) => 0,
+        Instr::Check(_, _) | Instr::This | Instr::GetInt => 0,
+        Instr::Jump(_) | Instr::Again(_) | Instr::Call(_) | Instr::Return => 0,
+        Instr::Enter(_) | Instr::Leave(_) | Instr::Raise(_) | Instr::Continue(_) => 0,
+        Instr::PutLine | Instr::Stop | Instr::Finish => 0,
     }
 }
 
-// How many numbers an instruction other than Call puts onto the stack.
+// How many numbers an instruction puts onto the stack. What Call gives its body says.
 fn given(instr: Instr) -> u32 {
     match instr {
         Instr::Copy(count) | Instr::Local(_, count) | Instr::LocalAt(_, count) => count,
@@ -170,6 +210,10 @@ fn given(instr: Instr) -> u32 {
         Instr::BitNot(_) | Instr::Card | Instr::Least | Instr::Most => 1,
         Instr::BitAnd | Instr::BitOr | Instr::BitXor | Instr::BitMinus => 1,
         Instr::Within | Instr::Has | Instr::Span => 1,
-        _ => 0,
+        Instr::Pop(_) | Instr::SetLocal(_, _) | Instr::SetLocalAt(_, _) | Instr::Check(_, _) => 0,
+        Instr::Jump(_) | Instr::Unless(_) | Instr::Again(_) | Instr::Call(_) | Instr::Return => 0,
+        Instr::Enter(_) | Instr::Leave(_) | Instr::Raise(_) | Instr::Write(_, _, _) => 0,
+        Instr::Continue(_) | Instr::Send(_, _, _) | Instr::Signal(_, _, _, _) => 0,
+        Instr::PutInt | Instr::PutText(_) | Instr::PutLine | Instr::Stop | Instr::Finish => 0,
     }
 }

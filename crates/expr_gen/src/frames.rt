@@ -1,4 +1,9 @@
 // Where things stand in the frame of a body: its locals, its result, and the scratch locals behind them.
+ghost use Rattle.std.specs.Prelude.{◌≡◌, Some, slice_get, IfOk, map};
+ghost use Rattle.program_trees.specs.ProgramTree.{body_row_tree, local_row_tree};
+ghost use Rattle.code_scheme.specs.Pieces.{capped};
+ghost use Rattle.code_scheme.specs.StatementSite.{scalars_in, parameter_scalars, declared_scalars, result_scalars, first_free};
+
 use crate::refusal::PartRefusal;
 use checked_program::{Body, Checked, LocalRow, Passing};
 use modes::number_of_scalars;
@@ -11,7 +16,9 @@ pub struct Site<'a> {
 }
 
 /// The body of this number, or Unsound where there is none.
-pub fn body_of(program: &Checked, number: u32) -> Result<&Body, PartRefusal> {
+pub fn body_of(program: &Checked, number: u32) -> Result<&Body, PartRefusal>
+    ensures { IfOk result (λ body. slice_get program.now.bodies number ≡ Some body.now) }
+{
     match program.bodies.as_slice().get(number as usize) {
         Some(body) => Ok(body),
         None => Err(PartRefusal::Unsound),
@@ -19,34 +26,46 @@ pub fn body_of(program: &Checked, number: u32) -> Result<&Body, PartRefusal> {
 }
 
 /// The local of this number of a body, or Unsound where there is none.
-pub fn local_of(body: &Body, number: u32) -> Result<&LocalRow, PartRefusal> {
+pub fn local_of(body: &Body, number: u32) -> Result<&LocalRow, PartRefusal>
+    ensures { IfOk result (λ local. slice_get body.now.locals number ≡ Some local.now) }
+{
     match body.locals.as_slice().get(number as usize) {
         Some(local) => Ok(local),
         None => Err(PartRefusal::Unsound),
     }
 }
 
-/// How many scalars the parameters of a body have, or those of its locals up to some number of them.
-pub fn scalars_until(body: &Body, number: usize) -> u32 {
+// How many scalars locals have.
+fn scalars_in(locals: &[LocalRow]) -> u32
+    ensures { result ≡ capped (scalars_in (map local_row_tree locals.now)) }
+{
     let mut scalars = 0u32;
-    for local in body.locals.as_slice().iter().take(number) {
+    for local in locals {
         scalars = scalars.saturating_add(local.count);
     }
     scalars
 }
 
 /// How many scalars the parameters of a body have, which are its first locals.
-pub fn parameter_scalars(body: &Body) -> u32 {
-    scalars_until(body, body.parameters.len())
+pub fn parameter_scalars(body: &Body) -> u32
+    ensures { result ≡ capped (parameter_scalars (body_row_tree body.now)) }
+{
+    let locals = body.locals.as_slice();
+    let count = body.parameters.len().min(locals.len());
+    scalars_in(&locals[..count])
 }
 
 /// How many scalars the locals of a body have that the program declares. The result stands behind them.
-pub fn declared_scalars(body: &Body) -> u32 {
-    scalars_until(body, body.locals.len())
+pub fn declared_scalars(body: &Body) -> u32
+    ensures { result ≡ capped (declared_scalars (body_row_tree body.now)) }
+{
+    scalars_in(body.locals.as_slice())
 }
 
 /// How many scalars the result of a body has; none without RETURNS.
-pub fn result_scalars(body: &Body) -> u32 {
+pub fn result_scalars(body: &Body) -> u32
+    ensures { result ≡ result_scalars (body_row_tree body.now) }
+{
     match &body.result {
         Some(mode) => number_of_scalars(mode),
         None => 0,
@@ -54,7 +73,9 @@ pub fn result_scalars(body: &Body) -> u32 {
 }
 
 /// The first scratch local of a body, behind its locals and its result.
-pub fn first_free(body: &Body) -> u32 {
+pub fn first_free(body: &Body) -> u32
+    ensures { result ≡ capped (first_free (body_row_tree body.now)) }
+{
     declared_scalars(body).saturating_add(result_scalars(body))
 }
 

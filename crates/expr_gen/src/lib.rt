@@ -18,7 +18,7 @@ mod sizes;
 mod values;
 
 pub use bounds::{INT, bounds_of_operator, bounds_of_value, bounds_to_test};
-pub use building::{Draft, Head};
+pub use building::{Draft, Head, sum, uncapped};
 pub use conditions::{Branch, branch_size, condition_size, put_branch, put_condition};
 pub use copying::{keep_place, offsets_kept, put_kept, put_under};
 pub use frames::{

@@ -69,6 +69,7 @@ fn put_asking(action: &Action, around: &Around, draft: &mut Draft) -> Result<(),
 /// How many instructions an action that holds no statements has. A modulion has none here.
 pub fn plain_size(action: &Action, site: &Site) -> u32 {
     match action {
+        Action::Nothing => 0,
         Action::Declare { names, value } => declare_size(names.as_slice(), value),
         Action::Lowest { locals, value } => lowest_size(locals.as_slice(), value.as_slice()),
         Action::Assign { target, value } => assign_size(target, value),
@@ -89,10 +90,21 @@ pub fn plain_size(action: &Action, site: &Site) -> u32 {
         Action::Result { value } => result_size(value),
         Action::Assert(condition) => condition_size(condition, true).saturating_add(1),
         Action::Exit { .. } | Action::Cause { .. } | Action::Stop => 1,
-        _ => asking_size(action, site),
+        Action::Call(_) | Action::Routine { .. } | Action::Evaluate(_) => asking_size(action, site),
+        Action::PutInt(_) | Action::PutText(_) | Action::PutLine => asking_size(action, site),
+        Action::Start(_) | Action::Delay { .. } | Action::Continue { .. } | Action::Send { .. } => {
+            asking_size(action, site)
+        }
+        // A modulion's code stands in bodies of its own.
+        Action::Module { .. } | Action::Region { .. } => 0,
+        // These hold statements.
+        Action::If { .. } | Action::Case { .. } | Action::Do { .. } | Action::Begin { .. } => 0,
+        Action::DelayCase { .. } => 0,
+        Action::ReceiveBuffers { .. } | Action::ReceiveSignals { .. } => 0,
     }
 }
 
+// How many instructions an action has that calls, asks or puts.
 fn asking_size(action: &Action, site: &Site) -> u32 {
     match action {
         Action::Call(call) => {
@@ -108,7 +120,15 @@ fn asking_size(action: &Action, site: &Site) -> u32 {
         Action::Delay { .. } => 4,
         Action::PutLine | Action::Continue { .. } => 1,
         Action::Send { sent, .. } => send_size(sent),
-        _ => 0,
+        // These neither call nor ask nor put.
+        Action::Nothing | Action::Declare { .. } | Action::Lowest { .. } => 0,
+        Action::Assign { .. } | Action::Update { .. } | Action::Assert(_) => 0,
+        Action::Exit { .. } | Action::Return { .. } | Action::Result { .. } => 0,
+        Action::Cause { .. } | Action::Stop => 0,
+        Action::Module { .. } | Action::Region { .. } | Action::Begin { .. } => 0,
+        Action::If { .. } | Action::Case { .. } | Action::Do { .. } => 0,
+        Action::DelayCase { .. } => 0,
+        Action::ReceiveBuffers { .. } | Action::ReceiveSignals { .. } => 0,
     }
 }
 
