@@ -1,58 +1,59 @@
-// What an action meets its partners at: events, buffers and signals (Z.200, chapter on concurrent execution).
-use crate::walk::Checks;
-use chill_base::Pos;
-use chill_tree::tree::Name;
-use mode_rules::{Meeting, Origin, meeting_of};
+// What processes meet at under each definition of a program, by the definitions' numbers.
+use chill_base::{List, Memory};
+use met_names::Meeting;
+use mode_rules::{Entry, Evaluation, Origin, meeting_of};
 use modes::Mode;
 
-/// What a name stands for that processes meet at, or another location.
-#[derive(Clone, Copy, PartialEq, Eq)]
-pub enum Met {
-    Event,
-    Buffer,
-    Signal,
-    /// A location of another mode, at which they don't.
-    Other,
-}
-
-impl<'a, 'b> Checks<'a, 'b> {
-    /// What processes meet at under the name used at a place, or none where that isn't known.
-    pub fn met_at(&self, name: &Name) -> Option<Met> {
-        let number = self.evaluation.used_at(name.at)?;
-        match self.evaluation.origin(number) {
-            Some(Origin::Signal(_)) => Some(Met::Signal),
-            Some(Origin::Location { .. }) => self.met_by(number),
-            Some(Origin::Synonym { .. })
-            | Some(Origin::SynMode(_))
-            | Some(Origin::NewMode(_))
-            | Some(Origin::Element(_))
-            | Some(Origin::Parameter { .. })
-            | Some(Origin::Counter(_))
-            | Some(Origin::Received { .. })
-            | Some(Origin::Procedure(_))
-            | Some(Origin::Process(_))
-            | Some(Origin::Modulion(_))
-            | Some(Origin::Predefined(_))
-            | None => None,
-        }
-    }
-
-    /// What processes meet at in the location that is defined at a place, or none where its mode isn't known.
-    pub fn met_in(&self, at: Pos) -> Option<Met> {
-        self.met_by(self.evaluation.defined_at(at)?)
-    }
-
-    fn met_by(&self, number: u32) -> Option<Met> {
-        let mode = self.evaluation.entry(number)?.mode.as_ref()?;
-        Some(met_in_mode(mode))
-    }
-}
-
 // What processes meet at where a location has the mode.
-fn met_in_mode(mode: &Mode) -> Met {
+fn met_in_mode(mode: &Mode) -> Meeting {
     match meeting_of(mode) {
-        Some(Meeting::Event { .. }) => Met::Event,
-        Some(Meeting::Buffer { .. }) => Met::Buffer,
-        None => Met::Other,
+        Some(mode_rules::Meeting::Event { .. }) => Meeting::Event,
+        Some(mode_rules::Meeting::Buffer { .. }) => Meeting::Buffer,
+        None => Meeting::Other,
     }
+}
+
+// What the mode is of that is known of a definition, if one is known.
+fn declared_in(entry: &Entry) -> Option<Meeting> {
+    entry.mode.as_ref().map(|mode| met_in_mode(mode))
+}
+
+// What processes meet at where a definition is used, or none where that isn't known.
+fn used_as(origin: Option<&Origin<'_>>, entry: &Entry) -> Option<Meeting> {
+    match origin {
+        Some(Origin::Signal(_)) => Some(Meeting::Signal),
+        Some(Origin::Location { .. }) => declared_in(entry),
+        Some(Origin::Synonym { .. })
+        | Some(Origin::SynMode(_))
+        | Some(Origin::NewMode(_))
+        | Some(Origin::Element(_))
+        | Some(Origin::Parameter { .. })
+        | Some(Origin::Counter(_))
+        | Some(Origin::Received { .. })
+        | Some(Origin::Procedure(_))
+        | Some(Origin::Process(_))
+        | Some(Origin::Modulion(_))
+        | Some(Origin::Predefined(_))
+        | None => None,
+    }
+}
+
+/// What processes meet at where each definition is used.
+pub fn used_meetings(evaluation: &Evaluation<'_>) -> Result<List<Option<Meeting>>, Memory> {
+    let mut found = List::new(evaluation.alloc);
+    let mut number = 0_usize;
+    for entry in evaluation.entries.as_slice() {
+        found.push(used_as(evaluation.origins.as_slice().get(number), entry))?;
+        number = number.saturating_add(1);
+    }
+    Ok(found)
+}
+
+/// What the mode of each definition is of.
+pub fn declared_meetings(evaluation: &Evaluation<'_>) -> Result<List<Option<Meeting>>, Memory> {
+    let mut found = List::new(evaluation.alloc);
+    for entry in evaluation.entries.as_slice() {
+        found.push(declared_in(entry))?;
+    }
+    Ok(found)
 }

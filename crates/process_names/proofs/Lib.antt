@@ -1,0 +1,4 @@
+pub mod Views
+pub mod BodyViews
+pub mod HeardLists
+pub mod Phase
