@@ -12,16 +12,18 @@ use std::marker::Model;
 pub struct Rows<'a> {
     rows: &'a [Resolved],
     rise: bool,
-    ghost rising: { rise ≡ true → Rise (use_places rows.now) },
 }
 
 impl<'a> Model for Rows<'a> {
-    ghost use Rattle.std.specs.Prelude.{List};
+    ghost use Rattle.std.specs.Prelude.{◌≡◌, true, List};
+    ghost use Rattle.names_laws.specs.Rising.{Rise, use_places};
     ghost use Rattle.names_model.specs.declared.names.Resolved.{Resolved as Row};
 
     ghost Value = { List Row };
 
     ghost view = { λ r. r.rows.now };
+
+    ghost invariant = { λ r. r.rise ≡ true → Rise (use_places r.rows.now) };
 }
 
 // Whether a place stands before another.
@@ -32,7 +34,6 @@ fn precedes(first: Pos, second: Pos) -> bool
 }
 
 // Whether places rise, behind the place that no token has.
-#[tactic(auto, using(crate::proofs::Rising::chain_rises))]
 fn rises(rows: &[Resolved]) -> bool
     ensures { result ≡ true → Rise (use_places rows.now) }
 {
@@ -47,6 +48,7 @@ fn rises(rows: &[Resolved]) -> bool
 }
 
 // The number at a place, where it is found by halving, as it is if the places rise.
+#[tactic(auto, using(crate::proofs::Rising::there_at))]
 fn halved(rows: &[Resolved], at: Pos) -> Option<u32>
     ensures { IfSome result (λ number. Contains rows.now (record { at = at; to = number })) }
 {

@@ -96,12 +96,7 @@ fn tell_each(alloc: Global, table: &Table, names: &[Name], told: &mut Told) -> R
     Ok(())
 }
 
-fn tell_passed(
-    alloc: Global,
-    table: &Table,
-    passed: &Passed,
-    told: &mut Told,
-) -> Result<(), Memory>
+fn tell_passed(alloc: Global, table: &Table, passed: &Passed, told: &mut Told) -> Result<(), Memory>
     ensures { OnOk result (told.new ≡ told.old ++ told_passed table.now passed.now) }
 {
     match passed {

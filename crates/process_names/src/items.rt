@@ -28,7 +28,11 @@ fn tell_in_all_modes(meetings: &Meetings<'_>, modes: &[Mode], told: &mut Told) -
     Ok(())
 }
 
-fn tell_in_some_modes(meetings: &Meetings<'_>, modes: &Option<List<Mode>>, told: &mut Told) -> Result<(), Memory>
+fn tell_in_some_modes(
+    meetings: &Meetings<'_>,
+    modes: &Option<List<Mode>>,
+    told: &mut Told,
+) -> Result<(), Memory>
     ensures { OnOk result (told.new ≡ told.old ++ over_some_modes meetings.now (option_map (map mode_tree) modes.now)) }
 {
     match modes {
@@ -37,7 +41,11 @@ fn tell_in_some_modes(meetings: &Meetings<'_>, modes: &Option<List<Mode>>, told:
     }
 }
 
-fn tell_in_signals(meetings: &Meetings<'_>, signals: &[Signal], told: &mut Told) -> Result<(), Memory>
+fn tell_in_signals(
+    meetings: &Meetings<'_>,
+    signals: &[Signal],
+    told: &mut Told,
+) -> Result<(), Memory>
     ensures { OnOk result (told.new ≡ told.old ++ flat_map (over_signal meetings.now) (map signal_tree signals.now)) }
 {
     for signal in signals {
@@ -55,7 +63,11 @@ fn tell_in_params(meetings: &Meetings<'_>, params: &[Param], told: &mut Told) ->
     Ok(())
 }
 
-fn tell_in_formals(meetings: &Meetings<'_>, formals: &[Formal], told: &mut Told) -> Result<(), Memory>
+fn tell_in_formals(
+    meetings: &Meetings<'_>,
+    formals: &[Formal],
+    told: &mut Told,
+) -> Result<(), Memory>
     ensures { OnOk result (told.new ≡ told.old ++ flat_map (over_formal meetings.now) (map formal_tree formals.now)) }
 {
     for formal in formals {
@@ -64,14 +76,23 @@ fn tell_in_formals(meetings: &Meetings<'_>, formals: &[Formal], told: &mut Told)
     Ok(())
 }
 
-fn tell_in_whole_body(meetings: &Meetings<'_>, body: &[BodyPart], handler: &Option<Box<Handler>>, told: &mut Told) -> Result<(), Memory>
+fn tell_in_whole_body(
+    meetings: &Meetings<'_>,
+    body: &[BodyPart],
+    handler: &Option<Box<Handler>>,
+    told: &mut Told,
+) -> Result<(), Memory>
     ensures { OnOk result (told.new ≡ told.old ++ whole_body meetings.now (body_trees body.now) (option_map boxed_handler handler.now)) }
 {
     tell_in_body(meetings, body, told)?;
     tell_in_handler(meetings, handler, told)
 }
 
-fn tell_in_procedure(meetings: &Meetings<'_>, own: &Procedure, told: &mut Told) -> Result<(), Memory>
+fn tell_in_procedure(
+    meetings: &Meetings<'_>,
+    own: &Procedure,
+    told: &mut Told,
+) -> Result<(), Memory>
     ensures { OnOk result (told.new ≡ told.old ++ over_procedure meetings.now (procedure_tree own.now)) }
 {
     tell_in_params(meetings, own.params.as_slice(), told)?;
@@ -88,7 +109,12 @@ fn tell_in_process(meetings: &Meetings<'_>, own: &Process, told: &mut Told) -> R
 
 #[tactic(auto, using(crate::proofs::Views::append_views))]
 #[cycle(item)]
-fn tell_in_item(meetings: &Meetings<'_>, around: ModulionKind, item: &Item, told: &mut Told) -> Result<(), Memory>
+fn tell_in_item(
+    meetings: &Meetings<'_>,
+    around: ModulionKind,
+    item: &Item,
+    told: &mut Told,
+) -> Result<(), Memory>
     ensures { OnOk result (told.new ≡ told.old ++ over_item meetings.now around (item_tree item.now)) }
 {
     tell_place(around, item, told)?;
@@ -112,7 +138,12 @@ fn tell_inside(meetings: &Meetings<'_>, item: &Item, told: &mut Told) -> Result<
 }
 
 #[cycle(item)]
-fn tell_in_items(meetings: &Meetings<'_>, around: ModulionKind, items: &[Item], told: &mut Told) -> Result<(), Memory>
+fn tell_in_items(
+    meetings: &Meetings<'_>,
+    around: ModulionKind,
+    items: &[Item],
+    told: &mut Told,
+) -> Result<(), Memory>
     ensures { OnOk result (told.new ≡ told.old ++ over_items meetings.now around (item_nodes (item_trees items.now))) }
 {
     for item in items {
@@ -123,7 +154,11 @@ fn tell_in_items(meetings: &Meetings<'_>, around: ModulionKind, items: &[Item], 
 
 #[tactic(auto, using(crate::proofs::Views::item_views))]
 #[cycle(item)]
-pub fn tell_in_modulion(meetings: &Meetings<'_>, own: &Modulion, told: &mut Told) -> Result<(), Memory>
+pub fn tell_in_modulion(
+    meetings: &Meetings<'_>,
+    own: &Modulion,
+    told: &mut Told,
+) -> Result<(), Memory>
     ensures { OnOk result (told.new ≡ told.old ++ inside_item meetings.now (modulion_item (modulion_tree own.now))) }
 {
     tell_grants(meetings.allocator(), own.kind, own.items.as_slice(), told)?;

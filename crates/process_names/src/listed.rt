@@ -130,7 +130,13 @@ fn tell_source(
     ensures told { OnOk result (told.new ≡ told.old ++ told_listed meetings.now purposes.Messages listed.old (receive_tree alternative.now).source) }
     ensures listed { OnOk result (listed.new ≡ heard_name meetings.now listed.old (receive_tree alternative.now).source) }
 {
-    tell_listed(meetings, Purpose::Messages, &alternative.source, listed, told)
+    tell_listed(
+        meetings,
+        Purpose::Messages,
+        &alternative.source,
+        listed,
+        told,
+    )
 }
 
 /// The events that a DELAY CASE lists.

@@ -80,11 +80,7 @@ fn tell_in_initial(
 }
 
 /// What is told in definitions.
-pub fn tell_in_local(
-    meetings: &Meetings<'_>,
-    local: &Local,
-    told: &mut Told,
-) -> Result<(), Memory>
+pub fn tell_in_local(meetings: &Meetings<'_>, local: &Local, told: &mut Told) -> Result<(), Memory>
     ensures { OnOk result (told.new ≡ told.old ++ over_local meetings.now (local_tree local.now)) }
 {
     match local {

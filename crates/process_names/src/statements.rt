@@ -20,7 +20,11 @@ use met_names::Meetings;
 /// What is told in a statement.
 #[tactic(auto, using(crate::proofs::BodyViews::statement_views))]
 #[cycle(statement)]
-pub fn tell_in_statement(meetings: &Meetings<'_>, statement: &Statement, told: &mut Told) -> Result<(), Memory>
+pub fn tell_in_statement(
+    meetings: &Meetings<'_>,
+    statement: &Statement,
+    told: &mut Told,
+) -> Result<(), Memory>
     ensures { OnOk result (told.new ≡ told.old ++ over_statement meetings.now (statement_tree statement.now)) }
 {
     match statement {
@@ -45,7 +49,11 @@ pub fn tell_in_statement(meetings: &Meetings<'_>, statement: &Statement, told: &
 }
 
 #[cycle(statement)]
-fn tell_in_actions(meetings: &Meetings<'_>, actions: &[Statement], told: &mut Told) -> Result<(), Memory>
+fn tell_in_actions(
+    meetings: &Meetings<'_>,
+    actions: &[Statement],
+    told: &mut Told,
+) -> Result<(), Memory>
     ensures { OnOk result (told.new ≡ told.old ++ over_actions meetings.now (statement_nodes (statement_trees actions.now))) }
 {
     for action in actions {
@@ -56,7 +64,11 @@ fn tell_in_actions(meetings: &Meetings<'_>, actions: &[Statement], told: &mut To
 
 #[tactic(auto, using(crate::proofs::BodyViews::bracketed_views))]
 #[cycle(statement)]
-fn tell_in_bracketed(meetings: &Meetings<'_>, action: &Bracketed, told: &mut Told) -> Result<(), Memory>
+fn tell_in_bracketed(
+    meetings: &Meetings<'_>,
+    action: &Bracketed,
+    told: &mut Told,
+) -> Result<(), Memory>
     ensures { OnOk result (told.new ≡ told.old ++ over_bracketed meetings.now (bracketed_tree action.now)) }
 {
     tell_head(meetings, action, told)?;
@@ -139,7 +151,11 @@ fn tell_else(meetings: &Meetings<'_>, action: &Bracketed, told: &mut Told) -> Re
 }
 
 #[cycle(statement)]
-fn tell_in_branches(meetings: &Meetings<'_>, branches: &[ElsIf], told: &mut Told) -> Result<(), Memory>
+fn tell_in_branches(
+    meetings: &Meetings<'_>,
+    branches: &[ElsIf],
+    told: &mut Told,
+) -> Result<(), Memory>
     ensures { OnOk result (told.new ≡ told.old ++ over_branches meetings.now (branch_nodes (map branch_tree branches.now))) }
 {
     for branch in branches {
@@ -158,7 +174,11 @@ fn tell_in_branch(meetings: &Meetings<'_>, branch: &ElsIf, told: &mut Told) -> R
 }
 
 #[cycle(statement)]
-fn tell_in_cases(meetings: &Meetings<'_>, alternatives: &[CaseAlternative], told: &mut Told) -> Result<(), Memory>
+fn tell_in_cases(
+    meetings: &Meetings<'_>,
+    alternatives: &[CaseAlternative],
+    told: &mut Told,
+) -> Result<(), Memory>
     ensures { OnOk result (told.new ≡ told.old ++ over_cases meetings.now (case_nodes (map case_tree alternatives.now))) }
 {
     for alternative in alternatives {
@@ -169,7 +189,11 @@ fn tell_in_cases(meetings: &Meetings<'_>, alternatives: &[CaseAlternative], told
 
 #[tactic(auto, using(crate::proofs::BodyViews::statement_views))]
 #[cycle(statement)]
-fn tell_in_case(meetings: &Meetings<'_>, alternative: &CaseAlternative, told: &mut Told) -> Result<(), Memory>
+fn tell_in_case(
+    meetings: &Meetings<'_>,
+    alternative: &CaseAlternative,
+    told: &mut Told,
+) -> Result<(), Memory>
     ensures { OnOk result (told.new ≡ told.old ++ (over_labels (told_source meetings.now) (case_tree alternative.now).labels ++ over_actions meetings.now (statement_nodes (case_tree alternative.now).actions))) }
 {
     meetings.tell_in_ranges(alternative.labels.as_slice(), told)?;
@@ -177,7 +201,11 @@ fn tell_in_case(meetings: &Meetings<'_>, alternative: &CaseAlternative, told: &m
 }
 
 #[cycle(statement)]
-fn tell_in_receives(meetings: &Meetings<'_>, alternatives: &[ReceiveAlternative], told: &mut Told) -> Result<(), Memory>
+fn tell_in_receives(
+    meetings: &Meetings<'_>,
+    alternatives: &[ReceiveAlternative],
+    told: &mut Told,
+) -> Result<(), Memory>
     ensures { OnOk result (told.new ≡ told.old ++ over_receives meetings.now (receive_nodes (map receive_tree alternatives.now))) }
 {
     for alternative in alternatives {
@@ -188,7 +216,11 @@ fn tell_in_receives(meetings: &Meetings<'_>, alternatives: &[ReceiveAlternative]
 
 #[tactic(auto, using(crate::proofs::BodyViews::statement_views))]
 #[cycle(statement)]
-fn tell_in_receive(meetings: &Meetings<'_>, alternative: &ReceiveAlternative, told: &mut Told) -> Result<(), Memory>
+fn tell_in_receive(
+    meetings: &Meetings<'_>,
+    alternative: &ReceiveAlternative,
+    told: &mut Told,
+) -> Result<(), Memory>
     ensures { OnOk result (told.new ≡ told.old ++ over_actions meetings.now (statement_nodes (receive_tree alternative.now).actions)) }
 {
     tell_in_actions(meetings, alternative.actions.as_slice(), told)
@@ -196,7 +228,11 @@ fn tell_in_receive(meetings: &Meetings<'_>, alternative: &ReceiveAlternative, to
 
 /// What is told in a handler that may be written.
 #[cycle(statement)]
-pub fn tell_in_handler(meetings: &Meetings<'_>, handler: &Option<Box<Handler>>, told: &mut Told) -> Result<(), Memory>
+pub fn tell_in_handler(
+    meetings: &Meetings<'_>,
+    handler: &Option<Box<Handler>>,
+    told: &mut Told,
+) -> Result<(), Memory>
     ensures { OnOk result (told.new ≡ told.old ++ over_handler meetings.now (handler_node (option_map boxed_handler handler.now))) }
 {
     match handler {
@@ -207,7 +243,11 @@ pub fn tell_in_handler(meetings: &Meetings<'_>, handler: &Option<Box<Handler>>, 
 
 #[tactic(auto, using(crate::proofs::BodyViews::statement_views))]
 #[cycle(statement)]
-fn tell_in_own_handler(meetings: &Meetings<'_>, handler: &Handler, told: &mut Told) -> Result<(), Memory>
+fn tell_in_own_handler(
+    meetings: &Meetings<'_>,
+    handler: &Handler,
+    told: &mut Told,
+) -> Result<(), Memory>
     ensures { OnOk result (told.new ≡ told.old ++ over_handler meetings.now (handler_node (Some (handler_tree handler.now)))) }
 {
     tell_in_named(meetings, handler.alternatives.as_slice(), told)?;
@@ -218,7 +258,11 @@ fn tell_in_own_handler(meetings: &Meetings<'_>, handler: &Handler, told: &mut To
 }
 
 #[cycle(statement)]
-fn tell_in_named(meetings: &Meetings<'_>, alternatives: &[NamedAlternative], told: &mut Told) -> Result<(), Memory>
+fn tell_in_named(
+    meetings: &Meetings<'_>,
+    alternatives: &[NamedAlternative],
+    told: &mut Told,
+) -> Result<(), Memory>
     ensures { OnOk result (told.new ≡ told.old ++ over_named meetings.now (named_nodes (map named_tree alternatives.now))) }
 {
     for alternative in alternatives {
@@ -229,7 +273,11 @@ fn tell_in_named(meetings: &Meetings<'_>, alternatives: &[NamedAlternative], tol
 
 #[tactic(auto, using(crate::proofs::BodyViews::statement_views))]
 #[cycle(statement)]
-fn tell_in_one_named(meetings: &Meetings<'_>, alternative: &NamedAlternative, told: &mut Told) -> Result<(), Memory>
+fn tell_in_one_named(
+    meetings: &Meetings<'_>,
+    alternative: &NamedAlternative,
+    told: &mut Told,
+) -> Result<(), Memory>
     ensures { OnOk result (told.new ≡ told.old ++ over_actions meetings.now (statement_nodes (named_tree alternative.now).actions)) }
 {
     tell_in_actions(meetings, alternative.actions.as_slice(), told)
@@ -238,7 +286,11 @@ fn tell_in_one_named(meetings: &Meetings<'_>, alternative: &NamedAlternative, to
 /// What is told in a body.
 #[tactic(auto, using(crate::proofs::BodyViews::body_views))]
 #[cycle(statement)]
-pub fn tell_in_body(meetings: &Meetings<'_>, body: &[BodyPart], told: &mut Told) -> Result<(), Memory>
+pub fn tell_in_body(
+    meetings: &Meetings<'_>,
+    body: &[BodyPart],
+    told: &mut Told,
+) -> Result<(), Memory>
     ensures { OnOk result (told.new ≡ told.old ++ over_body meetings.now (body_nodes (body_trees body.now))) }
 {
     for part in body {

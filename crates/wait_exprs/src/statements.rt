@@ -104,10 +104,7 @@ pub fn add_in_statement<'a>(
 }
 
 #[cycle(statement)]
-fn add_in_actions<'a>(
-    actions: &'a [Statement],
-    found: &mut List<Wait<'a>>,
-) -> Result<(), Memory>
+fn add_in_actions<'a>(actions: &'a [Statement], found: &mut List<Wait<'a>>) -> Result<(), Memory>
     ensures { OnOk result (wait_trees found.new ≡ wait_trees found.old ++ waits_in_each (statement_nodes (statement_trees actions.now))) }
 {
     for action in actions {
@@ -271,10 +268,7 @@ pub fn add_in_handler<'a>(
 
 #[tactic(auto, using(crate::proofs::BodyViews::statement_views))]
 #[cycle(statement)]
-fn add_in_own_handler<'a>(
-    handler: &'a Handler,
-    found: &mut List<Wait<'a>>,
-) -> Result<(), Memory>
+fn add_in_own_handler<'a>(handler: &'a Handler, found: &mut List<Wait<'a>>) -> Result<(), Memory>
     ensures { OnOk result (wait_trees found.new ≡ wait_trees found.old ++ waits_in_handler (handler_node (Some (handler_tree handler.now)))) }
 {
     add_in_named(handler.alternatives.as_slice(), found)?;
