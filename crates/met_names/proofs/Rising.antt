@@ -1,5 +1,5 @@
 -- Places that rise one by one rise, and a row among such is found by its place.
-use Rattle.std.proofs.Common.{◌≡◌, ◌<◌, ◌≤◌, ◌⊎◌, inl, inr, ℕ, List, [], ◌∷◌, zero, suc, length, drop, arith, refl, ap, sym, subst, ◌∙◌, Option, Some, None, Contains}
+use Rattle.std.proofs.Common.{◌≡◌, ◌<◌, ◌≤◌, inl, inr, ℕ, List, [], ◌∷◌, zero, suc, length, drop, arith, refl, sym, subst, ◌∙◌, Some, Contains}
 use Rattle.std.specs.Prelude.{slice_index_or}
 use Rattle.chill_base.specs.declared.pos.Pos.{Pos}
 use Rattle.names_model.specs.declared.names.Resolved.{Resolved}
