@@ -5,8 +5,7 @@ use crate::operators::told_of_computed;
 use chill_base::{Memory, Pos};
 use chill_tree::tree::Expr;
 use constant_operators::{Evaluation, Known, Measured};
-use definition_origins::{Predefined, Told};
-use diagnostics::Rule;
+use definition_origins::{Predefined, Told, CheckRule};
 
 /// What is known of a call of a predefined name.
 #[cycle(expr)]
@@ -77,7 +76,7 @@ fn wrong_number(
         return Ok(varying);
     }
     if varying.is_clean {
-        told.tell(Rule::M10, at)?;
+        told.tell(CheckRule::M10, at)?;
     }
     Ok(Known::told(true))
 }
@@ -118,6 +117,6 @@ fn measuring_routine(
 
 // Rule M10 of what is measured.
 fn misfit(at: Pos, told: &mut Told) -> Result<Known, Memory> {
-    told.tell(Rule::M10, at)?;
+    told.tell(CheckRule::M10, at)?;
     Ok(Known::told(true))
 }

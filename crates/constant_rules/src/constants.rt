@@ -6,8 +6,7 @@ use crate::tuples::{named_parts, named_uniform};
 use chill_base::{Memory, Pos};
 use chill_tree::tree::{Expr, Name, Prefix, ValueRange};
 use constant_operators::{Evaluation, GREATEST, Known};
-use definition_origins::Told;
-use diagnostics::Rule;
+use definition_origins::{Told, CheckRule};
 
 /// What is known of an expression where a constant is needed, or none where something is told in it or at it.
 pub fn needed(
@@ -20,7 +19,7 @@ pub fn needed(
         return Ok(None);
     }
     if !known.is_constant {
-        told.tell(Rule::M1, expr.at())?;
+        told.tell(CheckRule::M1, expr.at())?;
         return Ok(None);
     }
     Ok(Some(known))
@@ -94,7 +93,7 @@ fn whole(ground: &Evaluation<'_>, at: Pos, value: u64, told: &mut Told) -> Resul
     match i64::try_from(value) {
         Ok(number) if number <= GREATEST => ground.int(number),
         Ok(_) | Err(_) => {
-            told.tell(Rule::M11, at)?;
+            told.tell(CheckRule::M11, at)?;
             Ok(Known::told(true))
         }
     }
@@ -110,7 +109,7 @@ fn negative(
     match i64::try_from(value) {
         Ok(number) if number <= GREATEST + 1 => ground.int(-number),
         Ok(_) | Err(_) => {
-            told.tell(Rule::M11, at)?;
+            told.tell(CheckRule::M11, at)?;
             Ok(Known::told(true))
         }
     }

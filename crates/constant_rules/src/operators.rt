@@ -2,19 +2,18 @@
 use chill_base::{Memory, Pos};
 use chill_tree::tree::{Operator, Prefix};
 use constant_operators::{Computed, Evaluation, Known};
-use definition_origins::Told;
-use diagnostics::Rule;
+use definition_origins::{Told, CheckRule};
 
 /// What is known of a result; at an operator or routine that is told what came of it.
 pub fn told_of_computed(computed: Computed, at: Pos, told: &mut Told) -> Result<Known, Memory> {
     match computed {
         Computed::Known(known) => Ok(known),
         Computed::Misfit => {
-            told.tell(Rule::M10, at)?;
+            told.tell(CheckRule::M10, at)?;
             Ok(Known::told(true))
         }
         Computed::OutOfRange(_) => {
-            told.tell(Rule::M11, at)?;
+            told.tell(CheckRule::M11, at)?;
             Ok(Known::told(true))
         }
     }

@@ -4,8 +4,7 @@ use crate::tuple_value::TupleValue;
 use chill_base::{Memory, Pos, Scalars};
 use chill_tree::tree::{Expr, Name, ValueRange};
 use constant_operators::{Evaluation, Known};
-use definition_origins::Told;
-use diagnostics::Rule;
+use definition_origins::{Told, CheckRule};
 use modes::{Class, Field, Form, Mode, form_of, number_of_values};
 use std::rc::Rc;
 
@@ -110,12 +109,12 @@ pub fn tuple_of_synonym(
         let _ = known(ground, expr, told)?;
         return Ok(None);
     };
-    let Part { at, known, fits } = part(ground, expr, mode, Blame::Whole, told)?;
+    let Part { at, known, fits } = known_part(ground, expr, mode, Blame::Whole, told)?;
     if !known.is_clean {
         return Ok(None);
     }
     if !fits {
-        told.tell(Rule::M12, at)?;
+        told.tell(CheckRule::M12, at)?;
         return Ok(None);
     }
     let (_, value) = known.into_parts();
@@ -188,7 +187,7 @@ fn uniform_value(
         let part = varying_part(ground, value, told)?;
         return misfit_where(place, part.is_clean, told);
     };
-    let part = part(ground, value, element, place.blame, told)?;
+    let part = known_part(ground, value, element, place.blame, told)?;
     if !part.known.is_clean {
         return Ok(Tupled::Told);
     }
@@ -204,7 +203,7 @@ fn uniform_value(
 
 // What is known of a part that goes to a mode.
 #[cycle(expr)]
-fn part(
+fn known_part(
     ground: &Evaluation<'_>,
     expr: &Expr,
     mode: &Rc<Mode>,
@@ -214,7 +213,7 @@ fn part(
     let at = expr.at();
     match expr {
         Expr::Paren { inner, .. } => {
-            let Part { at: _, known, fits } = part(ground, inner, mode, blame, told)?;
+            let Part { at: _, known, fits } = known_part(ground, inner, mode, blame, told)?;
             Ok(Part { at, known, fits })
         }
         Expr::Tuple {
@@ -286,7 +285,7 @@ fn array_value(
     let mut known = Vec::new(ground.alloc);
     let mut is_clean = true;
     for range in parts {
-        let own = part(ground, &range.first, element, place.blame, told)?;
+        let own = known_part(ground, &range.first, element, place.blame, told)?;
         is_clean = is_clean && own.known.is_clean;
         known.push(own)?;
     }
@@ -313,7 +312,7 @@ fn structure_value(
     let mut known = Vec::new(ground.alloc);
     let mut is_clean = true;
     for (range, field) in parts.iter().zip(fields.iter()) {
-        let own = part(ground, &range.first, &field.mode, place.blame, told)?;
+        let own = known_part(ground, &range.first, &field.mode, place.blame, told)?;
         is_clean = is_clean && own.known.is_clean;
         known.push(own)?;
     }
@@ -341,7 +340,7 @@ fn powerset_value(
     let mut spans = Vec::new(ground.alloc);
     let mut is_clean = true;
     for range in parts {
-        let own = span(ground, range, member, place.blame, told)?;
+        let own = known_span(ground, range, member, place.blame, told)?;
         is_clean = is_clean && is_span_clean(&own);
         spans.push(own)?;
     }
@@ -360,17 +359,17 @@ fn powerset_value(
 
 // The members from one to another, or one alone.
 #[cycle(expr)]
-fn span(
+fn known_span(
     ground: &Evaluation<'_>,
     range: &ValueRange,
     member: &Rc<Mode>,
     blame: Blame,
     told: &mut Told,
 ) -> Result<Span, Memory> {
-    let first = part(ground, &range.first, member, blame, told)?;
+    let first = known_part(ground, &range.first, member, blame, told)?;
     let last = match &range.last {
         None => None,
-        Some(last) => Some(part(ground, last, member, blame, told)?),
+        Some(last) => Some(known_part(ground, last, member, blame, told)?),
     };
     Ok(Span { first, last })
 }
@@ -427,7 +426,7 @@ fn misfit_of(place: Place) -> Tupled {
 // Rule M10 of a tuple with a mode's name that doesn't fit its mode.
 fn tell_misfit(place: Place, told: &mut Told) -> Result<(), Memory> {
     match place.blame {
-        Blame::Each => told.tell(Rule::M10, place.bracket),
+        Blame::Each => told.tell(CheckRule::M10, place.bracket),
         Blame::Whole => Ok(()),
     }
 }
@@ -435,7 +434,7 @@ fn tell_misfit(place: Place, told: &mut Told) -> Result<(), Memory> {
 // Rule M11 of a part, at a place, of a tuple with a mode's name.
 fn tell_outside(place: Place, at: Pos, told: &mut Told) -> Result<(), Memory> {
     match place.blame {
-        Blame::Each => told.tell(Rule::M11, at),
+        Blame::Each => told.tell(CheckRule::M11, at),
         Blame::Whole => Ok(()),
     }
 }

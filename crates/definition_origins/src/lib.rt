@@ -4,12 +4,14 @@
 //! It stands on `names_model`, whose names say what each use stands for.
 #![tactic(auto)]
 
+mod check_rule;
 mod order;
 mod origin;
 mod predefined;
 mod told;
 mod uses;
 
+pub use check_rule::CheckRule;
 pub use order::in_order;
 pub use origin::{Element, Origin, Origins, Owner, origins};
 pub use predefined::Predefined;

@@ -5,10 +5,12 @@ ghost use Rattle.diagnostics.specs.Listing.{listed};
 ghost use Rattle.diagnostics.specs.Order.{diagnostic_cmp};
 ghost use Rattle.names_model.specs.NameRules.{tell};
 ghost use Rattle.checks_model.specs.Told.{tell_at};
+ghost use Rattle.definition_origins.specs.CheckRules.{AreOfChecks, rule_of};
 ghost use Rattle.definition_origins.specs.Told.{tell_both};
 
+use crate::check_rule::CheckRule;
 use chill_base::{Item, List, Memory, Pos, Text};
-use diagnostics::{Diagnostic, Diagnostics, Rule, list_once, listed_law};
+use diagnostics::{Diagnostic, Diagnostics, list_once, listed_law};
 use std::alloc::Global;
 use std::marker::Model;
 
@@ -21,10 +23,13 @@ pub struct Told {
 impl Model for Told {
     ghost use Rattle.std.specs.Prelude.{List};
     ghost use Rattle.diagnostics.specs.declared.diagnostic.Diagnostic.{Diagnostic};
+    ghost use Rattle.definition_origins.specs.CheckRules.{AreOfChecks};
 
     ghost Value = { List Diagnostic };
 
     ghost view = { λ t. t.diagnostics };
+
+    ghost invariant = { λ t. AreOfChecks t.diagnostics };
 }
 
 impl Told {
@@ -52,15 +57,15 @@ impl Told {
     }
 
     /// A rule that is broken at a place.
-    pub fn tell(&mut self, rule: Rule, at: Pos) -> Result<(), Memory>
-        ensures { OnOk result (self.new ≡ self.old ++ tell_at rule at ∷ []) }
+    pub fn tell(&mut self, rule: CheckRule, at: Pos) -> Result<(), Memory>
+        ensures { OnOk result (self.new ≡ self.old ++ tell_at (rule_of rule) at ∷ []) }
     {
         self.tell_names(rule, at, &[], &[])
     }
 
     /// A rule that is broken at a place, of a name.
-    pub fn tell_name(&mut self, rule: Rule, at: Pos, first: &[u8]) -> Result<(), Memory>
-        ensures { OnOk result (self.new ≡ self.old ++ tell at rule first.now ∷ []) }
+    pub fn tell_name(&mut self, rule: CheckRule, at: Pos, first: &[u8]) -> Result<(), Memory>
+        ensures { OnOk result (self.new ≡ self.old ++ tell at (rule_of rule) first.now ∷ []) }
     {
         self.tell_names(rule, at, first, &[])
     }
@@ -68,19 +73,19 @@ impl Told {
     /// A rule that is broken at a place, of two names.
     pub fn tell_names(
         &mut self,
-        rule: Rule,
+        rule: CheckRule,
         at: Pos,
         first: &[u8],
         second: &[u8],
     ) -> Result<(), Memory>
-        ensures { OnOk result (self.new ≡ self.old ++ tell_both at rule first.now second.now ∷ []) }
+        ensures { OnOk result (self.new ≡ self.old ++ tell_both at (rule_of rule) first.now second.now ∷ []) }
     {
         let alloc = self.diagnostics.allocator();
         let first = Text::from_vec(Vec::from_slice(alloc, first)?);
         let second = Text::from_vec(Vec::from_slice(alloc, second)?);
         self.diagnostics.push(Diagnostic {
             at,
-            rule,
+            rule: rule.rule(),
             first,
             second,
         })
@@ -90,6 +95,7 @@ impl Told {
     pub fn into_list(self) -> Diagnostics
         ensures list { result ≡ listed diagnostic_cmp self }
         ensures sorted { IsStrictlySortedBy diagnostic_cmp result }
+        ensures checks { AreOfChecks result }
     {
         listed_law();
         let Told { diagnostics } = self;

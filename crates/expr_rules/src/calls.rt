@@ -8,8 +8,7 @@ use crate::telling::{tell_if, tell_wrong_number};
 use crate::values::tell_unfit;
 use chill_base::{Memory, Pos};
 use chill_tree::tree::{Expr, Name};
-use diagnostics::Rule;
-use mode_rules::{Measured, Predefined, Told};
+use mode_rules::{Measured, Predefined, Told, CheckRule};
 use modes::Class;
 
 impl<'a, 'b> Walk<'a, 'b> {
@@ -48,7 +47,7 @@ impl<'a, 'b> Walk<'a, 'b> {
             return Ok(Classed::broken());
         }
         let has_number = tell_wrong_number(args.len(), formals.len(), name.at, told)?;
-        let gives_value = tell_if(self.returns_none(name), Rule::S10, name.at, told)?;
+        let gives_value = tell_if(self.returns_none(name), CheckRule::S10, name.at, told)?;
         if !has_number || !gives_value {
             return Ok(Classed::broken());
         }
@@ -68,7 +67,7 @@ impl<'a, 'b> Walk<'a, 'b> {
         if !known.is_clean {
             return Ok(Classed::broken());
         }
-        let gives_value = tell_if(gives_no_value(own), Rule::S10, at, told)?;
+        let gives_value = tell_if(gives_no_value(own), CheckRule::S10, at, told)?;
         let result = self.routine(own, args, &known, at, told)?;
         if !gives_value {
             return Ok(Classed::broken());
@@ -151,7 +150,7 @@ impl<'a, 'b> Walk<'a, 'b> {
             let found = self.evaluation.class_of_routine(own, class)?;
             return tell_unfit(found, at, told);
         }
-        let is_clean = tell_if(cannot_be_put(own, class), Rule::S1, at, told)?;
+        let is_clean = tell_if(cannot_be_put(own, class), CheckRule::S1, at, told)?;
         Ok(Classed {
             class: None,
             is_clean,
@@ -175,7 +174,7 @@ impl<'a, 'b> Walk<'a, 'b> {
             Measured::Misfit => tell_unfit(None, at, told),
             Measured::Broken => Ok(Classed::clean(None)),
             Measured::Other => {
-                let is_clean = tell_if(known.class.is_some(), Rule::S1, at, told)?;
+                let is_clean = tell_if(known.class.is_some(), CheckRule::S1, at, told)?;
                 Ok(Classed {
                     class: None,
                     is_clean,

@@ -6,8 +6,7 @@ use crate::surroundings::Walk;
 use crate::telling::tell_if;
 use chill_base::Memory;
 use chill_tree::tree::{Expr, Name};
-use diagnostics::Rule;
-use mode_rules::{Origin, Predefined, Told, field_in, shared};
+use mode_rules::{Origin, Predefined, Told, field_in, shared, CheckRule};
 use modes::{Class, Mode, holds_read, is_read};
 use std::rc::Rc;
 
@@ -90,7 +89,7 @@ impl<'a, 'b> Walk<'a, 'b> {
         if !indices.is_clean {
             return Ok(located.without_mode());
         }
-        let _ = tell_if(cannot_be_written(&located), Rule::S3, expr.at(), told)?;
+        let _ = tell_if(cannot_be_written(&located), CheckRule::S3, expr.at(), told)?;
         Ok(located)
     }
 

@@ -4,8 +4,7 @@ use crate::surroundings::Walk;
 use crate::telling::tell_if;
 use chill_base::Memory;
 use chill_tree::tree::Expr;
-use diagnostics::Rule;
-use mode_rules::{Told, form_in, is_of_discrete};
+use mode_rules::{Told, form_in, is_of_discrete, CheckRule};
 use modes::{Class, Form, Mode, goes_with, v_equivalent};
 use std::rc::Rc;
 
@@ -44,21 +43,21 @@ impl<'a, 'b> Walk<'a, 'b> {
         match receiver {
             Receiver::Nothing | Receiver::Mode(None) | Receiver::Location(None) => Ok(true),
             Receiver::Mode(Some(mode)) => {
-                tell_if(does_not_go(class, mode), Rule::S2, expr.at(), told)
+                tell_if(does_not_go(class, mode), CheckRule::S2, expr.at(), told)
             }
             Receiver::Location(Some(mode)) => {
                 let argument = self.place(expr)?;
                 tell_if(
                     does_not_fit_parameter(&argument, mode),
-                    Rule::S6,
+                    CheckRule::S6,
                     expr.at(),
                     told,
                 )
             }
-            Receiver::Condition => tell_if(is_not_boolean(class), Rule::S4, expr.at(), told),
-            Receiver::Selector => tell_if(is_not_discrete(class), Rule::S7, expr.at(), told),
-            Receiver::Bound => tell_if(is_not_discrete(class), Rule::S8, expr.at(), told),
-            Receiver::Members => tell_if(is_no_powerset(class), Rule::S8, expr.at(), told),
+            Receiver::Condition => tell_if(is_not_boolean(class), CheckRule::S4, expr.at(), told),
+            Receiver::Selector => tell_if(is_not_discrete(class), CheckRule::S7, expr.at(), told),
+            Receiver::Bound => tell_if(is_not_discrete(class), CheckRule::S8, expr.at(), told),
+            Receiver::Members => tell_if(is_no_powerset(class), CheckRule::S8, expr.at(), told),
         }
     }
 }

@@ -1,10 +1,9 @@
 // How rules are told, and whether they are.
 use chill_base::{Memory, Pos};
-use diagnostics::Rule;
-use mode_rules::Told;
+use mode_rules::{Told, CheckRule};
 
 /// Tells a rule at a place where it is broken; whether nothing is told.
-pub fn tell_if(is_broken: bool, rule: Rule, at: Pos, told: &mut Told) -> Result<bool, Memory> {
+pub fn tell_if(is_broken: bool, rule: CheckRule, at: Pos, told: &mut Told) -> Result<bool, Memory> {
     if !is_broken {
         return Ok(true);
     }
@@ -19,5 +18,5 @@ pub fn tell_wrong_number(
     at: Pos,
     told: &mut Told,
 ) -> Result<bool, Memory> {
-    tell_if(parts != needed, Rule::S5, at, told)
+    tell_if(parts != needed, CheckRule::S5, at, told)
 }

@@ -5,8 +5,7 @@ use crate::surroundings::Walk;
 use crate::telling::tell_if;
 use chill_base::{Memory, Pos};
 use chill_tree::tree::{Expr, Name, ValueRange};
-use diagnostics::Rule;
-use mode_rules::{Told, has_parts};
+use mode_rules::{Told, has_parts, CheckRule};
 use modes::{Class, Fields, Form, Mode, form_of, number_of_values};
 use std::rc::Rc;
 
@@ -152,7 +151,7 @@ impl<'a, 'b> Walk<'a, 'b> {
         if !self.tell_in_parts(parts, shape, told)? {
             return Ok(Classed::broken());
         }
-        if !tell_if(shape.is_misfit(), Rule::S11, bracket, told)? {
+        if !tell_if(shape.is_misfit(), CheckRule::S11, bracket, told)? {
             return Ok(Classed::broken());
         }
         Ok(Classed::clean(class_of_tuple(receiver)?))
@@ -224,7 +223,7 @@ impl<'a, 'b> Walk<'a, 'b> {
         if !known.is_clean {
             return Ok(Classed::broken());
         }
-        if !tell_if(shape.is_misfit(), Rule::S11, bracket, told)? {
+        if !tell_if(shape.is_misfit(), CheckRule::S11, bracket, told)? {
             return Ok(Classed::broken());
         }
         Ok(Classed::clean(class_of_tuple(receiver)?))

@@ -6,8 +6,7 @@ use crate::surroundings::Walk;
 use crate::telling::tell_if;
 use chill_base::{Memory, Pos};
 use chill_tree::tree::{Expr, Name, Operator, Prefix};
-use diagnostics::Rule;
-use mode_rules::{Told, mode_in};
+use mode_rules::{Told, mode_in, CheckRule};
 use modes::{Class, number_of_scalars};
 
 // How many scalars a value may have.
@@ -43,7 +42,7 @@ impl<'a, 'b> Walk<'a, 'b> {
         if !known.is_clean {
             return Ok(known);
         }
-        let is_clean = tell_if(is_too_large(&known.class), Rule::L6, bare_place(expr), told)?;
+        let is_clean = tell_if(is_too_large(&known.class), CheckRule::L6, bare_place(expr), told)?;
         Ok(known.told(is_clean))
     }
 
@@ -117,7 +116,7 @@ impl<'a, 'b> Walk<'a, 'b> {
         if !base.is_clean || !is_clean {
             return Ok(Classed::broken());
         }
-        if !tell_if(self.has_wrong_number(base, args.len()), Rule::S5, at, told)? {
+        if !tell_if(self.has_wrong_number(base, args.len()), CheckRule::S5, at, told)? {
             return Ok(Classed::broken());
         }
         match &base.class {
@@ -242,7 +241,7 @@ pub(crate) fn tell_unfit(
     match found {
         Some(class) => Ok(Classed::clean(Some(class))),
         None => {
-            told.tell(Rule::S1, at)?;
+            told.tell(CheckRule::S1, at)?;
             Ok(Classed::broken())
         }
     }

@@ -15,7 +15,7 @@ pub use constant_operators::{
     is_of_discrete, is_value_routine, mode_in, shared,
 };
 pub use constant_rules::{TupleValue, has_parts, known, needed};
-pub use definition_origins::{Element, Origin, Origins, Owner, Predefined, Told};
+pub use definition_origins::{CheckRule, Element, Origin, Origins, Owner, Predefined, Told};
 pub use exceptions::{FIRST_OWN_EXCEPTION, exception_of_language, one_spelling};
 pub use meeting::{Meeting, meeting_of};
 pub use phase::{told_of_modes, told_of_program};

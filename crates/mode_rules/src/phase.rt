@@ -12,8 +12,8 @@ use chill_tree::tree::{
 };
 use constant_operators::Evaluation;
 use constant_rules::{known, needed, routine};
-use definition_origins::{Origin, Told};
-use diagnostics::{Diagnostics, Rule};
+use definition_origins::{Origin, Told, CheckRule};
+use diagnostics::Diagnostics;
 use modes::number_of_scalars;
 use names_model::{Definition, Inside, Kind, Names};
 use std::alloc::Global;
@@ -53,7 +53,7 @@ fn tell_too_many_shared(ground: &Evaluation<'_>, told: &mut Told) -> Result<(), 
             sum = sum.saturating_add(u64::from(number_of_scalars(mode)));
         }
         if sum > SHARED {
-            return told.tell(Rule::L7, own.name.at);
+            return told.tell(CheckRule::L7, own.name.at);
         }
     }
     Ok(())

@@ -3,8 +3,7 @@ use chill_base::{Item, Memory, Scalars};
 use chill_tree::tree::{Declaration, ModeDefinition, Name, Signal, Synonym, Tree};
 use constant_operators::{Entry, Evaluation, Known, copied, shared, single};
 use constant_rules::{is_constant_tuple, needed, tuple_of_synonym};
-use definition_origins::{Element, Origin, Owner, Predefined, Told, in_order};
-use diagnostics::Rule;
+use definition_origins::{Element, Origin, Owner, Predefined, Told, in_order, CheckRule};
 use modes::{Class, Mode, holds_read};
 use names_model::Names;
 use std::alloc::Global;
@@ -117,7 +116,7 @@ fn tell_without_value(own: &Declaration, mode: &Mode, told: &mut Told) -> Result
         return Ok(());
     }
     for name in own.names.as_slice() {
-        told.tell_name(Rule::M9, name.at, name.text.as_slice())?;
+        told.tell_name(CheckRule::M9, name.at, name.text.as_slice())?;
     }
     Ok(())
 }
@@ -248,7 +247,7 @@ fn synonym_value(
         return Ok(None);
     };
     if synonym_value_outside_its_mode(&known, mode) {
-        told.tell(Rule::M12, own.value.at())?;
+        told.tell(CheckRule::M12, own.value.at())?;
         return Ok(None);
     }
     Ok(known.into_parts().1)

@@ -2,9 +2,8 @@
 use crate::walk::Statements;
 use chill_base::Memory;
 use chill_tree::tree::{Expr, ValueRange};
-use diagnostics::Rule;
 use expr_rules::{Receiver, tell_if};
-use mode_rules::{Told, is_of_discrete};
+use mode_rules::{Told, is_of_discrete, CheckRule};
 use modes::{Class, compatible};
 
 impl<'a, 'b> Statements<'a, 'b> {
@@ -44,7 +43,7 @@ impl<'a, 'b> Statements<'a, 'b> {
         if known.is_clean {
             let _ = tell_if(
                 label_misfits(&known.class, selector),
-                Rule::S7,
+                CheckRule::S7,
                 label.at(),
                 told,
             )?;

@@ -3,8 +3,7 @@ use crate::surroundings::Returning;
 use crate::walk::Statements;
 use chill_base::Memory;
 use chill_tree::tree::{Handler, Name, NamedAlternative};
-use diagnostics::Rule;
-use mode_rules::{Told, one_spelling};
+use mode_rules::{Told, one_spelling, CheckRule};
 use std::alloc::Global;
 use std::collections::HashSet;
 
@@ -72,7 +71,7 @@ fn tell_exceptions(
     for name in names {
         let exception = one_spelling(name.text.as_slice());
         if earlier.contains(exception) {
-            told.tell_name(Rule::S12, name.at, name.text.as_slice())?;
+            told.tell_name(CheckRule::S12, name.at, name.text.as_slice())?;
         } else {
             earlier.insert(Vec::from_slice(alloc, exception)?)?;
         }

@@ -2,9 +2,8 @@
 use crate::walk::Statements;
 use chill_base::Memory;
 use chill_tree::tree::{Bracketed, Expr, ReceiveAlternative};
-use diagnostics::Rule;
 use expr_rules::{Classed, Receiver, tell_if};
-use mode_rules::Told;
+use mode_rules::{Told, CheckRule};
 
 impl<'a, 'b> Statements<'a, 'b> {
     /// What is told of what is evaluated before the actions that an action holds. Of a selector this is known.
@@ -48,7 +47,7 @@ impl<'a, 'b> Statements<'a, 'b> {
         let parts = self.walk.number_of_parts(&own.source);
         let _ = tell_if(
             has_wrong_number(names, parts),
-            Rule::S5,
+            CheckRule::S5,
             own.source.at,
             told,
         )?;

@@ -2,9 +2,8 @@
 use crate::walk::Statements;
 use chill_base::Memory;
 use chill_tree::tree::{Control, Expr};
-use diagnostics::Rule;
 use expr_rules::{Receiver, tell_if};
-use mode_rules::{Told, form_in, is_of_discrete};
+use mode_rules::{Told, form_in, is_of_discrete, CheckRule};
 use modes::{Class, Form, Mode, compatible, form_of};
 use std::rc::Rc;
 
@@ -45,7 +44,7 @@ impl<'a, 'b> Statements<'a, 'b> {
         let last = self.walk.value(end, Receiver::Bound, told)?;
         let _ = tell_if(
             bounds_misfit(&first.class, &last.class),
-            Rule::S8,
+            CheckRule::S8,
             end.at(),
             told,
         )?;
@@ -65,7 +64,7 @@ impl<'a, 'b> Statements<'a, 'b> {
         if known.is_clean {
             let _ = tell_if(
                 step_misfits(&known.class, counter),
-                Rule::S8,
+                CheckRule::S8,
                 step.at(),
                 told,
             )?;

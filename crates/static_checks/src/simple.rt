@@ -3,9 +3,8 @@ use crate::surroundings::Returning;
 use crate::walk::Statements;
 use chill_base::{List, Memory, Pos};
 use chill_tree::tree::{Expr, Name, Simple};
-use diagnostics::Rule;
 use expr_rules::{Receiver, tell_if};
-use mode_rules::Told;
+use mode_rules::{Told, CheckRule};
 
 impl<'a, 'b> Statements<'a, 'b> {
     /// What is told of an action that holds no others.
@@ -80,7 +79,7 @@ impl<'a, 'b> Statements<'a, 'b> {
         around: Returning<'_>,
         told: &mut Told,
     ) -> Result<(), Memory> {
-        let _ = tell_if(is_not_allowed(around, value.is_some()), Rule::S9, at, told)?;
+        let _ = tell_if(is_not_allowed(around, value.is_some()), CheckRule::S9, at, told)?;
         self.tell_some_value(value, around.receiver(), told)
     }
 
@@ -91,7 +90,7 @@ impl<'a, 'b> Statements<'a, 'b> {
         around: Returning<'_>,
         told: &mut Told,
     ) -> Result<(), Memory> {
-        let _ = tell_if(is_not_allowed(around, true), Rule::S9, at, told)?;
+        let _ = tell_if(is_not_allowed(around, true), CheckRule::S9, at, told)?;
         self.tell_value(value, around.receiver(), told)
     }
 }

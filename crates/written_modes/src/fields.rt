@@ -2,8 +2,7 @@
 use crate::places::Placed;
 use chill_base::Memory;
 use chill_tree::tree::Name;
-use definition_origins::Told;
-use diagnostics::Rule;
+use definition_origins::{Told, CheckRule};
 use layout_map::{is_possible, share_a_bit};
 use modes::Mode;
 use std::alloc::Global;
@@ -40,7 +39,7 @@ fn tell_fields_twice(
     for field in fields {
         let text = field.name.text.as_slice();
         if earlier.contains(text) {
-            told.tell_name(Rule::M7, field.name.at, text)?;
+            told.tell_name(CheckRule::M7, field.name.at, text)?;
             is_clean = false;
         } else {
             earlier.insert(Vec::from_slice(alloc, text)?)?;
@@ -55,12 +54,12 @@ fn tell_places(fields: &[PlacedField<'_>], told: &mut Told) -> Result<bool, Memo
     let all_placed = fields.iter().all(|field| field.at.is_written());
     for (number, field) in fields.iter().enumerate() {
         if field_has_impossible_place(field, all_placed) {
-            told.tell_name(Rule::M14, field.name.at, field.name.text.as_slice())?;
+            told.tell_name(CheckRule::M14, field.name.at, field.name.text.as_slice())?;
             is_clean = false;
         }
         if let Some(earlier) = first_overlapped(&fields[..number], field) {
             let names = (earlier.name.text.as_slice(), field.name.text.as_slice());
-            told.tell_names(Rule::M13, field.name.at, names.0, names.1)?;
+            told.tell_names(CheckRule::M13, field.name.at, names.0, names.1)?;
             is_clean = false;
         }
     }

@@ -5,8 +5,7 @@ use chill_tree::tree::{
 };
 use constant_operators::Evaluation;
 use constant_rules::needed;
-use definition_origins::Told;
-use diagnostics::Rule;
+use definition_origins::{Told, CheckRule};
 use layout_map::is_possible_step;
 use modes::{Mode, Spread, number_of_values};
 use std::rc::Rc;
@@ -148,7 +147,7 @@ fn tell_step(
     told: &mut Told,
 ) -> Result<Option<Spread>, Memory> {
     if matches!(first, Placed::Misfit) || matches!(distance, PlaceNumber::Misfit) {
-        told.tell_name(Rule::M14, at, b"element")?;
+        told.tell_name(CheckRule::M14, at, b"element")?;
         return Ok(None);
     }
     let (Placed::At(first), PlaceNumber::Number(distance)) = (first, distance) else {
@@ -157,7 +156,7 @@ fn tell_step(
     let step = held(distance);
     if let (Some(index), Some(element)) = (index, element) {
         if !is_possible_step(number_of_values(index), element, &first, step) {
-            told.tell_name(Rule::M14, at, b"element")?;
+            told.tell_name(CheckRule::M14, at, b"element")?;
             return Ok(None);
         }
     }

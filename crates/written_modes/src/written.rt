@@ -10,8 +10,7 @@ use chill_tree::tree::{
 };
 use constant_operators::{Evaluation, Known, shared};
 use constant_rules::needed;
-use definition_origins::Told;
-use diagnostics::Rule;
+use definition_origins::{Told, CheckRule};
 use modes::{Field, Form, Mode, form_of, is_discrete, number_of_leaves, number_of_values};
 use std::alloc::Global;
 use std::rc::Rc;
@@ -119,7 +118,7 @@ fn tell_misplaced(at: Pos, standing: Standing, told: &mut Told) -> Result<bool, 
     match standing {
         Standing::Whole => Ok(true),
         Standing::Part => {
-            told.tell(Rule::M8, at)?;
+            told.tell(CheckRule::M8, at)?;
             Ok(false)
         }
     }
@@ -152,7 +151,7 @@ fn length_of(
         return Ok(None);
     };
     if length_out_of_limits(ground, &known, limits) {
-        told.tell(Rule::M6, length.at())?;
+        told.tell(CheckRule::M6, length.at())?;
         return Ok(None);
     }
     match known.number() {
@@ -232,7 +231,7 @@ fn named_mode(
         return Ok(None);
     };
     if standing == Standing::Part && is_for_processes(&mode) {
-        told.tell(Rule::M8, name.at)?;
+        told.tell(CheckRule::M8, name.at)?;
         return Ok(None);
     }
     Ok(Some(mode))
@@ -248,7 +247,7 @@ fn discrete_name(
         return Ok(None);
     };
     if !is_discrete(&mode) {
-        told.tell(Rule::M4, name.at)?;
+        told.tell(CheckRule::M4, name.at)?;
         return Ok(None);
     }
     Ok(Some(mode))
@@ -268,7 +267,7 @@ fn range_mode(
         return Ok(None);
     };
     if lower > upper {
-        told.tell(Rule::M2, low.at())?;
+        told.tell(CheckRule::M2, low.at())?;
         return Ok(None);
     }
     ground.made(Mode::Range {
@@ -292,7 +291,7 @@ fn bound_of(
         return Ok(None);
     };
     if bound_outside_its_mode(&known, parent) {
-        told.tell(Rule::M3, bound.at())?;
+        told.tell(CheckRule::M3, bound.at())?;
         return Ok(None);
     }
     Ok(known.number())
@@ -309,7 +308,7 @@ fn powerset_mode(
         return Ok(None);
     };
     if powerset_too_large(&member) {
-        told.tell(Rule::M5, at)?;
+        told.tell(CheckRule::M5, at)?;
         return Ok(None);
     }
     ground.made(Mode::Powerset { member })
@@ -368,7 +367,7 @@ fn index_mode(
         return Ok(None);
     };
     if too_many_indices(&mode) {
-        told.tell(Rule::M6, at)?;
+        told.tell(CheckRule::M6, at)?;
         return Ok(None);
     }
     Ok(Some(mode))
@@ -382,7 +381,7 @@ fn of_few_scalars(
     told: &mut Told,
 ) -> Result<Option<Rc<Mode>>, Memory> {
     if too_many_scalars(&mode) {
-        told.tell(Rule::L5, at)?;
+        told.tell(CheckRule::L5, at)?;
         return Ok(None);
     }
     ground.made(mode)
