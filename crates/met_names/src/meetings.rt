@@ -7,8 +7,7 @@ use crate::purpose::Purpose;
 use crate::rows::Rows;
 use chill_base::Memory;
 use chill_tree::tree::Name;
-use definition_origins::Told;
-use diagnostics::Rule;
+use definition_origins::{CheckRule, Told};
 use names_model::Resolved;
 use std::alloc::Global;
 use std::marker::Model;
@@ -111,7 +110,7 @@ impl<'a> Meetings<'a> {
                 if fits(purpose, named) {
                     return Ok(());
                 }
-                told.tell_name(Rule::P3, name.at, name.text.as_slice())
+                told.tell_name(CheckRule::P3, name.at, name.text.as_slice())
             }
         }
     }

@@ -2,10 +2,9 @@
 use crate::rules::{is_no_instance_location, is_priority_out_of_limits};
 use chill_base::Memory;
 use chill_tree::tree::Expr;
-use diagnostics::Rule;
 use expr_rules::Walk;
 use met_names::Meetings;
-use mode_rules::{Evaluation, Told, known};
+use mode_rules::{CheckRule, Evaluation, Told, known};
 use wait_exprs::Wait;
 
 /// What priorities and locations are asked against.
@@ -38,7 +37,7 @@ impl<'a, 'b> Waiting<'a, 'b> {
         let mut told_before = Told::new(self.evaluation.alloc);
         let known = known(self.evaluation, priority, &mut told_before)?;
         if is_priority_out_of_limits(&known, &self.evaluation.plain.int) {
-            return told.tell(Rule::P6, priority.at());
+            return told.tell(CheckRule::P6, priority.at());
         }
         Ok(())
     }
@@ -52,7 +51,7 @@ impl<'a, 'b> Waiting<'a, 'b> {
         };
         let located = walk.place(set)?;
         if is_no_instance_location(&located) {
-            return told.tell(Rule::P7, set.at());
+            return told.tell(CheckRule::P7, set.at());
         }
         Ok(())
     }

@@ -9,8 +9,7 @@ ghost use Rattle.process_names.specs.Rules.{has_name, declares_text, has, told_h
 use crate::rules::is_region;
 use chill_base::Memory;
 use chill_tree::tree::{Declaration, Item, Local, ModulionKind, Name, Passed};
-use definition_origins::Told;
-use diagnostics::Rule;
+use definition_origins::{CheckRule, Told};
 use names_model::Spelling;
 use reach_tables::Table;
 use std::alloc::Global;
@@ -84,7 +83,7 @@ fn tell_had(alloc: Global, table: &Table, name: &Name, told: &mut Told) -> Resul
     if table.find(&spelling).is_empty() {
         return Ok(());
     }
-    told.tell_name(Rule::P4, name.at, name.text.as_slice())
+    told.tell_name(CheckRule::P4, name.at, name.text.as_slice())
 }
 
 fn tell_each(alloc: Global, table: &Table, names: &[Name], told: &mut Told) -> Result<(), Memory>

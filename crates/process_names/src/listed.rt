@@ -6,8 +6,7 @@ ghost use Rattle.process_names.specs.Heard.{nothing_heard, heard_with, clashes, 
 
 use chill_base::Memory;
 use chill_tree::tree::{Name, NamedAlternative, ReceiveAlternative};
-use definition_origins::Told;
-use diagnostics::Rule;
+use definition_origins::{CheckRule, Told};
 use met_names::{Meeting, Meetings, Purpose};
 use std::alloc::Global;
 use std::collections::BTreeSet;
@@ -84,7 +83,7 @@ fn tell_listed(
     };
     let named = meetings.met_at(name);
     if listed.clashes(number, named) {
-        told.tell_name(Rule::P5, name.at, name.text.as_slice())?;
+        told.tell_name(CheckRule::P5, name.at, name.text.as_slice())?;
     }
     listed.add(number, named)
 }

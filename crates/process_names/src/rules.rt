@@ -7,8 +7,7 @@ ghost use Rattle.process_names.specs.Rules.{told_local, told_place};
 
 use chill_base::{Memory, Pos};
 use chill_tree::tree::{Item, ModulionKind, Name, Statement};
-use definition_origins::Told;
-use diagnostics::Rule;
+use definition_origins::{CheckRule, Told};
 use met_names::{Meeting, Meetings};
 
 /// Whether it is a region.
@@ -39,7 +38,7 @@ pub fn tell_local(meetings: &Meetings<'_>, name: &Name, told: &mut Told) -> Resu
 {
     match meetings.declared_at(name) {
         Some(Meeting::Event) | Some(Meeting::Buffer) => {
-            told.tell_name(Rule::P8, name.at, name.text.as_slice())
+            told.tell_name(CheckRule::P8, name.at, name.text.as_slice())
         }
         Some(Meeting::Signal) | Some(Meeting::Other) | None => Ok(()),
     }
@@ -54,9 +53,9 @@ pub fn tell_place(around: ModulionKind, item: &Item, told: &mut Told) -> Result<
         return Ok(());
     }
     match item {
-        Item::Process(own) => told.tell_name(Rule::P1, own.name.at, own.name.text.as_slice()),
-        Item::Statement(own) => told.tell(Rule::P2, first_place(own)),
-        Item::Modulion(own) => told.tell(Rule::P2, own.name.at),
+        Item::Process(own) => told.tell_name(CheckRule::P1, own.name.at, own.name.text.as_slice()),
+        Item::Statement(own) => told.tell(CheckRule::P2, first_place(own)),
+        Item::Modulion(own) => told.tell(CheckRule::P2, own.name.at),
         Item::Seize { .. }
         | Item::Grant { .. }
         | Item::Local(_)
