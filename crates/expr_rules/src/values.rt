@@ -112,7 +112,7 @@ impl<'a, 'b> Walk<'a, 'b> {
         base: &Classed,
         told: &mut Told,
     ) -> Result<Classed, Memory> {
-        let is_clean = self.tell_in_indices(args, base, told)?;
+        let is_clean = (&*self).tell_in_indices(args, &*base, told)?;
         if !base.is_clean || !is_clean {
             return Ok(Classed::broken());
         }
@@ -127,10 +127,10 @@ impl<'a, 'b> Walk<'a, 'b> {
 
     // What is told in indices; whether it is nothing. Where there isn't exactly one, none has a mode that it should go with.
     #[cycle(expr)]
-    fn tell_in_indices(
-        &self,
+    fn tell_in_indices<'k>(
+        &'k self,
         args: &[Expr],
-        base: &Classed,
+        base: &'k Classed,
         told: &mut Told,
     ) -> Result<bool, Memory> {
         let mode = if args.len() == 1 {

@@ -3,6 +3,7 @@
 ghost use Rattle.std.specs.Prelude.{IfOk};
 ghost use Rattle.std.specs.List.Sorted.{IsStrictlySortedBy};
 ghost use Rattle.diagnostics.specs.Order.{diagnostic_cmp};
+ghost use Rattle.definition_origins.specs.CheckRules.{AreOfChecks};
 
 use crate::table::{declared_entry, definition_entry, evaluate, signal_entry, synonym_entry};
 use chill_base::{Memory, Pos};
@@ -24,7 +25,8 @@ const SHARED: u64 = 65_536;
 
 /// All rules on modes and constants that a program breaks, in order, each once.
 pub fn told_of_modes(alloc: Global, tree: &Tree, names: &Names) -> Result<Diagnostics, Memory>
-    ensures { IfOk result (λ list. IsStrictlySortedBy diagnostic_cmp list) }
+    ensures sorted { IfOk result (λ list. IsStrictlySortedBy diagnostic_cmp list) }
+    ensures checks { IfOk result AreOfChecks }
 {
     let evaluation = evaluate(alloc, tree, names)?;
     let told = told_of_program(&evaluation, tree)?;

@@ -1,6 +1,7 @@
 // The phases of modes and of statements.
 ghost use Rattle.std.specs.List.Sorted.{IsStrictlySortedBy};
 ghost use Rattle.diagnostics.specs.Order.{diagnostic_cmp};
+ghost use Rattle.definition_origins.specs.CheckRules.{AreOfChecks};
 ghost use Rattle.static_checks.specs.Answers.{TellsInOrder};
 
 use crate::walk::Statements;
@@ -43,7 +44,8 @@ fn tell_statements(
 
 // No rule is broken where nothing is told.
 fn answer(list: Diagnostics) -> Result<(), Refusal>
-    requires { IsStrictlySortedBy diagnostic_cmp list }
+    requires sorted { IsStrictlySortedBy diagnostic_cmp list }
+    requires checks { AreOfChecks list }
     ensures { TellsInOrder result }
 {
     if list.is_empty() {
