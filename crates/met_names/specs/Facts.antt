@@ -2,6 +2,7 @@
 -- something else.
 use Rattle.std.specs.Prelude.{ℕ, Bool, true, false, not, List, Option, Some, None, slice_get}
 use Rattle.chill_tree.specs.declared.tree.name.Name.{Name}
+use Rattle.modes.specs.ModeTree.{ModeTree, int, boolean, char, instance, set_of, range, powerset, chars, array, structure, event, buffer, read, named}
 use Rattle.diagnostics.specs.declared.diagnostic.Diagnostic.{Diagnostic}
 use Rattle.diagnostics.specs.declared.rule.Rule.TheVariants as rules
 use Rattle.names_model.specs.declared.names.Resolved.{Resolved}
@@ -12,6 +13,23 @@ use Rattle.met_names.specs.declared.meeting.Meeting.{Meeting}
 use Rattle.met_names.specs.declared.meeting.Meeting.TheVariants as meetings
 use Rattle.met_names.specs.declared.purpose.Purpose.{Purpose}
 use Rattle.met_names.specs.declared.purpose.Purpose.TheVariants as purposes
+
+-- what processes meet at in a location of the mode; names and READ are looked through
+abbrev pub met_in : ModeTree → Meeting
+met_in (event l) = meetings.Event
+met_in (buffer l e) = meetings.Buffer
+met_in (read m) = met_in m
+met_in (named d n m) = met_in m
+met_in int = meetings.Other
+met_in boolean = meetings.Other
+met_in char = meetings.Other
+met_in instance = meetings.Other
+met_in (set_of d c) = meetings.Other
+met_in (range m l h) = meetings.Other
+met_in (powerset m) = meetings.Other
+met_in (chars l) = meetings.Other
+met_in (array i e s) = meetings.Other
+met_in (structure fs p) = meetings.Other
 
 -- what each used name stands for and which number each defined name has, by their places; and by the numbers of definitions
 -- what processes meet at where one is used, and what its mode is of

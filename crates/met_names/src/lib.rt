@@ -11,7 +11,7 @@ mod purpose;
 mod rows;
 mod values;
 
-pub use meeting::Meeting;
+pub use meeting::{Meeting, met_in};
 pub use meetings::Meetings;
 pub use purpose::Purpose;
 pub use rows::Rows;

@@ -14,6 +14,7 @@ use std::marker::Model;
 
 /// What each used name stands for and which number each defined name has, by their places; and by the numbers of definitions
 /// what processes meet at where one is used, and what its mode is of.
+#[derive(Drop)]
 pub struct Meetings<'a> {
     alloc: Global,
     uses: Rows<'a>,

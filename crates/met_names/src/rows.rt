@@ -9,6 +9,7 @@ use names_model::Resolved;
 use std::marker::Model;
 
 /// Places with their numbers; where it is known that the places rise, one is found by halving.
+#[derive(Drop)]
 pub struct Rows<'a> {
     rows: &'a [Resolved],
     rise: bool,

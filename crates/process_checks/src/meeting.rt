@@ -1,59 +1,70 @@
 // What processes meet at under each definition of a program, by the definitions' numbers.
-use chill_base::{List, Memory};
-use met_names::Meeting;
-use mode_rules::{Entry, Evaluation, Origin, meeting_of};
-use modes::Mode;
+ghost use Rattle.std.specs.Prelude.{◌≡◌, IfOk, map, option_map};
+ghost use Rattle.process_checks.specs.MetByNumber.{declared_as, declared_by, used_as, used_from};
 
-// What processes meet at where a location has the mode.
-fn met_in_mode(mode: &Mode) -> Meeting {
-    match meeting_of(mode) {
-        Some(mode_rules::Meeting::Event { .. }) => Meeting::Event,
-        Some(mode_rules::Meeting::Buffer { .. }) => Meeting::Buffer,
-        None => Meeting::Other,
+use chill_base::{List, Memory};
+use met_names::{Meeting, met_in};
+use mode_rules::{Entry, Evaluation, Origin};
+
+// What the mode is of that is known of a definition, if one is known.
+fn declared_as(entry: &Entry) -> Option<Meeting>
+    ensures { result ≡ declared_as entry.now }
+{
+    match &entry.mode {
+        None => None,
+        Some(mode) => Some(met_in(mode)),
     }
 }
 
-// What the mode is of that is known of a definition, if one is known.
-fn declared_in(entry: &Entry) -> Option<Meeting> {
-    entry.mode.as_ref().map(|mode| met_in_mode(mode))
+fn declared_by(entry: Option<&Entry>) -> Option<Meeting>
+    ensures { result ≡ declared_by (option_map (λ known. known.now) entry) }
+{
+    match entry {
+        None => None,
+        Some(entry) => declared_as(entry),
+    }
 }
 
 // What processes meet at where a definition is used, or none where that isn't known.
-fn used_as(origin: Option<&Origin<'_>>, entry: &Entry) -> Option<Meeting> {
+fn used_as(origin: &Origin<'_>, entry: Option<&Entry>) -> Option<Meeting>
+    ensures { result ≡ used_as origin.now (option_map (λ known. known.now) entry) }
+{
     match origin {
-        Some(Origin::Signal(_)) => Some(Meeting::Signal),
-        Some(Origin::Location { .. }) => declared_in(entry),
-        Some(Origin::Synonym { .. })
-        | Some(Origin::SynMode(_))
-        | Some(Origin::NewMode(_))
-        | Some(Origin::Element(_))
-        | Some(Origin::Parameter { .. })
-        | Some(Origin::Counter(_))
-        | Some(Origin::Received { .. })
-        | Some(Origin::Procedure(_))
-        | Some(Origin::Process(_))
-        | Some(Origin::Modulion(_))
-        | Some(Origin::Predefined(_))
-        | None => None,
+        Origin::Signal(_) => Some(Meeting::Signal),
+        Origin::Location { .. } => declared_by(entry),
+        Origin::Synonym { .. }
+        | Origin::SynMode(_)
+        | Origin::NewMode(_)
+        | Origin::Element(_)
+        | Origin::Parameter { .. }
+        | Origin::Counter(_)
+        | Origin::Received { .. }
+        | Origin::Procedure(_)
+        | Origin::Process(_)
+        | Origin::Modulion(_)
+        | Origin::Predefined(_) => None,
     }
 }
 
 /// What processes meet at where each definition is used.
-pub fn used_meetings(evaluation: &Evaluation<'_>) -> Result<List<Option<Meeting>>, Memory> {
+pub fn used_meetings(evaluation: &Evaluation<'_>) -> Result<List<Option<Meeting>>, Memory>
+    ensures { IfOk result (λ found. found ≡ used_from evaluation.now.entries.items 0 evaluation.now.origins) }
+{
     let mut found = List::new(evaluation.alloc);
-    let mut number = 0_usize;
-    for entry in evaluation.entries.as_slice() {
-        found.push(used_as(evaluation.origins.as_slice().get(number), entry))?;
-        number = number.saturating_add(1);
+    for origin in evaluation.origins.as_slice() {
+        let entry = evaluation.entries.get(found.len());
+        found.push(used_as(origin, entry))?;
     }
     Ok(found)
 }
 
 /// What the mode of each definition is of.
-pub fn declared_meetings(evaluation: &Evaluation<'_>) -> Result<List<Option<Meeting>>, Memory> {
+pub fn declared_meetings(evaluation: &Evaluation<'_>) -> Result<List<Option<Meeting>>, Memory>
+    ensures { IfOk result (λ found. found ≡ map declared_as evaluation.now.entries.items) }
+{
     let mut found = List::new(evaluation.alloc);
-    for entry in evaluation.entries.as_slice() {
-        found.push(declared_in(entry))?;
+    for entry in &evaluation.entries {
+        found.push(declared_as(entry))?;
     }
     Ok(found)
 }

@@ -500,3 +500,7 @@ module _ (f : Facts) (g : Ground) (facts : AreFactsOf f g) where
 
 pub names_told : NamesLaw
 names_told f g t facts = program_told f g facts t.modulions
+
+-- what an expression receives from is told alike
+pub source_told : (f : Facts) (g : Ground) → AreFactsOf f g → (e : ExprTree) → over_expr (told_source f) e ≡ told_met g e
+source_told f g facts e = expr f g facts e
