@@ -17,6 +17,7 @@ use mode_rules::{CheckRule, Evaluation, Told, known};
 use wait_exprs::Wait;
 
 /// What priorities and locations are asked against.
+#[derive(Clone, Copy)]
 pub struct Waiting<'a, 'b> {
     pub evaluation: &'b Evaluation<'a>,
     pub meetings: &'b Meetings<'b>,
