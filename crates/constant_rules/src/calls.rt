@@ -5,7 +5,7 @@ use crate::operators::told_of_computed;
 use chill_base::{Memory, Pos};
 use chill_tree::tree::Expr;
 use constant_operators::{Evaluation, Known, Measured};
-use definition_origins::{Predefined, Told, CheckRule};
+use definition_origins::{CheckRule, Predefined, Told};
 
 /// What is known of a call of a predefined name.
 #[cycle(expr)]

@@ -6,7 +6,7 @@ use crate::tuples::{named_parts, named_uniform};
 use chill_base::{Memory, Pos};
 use chill_tree::tree::{Expr, Name, Prefix, ValueRange};
 use constant_operators::{Evaluation, GREATEST, Known};
-use definition_origins::{Told, CheckRule};
+use definition_origins::{CheckRule, Told};
 
 /// What is known of an expression where a constant is needed, or none where something is told in it or at it.
 pub fn needed(
@@ -54,7 +54,7 @@ pub fn known(ground: &Evaluation<'_>, expr: &Expr, told: &mut Told) -> Result<Kn
             None => varying_part(ground, value, told),
         },
         Expr::Name(name) => named(ground, name),
-        Expr::Apply { of, args, .. } => applied(ground, of, args.as_slice(), told),
+        Expr::Apply { .. } => applied(ground, expr, told),
         Expr::Field { of, .. } => varying_part(ground, of, told),
         Expr::Prefixed {
             at,
@@ -128,19 +128,18 @@ fn named(ground: &Evaluation<'_>, name: &Name) -> Result<Known, Memory> {
     }
 }
 
-// What stands before brackets with them: a routine is computed.
+// Brackets behind an expression, which is handed down whole, since both it and what is in the brackets are parts: a routine
+// is computed.
 #[cycle(expr)]
-fn applied(
-    ground: &Evaluation<'_>,
-    of: &Expr,
-    args: &[Expr],
-    told: &mut Told,
-) -> Result<Known, Memory> {
+fn applied(ground: &Evaluation<'_>, expr: &Expr, told: &mut Told) -> Result<Known, Memory> {
+    let Expr::Apply { of, args, .. } = expr else {
+        return Ok(Known::varying(true));
+    };
     match ground.routine_called(of) {
-        Some(own) => routine(ground, of.at(), own, args, told),
+        Some(own) => routine(ground, of.at(), own, args.as_slice(), told),
         None => {
             let base = known(ground, of, told)?;
-            let parts = varying_parts(ground, args, told)?;
+            let parts = varying_parts(ground, args.as_slice(), told)?;
             Ok(Known::varying(base.is_clean && parts.is_clean))
         }
     }

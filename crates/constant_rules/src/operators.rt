@@ -2,7 +2,7 @@
 use chill_base::{Memory, Pos};
 use chill_tree::tree::{Operator, Prefix};
 use constant_operators::{Computed, Evaluation, Known};
-use definition_origins::{Told, CheckRule};
+use definition_origins::{CheckRule, Told};
 
 /// What is known of a result; at an operator or routine that is told what came of it.
 pub fn told_of_computed(computed: Computed, at: Pos, told: &mut Told) -> Result<Known, Memory> {

@@ -4,7 +4,7 @@ use crate::tuple_value::TupleValue;
 use chill_base::{Memory, Pos, Scalars};
 use chill_tree::tree::{Expr, Name, ValueRange};
 use constant_operators::{Evaluation, Known};
-use definition_origins::{Told, CheckRule};
+use definition_origins::{CheckRule, Told};
 use modes::{Class, Field, Form, Mode, form_of, number_of_values};
 use std::rc::Rc;
 

@@ -8,7 +8,7 @@ use crate::telling::{tell_if, tell_wrong_number};
 use crate::values::tell_unfit;
 use chill_base::{Memory, Pos};
 use chill_tree::tree::{Expr, Name};
-use mode_rules::{Measured, Predefined, Told, CheckRule};
+use mode_rules::{CheckRule, Measured, Predefined, Told};
 use modes::Class;
 
 impl<'a, 'b> Walk<'a, 'b> {

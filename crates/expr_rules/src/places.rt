@@ -6,7 +6,7 @@ use crate::surroundings::Walk;
 use crate::telling::tell_if;
 use chill_base::Memory;
 use chill_tree::tree::{Expr, Name};
-use mode_rules::{Origin, Predefined, Told, field_in, shared, CheckRule};
+use mode_rules::{CheckRule, Origin, Predefined, Told, field_in, shared};
 use modes::{Class, Mode, holds_read, is_read};
 use std::rc::Rc;
 

@@ -1,6 +1,6 @@
 // How rules are told, and whether they are.
 use chill_base::{Memory, Pos};
-use mode_rules::{Told, CheckRule};
+use mode_rules::{CheckRule, Told};
 
 /// Tells a rule at a place where it is broken; whether nothing is told.
 pub fn tell_if(is_broken: bool, rule: CheckRule, at: Pos, told: &mut Told) -> Result<bool, Memory> {

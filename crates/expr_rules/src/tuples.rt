@@ -5,7 +5,7 @@ use crate::surroundings::Walk;
 use crate::telling::tell_if;
 use chill_base::{Memory, Pos};
 use chill_tree::tree::{Expr, Name, ValueRange};
-use mode_rules::{Told, has_parts, CheckRule};
+use mode_rules::{CheckRule, Told, has_parts};
 use modes::{Class, Fields, Form, Mode, form_of, number_of_values};
 use std::rc::Rc;
 

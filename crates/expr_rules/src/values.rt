@@ -6,7 +6,7 @@ use crate::surroundings::Walk;
 use crate::telling::tell_if;
 use chill_base::{Memory, Pos};
 use chill_tree::tree::{Expr, Name, Operator, Prefix};
-use mode_rules::{Told, mode_in, CheckRule};
+use mode_rules::{CheckRule, Told, mode_in};
 use modes::{Class, number_of_scalars};
 
 // How many scalars a value may have.
@@ -42,7 +42,12 @@ impl<'a, 'b> Walk<'a, 'b> {
         if !known.is_clean {
             return Ok(known);
         }
-        let is_clean = tell_if(is_too_large(&known.class), CheckRule::L6, bare_place(expr), told)?;
+        let is_clean = tell_if(
+            is_too_large(&known.class),
+            CheckRule::L6,
+            bare_place(expr),
+            told,
+        )?;
         Ok(known.told(is_clean))
     }
 
@@ -116,7 +121,12 @@ impl<'a, 'b> Walk<'a, 'b> {
         if !base.is_clean || !is_clean {
             return Ok(Classed::broken());
         }
-        if !tell_if(self.has_wrong_number(base, args.len()), CheckRule::S5, at, told)? {
+        if !tell_if(
+            self.has_wrong_number(base, args.len()),
+            CheckRule::S5,
+            at,
+            told,
+        )? {
             return Ok(Classed::broken());
         }
         match &base.class {

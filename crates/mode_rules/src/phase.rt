@@ -13,7 +13,7 @@ use chill_tree::tree::{
 };
 use constant_operators::Evaluation;
 use constant_rules::{known, needed, routine};
-use definition_origins::{Origin, Told, CheckRule};
+use definition_origins::{CheckRule, Origin, Told};
 use diagnostics::Diagnostics;
 use modes::number_of_scalars;
 use names_model::{Definition, Inside, Kind, Names};

@@ -3,7 +3,7 @@ use chill_base::{Item, Memory, Scalars};
 use chill_tree::tree::{Declaration, ModeDefinition, Name, Signal, Synonym, Tree};
 use constant_operators::{Entry, Evaluation, Known, copied, shared, single};
 use constant_rules::{is_constant_tuple, needed, tuple_of_synonym};
-use definition_origins::{Element, Origin, Owner, Predefined, Told, in_order, CheckRule};
+use definition_origins::{CheckRule, Element, Origin, Owner, Predefined, Told, in_order};
 use modes::{Class, Mode, holds_read};
 use names_model::Names;
 use std::alloc::Global;

@@ -47,6 +47,7 @@ fn used_as(origin: &Origin<'_>, entry: Option<&Entry>) -> Option<Meeting>
 }
 
 /// What processes meet at where each definition is used.
+#[tactic(auto, using(crate::proofs::Listed::used_step))]
 pub fn used_meetings(evaluation: &Evaluation<'_>) -> Result<List<Option<Meeting>>, Memory>
     ensures { IfOk result (λ found. found ≡ used_from evaluation.now.entries.items 0 evaluation.now.origins) }
 {
@@ -63,7 +64,7 @@ pub fn declared_meetings(evaluation: &Evaluation<'_>) -> Result<List<Option<Meet
     ensures { IfOk result (λ found. found ≡ map declared_as evaluation.now.entries.items) }
 {
     let mut found = List::new(evaluation.alloc);
-    for entry in &evaluation.entries {
+    for entry in evaluation.entries.as_slice() {
         found.push(declared_as(entry))?;
     }
     Ok(found)

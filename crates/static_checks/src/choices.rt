@@ -3,7 +3,7 @@ use crate::walk::Statements;
 use chill_base::Memory;
 use chill_tree::tree::{Expr, ValueRange};
 use expr_rules::{Receiver, tell_if};
-use mode_rules::{Told, is_of_discrete, CheckRule};
+use mode_rules::{CheckRule, Told, is_of_discrete};
 use modes::{Class, compatible};
 
 impl<'a, 'b> Statements<'a, 'b> {

@@ -3,7 +3,7 @@ use crate::surroundings::Returning;
 use crate::walk::Statements;
 use chill_base::Memory;
 use chill_tree::tree::{Handler, Name, NamedAlternative};
-use mode_rules::{Told, one_spelling, CheckRule};
+use mode_rules::{CheckRule, Told, one_spelling};
 use std::alloc::Global;
 use std::collections::HashSet;
 

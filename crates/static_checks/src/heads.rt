@@ -3,7 +3,7 @@ use crate::walk::Statements;
 use chill_base::Memory;
 use chill_tree::tree::{Bracketed, Expr, ReceiveAlternative};
 use expr_rules::{Classed, Receiver, tell_if};
-use mode_rules::{Told, CheckRule};
+use mode_rules::{CheckRule, Told};
 
 impl<'a, 'b> Statements<'a, 'b> {
     /// What is told of what is evaluated before the actions that an action holds. Of a selector this is known.

@@ -1,7 +1,7 @@
 // How many scalars the locals of a body have (our own limit).
 use crate::walk::Statements;
 use chill_base::{Memory, Pos};
-use mode_rules::{Told, CheckRule};
+use mode_rules::{CheckRule, Told};
 use modes::number_of_scalars;
 use names_model::{Definition, Inside, Kind};
 

@@ -3,7 +3,7 @@ use crate::walk::Statements;
 use chill_base::Memory;
 use chill_tree::tree::{Control, Expr};
 use expr_rules::{Receiver, tell_if};
-use mode_rules::{Told, form_in, is_of_discrete, CheckRule};
+use mode_rules::{CheckRule, Told, form_in, is_of_discrete};
 use modes::{Class, Form, Mode, compatible, form_of};
 use std::rc::Rc;
 

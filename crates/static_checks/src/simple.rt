@@ -4,7 +4,7 @@ use crate::walk::Statements;
 use chill_base::{List, Memory, Pos};
 use chill_tree::tree::{Expr, Name, Simple};
 use expr_rules::{Receiver, tell_if};
-use mode_rules::{Told, CheckRule};
+use mode_rules::{CheckRule, Told};
 
 impl<'a, 'b> Statements<'a, 'b> {
     /// What is told of an action that holds no others.
@@ -79,7 +79,12 @@ impl<'a, 'b> Statements<'a, 'b> {
         around: Returning<'_>,
         told: &mut Told,
     ) -> Result<(), Memory> {
-        let _ = tell_if(is_not_allowed(around, value.is_some()), CheckRule::S9, at, told)?;
+        let _ = tell_if(
+            is_not_allowed(around, value.is_some()),
+            CheckRule::S9,
+            at,
+            told,
+        )?;
         self.tell_some_value(value, around.receiver(), told)
     }
 

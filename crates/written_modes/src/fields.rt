@@ -2,7 +2,7 @@
 use crate::places::Placed;
 use chill_base::Memory;
 use chill_tree::tree::Name;
-use definition_origins::{Told, CheckRule};
+use definition_origins::{CheckRule, Told};
 use layout_map::{is_possible, share_a_bit};
 use modes::Mode;
 use std::alloc::Global;

@@ -5,7 +5,7 @@ use chill_tree::tree::{
 };
 use constant_operators::Evaluation;
 use constant_rules::needed;
-use definition_origins::{Told, CheckRule};
+use definition_origins::{CheckRule, Told};
 use layout_map::is_possible_step;
 use modes::{Mode, Spread, number_of_values};
 use std::rc::Rc;

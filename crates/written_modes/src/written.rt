@@ -10,7 +10,7 @@ use chill_tree::tree::{
 };
 use constant_operators::{Evaluation, Known, shared};
 use constant_rules::needed;
-use definition_origins::{Told, CheckRule};
+use definition_origins::{CheckRule, Told};
 use modes::{Field, Form, Mode, form_of, is_discrete, number_of_leaves, number_of_values};
 use std::alloc::Global;
 use std::rc::Rc;
