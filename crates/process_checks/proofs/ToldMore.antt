@@ -43,10 +43,10 @@ then_more first second before between after p q = record {
   none = λ e. q.none (none_second first second e) ∙ p.none (none_first first second e);
 }
 
--- a diagnostic that is told where a test holds, as it could be
-pub told_one : (b : Bool) (d : Diagnostic) (told : List Diagnostic) → b ≡ true → IsToldMore (if b then d ∷ [] else []) told (told ++ d ∷ [])
-told_one true d told e = all_more (d ∷ []) told
-told_one false d told e = absurd (let no : ⊥ = cc in no)
+-- a diagnostic that is told where nothing is told inside, as it could be
+pub told_where : (clean none : Bool) (d : Diagnostic) (before after : List Diagnostic) → clean ≡ none → clean ≡ true → after ≡ before ++ d ∷ [] → IsToldMore (if none then d ∷ [] else []) before after
+told_where clean true d before after is holds told = subst (IsToldMore (d ∷ []) before) (sym told) (all_more (d ∷ []) before)
+told_where clean false d before after is holds told = absurd (let no : ⊥ = cc in no)
 
 -- ---- nothing is told
 
