@@ -1,6 +1,6 @@
 -- What has been listed so far tells what the list of earlier names does.
-use Rattle.std.proofs.Common.{◌≡◌, ℕ, zero, suc, ◌<◌, ◌==◌, ◌||◌, Bool, true, false, List, [], ◌∷◌, ◌++◌, ◌⊎◌, inl, inr, refl, sym, ap, ◌∙◌, subst, arith, Option, Some, None, nat_cmp}
-use Rattle.std.specs.Prelude.{option_map, not, if◌then◌else◌}
+use Rattle.std.proofs.Common.{◌≡◌, ℕ, ◌==◌, ◌||◌, Bool, true, false, List, [], ◌∷◌, ◌++◌, inl, inr, refl, sym, ap, ◌∙◌, subst, arith, Option, Some, None, nat_cmp}
+use Rattle.std.specs.Prelude.{option_map}
 use Rattle.std.specs.List.{list_any}
 use Rattle.std.specs.BTreeSet.{insert_key}
 use Rattle.std.specs.BTreeMap.{is_at}
@@ -11,7 +11,6 @@ use Rattle.std.specs.Cmp.{nat_cmp_is}
 use Rattle.std.proofs.lemmas.Bool.{cases_order, eqb-true, eq-eqb}
 use Rattle.std.proofs.lemmas.List.Folds.{list_any-append}
 use Rattle.chill_tree.specs.declared.tree.name.Name.{Name}
-use Rattle.diagnostics.specs.declared.diagnostic.Diagnostic.{Diagnostic}
 use Rattle.diagnostics.specs.declared.rule.Rule.TheVariants as rules
 use Rattle.names_model.specs.NameRules.{tell}
 use Rattle.checks_model.specs.Ground.{Ground, number_at}
@@ -21,7 +20,7 @@ use Rattle.checks_model.specs.ProcessRules as model
 use Rattle.met_names.specs.declared.meeting.Meeting.{Meeting}
 use Rattle.met_names.specs.declared.meeting.Meeting.TheVariants as meetings
 use Rattle.met_names.specs.Facts.{Facts, number_of, met_at}
-use Rattle.process_names.specs.Heard.{Heard, nothing_heard, is_buffer, is_signal, is_mixed, clashes, heard_with, heard_behind, heard_name, heard_names, told_heard}
+use Rattle.process_names.specs.Heard.{Heard, nothing_heard, is_buffer, is_signal, is_mixed, heard_behind, heard_name, told_heard}
 use Rattle.process_names.specs.Phase.{as_met, AreFactsOf}
 
 -- ---- tests of some member

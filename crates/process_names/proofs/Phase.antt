@@ -1,16 +1,15 @@
 -- What the walk tells are the lines of the phase of processes without P6 and P7.
-use Rattle.std.proofs.Common.{◌≡◌, ℕ, Bool, true, false, List, [], ◌∷◌, ◌++◌, refl, sym, ap, ◌∙◌, subst, append_assoc, append-nil, Option, Some, None}
+use Rattle.std.proofs.Common.{◌≡◌, Bool, true, false, List, [], ◌∷◌, ◌++◌, refl, sym, ap, ◌∙◌, subst, append_assoc, append-nil, Option, Some, None}
 use Rattle.std.specs.Prelude.{map, flat_map, option_map, not, if◌then◌else◌}
-use Rattle.std.specs.List.{list_any}
 use Rattle.std.proofs.lemmas.Grind.{flat_map-append}
 use Rattle.chill_tree.specs.declared.tree.name.Name.{Name}
 use Rattle.chill_tree.specs.declared.tree.item.ModulionKind.{ModulionKind}
-use Rattle.chill_tree.specs.ExprTree.{ExprTree, ExprNodes, RangeTree, RangeNodes, whole, character, text, this_instance, paren, receive, start, tuple, uniform, name, apply, field, prefixed, binary, no_exprs, more_exprs, alone, between, no_ranges, more_ranges, expr_nodes, range_nodes}
+use Rattle.chill_tree.specs.ExprTree.{ExprTree, ExprNodes, RangeTree, RangeNodes, whole, character, text, this_instance, paren, receive, start, tuple, uniform, name, apply, field, prefixed, binary, no_exprs, more_exprs, alone, between, no_ranges, more_ranges, expr_nodes}
 use Rattle.chill_tree.specs.ModeTree as written
 use Rattle.chill_tree.specs.LocalTree.{SynonymTree, ModeDefinitionTree, InitialTree, DeclarationTree, LocalTree, synonyms, syn_modes, new_modes, locations}
 use Rattle.chill_tree.specs.SimpleTree.{SimpleTree, assign, update, call_of, exit, return_with, result_of, assert_that, cause, stop, start_of, delay, continue_event, send, ControlTree, while_holds, for_ever, for_members, for_steps}
 use Rattle.chill_tree.specs.StatementTree.{StatementTree, BracketedTree, StatementNodes, ElsIfNodes, CaseNodes, NamedNodes, ReceiveNodes, OtherwiseNode, HandlerNode, BodyNodes, HandlerTree, BodyTree, empty, simple, bracketed, if_then, case_of, do_loop, begin_end, delay_case, receive_case, no_statements, more_statements, no_branches, more_branches, no_cases, more_cases, no_named, more_named, no_receives, more_receives, no_otherwise, otherwise, no_handler, handler, no_parts, more_locals, more_actions, handler_node, body_nodes}
-use Rattle.chill_tree.specs.ItemTree.{SignalTree, ParamTree, ProcedureTree, FormalTree, ProcessTree, ItemTree, ItemNodes, seize, grant, local_item, signals, procedure, process, modulion, action, no_items, more_items, items_in, ModulionTree, ProgramTree, modulion_item}
+use Rattle.chill_tree.specs.ItemTree.{SignalTree, ParamTree, ProcedureTree, FormalTree, ProcessTree, ItemTree, ItemNodes, seize, grant, local_item, signals, procedure, process, modulion, action, no_items, more_items, items_in, ModulionTree, modulion_item}
 use Rattle.diagnostics.specs.declared.diagnostic.Diagnostic.{Diagnostic}
 use Rattle.diagnostics.specs.declared.rule.Rule.TheVariants as rules
 use Rattle.diagnostics.specs.Listing.{SameMembers}
@@ -21,7 +20,7 @@ use Rattle.checks_model.specs.ProcessRules.{meeting_of, is_region, told_item, fo
 use Rattle.checks_model.specs.ProcessRules as model
 use Rattle.checks_model.specs.Phases.{some_expr, some_exprs, exprs_of_simple, exprs_of_control, exprs_of_label, exprs_of_labels, exprs_of_discrete, exprs_of_index, exprs_of_place, exprs_of_some_place, exprs_of_spread, exprs_of_base, exprs_of_fields, exprs_of_mode, exprs_of_some_mode, initial_expr, sources_in, sources_in_each, sources_in_range, sources_in_ranges, told_met, told_some_met}
 use Rattle.checks_model.specs.Phases as phases
-use Rattle.checks_model.specs.Sites.{Site, Around, in_procedure, in_no_procedure, at_item, at_synonym, at_mode_definition, at_declaration, at_mode, at_simple, at_condition, at_selector, at_labels, at_control, at_set, at_priority, at_event, at_source, at_received, at_exceptions, at_body, at_program, sites_of_local, some_site, events_listed, sites_of, sites_of_bracketed, sites_of_each, sites_of_branches, sites_of_cases, sites_of_events, sites_of_receives, sites_of_otherwise, sites_of_handler, sites_of_exceptions, sites_of_parts, sites_of_modes, sites_of_result, sites_of_body, locals_of_body, sites_of_procedure, sites_of_process, sites_of_item, sites_of_items, items_of, sites}
+use Rattle.checks_model.specs.Sites.{Site, Around, in_procedure, in_no_procedure, at_item, at_synonym, at_mode_definition, at_declaration, at_mode, at_simple, at_condition, at_selector, at_labels, at_control, at_set, at_priority, at_event, at_source, at_received, at_exceptions, at_body, sites_of_local, some_site, events_listed, sites_of, sites_of_bracketed, sites_of_each, sites_of_branches, sites_of_cases, sites_of_events, sites_of_receives, sites_of_otherwise, sites_of_handler, sites_of_exceptions, sites_of_parts, sites_of_modes, sites_of_result, sites_of_body, locals_of_body, sites_of_procedure, sites_of_process, sites_of_item, sites_of_items}
 use Rattle.met_names.specs.declared.meeting.Meeting.{Meeting}
 use Rattle.met_names.specs.declared.meeting.Meeting.TheVariants as meetings
 use Rattle.met_names.specs.declared.purpose.Purpose.{Purpose}
@@ -30,10 +29,10 @@ use Rattle.met_names.specs.Facts.{Facts, number_of, met_at, declared_at, fits, t
 use Rattle.met_names.specs.Sources.{over_expr, over_each, over_range, over_ranges, over_some, over_all, over_some_all, over_labels, over_discrete, over_index, over_place, over_some_place, over_spread, over_base, over_fields, over_mode, over_some_mode}
 use Rattle.process_names.specs.Rules.{told_place, told_grant, told_grants, told_local, is_event_or_buffer}
 use Rattle.process_names.specs.Heard.{Heard, nothing_heard, told_heard, told_listed, told_names, heard_name, heard_names, told_events, told_sources}
-use Rattle.process_names.specs.Walk.{purpose_of_send, over_synonym, over_initial, over_declaration, over_definition, over_local, declared_names, over_declared_names, over_local_of_body, over_simple, over_control, over_statement, over_bracketed, over_actions, over_branches, over_cases, over_receives, over_otherwise, over_handler, over_named, over_body, over_some_modes, over_signal, over_param, over_formal, whole_body, over_procedure, over_process, inside_item, over_items, over_program}
+use Rattle.process_names.specs.Walk.{purpose_of_send, over_synonym, over_initial, over_declaration, over_definition, over_local, declared_names, over_local_of_body, over_simple, over_control, over_statement, over_bracketed, over_actions, over_branches, over_cases, over_receives, over_otherwise, over_handler, over_named, over_body, over_some_modes, over_signal, over_param, over_formal, whole_body, over_procedure, over_process, inside_item, over_items}
 use Rattle.wait_exprs.specs.Split.{names_told_at}
 use Rattle.process_names.specs.Phase.{as_met, AreFactsOf, NamesLaw}
-use Rattle.wait_exprs.proofs.Same.{same, after, both, swapped, three_left, four_left, joined, begun, passed, equal_on}
+use Rattle.wait_exprs.proofs.Same.{same, after, swapped, three_left, four_left, joined, begun, passed, equal_on}
 use Rattle.process_names.proofs.HeardLists.{Hears, hears_none, hears_name, listed_alike}
 
 abbrev as_purpose : Purpose → model.Purpose

@@ -1,4 +1,4 @@
-use Rattle.std.proofs.Common.{◌≡◌, ◌||◌, ℕ, List, drop, map}
+use Rattle.std.proofs.Common.{◌≡◌, ◌||◌, ℕ, List, drop}
 use Rattle.std.specs.List.{list_any}
 use Rattle.chill_tree.specs.ItemTree.{item_trees}
 use Rattle.process_names.specs.Rules.{has, declares_text}

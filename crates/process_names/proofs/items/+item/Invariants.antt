@@ -1,4 +1,4 @@
-use Rattle.std.proofs.Common.{◌≡◌, ◌++◌, drop, map}
+use Rattle.std.proofs.Common.{◌≡◌, ◌++◌, drop}
 use Rattle.chill_tree.specs.ItemTree.{item_nodes, item_trees}
 use Rattle.process_names.specs.Walk.{over_items}
 use Rattle.process_names.proofs.items.+item.Given as goal

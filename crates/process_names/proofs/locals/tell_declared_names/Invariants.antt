@@ -1,4 +1,4 @@
-use Rattle.std.proofs.Common.{◌≡◌, ◌++◌, drop, map}
+use Rattle.std.proofs.Common.{◌≡◌, ◌++◌, drop}
 use Rattle.process_names.specs.Walk.{declared_names}
 use Rattle.process_names.proofs.locals.tell_declared_names.Given as goal
 
