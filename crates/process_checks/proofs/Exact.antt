@@ -1,7 +1,7 @@
 -- What is told by the facts of an evaluation is what the phase tells by names, and some of what may be told besides.
-use Rattle.std.proofs.Common.{◌≡◌, ◌⊎◌, inl, inr, List, [], ◌∷◌, ◌++◌, refl, sym, ap, ◌∙◌, subst, append-nil, Result, Ok, Err}
-use Rattle.std.specs.Prelude.{map, flat_map, if◌then◌else◌}
-use Rattle.chill_tree.specs.ExprTree.{ExprTree, place_of}
+use Rattle.std.proofs.Common.{◌≡◌, inl, inr, List, [], ◌∷◌, ◌++◌, ap, ◌∙◌, subst, append-nil, Result, Ok, Err}
+use Rattle.std.specs.Prelude.{flat_map, if◌then◌else◌}
+use Rattle.chill_tree.specs.ExprTree.{place_of}
 use Rattle.chill_tree.specs.ItemTree.{ProgramTree}
 use Rattle.diagnostics.specs.declared.diagnostic.Diagnostic.{Diagnostic}
 use Rattle.diagnostics.specs.declared.rule.Rule.TheVariants as rules
@@ -13,7 +13,7 @@ use Rattle.visibility.specs.declared.refusal.Refusal.{Refusal}
 use Rattle.visibility.specs.declared.refusal.Refusal.TheVariants as refusals
 use Rattle.checks_model.specs.Ground.{Ground}
 use Rattle.checks_model.specs.Told.{tell_at, is_none_told}
-use Rattle.checks_model.specs.Phases.{told_of_processes, broken_processes}
+use Rattle.checks_model.specs.Phases.{told_of_processes}
 use Rattle.wait_exprs.specs.Waits.{WaitTree, set_of, priority_of, waits_of}
 use Rattle.wait_exprs.specs.Split.{told_by_names, told_wait}
 use Rattle.wait_exprs.proofs.Same.{after, equal_on}

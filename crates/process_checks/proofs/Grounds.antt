@@ -2,19 +2,14 @@
 use Rattle.std.proofs.Common.{◌≡◌, ℕ, zero, suc, ◌+◌, List, [], ◌∷◌, map, Option, Some, None, refl, sym, ap, ◌∙◌, arith}
 use Rattle.std.specs.Prelude.{option_map, option_and_then, slice_get}
 use Rattle.std.proofs.lemmas.Option.{same_Some, slice_get-map}
-use Rattle.chill_base.specs.declared.pos.Pos.{Pos}
-use Rattle.chill_tree.specs.declared.tree.name.Name.{Name}
 use Rattle.modes.specs.ModeTree.{ModeTree, int, boolean, char, instance, set_of, range, powerset, chars, array, structure, event, buffer, read, named}
-use Rattle.names_model.specs.declared.names.Resolved.{Resolved}
 use Rattle.checks_model.specs.Ground.{Ground, number_at, origin_of, entry_of, entry_defined, mode_of_entry, a_synonym, a_mode, an_element, a_location, a_parameter, a_counter, a_received, a_procedure, a_process, a_signal, a_modulion, a_predefined}
 use Rattle.checks_model.specs.Ground as model
 use Rattle.checks_model.specs.ProcessRules.{Meeting as MetAt, meets_signal, meeting_of, met_by}
-use Rattle.checks_model.specs.ProcessRules as rules
 use Rattle.definition_origins.specs.declared.origin.Origin.{Origin}
 use Rattle.definition_origins.specs.declared.origin.Origin.TheVariants as origins
 use Rattle.constant_operators.specs.declared.evaluation.Entry.{Entry}
 use Rattle.constant_operators.specs.declared.evaluation.Evaluation.{Evaluation}
-use Rattle.met_names.specs.declared.meeting.Meeting.{Meeting}
 use Rattle.met_names.specs.Facts.{met_in, flat, meeting_at}
 use Rattle.process_names.specs.Phase.{as_met, AreFactsOf}
 use Rattle.process_checks.specs.MetByNumber.{mode_known, declared_as, declared_by, used_as, used_from, facts_of}

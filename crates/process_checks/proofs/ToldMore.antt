@@ -1,14 +1,21 @@
 -- Lists to which some of what could be told is added, and lists of which nothing is told.
-use Rattle.std.proofs.Common.{◌≡◌, ◌⊎◌, inl, inr, ◌↔◌, Bool, true, false, IsTrue, List, [], ◌∷◌, ◌++◌, refl, sym, ap, ◌∙◌, subst, append-nil}
-use Rattle.std.specs.Prelude.{if◌then◌else◌}
+use Rattle.std.proofs.Common.{◌≡◌, ℕ, ◌+◌, ◌<◌, length, get_or, drop, inl, inr, ◌↔◌, Bool, true, false, IsTrue, List, [], ◌∷◌, ◌++◌, refl, sym, ap, ◌∙◌, subst, append-nil, Result, Ok, Err, OnOk}
+use Rattle.std.specs.Prelude.{if◌then◌else◌, flat_map}
+use Rattle.std.proofs.lemmas.List.{drop_more}
 use Rattle.std.specs.declared.cmp.Ordering.{Ordering}
 use Rattle.std.specs.declared.cmp.Ordering.TheVariants.{Less, Equal, Greater}
 use Rattle.diagnostics.specs.declared.diagnostic.Diagnostic.{Diagnostic}
-use Rattle.diagnostics.specs.Listing.{IsIn, placed, insert_once, listed}
+use Rattle.diagnostics.specs.Listing.{placed, insert_once, listed}
 use Rattle.diagnostics.specs.Order.{diagnostic_cmp}
+use Rattle.chill_tree.specs.ItemTree.{ProgramTree}
 use Rattle.checks_model.specs.Told.{is_none_told}
+use Rattle.wait_exprs.specs.declared.wait.Wait.{Wait}
+use Rattle.wait_exprs.specs.Waits.{WaitTree}
+use Rattle.wait_exprs.specs.Views.{wait_tree, wait_trees}
+use Rattle.met_names.specs.Facts.{Facts}
+use Rattle.process_names.specs.Walk.{over_program}
 use Rattle.reach_tables.proofs.Members.{in-left, in-right, in-either}
-use Rattle.process_checks.specs.Telling.{IsToldMore}
+use Rattle.process_checks.specs.Telling.{could_be_told, IsToldMore}
 
 -- ---- some more is told
 
@@ -47,6 +54,25 @@ then_more first second before between after p q = record {
 pub told_where : (clean none : Bool) (d : Diagnostic) (before after : List Diagnostic) → clean ≡ none → clean ≡ true → after ≡ before ++ d ∷ [] → IsToldMore (if none then d ∷ [] else []) before after
 told_where clean true d before after is holds told = subst (IsToldMore (d ∷ []) before) (sym told) (all_more (d ∷ []) before)
 told_where clean false d before after is holds told = absurd (let no : ⊥ = cc in no)
+
+-- what is told more of one, and then of the rest
+pub one_wait_more : (could : WaitTree → List Diagnostic) (ws : List Wait) (k : ℕ) (w : Wait) (told next after : List Diagnostic) → k < length ws → w ≡ get_or ws k w
+    → IsToldMore (could (wait_tree w)) told next → IsToldMore (flat_map could (wait_trees (drop (k + 1) ws))) next after → IsToldMore (flat_map could (wait_trees (drop k ws))) told after
+one_wait_more could ws k w told next after less there first rest =
+    let split : drop k ws ≡ w ∷ drop (k + 1) ws = drop_more ws k w less ∙ ap (λ x. x ∷ drop (k + 1) ws) (sym there) in
+    subst (λ (us : List Wait). IsToldMore (flat_map could (wait_trees us)) told after) (sym split) (then_more (could (wait_tree w)) (flat_map could (wait_trees (drop (k + 1) ws))) told next after first rest)
+
+pub on_ok : {T E : Type 0} {P Q : Type 0} (r : Result T E) → (P → Q) → OnOk r P → OnOk r Q
+on_ok (Ok done) f p = f p
+on_ok (Err e) f p = tt
+
+-- what is told more by equal facts, of equal priorities and locations
+pub by_facts : (f found : Facts) (t : ProgramTree) (ws waits : List WaitTree) (before after : List Diagnostic) → found ≡ f → waits ≡ ws → before ≡ over_program found t
+    → IsToldMore (flat_map (could_be_told found) waits) before after → IsToldMore (flat_map (could_be_told f) ws) (over_program f t) after
+by_facts f found t ws waits before after facts same told more =
+    subst (λ k. IsToldMore (flat_map (could_be_told k) ws) (over_program k t) after) facts
+    (subst (λ us. IsToldMore (flat_map (could_be_told found) us) (over_program found t) after) same
+    (subst (λ ds. IsToldMore (flat_map (could_be_told found) waits) ds after) told more))
 
 -- ---- nothing is told
 

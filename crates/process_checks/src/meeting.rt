@@ -16,22 +16,22 @@ fn declared_as(entry: &Entry) -> Option<Meeting>
     }
 }
 
-fn declared_by(entry: Option<&Entry>) -> Option<Meeting>
-    ensures { result ≡ declared_by (option_map (λ known. known.now) entry) }
+fn declared_by(known: Option<&Entry>) -> Option<Meeting>
+    ensures { result ≡ declared_by (option_map (λ k. k.now) known.entry) }
 {
-    match entry {
+    match known {
         None => None,
         Some(entry) => declared_as(entry),
     }
 }
 
 // What processes meet at where a definition is used, or none where that isn't known.
-fn used_as(origin: &Origin<'_>, entry: Option<&Entry>) -> Option<Meeting>
-    ensures { result ≡ used_as origin.now (option_map (λ known. known.now) entry) }
+fn used_as(origin: &Origin<'_>, known: Option<&Entry>) -> Option<Meeting>
+    ensures { result ≡ used_as origin.now (option_map (λ k. k.now) known.entry) }
 {
     match origin {
         Origin::Signal(_) => Some(Meeting::Signal),
-        Origin::Location { .. } => declared_by(entry),
+        Origin::Location { .. } => declared_by(known),
         Origin::Synonym { .. }
         | Origin::SynMode(_)
         | Origin::NewMode(_)
@@ -47,14 +47,13 @@ fn used_as(origin: &Origin<'_>, entry: Option<&Entry>) -> Option<Meeting>
 }
 
 /// What processes meet at where each definition is used.
-#[tactic(auto, using(crate::proofs::Listed::used_step))]
 pub fn used_meetings(evaluation: &Evaluation<'_>) -> Result<List<Option<Meeting>>, Memory>
     ensures { IfOk result (λ found. found ≡ used_from evaluation.now.entries.items 0 evaluation.now.origins) }
 {
     let mut found = List::new(evaluation.alloc);
     for origin in evaluation.origins.as_slice() {
-        let entry = evaluation.entries.get(found.len());
-        found.push(used_as(origin, entry))?;
+        let known = evaluation.entries.get(found.len());
+        found.push(used_as(origin, known))?;
     }
     Ok(found)
 }

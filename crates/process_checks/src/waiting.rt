@@ -35,7 +35,7 @@ impl<'a, 'b> Waiting<'a, 'b> {
     }
 
     fn tell_wait(&self, wait: Wait<'_>, told: &mut Told) -> Result<(), Memory>
-        ensures { OnOk result (IsToldMore (could_be_told self.now.meetings.now (wait_tree wait)) told.old told.new) }
+        ensures { OnOk result (IsToldMore (could_be_told self.now.meetings.now (wait_tree wait.entry)) told.old told.new) }
     {
         match wait {
             Wait::Priority(priority) => self.tell_priority(priority, told),
