@@ -1,6 +1,7 @@
 -- What is answered of the processes of a program.
 use Rattle.std.specs.Prelude.{◌≡◌, ◌≢◌, List, [], Result, Ok, Err}
 use Rattle.std.specs.List.Sorted.{IsStrictlySortedBy}
+use Rattle.diagnostics.specs.declared.diagnostic.Diagnostic.{Diagnostic}
 use Rattle.diagnostics.specs.Order.{diagnostic_cmp}
 use Rattle.definition_origins.specs.CheckRules.{AreOfChecks}
 use Rattle.visibility.specs.declared.refusal.Refusal.{Refusal}
