@@ -1,1 +1,4 @@
 pub mod Answers
+pub mod MetByNumber
+pub mod Telling
+pub mod ByNames

@@ -1,37 +1,68 @@
 // The phase of processes.
+ghost use Rattle.std.specs.Prelude.{◌≡◌, IfOk, flat_map};
 ghost use Rattle.std.specs.List.Sorted.{IsStrictlySortedBy};
+ghost use Rattle.chill_tree.specs.ItemTree.{program_tree};
 ghost use Rattle.diagnostics.specs.Order.{diagnostic_cmp};
+ghost use Rattle.checks_model.specs.Ground.{Ground};
+ghost use Rattle.wait_exprs.specs.Waits.{waits_of};
+ghost use Rattle.process_names.specs.Walk.{over_program};
 ghost use Rattle.definition_origins.specs.CheckRules.{AreOfChecks};
-ghost use Rattle.process_checks.specs.Answers.{TellsInOrder};
+ghost use Rattle.process_checks.specs.Answers.{TellsInOrder, AnswersList};
+ghost use Rattle.process_checks.specs.ByNames.{IsEvaluationOn, TellsByNames};
+ghost use Rattle.process_checks.specs.MetByNumber.{facts_of};
+ghost use Rattle.process_checks.specs.Telling.{could_be_told, IsToldMore};
 
-use crate::walk::Checks;
+use crate::meeting::{declared_meetings, used_meetings};
+use crate::waiting::Waiting;
+use chill_base::Memory;
 use chill_tree::tree::Tree;
 use diagnostics::Diagnostics;
-use expr_rules::Walk;
+use met_names::Meetings;
 use mode_rules::{Evaluation, Told};
+use process_names::tell_in_program;
 use visibility::Refusal;
+use wait_exprs::waits_of;
 
 /// The rules P1 to P8, all that a program breaks, in order and each once. It is asked of programs that break no rule on
 /// names, modes, constants or statements, and whose definitions are evaluated.
 pub fn check_processes(evaluation: &Evaluation<'_>, tree: &Tree) -> Result<(), Refusal>
-    ensures { TellsInOrder result }
+    ensures order { TellsInOrder result }
+    ensures by_names { (g : Ground) → IsEvaluationOn g evaluation.now → TellsByNames g (program_tree tree.now) result }
 {
-    let checks = Checks {
-        evaluation,
-        locations: Walk { evaluation },
-    };
-    let mut told = Told::new(evaluation.alloc);
-    for modulion in tree.modulions.as_slice() {
-        checks.tell_in_modulion(modulion, &mut told)?;
-    }
+    let told = told_of_processes(evaluation, tree)?;
     answer(told.into_list())
+}
+
+// What is told of a program: by names, and of priorities and locations to be set.
+fn told_of_processes(evaluation: &Evaluation<'_>, tree: &Tree) -> Result<Told, Memory>
+    ensures { IfOk result (λ told. let f = facts_of evaluation.now in let t = program_tree tree.now in IsToldMore (flat_map (could_be_told f) (waits_of t)) (over_program f t) told) }
+{
+    let used = used_meetings(evaluation)?;
+    let declared = declared_meetings(evaluation)?;
+    let meetings = Meetings::new(
+        evaluation.alloc,
+        evaluation.names.uses.as_slice(),
+        evaluation.defined.as_slice(),
+        used.as_slice(),
+        declared.as_slice(),
+    );
+    let waiting = Waiting {
+        evaluation,
+        meetings: &meetings,
+    };
+    let waits = waits_of(evaluation.alloc, tree)?;
+    let mut told = Told::new(evaluation.alloc);
+    tell_in_program(&meetings, tree, &mut told)?;
+    waiting.tell_waits(waits.as_slice(), &mut told)?;
+    Ok(told)
 }
 
 // No rule is broken where the list is empty.
 fn answer(list: Diagnostics) -> Result<(), Refusal>
     requires sorted { IsStrictlySortedBy diagnostic_cmp list }
     requires checks { AreOfChecks list }
-    ensures { TellsInOrder result }
+    ensures order { TellsInOrder result }
+    ensures list { AnswersList list result }
 {
     if list.is_empty() {
         return Ok(());

@@ -1,58 +1,70 @@
-// What an action meets its partners at: events, buffers and signals (Z.200, chapter on concurrent execution).
-use crate::walk::Checks;
-use chill_base::Pos;
-use chill_tree::tree::Name;
-use mode_rules::{Meeting, Origin, meeting_of};
-use modes::Mode;
+// What processes meet at under each definition of a program, by the definitions' numbers.
+ghost use Rattle.std.specs.Prelude.{◌≡◌, IfOk, map, option_map};
+ghost use Rattle.process_checks.specs.MetByNumber.{declared_as, declared_by, used_as, used_from};
 
-/// What a name stands for that processes meet at, or another location.
-#[derive(Clone, Copy, PartialEq, Eq)]
-pub enum Met {
-    Event,
-    Buffer,
-    Signal,
-    /// A location of another mode, at which they don't.
-    Other,
-}
+use chill_base::{List, Memory};
+use met_names::{Meeting, met_in};
+use mode_rules::{Entry, Evaluation, Origin};
 
-impl<'a, 'b> Checks<'a, 'b> {
-    /// What processes meet at under the name used at a place, or none where that isn't known.
-    pub fn met_at(&self, name: &Name) -> Option<Met> {
-        let number = self.evaluation.used_at(name.at)?;
-        match self.evaluation.origin(number) {
-            Some(Origin::Signal(_)) => Some(Met::Signal),
-            Some(Origin::Location { .. }) => self.met_by(number),
-            Some(Origin::Synonym { .. })
-            | Some(Origin::SynMode(_))
-            | Some(Origin::NewMode(_))
-            | Some(Origin::Element(_))
-            | Some(Origin::Parameter { .. })
-            | Some(Origin::Counter(_))
-            | Some(Origin::Received { .. })
-            | Some(Origin::Procedure(_))
-            | Some(Origin::Process(_))
-            | Some(Origin::Modulion(_))
-            | Some(Origin::Predefined(_))
-            | None => None,
-        }
-    }
-
-    /// What processes meet at in the location that is defined at a place, or none where its mode isn't known.
-    pub fn met_in(&self, at: Pos) -> Option<Met> {
-        self.met_by(self.evaluation.defined_at(at)?)
-    }
-
-    fn met_by(&self, number: u32) -> Option<Met> {
-        let mode = self.evaluation.entry(number)?.mode.as_ref()?;
-        Some(met_in_mode(mode))
+// What the mode is of that is known of a definition, if one is known.
+fn declared_as(entry: &Entry) -> Option<Meeting>
+    ensures { result ≡ declared_as entry.now }
+{
+    match &entry.mode {
+        None => None,
+        Some(mode) => Some(met_in(mode)),
     }
 }
 
-// What processes meet at where a location has the mode.
-fn met_in_mode(mode: &Mode) -> Met {
-    match meeting_of(mode) {
-        Some(Meeting::Event { .. }) => Met::Event,
-        Some(Meeting::Buffer { .. }) => Met::Buffer,
-        None => Met::Other,
+fn declared_by(known: Option<&Entry>) -> Option<Meeting>
+    ensures { result ≡ declared_by (option_map (λ k. k.now) known.entry) }
+{
+    match known {
+        None => None,
+        Some(entry) => declared_as(entry),
     }
+}
+
+// What processes meet at where a definition is used, or none where that isn't known.
+fn used_as(origin: &Origin<'_>, known: Option<&Entry>) -> Option<Meeting>
+    ensures { result ≡ used_as origin.now (option_map (λ k. k.now) known.entry) }
+{
+    match origin {
+        Origin::Signal(_) => Some(Meeting::Signal),
+        Origin::Location { .. } => declared_by(known),
+        Origin::Synonym { .. }
+        | Origin::SynMode(_)
+        | Origin::NewMode(_)
+        | Origin::Element(_)
+        | Origin::Parameter { .. }
+        | Origin::Counter(_)
+        | Origin::Received { .. }
+        | Origin::Procedure(_)
+        | Origin::Process(_)
+        | Origin::Modulion(_)
+        | Origin::Predefined(_) => None,
+    }
+}
+
+/// What processes meet at where each definition is used.
+pub fn used_meetings(evaluation: &Evaluation<'_>) -> Result<List<Option<Meeting>>, Memory>
+    ensures { IfOk result (λ found. found ≡ used_from evaluation.now.entries.items 0 evaluation.now.origins) }
+{
+    let mut found = List::new(evaluation.alloc);
+    for origin in evaluation.origins.as_slice() {
+        let known = evaluation.entries.get(found.len());
+        found.push(used_as(origin, known))?;
+    }
+    Ok(found)
+}
+
+/// What the mode of each definition is of.
+pub fn declared_meetings(evaluation: &Evaluation<'_>) -> Result<List<Option<Meeting>>, Memory>
+    ensures { IfOk result (λ found. found ≡ map declared_as evaluation.now.entries.items) }
+{
+    let mut found = List::new(evaluation.alloc);
+    for entry in evaluation.entries.as_slice() {
+        found.push(declared_as(entry))?;
+    }
+    Ok(found)
 }

@@ -1,0 +1,4 @@
+pub mod ToldMore
+pub mod Listed
+pub mod Grounds
+pub mod Exact

@@ -1,0 +1,16 @@
+use Rattle.std.proofs.Common.{drop}
+use Rattle.std.specs.Prelude.{flat_map}
+use Rattle.wait_exprs.specs.Views.{wait_trees}
+use Rattle.process_checks.specs.Telling.{could_be_told}
+use Rattle.process_checks.proofs.ToldMore.{nothing_more, one_wait_more}
+use Rattle.process_checks.proofs.waiting.Waiting.tell_waits.Goals as goal
+
+pub loop-wait-preserved : goal.loop-wait-preserved
+loop-wait-preserved c = λ after more.
+    c.loop-wait.invariant after
+    (one_wait_more (could_be_told c.args.self.now.meetings.now) c.args.waits.now c.loop-wait.wait-index c.wait-item.result c.loop-wait.told c.tell_wait.new.told after c.loop-wait-test.true c.wait-item.is c.in_ok-tell_wait.ensures more)
+
+pub returns : goal.returns
+returns c =
+    c.loop-wait.invariant c.loop-wait.told
+    (nothing_more (flat_map (could_be_told c.args.self.now.meetings.now) (wait_trees (drop c.loop-wait.wait-index c.args.waits.now))) c.loop-wait.told)

@@ -1,0 +1,6 @@
+pub mod Views
+pub mod BodyViews
+pub mod HeardLists
+pub mod Phase
+pub mod RegionTables
+pub mod Walked

@@ -1,0 +1,4 @@
+pub mod BodyViews
+pub mod ItemViews
+pub mod Same
+pub mod Splitting

@@ -1,0 +1,4 @@
+pub mod Waits
+pub mod Views
+pub mod Bracketed
+pub mod Split
