@@ -1,0 +1,3 @@
+pub mod Outcomes
+pub mod OwnValues
+pub mod ExprLies
