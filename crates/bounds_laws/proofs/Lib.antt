@@ -1,3 +1,4 @@
 pub mod Outcomes
 pub mod OwnValues
 pub mod ExprLies
+pub mod StatementsLie

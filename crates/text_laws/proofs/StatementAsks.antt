@@ -336,7 +336,7 @@ module _ (g : Whole) (result : Option ModeTree) (sort : Sort) (mode : IfSome res
   counts_on false b value by p i = omega (arith, ints, p, i)
   counts_on true b value by p i = omega (arith, ints, p, i)
 
-  counted_value : (down : Bool) (b : Bounds) (value end : ℤ) → Counts down b value → (b.low ≤ℤ end) × (end ≤ℤ b.high) → passes_end down value end ≡ false → (b.low ≤ℤ value) × (value ≤ℤ b.high)
+  pub counted_value : (down : Bool) (b : Bounds) (value end : ℤ) → Counts down b value → (b.low ≤ℤ end) × (end ≤ℤ b.high) → passes_end down value end ≡ false → (b.low ≤ℤ value) × (value ≤ℤ b.high)
   counted_value false b value end i l e =
       let low = l.0 in
       let high = l.1 in
