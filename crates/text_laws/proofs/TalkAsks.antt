@@ -128,7 +128,7 @@ pub result_begins : (o : Option ModeTree) → IfSome o IsOfLanguage → ResultFi
 result_begins None t = tt
 result_begins (Some m) t = lowest_within m t.parts
 
-critical_there : (g : Whole) (b : BodyRowTree) (k : ℕ) (sort : Sort) → HasHead g.program k b sort → IsRegion g (critical_region b)
+pub critical_there : (g : Whole) (b : BodyRowTree) (k : ℕ) (sort : Sort) → HasHead g.program k b sort → IsRegion g (critical_region b)
 critical_there g b k Outermost h = alone_by b.critical b.region h.1.alone.0
   where
     alone_by : (critical : Bool) (r : Option ℕ) → r ≡ None → IsRegion g (region_if critical r)
