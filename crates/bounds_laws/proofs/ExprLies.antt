@@ -1,6 +1,6 @@
 -- Each value along an expression lies in its own bounds.
-use Rattle.std.proofs.Common.{◌≡◌, ℕ, zero, suc, ◌+◌, ◌≤◌, Bool, true, false, List, [], ◌∷◌, Option, Some, None, inl, inr, refl, sym, ap, ◌∙◌, subst, arith}
-use Rattle.std.specs.Prelude.{ℤ, nat_abs, slice_get, IsTrue, if◌then◌else◌, ◌&&◌}
+use Rattle.std.proofs.Common.{◌≡◌, ℕ, suc, ◌+◌, true, List, [], ◌∷◌, Option, Some, inl, inr, refl, sym, ap, ◌∙◌, subst, arith}
+use Rattle.std.specs.Prelude.{ℤ, nat_abs, slice_get, IsTrue}
 use Rattle.kernel_base.specs.declared.request.Request.TheVariants.{Start}
 use Rattle.modes.specs.declared.mode.Bounds.{Bounds}
 use Rattle.modes.specs.ModeTree.{ModeTree}
@@ -20,21 +20,21 @@ use Rattle.source_meaning.specs.TypedValues.{HasMode, OperationHas, IsTakenBy, A
 use Rattle.text_laws.proofs.Taking.{form_fits}
 use Rattle.text_laws.proofs.Stores.{StoreFits, TakensFit, RowsFit, row_fits, ValuesFit, values_fit}
 use Rattle.text_laws.proofs.Stages.{Whole, Fits, Here, Any}
-use Rattle.text_laws.proofs.ExprAsks.{context_in, Stands, PassedFit, PlaceFits, ModesFit, ranges, passes, reads, expr_asks, operation_asks, received_asks, all_received_asks, offset_asks, call_asks, arguments_ask, place_asks, elements_taken, fields_taken, structure_form, array_form, parameters_taken, behind_first, rows_typed, base_fits, element_fits, parts_lead, passed_takens}
+use Rattle.text_laws.proofs.ExprAsks.{context_in, Stands, PassedFit, PlaceFits, ModesFit, ranges, passes, reads, expr_asks, operation_asks, received_asks, arguments_ask, place_asks, elements_taken, fields_taken, structure_form, array_form, parameters_taken, behind_first, rows_typed, base_fits, element_fits, parts_lead, passed_takens}
 use Rattle.text_laws.proofs.Taking.{field_fits}
 use Rattle.text_laws.proofs.Growing.{same_goes, then_grows}
-use Rattle.text_laws.proofs.GrowingExpressions.{CallsExtend, Sides, value_grows, all_copied_grow, computed_grows, rangefail_grows, tested_grows, read_grows, call_grows, binary_grows, expr_grows, received_grows, all_received_grow, offset_grows, members_grow, arguments_grow}
+use Rattle.text_laws.proofs.GrowingExpressions.{CallsExtend, Sides, value_grows, all_copied_grow, computed_grows, rangefail_grows, tested_grows, read_grows, call_grows, binary_grows, expr_grows, all_received_grow, offset_grows, members_grow, arguments_grow}
 use Rattle.text_laws.proofs.GrowingTalks.{nothing_more}
-use Rattle.code_laws.specs.OwnBounds.{CallsWithin, expr_within, operation_within, received_within, all_within, parts_within, location_within, members_within, start_within, call_within, arguments_within, copies_within}
+use Rattle.code_laws.specs.OwnBounds.{expr_within, operation_within, received_within, all_within, parts_within, location_within, members_within, start_within, call_within, arguments_within, copies_within}
 use Rattle.code_laws.specs.StatementBounds.{OpenCallsWithin}
-use Rattle.bounds_laws.proofs.Outcomes.{Over, both_hold, if_holds, first_over, at_end, goes_on, joins}
+use Rattle.bounds_laws.proofs.Outcomes.{IsOver, and_holds, either_lies, first_over, at_its_end, where_through, joins}
 use Rattle.bounds_laws.proofs.OwnValues.{constant_lies, mode_lies, root_lies, where_lies, int_lies}
 
 -- what calls do lies in its own bounds
 pub record CallsLie (g : Whole) (S : Store → Type 0) (calls : List ℕ → Calls) (c : OpenCallsWithin) : Type 0 where
   pub each : (open_now : List ℕ) (b : ℕ) (body : BodyRowTree) (ts : List Taken) (store : Store) (s : Session)
       → slice_get g.program.bodies b ≡ Some body → body.sort ≡ Procedure → Here g S store s → (Fits g s → TakensFit body.locals 0 ts)
-      → Over g (calls open_now b ts store s) → c open_now b ts s ≡ true
+      → IsOver g (calls open_now b ts store s) → c open_now b ts s ≡ true
 
 -- where a part of a text stands
 pub record Lies (g : Whole) (w : Setting) (result : Option ModeTree) (c : OpenCallsWithin) : Type 0 where
@@ -58,20 +58,20 @@ module _ (g : Whole) (w : Setting) (result : Option ModeTree) (region : Option �
       let row : LocalRowTree = t.1.1.0 in
       let own : ModeTree = t.2.0 in
       let shapes : shape_of row.mode ≡ shape_of own = ap shape_of t.1.1.2 ∙ sym t.2.2.similar.shape in
-      both_hold (int_lies row.mode own bounds xs (row_fits b.locals k row rf t.1.1.1).1 (location_fits l own t.2.1) shapes t.2.3 (v.0 row t.1.1.1)) (copies_lie as' b (suc k) ls rf t.3 v.1)
+      and_holds (int_lies row.mode own bounds xs (row_fits b.locals k row rf t.1.1.1).1 (location_fits l own t.2.1) shapes t.2.3 (v.0 row t.1.1.1)) (copies_lie as' b (suc k) ls rf t.3 v.1)
   copies_lie (inout_argument l taken bounds as') b k [] rf t v = refl
   copies_lie (inout_argument l taken bounds as') b k (xs ∷ ls) rf t v =
       let row : LocalRowTree = t.1.1.0 in
-      both_hold (where_lies bounds taken xs (mode_lies row.mode taken xs (ap bounds_of t.1.1.2 ∙ t.2) (v.0 row t.1.1.1))) (copies_lie as' b (suc k) ls rf t.4 v.1)
+      and_holds (where_lies bounds taken xs (mode_lies row.mode taken xs (ap bounds_of t.1.1.2 ∙ t.2) (v.0 row t.1.1.1))) (copies_lie as' b (suc k) ls rf t.4 v.1)
 
   mutual
-    pub expr_lies : (e : ExprTree) (m : ModeTree) (store : Store) (s : Session) → Here g (StoreFits w.rows result) store s → HasMode (context_in g w region) e m → Over g (expr_mean w e store s) → expr_within w (c w.open_now) e store s ≡ true
+    pub expr_lies : (e : ExprTree) (m : ModeTree) (store : Store) (s : Session) → Here g (StoreFits w.rows result) store s → HasMode (context_in g w region) e m → IsOver g (expr_mean w e store s) → expr_within w (c w.open_now) e store s ≡ true
     expr_lies (expr n own (constant xs)) m store s h t f = constant_lies xs
     expr_lies (expr n own o) m store s h t f =
-        both_hold (operation_lies n o m store s h t.0 t.3 f)
-        (at_end g (StoreFits w.rows result) (IsValueOf m) (operation_asks g w result region lies.stands n o m store s h t.0 t.1 t.3) f (λ xs store1 s1 h1 f1 v. root_lies m own xs t.0.parts t.2 v))
+        and_holds (operation_lies n o m store s h t.0 t.3 f)
+        (at_its_end g (StoreFits w.rows result) (IsValueOf m) (operation_asks g w result region lies.stands n o m store s h t.0 t.1 t.3) f (λ xs store1 s1 h1 f1 v. root_lies m own xs t.0.parts t.2 v))
 
-    operation_lies : (n : ℕ) (o : OperationTree) (m : ModeTree) (store : Store) (s : Session) → Here g (StoreFits w.rows result) store s → IsOfLanguage m → OperationHas (context_in g w region) o m → Over g (operation_mean w n o store s) → operation_within w (c w.open_now) n o store s ≡ true
+    operation_lies : (n : ℕ) (o : OperationTree) (m : ModeTree) (store : Store) (s : Session) → Here g (StoreFits w.rows result) store s → IsOfLanguage m → OperationHas (context_in g w region) o m → IsOver g (operation_mean w n o store s) → operation_within w (c w.open_now) n o store s ≡ true
     operation_lies n (constant xs) m store s h l t f = refl
     operation_lies n own_instance m store s h l t f = refl
     operation_lies n (contents place) m store s h l t f = location_lies place m store s h t (first_over (λ address. read_grows n address) f)
@@ -100,12 +100,12 @@ module _ (g : Whole) (w : Setting) (result : Option ModeTree) (region : Option �
     operation_lies n (binary o a b) m store s h l t f =
         joins g (StoreFits w.rows result) (IsValueOf t.0) (expr_asks g w result region lies.stands a t.0 store s h t.2) (λ xs. binary_grows o xs (expr_grows (sides w lies.keeps 0) b)) f
         (λ f1. expr_lies a t.0 store s h t.2 f1)
-        (λ xs store1 s1 h1 back f1 v f2. if_holds (takes_second o xs) f2 (λ f3. expr_lies b t.1 store1 s1 h1 t.3 (first_over (λ ys. computed_grows (binary_value o xs ys)) f3)) (λ f3. refl))
+        (λ xs store1 s1 h1 back f1 v f2. either_lies (takes_second o xs) f2 (λ f3. expr_lies b t.1 store1 s1 h1 t.3 (first_over (λ ys. computed_grows (binary_value o xs ys)) f3)) (λ f3. refl))
 
-    pub received_lies : (r : ReceivedTree) (m : ModeTree) (store : Store) (s : Session) → Here g (StoreFits w.rows result) store s → IsTakenBy (context_in g w region) r m → Over g (received_mean w r store s) → received_within w (c w.open_now) r store s ≡ true
+    pub received_lies : (r : ReceivedTree) (m : ModeTree) (store : Store) (s : Session) → Here g (StoreFits w.rows result) store s → IsTakenBy (context_in g w region) r m → IsOver g (received_mean w r store s) → received_within w (c w.open_now) r store s ≡ true
     received_lies (received e bounds) m store s h t f = expr_lies e t.0.0 store s h t.0.1 (first_over (λ xs. tested_grows bounds xs) f)
 
-    pub all_lie : (rs : ReceivedNodes) (ms : List ModeTree) (store : Store) (s : Session) → Here g (StoreFits w.rows result) store s → ModesFit ms → AllHave (context_in g w region) rs ms → Over g (all_received_mean w rs store s) → all_within w (c w.open_now) rs store s ≡ true
+    pub all_lie : (rs : ReceivedNodes) (ms : List ModeTree) (store : Store) (s : Session) → Here g (StoreFits w.rows result) store s → ModesFit ms → AllHave (context_in g w region) rs ms → IsOver g (all_received_mean w rs store s) → all_within w (c w.open_now) rs store s ≡ true
     all_lie no_received ms store s h p t f = refl
     all_lie (more_received r rs) ms store s h p t f =
         let fit : IsTrue (parts_fit t.0) × ModesFit t.1 = subst ModesFit t.2 p in
@@ -113,7 +113,7 @@ module _ (g : Whole) (w : Setting) (result : Option ModeTree) (region : Option �
         (λ f1. received_lies r t.0 store s h t.3 f1)
         (λ xs store1 s1 h1 b f1 v f2. all_lie rs t.1 store1 s1 h1 fit.1 t.4 (first_over (λ ys. same_goes) f2))
 
-    parts_lie : (ps : PartNodes) (of m : ModeTree) (k : ℕ) (store : Store) (s : Session) → Here g (StoreFits w.rows result) store s → IsTrue (parts_fit of) → PartsLead (context_in g w region) ps of m → Over g (offset_mean w ps k store s) → parts_within w (c w.open_now) ps store s ≡ true
+    parts_lie : (ps : PartNodes) (of m : ModeTree) (k : ℕ) (store : Store) (s : Session) → Here g (StoreFits w.rows result) store s → IsTrue (parts_fit of) → PartsLead (context_in g w region) ps of m → IsOver g (offset_mean w ps k store s) → parts_within w (c w.open_now) ps store s ≡ true
     parts_lie no_parts of m k store s h p t f = refl
     parts_lie (field first count ps) of m k store s h p t f =
         let form = structure_form (form_of of) t.0 (bounds_of of) t.2 in
@@ -123,25 +123,25 @@ module _ (g : Whole) (w : Setting) (result : Option ModeTree) (region : Option �
         (λ xs. then_grows (rangefail_grows (offset_within b count (sole_number xs))) (λ z. offset_grows (sides w lies.keeps 0) ps (k + nat_abs z))) f
         (λ f1. expr_lies e t.3.0 store s h t.3.1 f1)
         (λ xs store1 s1 h1 b1 f1 v f2.
-        goes_on g (StoreFits w.rows result) Any (ranges g w result region lies.stands Any (offset_within b count (sole_number xs)) store1 s1 h1 (λ z e. tt)) (λ z. offset_grows (sides w lies.keeps 0) ps (k + nat_abs z)) f2
+        where_through g (StoreFits w.rows result) Any (ranges g w result region lies.stands Any (offset_within b count (sole_number xs)) store1 s1 h1 (λ z e. tt)) (λ z. offset_grows (sides w lies.keeps 0) ps (k + nat_abs z)) f2
         (λ z store2 s2 h2 b2 f3 u f4. parts_lie ps t.1 m (k + nat_abs z) store2 s2 h2 (element_fits (form_of of) b t.0 t.1 (form_fits of p) t.2) t.5 f4))
 
-    pub location_lies : (l : LocationTree) (m : ModeTree) (store : Store) (s : Session) → Here g (StoreFits w.rows result) store s → LocationHas (context_in g w region) l m → Over g (location_mean w l store s) → location_within w (c w.open_now) l store s ≡ true
+    pub location_lies : (l : LocationTree) (m : ModeTree) (store : Store) (s : Session) → Here g (StoreFits w.rows result) store s → LocationHas (context_in g w region) l m → IsOver g (location_mean w l store s) → location_within w (c w.open_now) l store s ≡ true
     location_lies (location b ps n) m store s h t f =
         parts_lie ps t.0 m 0 store s h (base_fits g w lies.stands.rows region b t.0 t.1) t.2 (first_over (λ k. same_goes) f)
 
-    place_lies : (l : LocationTree) (m : ModeTree) (bounds : Option Bounds) (store : Store) (s : Session) → Here g (StoreFits w.rows result) store s → LocationHas (context_in g w region) l m → Over g (place_mean w l bounds store s) → location_within w (c w.open_now) l store s ≡ true
+    place_lies : (l : LocationTree) (m : ModeTree) (bounds : Option Bounds) (store : Store) (s : Session) → Here g (StoreFits w.rows result) store s → LocationHas (context_in g w region) l m → IsOver g (place_mean w l bounds store s) → location_within w (c w.open_now) l store s ≡ true
     place_lies (location b ps n) m bounds store s h t f =
         parts_lie ps t.0 m 0 store s h (base_fits g w lies.stands.rows region b t.0 t.1) t.2 (first_over (λ k. same_goes) f)
 
-    members_lie : (b : Bounds) (rs : RangeNodes) (e : ModeTree) (set : List ℤ) (store : Store) (s : Session) → Here g (StoreFits w.rows result) store s → RangesHave (context_in g w region) rs e → Over g (members_mean w b rs set store s) → members_within w (c w.open_now) b rs store s ≡ true
+    members_lie : (b : Bounds) (rs : RangeNodes) (e : ModeTree) (set : List ℤ) (store : Store) (s : Session) → Here g (StoreFits w.rows result) store s → RangesHave (context_in g w region) rs e → IsOver g (members_mean w b rs set store s) → members_within w (c w.open_now) b rs store s ≡ true
     members_lie b no_ranges e set store s h t f = refl
     members_lie b (one_member a rs) e set store s h t f =
         joins g (StoreFits w.rows result) (IsValueOf t.0.0) (expr_asks g w result region lies.stands a t.0.0 store s h t.0.1)
         (λ xs. then_grows (rangefail_grows (offset_within b 1 (sole_number xs))) (λ k. members_grow (sides w lies.keeps 0) b rs (with_span b k k set))) f
         (λ f1. expr_lies a t.0.0 store s h t.0.1 f1)
         (λ xs store1 s1 h1 b1 f1 v f2.
-        goes_on g (StoreFits w.rows result) Any (ranges g w result region lies.stands Any (offset_within b 1 (sole_number xs)) store1 s1 h1 (λ z q. tt)) (λ k. members_grow (sides w lies.keeps 0) b rs (with_span b k k set)) f2
+        where_through g (StoreFits w.rows result) Any (ranges g w result region lies.stands Any (offset_within b 1 (sole_number xs)) store1 s1 h1 (λ z q. tt)) (λ k. members_grow (sides w lies.keeps 0) b rs (with_span b k k set)) f2
         (λ k store2 s2 h2 b2 f3 u f4. members_lie b rs e (with_span b k k set) store2 s2 h2 t.1 f4))
     members_lie b (members a q rs) e set store s h t f =
         joins g (StoreFits w.rows result) (IsValueOf t.0.0) (expr_asks g w result region lies.stands a t.0.0 store s h t.0.1)
@@ -150,23 +150,23 @@ module _ (g : Whole) (w : Setting) (result : Option ModeTree) (region : Option �
         then_grows (rangefail_grows (offset_within b 1 (sole_number ys))) (λ k. members_grow (sides w lies.keeps 0) b rs (with_span b j k set))))) f
         (λ f1. expr_lies a t.0.0 store s h t.0.1 f1)
         (λ xs store1 s1 h1 b1 f1 v f2.
-        goes_on g (StoreFits w.rows result) Any (ranges g w result region lies.stands Any (offset_within b 1 (sole_number xs)) store1 s1 h1 (λ z y. tt))
+        where_through g (StoreFits w.rows result) Any (ranges g w result region lies.stands Any (offset_within b 1 (sole_number xs)) store1 s1 h1 (λ z y. tt))
         (λ j. then_grows (expr_grows (sides w lies.keeps 0) q) (λ ys. then_grows (rangefail_grows (offset_within b 1 (sole_number ys))) (λ k. members_grow (sides w lies.keeps 0) b rs (with_span b j k set)))) f2
         (λ j store2 s2 h2 b2 f3 u f4.
         joins g (StoreFits w.rows result) (IsValueOf t.1.0) (expr_asks g w result region lies.stands q t.1.0 store2 s2 h2 t.1.1)
         (λ ys. then_grows (rangefail_grows (offset_within b 1 (sole_number ys))) (λ k. members_grow (sides w lies.keeps 0) b rs (with_span b j k set))) f4
         (λ f5. expr_lies q t.1.0 store2 s2 h2 t.1.1 f5)
         (λ ys store3 s3 h3 b3 f5 d f6.
-        goes_on g (StoreFits w.rows result) Any (ranges g w result region lies.stands Any (offset_within b 1 (sole_number ys)) store3 s3 h3 (λ z y. tt)) (λ k. members_grow (sides w lies.keeps 0) b rs (with_span b j k set)) f6
+        where_through g (StoreFits w.rows result) Any (ranges g w result region lies.stands Any (offset_within b 1 (sole_number ys)) store3 s3 h3 (λ z y. tt)) (λ k. members_grow (sides w lies.keeps 0) b rs (with_span b j k set)) f6
         (λ k store4 s4 h4 b4 f7 d1 f8. members_lie b rs e (with_span b j k set) store4 s4 h4 t.2 f8))))
 
-    pub start_lies : (st : StartTree) (store : Store) (s : Session) → Here g (StoreFits w.rows result) store s → IsTypedStart (context_in g w region) st → Over g (start_mean w st store s) → start_within w (c w.open_now) st store s ≡ true
+    pub start_lies : (st : StartTree) (store : Store) (s : Session) → Here g (StoreFits w.rows result) store s → IsTypedStart (context_in g w region) st → IsOver g (start_mean w st store s) → start_within w (c w.open_now) st store s ≡ true
     start_lies (started process rs) store s h t f =
         let b : BodyRowTree = t.0 in
         let u = parameters_taken (context_in g w region) rs b 0 b.locals b.parameters (rows_typed g.program g.typed process b t.1) (behind_first b) t.3 in
         all_lie rs u.modes store s h u.fit u.have (first_over (λ xs. value_grows (Start process xs) []) f)
 
-    pub call_lies : (ct : CallTree) (res : Option ModeTree) (store : Store) (s : Session) → Here g (StoreFits w.rows result) store s → IsTypedCall (context_in g w region) ct res → Over g (call_mean w ct store s) → call_within w (c w.open_now) ct store s ≡ true
+    pub call_lies : (ct : CallTree) (res : Option ModeTree) (store : Store) (s : Session) → Here g (StoreFits w.rows result) store s → IsTypedCall (context_in g w region) ct res → IsOver g (call_mean w ct store s) → call_within w (c w.open_now) ct store s ≡ true
     call_lies (called b as') res store s h t f =
         let body : BodyRowTree = t.0 in
         let rf : RowsFit body.locals = rows_typed g.program g.typed b body t.1 in
@@ -174,12 +174,12 @@ module _ (g : Whole) (w : Setting) (result : Option ModeTree) (region : Option �
         (λ f1. arguments_lie as' body 0 store s h rf t.5 f1)
         (λ ps store1 s1 h1 b1 f1 v f2.
         let fit : Fits g s1 → TakensFit body.locals 0 (takens ps) = λ q. passed_takens (context_in g w region) body.locals 0 ps v in
-        let over : Over g (w.calls w.open_now b (takens ps) store1 s1) = first_over (λ final. then_grows (all_copied_grow ps final.locals) (λ u. same_goes)) f2 in
-        both_hold (lies.calls.each w.open_now b body (takens ps) store1 s1 t.1 t.2 h1 fit over)
-        (at_end g (StoreFits w.rows result) (StoreFits body.locals body.result) (lies.stands.calls.each w.open_now b body (takens ps) store1 s1 t.1 t.2 h1 fit) over
+        let over : IsOver g (w.calls w.open_now b (takens ps) store1 s1) = first_over (λ final. then_grows (all_copied_grow ps final.locals) (λ u. same_goes)) f2 in
+        and_holds (lies.calls.each w.open_now b body (takens ps) store1 s1 t.1 t.2 h1 fit over)
+        (at_its_end g (StoreFits w.rows result) (StoreFits body.locals body.result) (lies.stands.calls.each w.open_now b body (takens ps) store1 s1 t.1 t.2 h1 fit) over
         (λ final store2 s2 h2 f3 q. copies_lie as' body 0 final.locals rf t.5 (values_fit body.locals final.locals q.locals))))
 
-    arguments_lie : (as' : ArgumentNodes) (b : BodyRowTree) (k : ℕ) (store : Store) (s : Session) → Here g (StoreFits w.rows result) store s → RowsFit b.locals → ArgumentsFit (context_in g w region) as' b k → Over g (arguments_mean w as' store s) → arguments_within w (c w.open_now) as' store s ≡ true
+    arguments_lie : (as' : ArgumentNodes) (b : BodyRowTree) (k : ℕ) (store : Store) (s : Session) → Here g (StoreFits w.rows result) store s → RowsFit b.locals → ArgumentsFit (context_in g w region) as' b k → IsOver g (arguments_mean w as' store s) → arguments_within w (c w.open_now) as' store s ≡ true
     arguments_lie no_arguments b k store s h rf t f = refl
     arguments_lie (in_argument r as') b k store s h rf t f =
         let row : LocalRowTree = t.1.1.0 in
@@ -199,9 +199,9 @@ module _ (g : Whole) (w : Setting) (result : Option ModeTree) (region : Option �
         (λ place. then_grows (read_grows place.count place.address) (λ xs. then_grows (tested_grows taken xs) (λ ys. then_grows (arguments_grow (sides w lies.keeps 0) as') (λ ps. same_goes)))) f
         (λ f1. place_lies l own bounds store s h t.3.1 f1)
         (λ place store1 s1 h1 b1 f1 q f2.
-        goes_on g (StoreFits w.rows result) (IsValueOf own) (reads g w result region lies.stands own place.count place.address store1 s1 h1 (λ f3. (q.address, q.count)))
+        where_through g (StoreFits w.rows result) (IsValueOf own) (reads g w result region lies.stands own place.count place.address store1 s1 h1 (λ f3. (q.address, q.count)))
         (λ xs. then_grows (tested_grows taken xs) (λ ys. then_grows (arguments_grow (sides w lies.keeps 0) as') (λ ps. same_goes))) f2
         (λ xs store2 s2 h2 b2 f3 u f4.
-        both_hold (where_lies taken bounds xs (mode_lies own bounds xs t.3.3 u))
-        (goes_on g (StoreFits w.rows result) Any (passes g w result region lies.stands Any taken xs store2 s2 h2 (λ test f5. tt)) (λ ys. then_grows (arguments_grow (sides w lies.keeps 0) as') (λ ps. same_goes)) f4
+        and_holds (where_lies taken bounds xs (mode_lies own bounds xs t.3.3 u))
+        (where_through g (StoreFits w.rows result) Any (passes g w result region lies.stands Any taken xs store2 s2 h2 (λ test f5. tt)) (λ ys. then_grows (arguments_grow (sides w lies.keeps 0) as') (λ ps. same_goes)) f4
         (λ ys store3 s3 h3 b3 f5 d f6. arguments_lie as' b (suc k) store3 s3 h3 rf t.4 (first_over (λ ps. same_goes) f6)))))

@@ -1,8 +1,7 @@
 -- Each value along a statement lies in its own bounds.
-use Rattle.std.proofs.Common.{◌≡◌, ℕ, zero, suc, ◌+◌, ◌<◌, Bool, true, false, List, [], ◌∷◌, length, Option, Some, None, inl, inr, refl, sym, ap, ◌∙◌, subst, arith}
-use Rattle.std.specs.Prelude.{ℤ, pos, ◌≤ℤ◌, int_le, slice_get, IsTrue, IfSome, All, if◌then◌else◌, ◌&&◌}
+use Rattle.std.proofs.Common.{◌≡◌, ℕ, zero, suc, ◌<◌, Bool, true, false, List, [], length, Option, Some, None, refl, sym, ap, ◌∙◌, subst, arith}
+use Rattle.std.specs.Prelude.{ℤ, pos, ◌≤ℤ◌, int_le, IsTrue, IfSome, All, if◌then◌else◌}
 use Rattle.std.specs.List.{flat_map}
-use Rattle.std.proofs.lemmas.Int.{ints}
 use Rattle.kernel_base.specs.declared.ends.Exc.{Exc}
 use Rattle.kernel_base.specs.declared.ends.Exc.TheVariants.{Rangefail}
 use Rattle.kernel_base.specs.declared.request.Request.{Request}
@@ -27,13 +26,13 @@ use Rattle.scalar_operators.specs.Members.{offsets_of}
 use Rattle.code_types.specs.Operands.{number_in as number_of_32, bytes_of}
 use Rattle.code_types.specs.Places.{names_exception}
 use Rattle.source_meaning.specs.Store.{Store, Address, with_local}
-use Rattle.source_meaning.specs.Flow.{Goes, Raised, Meaning, asked, done}
+use Rattle.source_meaning.specs.Flow.{Goes, Raised, Meaning}
 use Rattle.source_meaning.specs.Operators.{sole_number, one, is_true, member_at, without_offset, routine_value, binary_value, takes_second}
-use Rattle.source_meaning.specs.ExprMeaning.{Setting, expr_mean}
-use Rattle.source_meaning.specs.StatementMeaning.{skip, no_state, set_to, set_address, sent_signal, sent_mean, return_mean, holds_one, delay_pairs, receive_list, receive_counts, is_written, Come, comes_to, nothing_came, take_in, woken_as, where_holds, next_member, passes_end, next_value, next_step, turns, bound_mean, step_mean, loop_mean, is_label, is_open, opened, behind_wait, delay_with, receive_with, statement_mean, handler_mean, alternatives_mean, otherwise_mean, statements_mean, action_mean, choices_mean, cases_mean, delay_mean, receive_mean}
+use Rattle.source_meaning.specs.ExprMeaning.{Setting}
+use Rattle.source_meaning.specs.StatementMeaning.{skip, no_state, set_address, sent_signal, sent_mean, return_mean, holds_one, delay_pairs, receive_list, receive_counts, is_written, Come, comes_to, nothing_came, woken_as, where_holds, next_member, passes_end, next_value, next_step, turns, bound_mean, step_mean, loop_mean, is_label, is_open, opened, behind_wait, delay_with, receive_with, statement_mean, handler_mean, alternatives_mean, otherwise_mean, statements_mean, action_mean, choices_mean, cases_mean, delay_mean, receive_mean}
 use Rattle.source_meaning.specs.Values.{Domain, member_domains, domains_of, AreWithin, IsValueOf}
 use Rattle.source_meaning.specs.Fitting.{thing_of, FitsAnswer}
-use Rattle.source_meaning.specs.TypedValues.{HasMode, BinaryHas}
+use Rattle.source_meaning.specs.TypedValues.{HasMode}
 use Rattle.source_meaning.specs.TypedStatements.{Around, Brings, BufferBrings, SignalHas, IsSomeCondition, IsReceiver, TakesInstance, LocalHas, IsStepped, IsTypedSend, IsTypedControl, IsTypedReturn, IsTypedStatement, AreTyped, IsTypedHandler, AreTypedAlternatives, IsTypedOtherwise, IsTypedAction, AreTypedChoices, AreTypedCases, AreTypedDelays, AreTypedReceives}
 use Rattle.source_meaning.specs.Typed.{IsForProcess}
 use Rattle.text_laws.specs.Requests.{FitsText}
@@ -43,80 +42,80 @@ use Rattle.text_laws.proofs.Powersets.{offsets_below, first_below}
 use Rattle.text_laws.proofs.Taking.{shape_bounds, number_in_root}
 use Rattle.text_laws.proofs.Stores.{StoreFits, with_local_fits}
 use Rattle.text_laws.proofs.Stages.{Whole, Fits, Here, Comes, Any, Answers, no_got, asks, does}
-use Rattle.text_laws.proofs.ExprAsks.{context_in, Stands, AddressFits, ModesFit, computes, reads, expr_asks, all_received_asks, location_asks, base_fits, parts_lead}
+use Rattle.text_laws.proofs.ExprAsks.{context_in, AddressFits, ModesFit, computes, reads, expr_asks, all_received_asks, location_asks}
 use Rattle.text_laws.proofs.StatementAsks.{around_at, around_as, handler_as, modes_fit, AlternativesTyped, alternatives_typed, SetFits, ComeFits, woken_fits, delays_name, receives_name, received_tells, set_asks, address_asks, takes_in, receive_fills, where_asks, bound_asks, step_asks, member_asks, Counts, counted_value, step_on, bound_in, counts_first, buffer_below, signal_below, buffer_gives, signal_gives, statement_asks, statements_ask, action_asks}
-use Rattle.text_laws.proofs.Growing.{in_store, same_goes, same_raises, same_returns, then_grows, if_grows, asked_grows, done_grows, caught_grows, leave_grows, turns_grow, same_turns}
-use Rattle.text_laws.proofs.GrowingExpressions.{computed_grows, rangefail_grows, tested_grows, read_grows, assign_grows, binary_grows, expr_grows, received_grows, all_received_grow}
-use Rattle.text_laws.proofs.GrowingStatements.{names_grow, put_grows, send_to_grows, signal_grows, taken_in_grows, holds_grows, member_grows, step_grows, bound_grows, step_bound_grows, behind_grows, statements_grow, statement_grows, handler_grows, action_grows, choices_grow, cases_grow, otherwise_grows, delays_grow, receives_grow}
-use Rattle.code_laws.specs.StatementBounds.{Along, OpenCallsWithin, some_value_within, value_within, some_taken_within, some_place_within, sent_within, next_member_within, next_step_within, steps_within, loop_within, nothing_within, behind_wait_within, delay_case_within, receive_case_within, statement_within, handler_within, alternatives_within, otherwise_within, statements_within, action_within, choices_within, cases_within, delays_within, receives_within}
-use Rattle.bounds_laws.proofs.Outcomes.{Over, Keeps, both_hold, if_holds, first_over, goes_on, joins, handled, unlabelled, unleft, Turns, turns_hold}
+use Rattle.text_laws.proofs.Growing.{in_store, same_goes, same_raises, same_returns, then_grows, if_grows, asked_grows, done_grows, caught_grows, leave_grows, same_turns}
+use Rattle.text_laws.proofs.GrowingExpressions.{computed_grows, rangefail_grows, tested_grows, read_grows, assign_grows, binary_grows, expr_grows, received_grows}
+use Rattle.text_laws.proofs.GrowingStatements.{names_grow, put_grows, send_to_grows, signal_grows, taken_in_grows, holds_grows, member_grows, step_grows, bound_grows, step_bound_grows, behind_grows, statements_grow, handler_grows, choices_grow, cases_grow, otherwise_grows, delays_grow, receives_grow}
+use Rattle.code_laws.specs.StatementBounds.{Along, OpenCallsWithin, some_value_within, value_within, some_taken_within, some_place_within, sent_within, next_member_within, next_step_within, loop_within, nothing_within, behind_wait_within, delay_case_within, receive_case_within, statement_within, handler_within, alternatives_within, otherwise_within, statements_within, action_within, choices_within, cases_within, delays_within, receives_within}
+use Rattle.bounds_laws.proofs.Outcomes.{IsOver, KeepsTold, and_holds, either_lies, first_over, where_through, joins, with_handler, before_label, before_leave, turns_hold}
 use Rattle.bounds_laws.proofs.OwnValues.{mode_lies}
 use Rattle.bounds_laws.proofs.ExprLies.{Lies, sides, expr_lies, received_lies, all_lie, location_lies, start_lies, call_lies}
 
 -- along a part from each store on
 abbrev pub LiesAlong : Whole → (Store → Type 0) → Meaning (Unit {0}) → Along → Type 0
-LiesAlong g S part along = (store : Store) (s : Session) → Here g S store s → Over g (part store s) → along store s ≡ true
+LiesAlong g S part along = (store : Store) (s : Session) → Here g S store s → IsOver g (part store s) → along store s ≡ true
 
 -- the actions of a loop
-pub record Acts (g : Whole) (S : Store → Type 0) (body : Meaning (Unit {0})) (along : Along) : Type 0 where
+pub record LoopActions (g : Whole) (S : Store → Type 0) (body : Meaning (Unit {0})) (along : Along) : Type 0 where
   pub acts : (store : Store) (s : Session) → Here g S store s → Comes g S s Any (body store s)
   pub acted : LiesAlong g S body along
-  pub stays : Keeps body
+  pub stays : KeepsTold body
 
 module _ (g : Whole) (result : Option ModeTree) (sort : Sort) (mode : IfSome result (λ m. IsTrue (parts_fit m))) (w : Setting) (region : Option ℕ) (c : OpenCallsWithin) (lies : Lies g w result c) where
   -- ---- waits
 
-  set_lies : (o : Option LocationTree) (store : Store) (s : Session) → Here g (StoreFits w.rows result) store s → TakesInstance (context_in g w region) o → Over g (set_address w o store s) → some_place_within w c o store s ≡ true
-  set_lies None store s h t f = refl
-  set_lies (Some l) store s h t f = location_lies g w result region c lies l t.0 store s h t.1 (first_over (λ a. same_goes) f)
+  set_place_lies : (o : Option LocationTree) (store : Store) (s : Session) → Here g (StoreFits w.rows result) store s → TakesInstance (context_in g w region) o → IsOver g (set_address w o store s) → some_place_within w c o store s ≡ true
+  set_place_lies None store s h t f = refl
+  set_place_lies (Some l) store s h t f = location_lies g w result region c lies l t.0 store s h t.1 (first_over (λ a. same_goes) f)
 
-  wait_lies : (o : Option Address) (alternative : ℕ → Meaning (Unit {0})) (alongs : ℕ → Along) (none : Meaning (Unit {0})) (along : Along) (come : Come) (store : Store) (s : Session) → Here g (StoreFits w.rows result) store s → (Fits g s → SetFits (context_in g w region) o) → (Fits g s → ComeFits come) → ((k : ℕ) → Keeps (alternative k)) → ((k : ℕ) → LiesAlong g (StoreFits w.rows result) (alternative k) (alongs k)) → LiesAlong g (StoreFits w.rows result) none along → Over g (behind_wait o alternative none come store s) → behind_wait_within o alongs along come store s ≡ true
+  wait_lies : (o : Option Address) (alternative : ℕ → Meaning (Unit {0})) (alongs : ℕ → Along) (none : Meaning (Unit {0})) (along : Along) (come : Come) (store : Store) (s : Session) → Here g (StoreFits w.rows result) store s → (Fits g s → SetFits (context_in g w region) o) → (Fits g s → ComeFits come) → ((k : ℕ) → KeepsTold (alternative k)) → ((k : ℕ) → LiesAlong g (StoreFits w.rows result) (alternative k) (alongs k)) → LiesAlong g (StoreFits w.rows result) none along → IsOver g (behind_wait o alternative none come store s) → behind_wait_within o alongs along come store s ≡ true
   wait_lies o alternative alongs none along (comes_to k by) store s h t v keep a n f =
-      goes_on g (StoreFits w.rows result) Any (set_asks g result sort mode w region lies.stands o by store s h t v) (λ u. keep k) f (λ u store1 s1 h1 b f1 q f2. a k store1 s1 h1 f2)
+      where_through g (StoreFits w.rows result) Any (set_asks g result sort mode w region lies.stands o by store s h t v) (λ u. keep k) f (λ u store1 s1 h1 b f1 q f2. a k store1 s1 h1 f2)
   wait_lies o alternative alongs none along nothing_came store s h t v keep a n f = n store s h f
 
-  delay_lies : (n : ℕ) (set : Option LocationTree) (priority : ℕ) (ds : DelayNodes) (alternative : ℕ → Meaning (Unit {0})) (alongs : ℕ → Along) (store : Store) (s : Session) → Here g (StoreFits w.rows result) store s → TakesInstance (context_in g w region) set → AreTypedDelays (around_at g w region sort result n) ds → ((k : ℕ) → Keeps (alternative k)) → ((k : ℕ) → LiesAlong g (StoreFits w.rows result) (alternative k) (alongs k)) → Over g (delay_with w set priority ds alternative store s) → delay_case_within w c set priority ds alongs store s ≡ true
+  delay_lies : (n : ℕ) (set : Option LocationTree) (priority : ℕ) (ds : DelayNodes) (alternative : ℕ → Meaning (Unit {0})) (alongs : ℕ → Along) (store : Store) (s : Session) → Here g (StoreFits w.rows result) store s → TakesInstance (context_in g w region) set → AreTypedDelays (around_at g w region sort result n) ds → ((k : ℕ) → KeepsTold (alternative k)) → ((k : ℕ) → LiesAlong g (StoreFits w.rows result) (alternative k) (alongs k)) → IsOver g (delay_with w set priority ds alternative store s) → delay_case_within w c set priority ds alongs store s ≡ true
   delay_lies n set priority ds alternative alongs store s h t d keep a f =
       joins g (StoreFits w.rows result) (SetFits (context_in g w region)) (address_asks g result sort mode w region lies.stands set store s h t)
       (λ o. then_grows (asked_grows (Delay (delay_pairs 0 ds) priority) []) (λ answer. behind_grows o (woken_as answer) keep same_goes)) f
-      (λ f1. set_lies set store s h t f1)
+      (λ f1. set_place_lies set store s h t f1)
       (λ o store1 s1 h1 b1 f1 q f2.
-      goes_on g (StoreFits w.rows result) (Answers g (Delay (delay_pairs 0 ds) priority))
+      where_through g (StoreFits w.rows result) (Answers g (Delay (delay_pairs 0 ds) priority))
       (asks g (StoreFits w.rows result) (Delay (delay_pairs 0 ds) priority) [] store1 s1 h1 (λ f3. delays_name (around_at g w region sort result n) 0 ds d) (no_got g (Delay (delay_pairs 0 ds) priority) [] tt))
       (λ answer. behind_grows o (woken_as answer) keep same_goes) f2
       (λ answer store2 s2 h2 b2 f3 r f4.
       wait_lies o alternative alongs skip nothing_within (woken_as answer) store2 s2 h2 (λ f5. q) (λ f5. woken_fits g (Delay (delay_pairs 0 ds) priority) answer r) keep a (λ store3 s3 h3 f5. refl) f4))
 
-  receive_lies : (n : ℕ) (request : Request) (brings : Brings) (set : Option LocationTree) (rs : ReceiveNodes) (alternative : ℕ → Meaning (Unit {0})) (alongs : ℕ → Along) (none : Meaning (Unit {0})) (along : Along) (store : Store) (s : Session) → Here g (StoreFits w.rows result) store s → TakesInstance (context_in g w region) set → AreTypedReceives (around_at g w region sort result n) brings rs → FitsText g.program request → ((number sent by : ℕ) (xs : List ℤ) → FitsAnswer g.program request (Got number sent xs by) → (thing : ℕ) × (number_for (receive_list 0 rs) thing ≡ Some number) × ((ms : List ModeTree) → brings thing ms → thing_of (receive_list 0 rs) number ≡ thing → AreWithin (flat_map domains_of ms) xs)) → ((k : ℕ) → Keeps (alternative k)) → Keeps none → ((k : ℕ) → LiesAlong g (StoreFits w.rows result) (alternative k) (alongs k)) → LiesAlong g (StoreFits w.rows result) none along → Over g (receive_with w request set rs alternative none store s) → receive_case_within w c request set rs alongs along store s ≡ true
+  receive_lies : (n : ℕ) (request : Request) (brings : Brings) (set : Option LocationTree) (rs : ReceiveNodes) (alternative : ℕ → Meaning (Unit {0})) (alongs : ℕ → Along) (none : Meaning (Unit {0})) (along : Along) (store : Store) (s : Session) → Here g (StoreFits w.rows result) store s → TakesInstance (context_in g w region) set → AreTypedReceives (around_at g w region sort result n) brings rs → FitsText g.program request → ((number sent by : ℕ) (xs : List ℤ) → FitsAnswer g.program request (Got number sent xs by) → (thing : ℕ) × (number_for (receive_list 0 rs) thing ≡ Some number) × ((ms : List ModeTree) → brings thing ms → thing_of (receive_list 0 rs) number ≡ thing → AreWithin (flat_map domains_of ms) xs)) → ((k : ℕ) → KeepsTold (alternative k)) → KeepsTold none → ((k : ℕ) → LiesAlong g (StoreFits w.rows result) (alternative k) (alongs k)) → LiesAlong g (StoreFits w.rows result) none along → IsOver g (receive_with w request set rs alternative none store s) → receive_case_within w c request set rs alongs along store s ≡ true
   receive_lies n request brings set rs alternative alongs none along store s h t d fit b keep keep_none a e f =
       joins g (StoreFits w.rows result) (SetFits (context_in g w region)) (address_asks g result sort mode w region lies.stands set store s h t)
       (λ o. then_grows (asked_grows request (receive_counts w.rows rs)) (λ answer. then_grows (taken_in_grows w.rows rs answer) (λ come. behind_grows o come keep keep_none))) f
-      (λ f1. set_lies set store s h t f1)
+      (λ f1. set_place_lies set store s h t f1)
       (λ o store1 s1 h1 b1 f1 q f2.
-      goes_on g (StoreFits w.rows result) (Answers g request)
+      where_through g (StoreFits w.rows result) (Answers g request)
       (asks g (StoreFits w.rows result) request (receive_counts w.rows rs) store1 s1 h1 (λ f3. fit) (receive_fills g result sort mode w region lies.stands n request brings rs d b))
       (λ answer. then_grows (taken_in_grows w.rows rs answer) (λ come. behind_grows o come keep keep_none)) f2
       (λ answer store2 s2 h2 b2 f3 r f4.
-      goes_on g (StoreFits w.rows result) ComeFits (takes_in g result sort mode w region lies.stands n request brings rs answer store2 s2 h2 d (λ f5. r) b) (λ come. behind_grows o come keep keep_none) f4
+      where_through g (StoreFits w.rows result) ComeFits (takes_in g result sort mode w region lies.stands n request brings rs answer store2 s2 h2 d (λ f5. r) b) (λ come. behind_grows o come keep keep_none) f4
       (λ come store3 s3 h3 b3 f5 u f6. wait_lies o alternative alongs none along come store3 s3 h3 (λ f7. q) (λ f7. u) keep a e f6)))
 
   -- ---- loops
 
-  holds_lies : {C : Type 0} (o : Option ExprTree) (v : C) (store : Store) (s : Session) → Here g (StoreFits w.rows result) store s → IsSomeCondition (context_in g w region) o → Over g (where_holds w o v store s) → some_value_within w c o store s ≡ true
+  holds_lies : {C : Type 0} (o : Option ExprTree) (v : C) (store : Store) (s : Session) → Here g (StoreFits w.rows result) store s → IsSomeCondition (context_in g w region) o → IsOver g (where_holds w o v store s) → some_value_within w c o store s ≡ true
   holds_lies None v store s h t f = refl
   holds_lies (Some e) v store s h t f = expr_lies g w result region c lies e t.0 store s h t.1 (first_over (λ xs. same_goes) f)
 
-  bound_lies : (e : ExprTree) (m : ModeTree) (store : Store) (s : Session) → Here g (StoreFits w.rows result) store s → HasMode (context_in g w region) e m → Over g (bound_mean w e store s) → value_within w c e store s ≡ true
+  bound_lies : (e : ExprTree) (m : ModeTree) (store : Store) (s : Session) → Here g (StoreFits w.rows result) store s → HasMode (context_in g w region) e m → IsOver g (bound_mean w e store s) → value_within w c e store s ≡ true
   bound_lies e m store s h t f = expr_lies g w result region c lies e m store s h t (first_over (λ xs. rangefail_grows (where_true (is_int (sole_number xs)) (sole_number xs))) f)
 
-  step_lies : (o : Option ExprTree) (form : _) (store : Store) (s : Session) → Here g (StoreFits w.rows result) store s → IsStepped (context_in g w region) o form → Over g (step_mean w o store s) → some_value_within w c o store s ≡ true
+  step_lies : (o : Option ExprTree) (form : _) (store : Store) (s : Session) → Here g (StoreFits w.rows result) store s → IsStepped (context_in g w region) o form → IsOver g (step_mean w o store s) → some_value_within w c o store s ≡ true
   step_lies None form store s h t f = refl
   step_lies (Some e) form store s h t f = bound_lies e t.0.0 store s h t.0.1 (first_over (λ z. rangefail_grows (where_true (int_le (pos 1) z) z)) f)
 
-  member_lies : (counter : ℕ) (low : ℤ) (condition : Option ExprTree) (own : ModeTree) (b : Bounds) (set : List ℤ) (store : Store) (s : Session) → Here g (StoreFits w.rows result) store s → bounds_of own ≡ Some b → b.low ≡ low → LocalHas (context_in g w region) own counter → IsSomeCondition (context_in g w region) condition → (Fits g s → AreWithin (member_domains (values_of own) 0 (numbers_of (values_of own))) set) → (o : Option ℕ) → first_of_list (offsets_of set) ≡ o → Over g (next_member w counter low condition set o store s) → next_member_within w c counter low condition o store s ≡ true
+  member_lies : (counter : ℕ) (low : ℤ) (condition : Option ExprTree) (own : ModeTree) (b : Bounds) (set : List ℤ) (store : Store) (s : Session) → Here g (StoreFits w.rows result) store s → bounds_of own ≡ Some b → b.low ≡ low → LocalHas (context_in g w region) own counter → IsSomeCondition (context_in g w region) condition → (Fits g s → AreWithin (member_domains (values_of own) 0 (numbers_of (values_of own))) set) → (o : Option ℕ) → first_of_list (offsets_of set) ≡ o → IsOver g (next_member w counter low condition set o store s) → next_member_within w c counter low condition o store s ≡ true
   member_lies counter low condition own b set store s h bounds at local t v None e f = refl
   member_lies counter low condition own b set store s h bounds at local t v (Some k) e f =
-      goes_on g (StoreFits w.rows result) (IsValueOf own)
+      where_through g (StoreFits w.rows result) (IsValueOf own)
       (computes g w result region lies.stands own (member_at low (Some k)) store s h (λ f1. record {
         by = member_by own b low (Some k) bounds at (λ j q.
             let same : k ≡ j = cc in
@@ -129,13 +128,13 @@ module _ (g : Whole) (result : Option ModeTree) (sort : Sort) (mode : IfSome res
       (record { stage = h1.stage; holds = λ f3. with_local_fits w.rows result store1 counter local.0 xs (h1.holds f3) local.1 (subst (λ (x : ModeTree). IsValueOf x xs) (sym local.2) q) })
       t f2)
     where
-      in_counter : (xs : List ℤ) → Keeps (λ store1 s1. where_holds w condition (without_offset k set) (with_local store1 counter xs) s1)
+      in_counter : (xs : List ℤ) → KeepsTold (λ store1 s1. where_holds w condition (without_offset k set) (with_local store1 counter xs) s1)
       in_counter xs = in_store (λ store1. with_local store1 counter xs) (holds_grows (sides w lies.keeps 0) condition (without_offset k set))
 
-  next_lies : (counter : ℕ) (down : Bool) (by end : ℤ) (condition : Option ExprTree) (m : ModeTree) (b : Bounds) (value : ℤ) (store : Store) (s : Session) → Here g (StoreFits w.rows result) store s → bounds_of m ≡ Some b → LocalHas (context_in g w region) m counter → IsSomeCondition (context_in g w region) condition → (Fits g s → Counts g result sort mode down b value × (pos 1 ≤ℤ by) × (b.low ≤ℤ end) × (end ≤ℤ b.high)) → Over g (next_step w counter down by end condition value store s) → next_step_within w c counter down end condition value store s ≡ true
+  next_lies : (counter : ℕ) (down : Bool) (by end : ℤ) (condition : Option ExprTree) (m : ModeTree) (b : Bounds) (value : ℤ) (store : Store) (s : Session) → Here g (StoreFits w.rows result) store s → bounds_of m ≡ Some b → LocalHas (context_in g w region) m counter → IsSomeCondition (context_in g w region) condition → (Fits g s → Counts g result sort mode down b value × (pos 1 ≤ℤ by) × (b.low ≤ℤ end) × (end ≤ℤ b.high)) → IsOver g (next_step w counter down by end condition value store s) → next_step_within w c counter down end condition value store s ≡ true
   next_lies counter down by end condition m b value store s h bounds local t v f = next_by (passes_end down value end) refl f
     where
-      next_by : (p : Bool) → passes_end down value end ≡ p → Over g (if p then Goes None store s else where_holds w condition (next_value down value by) (with_local store counter (one value)) s) → (if p then true else some_value_within w c condition (with_local store counter (one value)) s) ≡ true
+      next_by : (p : Bool) → passes_end down value end ≡ p → IsOver g (if p then Goes None store s else where_holds w condition (next_value down value by) (with_local store counter (one value)) s) → (if p then true else some_value_within w c condition (with_local store counter (one value)) s) ≡ true
       next_by true e f1 = refl
       next_by false e f1 =
           holds_lies condition (next_value down value by) (with_local store counter (one value)) s
@@ -148,7 +147,7 @@ module _ (g : Whole) (result : Option ModeTree) (sort : Sort) (mode : IfSome res
           })
           t f1
 
-  loop_lies : (n : ℕ) (control : ControlTree) (body : Meaning (Unit {0})) (along : Along) (store : Store) (s : Session) → Here g (StoreFits w.rows result) store s → IsTypedControl (context_in g w region) control → Acts g (StoreFits w.rows result) body along → Over g (loop_mean w n control body store s) → loop_within w c n control body along store s ≡ true
+  loop_lies : (n : ℕ) (control : ControlTree) (body : Meaning (Unit {0})) (along : Along) (store : Store) (s : Session) → Here g (StoreFits w.rows result) store s → IsTypedControl (context_in g w region) control → LoopActions g (StoreFits w.rows result) body along → IsOver g (loop_mean w n control body store s) → loop_within w c n control body along store s ≡ true
   loop_lies n (while_true e) body along store s h t a f =
       turns_hold g (StoreFits w.rows result) Any n (where_holds w (Some e)) (λ z. value_within w c e) body along
       (record {
@@ -219,16 +218,16 @@ module _ (g : Whole) (result : Option ModeTree) (sort : Sort) (mode : IfSome res
       })
       from store3 s3 h3 (λ f7. (counts_first g result sort mode down d from q, r, u.0, u.1)) f6)))
     where
-      steps_keep : (counter : ℕ) (down : Bool) (by end : ℤ) (condition : Option ExprTree) (from : ℤ) → Keeps (turns n (next_step w counter down by end condition) body from)
+      steps_keep : (counter : ℕ) (down : Bool) (by end : ℤ) (condition : Option ExprTree) (from : ℤ) → KeepsTold (turns n (next_step w counter down by end condition) body from)
       steps_keep counter down by end condition from = same_turns n from (λ value. step_grows (sides w lies.keeps n) counter down by end condition value) a.stays
 
   -- ---- messages and results
 
-  receiver_lies : (k priority : ℕ) (o : Option ExprTree) (xs : List ℤ) (store : Store) (s : Session) → Here g (StoreFits w.rows result) store s → IsReceiver (context_in g w region) o → Over g (sent_signal w k priority o xs store s) → some_value_within w c o store s ≡ true
+  receiver_lies : (k priority : ℕ) (o : Option ExprTree) (xs : List ℤ) (store : Store) (s : Session) → Here g (StoreFits w.rows result) store s → IsReceiver (context_in g w region) o → IsOver g (sent_signal w k priority o xs store s) → some_value_within w c o store s ≡ true
   receiver_lies k priority None xs store s h t f = refl
   receiver_lies k priority (Some e) xs store s h t f = expr_lies g w result region c lies e t.0 store s h t.1 (first_over (λ ys. send_to_grows k priority xs (number_of_32 (sole_number ys))) f)
 
-  sent_lies : (st : SentTree) (priority : ℕ) (store : Store) (s : Session) → Here g (StoreFits w.rows result) store s → IsTypedSend (context_in g w region) st → Over g (sent_mean w st priority store s) → sent_within w c st store s ≡ true
+  sent_lies : (st : SentTree) (priority : ℕ) (store : Store) (s : Session) → Here g (StoreFits w.rows result) store s → IsTypedSend (context_in g w region) st → IsOver g (sent_mean w st priority store s) → sent_within w c st store s ≡ true
   sent_lies (to_buffer b r) priority store s h t f = received_lies g w result region c lies r t.0 store s h t.2 (first_over (λ xs. done_grows (SendBuffer b xs priority)) f)
   sent_lies (signal k rs to) priority store s h t f =
       let ms : List ModeTree = t.0.0 in
@@ -238,7 +237,7 @@ module _ (g : Whole) (result : Option ModeTree) (sort : Sort) (mode : IfSome res
       (λ f1. all_lie g w result region c lies rs ms store s h fit t.0.2 f1)
       (λ xs store1 s1 h1 b1 f1 v f2. receiver_lies k priority to xs store1 s1 h1 t.1 f2)
 
-  return_lies : (n : ℕ) (o : Option ReceivedTree) (store : Store) (s : Session) → Here g (StoreFits w.rows result) store s → IsTypedReturn (around_at g w region sort result n) o → Over g (return_mean w o store s) → some_taken_within w c o store s ≡ true
+  return_lies : (n : ℕ) (o : Option ReceivedTree) (store : Store) (s : Session) → Here g (StoreFits w.rows result) store s → IsTypedReturn (around_at g w region sort result n) o → IsOver g (return_mean w o store s) → some_taken_within w c o store s ≡ true
   return_lies n None store s h t f = refl
   return_lies n (Some r) store s h t f = received_lies g w result region c lies r t.1 store s h t.3 (first_over (λ xs. same_goes) (first_over (λ z. same_returns) f))
 
@@ -248,50 +247,50 @@ inside_lies g w result c r lies = record { stands = record { rows = lies.stands.
 
 module _ (g : Whole) (result : Option ModeTree) (sort : Sort) (mode : IfSome result (λ m. IsTrue (parts_fit m))) (c : OpenCallsWithin) where
   mutual
-    pub statement_lies : (st : StatementTree) (w : Setting) (region : Option ℕ) (lies : Lies g w result c) (labelled n : ℕ) (store : Store) (s : Session) → Here g (StoreFits w.rows result) store s → IsTypedStatement (around_at g w region sort result labelled) st → Over g (statement_mean w n st store s) → statement_within w c n st store s ≡ true
+    pub statement_lies : (st : StatementTree) (w : Setting) (region : Option ℕ) (lies : Lies g w result c) (labelled n : ℕ) (store : Store) (s : Session) → Here g (StoreFits w.rows result) store s → IsTypedStatement (around_at g w region sort result labelled) st → IsOver g (statement_mean w n st store s) → statement_within w c n st store s ≡ true
     statement_lies (statement l (region_at r ss) hn) w region lies labelled n store s h t f =
         let inside : Lies g (opened w r) result c = inside_lies g w result c r lies in
-        if_holds (is_open r w.open_now) f
-        (λ f1. handled g (StoreFits w.rows result) (statements_ask g result sort mode ss w (Some r) lies.stands labelled n store s h t.1.1) (λ x. handler_grows (sides w lies.keeps n) hn x) f1
+        either_lies (is_open r w.open_now) f
+        (λ f1. with_handler g (StoreFits w.rows result) (statements_ask g result sort mode ss w (Some r) lies.stands labelled n store s h t.1.1) (λ x. handler_grows (sides w lies.keeps n) hn x) f1
         (λ f2. statements_lie ss w (Some r) lies labelled n store s h t.1.1 f2)
         (λ x store2 s2 h2 f2. handler_lies hn w (Some r) lies labelled n x store2 s2 h2 t.2.1 f2))
-        (λ f1. goes_on g (StoreFits w.rows result) Any (does g (StoreFits w.rows result) (Enter r) store s h (λ q. t.1.0) tt)
+        (λ f1. where_through g (StoreFits w.rows result) Any (does g (StoreFits w.rows result) (Enter r) store s h (λ q. t.1.0) tt)
         (λ z. leave_grows r (caught_grows (statements_grow (sides (opened w r) lies.keeps n) ss) (λ x. handler_grows (sides (opened w r) lies.keeps n) hn x))) f1
         (λ z store1 s1 h1 b1 f2 q f3.
-        handled g (StoreFits w.rows result) (statements_ask g result sort mode ss (opened w r) (Some r) inside.stands labelled n store1 s1 h1 t.1.1) (λ x. handler_grows (sides (opened w r) lies.keeps n) hn x) (unleft g (StoreFits w.rows result) r _ f3)
+        with_handler g (StoreFits w.rows result) (statements_ask g result sort mode ss (opened w r) (Some r) inside.stands labelled n store1 s1 h1 t.1.1) (λ x. handler_grows (sides (opened w r) lies.keeps n) hn x) (before_leave g (StoreFits w.rows result) r _ f3)
         (λ f4. statements_lie ss (opened w r) (Some r) inside labelled n store1 s1 h1 t.1.1 f4)
         (λ x store2 s2 h2 f4. handler_lies hn (opened w r) (Some r) inside labelled n x store2 s2 h2 t.2.1 f4)))
     statement_lies (statement l a hn) w region lies labelled n store s h t f =
         let around = around_as g w region sort result labelled l a in
         let behind = handler_as g w region t.2.0 sort result labelled l a in
         let typed : IsTypedAction (around_at g w around.region sort result around.labelled) a = subst (λ (x : Around). IsTypedAction x a) around.is t.1 in
-        handled g (StoreFits w.rows result) (action_asks g result sort mode a w around.region lies.stands around.labelled n store s h typed) (λ x. handler_grows (sides w lies.keeps n) hn x)
-        (unlabelled g (StoreFits w.rows result) (is_label l a) _ f)
+        with_handler g (StoreFits w.rows result) (action_asks g result sort mode a w around.region lies.stands around.labelled n store s h typed) (λ x. handler_grows (sides w lies.keeps n) hn x)
+        (before_label g (StoreFits w.rows result) (is_label l a) _ f)
         (λ f1. action_lies a w around.region lies around.labelled n store s h typed f1)
         (λ x store1 s1 h1 f1. handler_lies hn w behind.region lies behind.labelled n x store1 s1 h1 (subst (λ (x : Around). IsTypedHandler x hn) behind.is t.2.1) f1)
 
-    pub statements_lie : (ss : StatementNodes) (w : Setting) (region : Option ℕ) (lies : Lies g w result c) (labelled n : ℕ) (store : Store) (s : Session) → Here g (StoreFits w.rows result) store s → AreTyped (around_at g w region sort result labelled) ss → Over g (statements_mean w n ss store s) → statements_within w c n ss store s ≡ true
+    pub statements_lie : (ss : StatementNodes) (w : Setting) (region : Option ℕ) (lies : Lies g w result c) (labelled n : ℕ) (store : Store) (s : Session) → Here g (StoreFits w.rows result) store s → AreTyped (around_at g w region sort result labelled) ss → IsOver g (statements_mean w n ss store s) → statements_within w c n ss store s ≡ true
     statements_lie no_statements w region lies labelled n store s h t f = refl
     statements_lie (more_statements st ss) w region lies labelled n store s h t f =
         joins g (StoreFits w.rows result) Any (statement_asks g result sort mode st w region lies.stands labelled n store s h t.0) (λ z. statements_grow (sides w lies.keeps n) ss) f
         (λ f1. statement_lies st w region lies labelled n store s h t.0 f1)
         (λ z store1 s1 h1 b1 f1 q f2. statements_lie ss w region lies labelled n store1 s1 h1 t.1 f2)
 
-    pub handler_lies : (hn : HandlerNode) (w : Setting) (region : Option ℕ) (lies : Lies g w result c) (labelled n : ℕ) (x : Exc) (store : Store) (s : Session) → Here g (StoreFits w.rows result) store s → IsTypedHandler (around_at g w region sort result labelled) hn → Over g (handler_mean w n hn x store s) → handler_within w c n hn x store s ≡ true
+    pub handler_lies : (hn : HandlerNode) (w : Setting) (region : Option ℕ) (lies : Lies g w result c) (labelled n : ℕ) (x : Exc) (store : Store) (s : Session) → Here g (StoreFits w.rows result) store s → IsTypedHandler (around_at g w region sort result labelled) hn → IsOver g (handler_mean w n hn x store s) → handler_within w c n hn x store s ≡ true
     handler_lies no_handler w region lies labelled n x store s h t f = refl
     handler_lies (handler hs o) w region lies labelled n x store s h t f =
         alternatives_lie hs w region lies labelled n (otherwise_mean w n o (Raised x)) (otherwise_within w c n o) x store s h t.0 (λ store1 s1 h1 f1. otherwise_lies o w region lies labelled n (Raised x) store1 s1 h1 t.1 f1) f
 
-    alternatives_lie : (hs : HandledNodes) (w : Setting) (region : Option ℕ) (lies : Lies g w result c) (labelled n : ℕ) (last : Meaning (Unit {0})) (along : Along) (x : Exc) (store : Store) (s : Session) → Here g (StoreFits w.rows result) store s → AreTypedAlternatives (around_at g w region sort result labelled) hs → LiesAlong g (StoreFits w.rows result) last along → Over g (alternatives_mean w n hs last x store s) → alternatives_within w c n hs along x store s ≡ true
+    alternatives_lie : (hs : HandledNodes) (w : Setting) (region : Option ℕ) (lies : Lies g w result c) (labelled n : ℕ) (last : Meaning (Unit {0})) (along : Along) (x : Exc) (store : Store) (s : Session) → Here g (StoreFits w.rows result) store s → AreTypedAlternatives (around_at g w region sort result labelled) hs → LiesAlong g (StoreFits w.rows result) last along → IsOver g (alternatives_mean w n hs last x store s) → alternatives_within w c n hs along x store s ≡ true
     alternatives_lie no_handled w region lies labelled n last along x store s h t k f = k store s h f
     alternatives_lie (more_handled names ss hs) w region lies labelled n last along x store s h t k f =
-        if_holds (names_exception names x) f (λ f1. statements_lie ss w region lies labelled n store s h t.0 f1) (λ f1. alternatives_lie hs w region lies labelled n last along x store s h t.1 k f1)
+        either_lies (names_exception names x) f (λ f1. statements_lie ss w region lies labelled n store s h t.0 f1) (λ f1. alternatives_lie hs w region lies labelled n last along x store s h t.1 k f1)
 
-    otherwise_lies : (o : OtherwiseNode) (w : Setting) (region : Option ℕ) (lies : Lies g w result c) (labelled n : ℕ) (none : Meaning (Unit {0})) (store : Store) (s : Session) → Here g (StoreFits w.rows result) store s → IsTypedOtherwise (around_at g w region sort result labelled) o → Over g (otherwise_mean w n o none store s) → otherwise_within w c n o store s ≡ true
+    otherwise_lies : (o : OtherwiseNode) (w : Setting) (region : Option ℕ) (lies : Lies g w result c) (labelled n : ℕ) (none : Meaning (Unit {0})) (store : Store) (s : Session) → Here g (StoreFits w.rows result) store s → IsTypedOtherwise (around_at g w region sort result labelled) o → IsOver g (otherwise_mean w n o none store s) → otherwise_within w c n o store s ≡ true
     otherwise_lies no_otherwise w region lies labelled n none store s h t f = refl
     otherwise_lies (otherwise ss) w region lies labelled n none store s h t f = statements_lie ss w region lies labelled n store s h t f
 
-    action_lies : (a : ActionTree) (w : Setting) (region : Option ℕ) (lies : Lies g w result c) (labelled n : ℕ) (store : Store) (s : Session) → Here g (StoreFits w.rows result) store s → IsTypedAction (around_at g w region sort result labelled) a → Over g (action_mean w n a store s) → action_within w c n a store s ≡ true
+    action_lies : (a : ActionTree) (w : Setting) (region : Option ℕ) (lies : Lies g w result c) (labelled n : ℕ) (store : Store) (s : Session) → Here g (StoreFits w.rows result) store s → IsTypedAction (around_at g w region sort result labelled) a → IsOver g (action_mean w n a store s) → action_within w c n a store s ≡ true
     action_lies do_nothing w region lies labelled n store s h t f = refl
     action_lies (declare names r) w region lies labelled n store s h t f = received_lies g w result region c lies r t.0 store s h t.2 (first_over (λ xs. names_grow names xs) f)
     action_lies (set_lowest locals xs) w region lies labelled n store s h t f = refl
@@ -308,11 +307,11 @@ module _ (g : Whole) (result : Option ModeTree) (sort : Sort) (mode : IfSome res
         (λ address. then_grows (read_grows k address) (λ xs. then_grows (binary_grows o xs (expr_grows (sides w lies.keeps n) e)) (λ ys. then_grows (tested_grows bounds ys) (λ zs. assign_grows k address zs)))) f
         (λ f1. location_lies g w result region c lies (location b ps k) m store s h t.3 f1)
         (λ address store1 s1 h1 b1 f1 q f2.
-        goes_on g (StoreFits w.rows result) (IsValueOf m) (reads g w result region lies.stands m k address store1 s1 h1 (λ f3. (q, t.3.3)))
+        where_through g (StoreFits w.rows result) (IsValueOf m) (reads g w result region lies.stands m k address store1 s1 h1 (λ f3. (q, t.3.3)))
         (λ xs. then_grows (binary_grows o xs (expr_grows (sides w lies.keeps n) e)) (λ ys. then_grows (tested_grows bounds ys) (λ zs. assign_grows k address zs))) f2
         (λ xs store2 s2 h2 b2 f3 u f4.
-        both_hold (mode_lies m bounds xs t.7 u)
-        (if_holds (takes_second o xs) (first_over (λ ys. then_grows (tested_grows bounds ys) (λ zs. assign_grows k address zs)) f4)
+        and_holds (mode_lies m bounds xs t.7 u)
+        (either_lies (takes_second o xs) (first_over (λ ys. then_grows (tested_grows bounds ys) (λ zs. assign_grows k address zs)) f4)
         (λ f5. expr_lies g w result region c lies e t.1 store2 s2 h2 t.4 (first_over (λ ys. computed_grows (binary_value o xs ys)) f5)) (λ f5. refl))))
     action_lies (perform ct) w region lies labelled n store s h t f = call_lies g w result region c lies ct t.0 store s h t.1 (first_over (λ xs. same_goes) f)
     action_lies (drop_routine r e) w region lies labelled n store s h t f =
@@ -365,26 +364,26 @@ module _ (g : Whole) (result : Option ModeTree) (sort : Sort) (mode : IfSome res
         (λ k store1 s1 h1 f1. receives_lie rs w region lies labelled n k store1 s1 h1 (alternatives_typed (around_at g w region sort result labelled) (SignalHas (context_in g w region)) rs t.1) f1)
         (λ store1 s1 h1 f1. otherwise_lies o w region lies labelled n skip store1 s1 h1 t.2 f1) f
 
-    choices_lie : (cs : ChoiceNodes) (w : Setting) (region : Option ℕ) (lies : Lies g w result c) (labelled n : ℕ) (last : Meaning (Unit {0})) (along : Along) (store : Store) (s : Session) → Here g (StoreFits w.rows result) store s → AreTypedChoices (around_at g w region sort result labelled) cs → Keeps last → LiesAlong g (StoreFits w.rows result) last along → Over g (choices_mean w n cs last store s) → choices_within w c n cs along store s ≡ true
+    choices_lie : (cs : ChoiceNodes) (w : Setting) (region : Option ℕ) (lies : Lies g w result c) (labelled n : ℕ) (last : Meaning (Unit {0})) (along : Along) (store : Store) (s : Session) → Here g (StoreFits w.rows result) store s → AreTypedChoices (around_at g w region sort result labelled) cs → KeepsTold last → LiesAlong g (StoreFits w.rows result) last along → IsOver g (choices_mean w n cs last store s) → choices_within w c n cs along store s ≡ true
     choices_lie no_choices w region lies labelled n last along store s h t keep k f = k store s h f
     choices_lie (more_choices e ss cs) w region lies labelled n last along store s h t keep k f =
         joins g (StoreFits w.rows result) (IsValueOf t.0.0) (expr_asks g w result region lies.stands e t.0.0 store s h t.0.1)
         (λ xs. if_grows (is_true xs) (statements_grow (sides w lies.keeps n) ss) (choices_grow (sides w lies.keeps n) cs keep)) f
         (λ f1. expr_lies g w result region c lies e t.0.0 store s h t.0.1 f1)
         (λ xs store1 s1 h1 b1 f1 v f2.
-        if_holds (is_true xs) f2 (λ f3. statements_lie ss w region lies labelled n store1 s1 h1 t.1 f3) (λ f3. choices_lie cs w region lies labelled n last along store1 s1 h1 t.2 keep k f3))
+        either_lies (is_true xs) f2 (λ f3. statements_lie ss w region lies labelled n store1 s1 h1 t.1 f3) (λ f3. choices_lie cs w region lies labelled n last along store1 s1 h1 t.2 keep k f3))
 
-    cases_lie : (cs : CaseNodes) (w : Setting) (region : Option ℕ) (lies : Lies g w result c) (labelled n : ℕ) (last : Meaning (Unit {0})) (along : Along) (x : ℤ) (store : Store) (s : Session) → Here g (StoreFits w.rows result) store s → AreTypedCases (around_at g w region sort result labelled) cs → LiesAlong g (StoreFits w.rows result) last along → Over g (cases_mean w n cs last x store s) → cases_within w c n cs along x store s ≡ true
+    cases_lie : (cs : CaseNodes) (w : Setting) (region : Option ℕ) (lies : Lies g w result c) (labelled n : ℕ) (last : Meaning (Unit {0})) (along : Along) (x : ℤ) (store : Store) (s : Session) → Here g (StoreFits w.rows result) store s → AreTypedCases (around_at g w region sort result labelled) cs → LiesAlong g (StoreFits w.rows result) last along → IsOver g (cases_mean w n cs last x store s) → cases_within w c n cs along x store s ≡ true
     cases_lie no_cases w region lies labelled n last along x store s h t k f = k store s h f
     cases_lie (more_cases ls ss cs) w region lies labelled n last along x store s h t k f =
-        if_holds (holds_one x ls) f (λ f1. statements_lie ss w region lies labelled n store s h t.0 f1) (λ f1. cases_lie cs w region lies labelled n last along x store s h t.1 k f1)
+        either_lies (holds_one x ls) f (λ f1. statements_lie ss w region lies labelled n store s h t.0 f1) (λ f1. cases_lie cs w region lies labelled n last along x store s h t.1 k f1)
 
-    delays_lie : (ds : DelayNodes) (w : Setting) (region : Option ℕ) (lies : Lies g w result c) (labelled n k : ℕ) (store : Store) (s : Session) → Here g (StoreFits w.rows result) store s → AreTypedDelays (around_at g w region sort result labelled) ds → Over g (delay_mean w n ds k store s) → delays_within w c n ds k store s ≡ true
+    delays_lie : (ds : DelayNodes) (w : Setting) (region : Option ℕ) (lies : Lies g w result c) (labelled n k : ℕ) (store : Store) (s : Session) → Here g (StoreFits w.rows result) store s → AreTypedDelays (around_at g w region sort result labelled) ds → IsOver g (delay_mean w n ds k store s) → delays_within w c n ds k store s ≡ true
     delays_lie no_delays w region lies labelled n k store s h t f = refl
     delays_lie (more_delays es ss ds) w region lies labelled n zero store s h t f = statements_lie ss w region lies labelled n store s h t.1 f
     delays_lie (more_delays es ss ds) w region lies labelled n (suc k) store s h t f = delays_lie ds w region lies labelled n k store s h t.2 f
 
-    receives_lie : (rs : ReceiveNodes) (w : Setting) (region : Option ℕ) (lies : Lies g w result c) (labelled n k : ℕ) (store : Store) (s : Session) → Here g (StoreFits w.rows result) store s → AlternativesTyped (around_at g w region sort result labelled) rs → Over g (receive_mean w n rs k store s) → receives_within w c n rs k store s ≡ true
+    receives_lie : (rs : ReceiveNodes) (w : Setting) (region : Option ℕ) (lies : Lies g w result c) (labelled n k : ℕ) (store : Store) (s : Session) → Here g (StoreFits w.rows result) store s → AlternativesTyped (around_at g w region sort result labelled) rs → IsOver g (receive_mean w n rs k store s) → receives_within w c n rs k store s ≡ true
     receives_lie no_receives w region lies labelled n k store s h t f = refl
     receives_lie (more_receives thing is ss rs) w region lies labelled n zero store s h t f = statements_lie ss w region lies labelled n store s h t.0 f
     receives_lie (more_receives thing is ss rs) w region lies labelled n (suc k) store s h t f = receives_lie rs w region lies labelled n k store s h t.1 f
