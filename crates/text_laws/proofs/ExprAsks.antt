@@ -81,13 +81,13 @@ abbrev pub PassedFit : Context → List LocalRowTree → ℕ → List Passed →
 PassedFit c rows k [] = Unit {0}
 PassedFit c rows k (q ∷ qs) = ((row : LocalRowTree) × (slice_get rows k ≡ Some row) × TakenFits row.mode q.begins × CopyFits c row.mode q.copy_out × IsTrue (parts_fit row.mode)) × PassedFit c rows (suc k) qs
 
-passed_takens : (c : Context) (rows : List LocalRowTree) (k : ℕ) (qs : List Passed) → PassedFit c rows k qs → TakensFit rows k (takens qs)
+pub passed_takens : (c : Context) (rows : List LocalRowTree) (k : ℕ) (qs : List Passed) → PassedFit c rows k qs → TakensFit rows k (takens qs)
 passed_takens c rows k [] p = tt
 passed_takens c rows k (q ∷ qs) p = ((p.0.0, p.0.1, p.0.2), passed_takens c rows (suc k) qs p.1)
 
 -- ---- forms
 
-structure_form : (f : FormTree) (fs : FieldNodes) (o : Option Bounds) → IsStructure f fs → (domains_in_form f o ≡ domains_of_fields fs) × (FormFits f → IsTrue (fields_fit fs))
+pub structure_form : (f : FormTree) (fs : FieldNodes) (o : Option Bounds) → IsStructure f fs → (domains_in_form f o ≡ domains_of_fields fs) × (FormFits f → IsTrue (fields_fit fs))
 structure_form of_int fs o i = absurd i
 structure_form of_boolean fs o i = absurd i
 structure_form of_char fs o i = absurd i
@@ -99,7 +99,7 @@ structure_form (of_array j e how) fs o i = absurd i
 structure_form (of_structure own p) fs o i = (ap domains_of_fields i, λ f. subst (λ (x : FieldNodes). IsTrue (fields_fit x)) i f)
 structure_form of_meeting fs o i = absurd i
 
-array_form : (f : FormTree) (index m : ModeTree) (o : Option Bounds) → IsArray f index m → (domains_in_form f o ≡ repeated (values_of index) (domains_of m)) × (FormFits f → IsTrue (parts_fit m))
+pub array_form : (f : FormTree) (index m : ModeTree) (o : Option Bounds) → IsArray f index m → (domains_in_form f o ≡ repeated (values_of index) (domains_of m)) × (FormFits f → IsTrue (parts_fit m))
 array_form of_int index m o i = absurd i
 array_form of_boolean index m o i = absurd i
 array_form of_char index m o i = absurd i
@@ -263,13 +263,13 @@ pub record TakenAs (c : Context) (rs : ReceivedNodes) (ds : List Domain) : Type 
   pub fit : ModesFit modes
   pub domains : ds ≡ flat_map domains_of modes
 
-elements_taken : (c : Context) (rs : ReceivedNodes) (n : ℕ) (m : ModeTree) → IsTrue (parts_fit m) → ElementsHave c rs n m → TakenAs c rs (repeated n (domains_of m))
+pub elements_taken : (c : Context) (rs : ReceivedNodes) (n : ℕ) (m : ModeTree) → IsTrue (parts_fit m) → ElementsHave c rs n m → TakenAs c rs (repeated n (domains_of m))
 elements_taken c no_received n m p h = record { modes = []; have = refl; fit = tt; domains = ap (λ (k : ℕ). repeated k (domains_of m)) h }
 elements_taken c (more_received r rs) n m p h =
     let t = elements_taken c rs h.0 m p h.3 in
     record { modes = m ∷ t.modes; have = (m, t.modes, refl, h.2, t.have); fit = (p, t.fit); domains = ap (λ (k : ℕ). repeated k (domains_of m)) h.1 ∙ ap (λ (ds : List Domain). domains_of m ++ ds) t.domains }
 
-fields_taken : (c : Context) (rs : ReceivedNodes) (fs : FieldNodes) → IsTrue (fields_fit fs) → FieldsHave c rs fs → TakenAs c rs (domains_of_fields fs)
+pub fields_taken : (c : Context) (rs : ReceivedNodes) (fs : FieldNodes) → IsTrue (fields_fit fs) → FieldsHave c rs fs → TakenAs c rs (domains_of_fields fs)
 fields_taken c no_received fs p h = record { modes = []; have = refl; fit = tt; domains = ap domains_of_fields h }
 fields_taken c (more_received r rs) no_fields p h = absurd h.2
 fields_taken c (more_received r rs) (more_fields name own at fs) p h =
@@ -292,14 +292,14 @@ behind_more b k row rows q ps h = record {
   parameters_are = λ j. ap (λ (n : ℕ). slice_get b.parameters n) (let e : suc k + j ≡ k + suc j = omega arith in e) ∙ h.parameters_are (suc j);
 }
 
-behind_first : (b : BodyRowTree) → Behind b 0 b.locals b.parameters
+pub behind_first : (b : BodyRowTree) → Behind b 0 b.locals b.parameters
 behind_first b = record { rows_are = λ j. ap (λ (n : ℕ). slice_get b.locals n) (let e : 0 + j ≡ j = omega arith in e); parameters_are = λ j. ap (λ (n : ℕ). slice_get b.parameters n) (let e : 0 + j ≡ j = omega arith in e) }
 
 no_more : {A : Type 0} (xs : List A) → slice_get xs 0 ≡ None → xs ≡ []
 no_more [] e = refl
 no_more (x ∷ xs) e = absurd (let f : ⊥ = cc in f)
 
-parameters_taken : (c : Context) (rs : ReceivedNodes) (b : BodyRowTree) (k : ℕ) (rows : List LocalRowTree) (ps : List Parameter) → RowsFit rows → Behind b k rows ps → AllTaken c rs b k → TakenAs c rs (domains_of_parameters rows ps)
+pub parameters_taken : (c : Context) (rs : ReceivedNodes) (b : BodyRowTree) (k : ℕ) (rows : List LocalRowTree) (ps : List Parameter) → RowsFit rows → Behind b k rows ps → AllTaken c rs b k → TakenAs c rs (domains_of_parameters rows ps)
 parameters_taken c no_received b k rows ps f h t =
     let at : slice_get ps 0 ≡ None = sym (h.parameters_are 0) ∙ (ap (λ (n : ℕ). slice_get b.parameters n) (let e : k + 0 ≡ k = omega arith in e) ∙ t) in
     record { modes = []; have = refl; fit = tt; domains = ap (λ (l : List Parameter). domains_of_parameters rows l) (no_more ps at) }
@@ -338,7 +338,7 @@ pub address_fits : (g : Whole) (w : Setting) (region : Option ℕ) (b : Base) (o
 address_fits g w region (Local i) of m k t p = (t.0, t.1, subst (λ (x : ModeTree). PartAt (domains_of x) m k) (sym t.2) p)
 address_fits g w region (Shared l) of m k t p = (t.0, t.1, subst (λ (x : ModeTree). PartAt (domains_of x) m k) (sym t.2) p)
 
-element_fits : (f : FormTree) (b : Bounds) (index m : ModeTree) → FormFits f → IsIndexed f b index m → IsTrue (parts_fit m)
+pub element_fits : (f : FormTree) (b : Bounds) (index m : ModeTree) → FormFits f → IsIndexed f b index m → IsTrue (parts_fit m)
 element_fits of_int b index m f i = absurd i
 element_fits of_boolean b index m f i = absurd i
 element_fits of_char b index m f i = absurd i
@@ -436,7 +436,7 @@ module _ (g : Whole) (w : Setting) (result : Option ModeTree) (region : Option �
       let c = q f in (c.0, c.1, c.2, taken_value m c.0 o.bounds xs p c.3 c.4 c.5 (v f) t)))
       (λ ys store1 s1 h1 r. assigns o.count o.address ys store1 s1 h1 (λ f. (r f).1))
 
-  copies_ask : (rows : List LocalRowTree) (k : ℕ) (qs : List Passed) (ls : List (List ℤ)) (store : Store) (s : Session) → Here g (StoreFits w.rows result) store s → RowsFit rows → (Fits g s → PassedFit (context_in g w region) rows k qs) → (Fits g s → ValuesFit rows k ls) → Comes g (StoreFits w.rows result) s Any (all_copied_out qs ls store s)
+  pub copies_ask : (rows : List LocalRowTree) (k : ℕ) (qs : List Passed) (ls : List (List ℤ)) (store : Store) (s : Session) → Here g (StoreFits w.rows result) store s → RowsFit rows → (Fits g s → PassedFit (context_in g w region) rows k qs) → (Fits g s → ValuesFit rows k ls) → Comes g (StoreFits w.rows result) s Any (all_copied_out qs ls store s)
   copies_ask rows k [] ls store s h rf q v = goes g (StoreFits w.rows result) h (λ f. tt)
   copies_ask rows k (p ∷ qs) [] store s h rf q v = goes g (StoreFits w.rows result) h (λ f. tt)
   copies_ask rows k (p ∷ qs) (xs ∷ ls) store s h rf q v =

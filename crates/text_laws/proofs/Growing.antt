@@ -197,12 +197,12 @@ tick_grows {g = g} {part = part} {other = other} is = record {
 
 -- ---- loops
 
-turn_grows : {C : Type 0} {g : More} {body body' : Meaning (Unit {0})} {again again' : C → Meaning (Unit {0})} (o : Option C) → Extends g body body' → ((c : C) → Extends g (again c) (again' c)) → Extends g (turn_or_end o body again) (turn_or_end o body' again')
+pub turn_grows : {C : Type 0} {g : More} {body body' : Meaning (Unit {0})} {again again' : C → Meaning (Unit {0})} (o : Option C) → Extends g body body' → ((c : C) → Extends g (again c) (again' c)) → Extends g (turn_or_end o body again) (turn_or_end o body' again')
 turn_grows None is all = same_goes
 turn_grows (Some c) is all = then_grows is (λ _. tick_grows (all c))
 
 -- as many turns on both sides
-same_turns : {C : Type 0} {g : More} (n : ℕ) {test test' : C → Meaning (Option C)} {body body' : Meaning (Unit {0})} (c : C) → ((c : C) → Extends g (test c) (test' c)) → Extends g body body' → Extends g (turns n test body c) (turns n test' body' c)
+pub same_turns : {C : Type 0} {g : More} (n : ℕ) {test test' : C → Meaning (Option C)} {body body' : Meaning (Unit {0})} (c : C) → ((c : C) → Extends g (test c) (test' c)) → Extends g body body' → Extends g (turns n test body c) (turns n test' body' c)
 same_turns zero c tests is = record { grows = λ store s. tt; tells = λ t store s b. tt }
 same_turns (suc n) c tests is = then_grows (tests c) (λ o. turn_grows o is (λ c'. same_turns n c' tests is))
 
@@ -233,7 +233,7 @@ leave_grows_by g r (Stops t inner store) other is = leave_tells t r other is
 leave_grows_by g r (Gone t) other is = ap (then_leave r) is
 leave_grows_by g r Bound other is = tt
 
-leave_grows : {g : More} {part other : Meaning (Unit {0})} (r : ℕ) → Extends g part other → Extends g (λ store s. then_leave r (part store s)) (λ store s. then_leave r (other store s))
+pub leave_grows : {g : More} {part other : Meaning (Unit {0})} (r : ℕ) → Extends g part other → Extends g (λ store s. then_leave r (part store s)) (λ store s. then_leave r (other store s))
 leave_grows {g = g} {part = part} {other = other} r is = record {
   grows = λ store s. leave_grows_by g r (part store s) (other store (extended g s)) (is.grows store s);
   tells = λ t store s b. leave_tells t r (other store s) (is.tells t store s b);

@@ -40,7 +40,7 @@ pub tested_grows : {g : More} (o : Option Bounds) (xs : List ℤ) → Extends g 
 tested_grows None xs = same_goes
 tested_grows (Some b) xs = if_grows (is_between b.low b.high (sole_number xs)) same_goes same_raises
 
-value_grows : {g : More} (request : Request) (counts : List ℕ) → Extends g (asked_value request counts) (asked_value request counts)
+pub value_grows : {g : More} (request : Request) (counts : List ℕ) → Extends g (asked_value request counts) (asked_value request counts)
 value_grows request counts = then_grows (asked_grows request counts) (λ answer. same_goes)
 
 pub read_grows : {g : More} (count : ℕ) (address : Address) → Extends g (read_at count address) (read_at count address)
@@ -55,12 +55,12 @@ copied_grows : {g : More} (o : Option CopyOut) (xs : List ℤ) → Extends g (co
 copied_grows None xs = same_goes
 copied_grows (Some place) xs = then_grows (tested_grows place.bounds xs) (λ ys. assign_grows place.count place.address ys)
 
-all_copied_grow : {g : More} (ps : List Passed) (values : List (List ℤ)) → Extends g (all_copied_out ps values) (all_copied_out ps values)
+pub all_copied_grow : {g : More} (ps : List Passed) (values : List (List ℤ)) → Extends g (all_copied_out ps values) (all_copied_out ps values)
 all_copied_grow [] values = same_goes
 all_copied_grow (a ∷ as') [] = same_goes
 all_copied_grow (a ∷ as') (xs ∷ values) = then_grows (copied_grows a.copy_out xs) (λ _. all_copied_grow as' values)
 
-call_grows : {g : More} (w : Sides g) (k : ℕ) (ps : List Passed) → Extends g (call_with w.setting k ps) (call_with (there w) k ps)
+pub call_grows : {g : More} (w : Sides g) (k : ℕ) (ps : List Passed) → Extends g (call_with w.setting k ps) (call_with (there w) k ps)
 call_grows w k ps = then_grows (w.grow w.setting.open_now k (takens ps)) (λ final. then_grows (all_copied_grow ps final.locals) (λ _. same_goes))
 
 pub binary_grows : {g : More} {second other : Meaning (List ℤ)} (o : Binary) (xs : List ℤ) → Extends g second other → Extends g (binary_with o xs second) (binary_with o xs other)
@@ -70,7 +70,7 @@ mutual
   pub expr_grows : {g : More} (w : Sides g) (e : ExprTree) → Extends g (expr_mean w.setting e) (expr_mean (there w) e)
   expr_grows w (expr n own o) = operation_grows w n o
 
-  operation_grows : {g : More} (w : Sides g) (n : ℕ) (o : OperationTree) → Extends g (operation_mean w.setting n o) (operation_mean (there w) n o)
+  pub operation_grows : {g : More} (w : Sides g) (n : ℕ) (o : OperationTree) → Extends g (operation_mean w.setting n o) (operation_mean (there w) n o)
   operation_grows w n (constant xs) = same_goes
   operation_grows w n own_instance = same_goes
   operation_grows w n (contents l) = then_grows (location_grows w l) (λ address. read_grows n address)
@@ -93,7 +93,7 @@ mutual
   all_received_grow w no_received = same_goes
   all_received_grow w (more_received r rs) = then_grows (received_grows w r) (λ xs. then_grows (all_received_grow w rs) (λ ys. same_goes))
 
-  offset_grows : {g : More} (w : Sides g) (ps : PartNodes) (k : ℕ) → Extends g (offset_mean w.setting ps k) (offset_mean (there w) ps k)
+  pub offset_grows : {g : More} (w : Sides g) (ps : PartNodes) (k : ℕ) → Extends g (offset_mean w.setting ps k) (offset_mean (there w) ps k)
   offset_grows w no_parts k = same_goes
   offset_grows w (field first count ps) k = offset_grows w ps (k + first)
   offset_grows w (element e b count ps) k =
@@ -103,7 +103,7 @@ mutual
   pub location_grows : {g : More} (w : Sides g) (l : LocationTree) → Extends g (location_mean w.setting l) (location_mean (there w) l)
   location_grows w (location b ps n) = then_grows (offset_grows w ps 0) (λ k. same_goes)
 
-  members_grow : {g : More} (w : Sides g) (b : Bounds) (rs : RangeNodes) (set : List ℤ) → Extends g (members_mean w.setting b rs set) (members_mean (there w) b rs set)
+  pub members_grow : {g : More} (w : Sides g) (b : Bounds) (rs : RangeNodes) (set : List ℤ) → Extends g (members_mean w.setting b rs set) (members_mean (there w) b rs set)
   members_grow w b no_ranges set = same_goes
   members_grow w b (one_member e rs) set =
       then_grows (expr_grows w e) (λ xs.
@@ -120,7 +120,7 @@ mutual
   pub call_tree_grows : {g : More} (w : Sides g) (t : CallTree) → Extends g (call_mean w.setting t) (call_mean (there w) t)
   call_tree_grows w (called k as') = then_grows (arguments_grow w as') (λ ps. call_grows w k ps)
 
-  arguments_grow : {g : More} (w : Sides g) (as' : ArgumentNodes) → Extends g (arguments_mean w.setting as') (arguments_mean (there w) as')
+  pub arguments_grow : {g : More} (w : Sides g) (as' : ArgumentNodes) → Extends g (arguments_mean w.setting as') (arguments_mean (there w) as')
   arguments_grow w no_arguments = same_goes
   arguments_grow w (in_argument r as') = then_grows (received_grows w r) (λ xs. then_grows (arguments_grow w as') (λ ps. same_goes))
   arguments_grow w (out_argument l b as') = then_grows (place_grows w l b) (λ place. then_grows (arguments_grow w as') (λ ps. same_goes))
@@ -130,5 +130,5 @@ mutual
       then_grows (tested_grows t xs) (λ ys.
       then_grows (arguments_grow w as') (λ ps. same_goes))))
 
-  place_grows : {g : More} (w : Sides g) (l : LocationTree) (b : Option Bounds) → Extends g (place_mean w.setting l b) (place_mean (there w) l b)
+  pub place_grows : {g : More} (w : Sides g) (l : LocationTree) (b : Option Bounds) → Extends g (place_mean w.setting l b) (place_mean (there w) l b)
   place_grows w (location a ps n) b = then_grows (offset_grows w ps 0) (λ k. same_goes)

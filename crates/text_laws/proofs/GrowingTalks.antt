@@ -25,7 +25,7 @@ use Rattle.text_laws.proofs.GrowingStatements.{statements_grow, handler_grows}
 -- ---- how a body ends
 
 -- what an end tells begins with this trace
-abbrev EndTells : List Item → Ending → Type 0
+abbrev pub EndTells : List Item → Ending → Type 0
 EndTells t (Through store s) = Begins t s.trace
 EndTells t (Out x store s) = Begins t s.trace
 EndTells t (Halted u calls store) = Begins t u
@@ -33,14 +33,14 @@ EndTells t (Ended u) = Begins t u
 EndTells t Unknown = Unit {0}
 
 -- an end comes with more answers and ticks too, or the other goes on where it stopped
-abbrev EndExtendsBy : More → Ending → Ending → Type 0
+abbrev pub EndExtendsBy : More → Ending → Ending → Type 0
 EndExtendsBy g (Through store s) other = other ≡ Through store (extended g s)
 EndExtendsBy g (Out x store s) other = other ≡ Out x store (extended g s)
 EndExtendsBy g (Halted t calls store) other = EndTells t other
 EndExtendsBy g (Ended t) other = other ≡ Ended t
 EndExtendsBy g Unknown other = Unit {0}
 
-record EndExtends (g : More) (part other : Session → Ending) : Type 0 where
+pub record EndExtends (g : More) (part other : Session → Ending) : Type 0 where
   pub grows : (s : Session) → EndExtendsBy g (part s) (other (extended g s))
   pub tells : (t : List Item) (s : Session) → Begins t s.trace → EndTells t (other s)
 
@@ -63,7 +63,7 @@ close_grows_by g (Gone t) other is = ap close is
 close_grows_by g Bound other is = tt
 
 -- a part of a body, from a store on
-close_grows : {g : More} {part other : Meaning (Unit {0})} (store : Store) → Extends g part other → EndExtends g (λ s. close (part store s)) (λ s. close (other store s))
+pub close_grows : {g : More} {part other : Meaning (Unit {0})} (store : Store) → Extends g part other → EndExtends g (λ s. close (part store s)) (λ s. close (other store s))
 close_grows {g = g} {part = part} {other = other} store is = record {
   grows = λ s. close_grows_by g (part store s) (other store (extended g s)) (is.grows store s);
   tells = λ t s b. close_tells t (other store s) (is.tells t store s b);
@@ -89,16 +89,16 @@ if_ends_grow {g = g} {part = part} {other = other} {part' = part'} {other' = oth
 }
 
 -- the region is left behind a body that went through, and before a listed exception goes out
-left_through : {g : More} (r : ℕ) (listed : List ℕ) (store : Store) → EndExtends g (λ s. leaving r listed (Through store s)) (λ s. leaving r listed (Through store s))
+pub left_through : {g : More} (r : ℕ) (listed : List ℕ) (store : Store) → EndExtends g (λ s. leaving r listed (Through store s)) (λ s. leaving r listed (Through store s))
 left_through r listed store = close_grows store (done_grows (Leave r))
 
-left_out : {g : More} (r : ℕ) (listed : List ℕ) (x : _) (store : Store) → EndExtends g (λ s. leaving r listed (Out x store s)) (λ s. leaving r listed (Out x store s))
+pub left_out : {g : More} (r : ℕ) (listed : List ℕ) (x : _) (store : Store) → EndExtends g (λ s. leaving r listed (Out x store s)) (λ s. leaving r listed (Out x store s))
 left_out r listed x store = if_ends_grow (names_exception listed x) (close_grows store (then_grows (done_grows (Leave r)) (λ _. same_raises))) (out_grows x store)
 
-nothing_more : More
+pub nothing_more : More
 nothing_more = record { behind = []; extra = 0 }
 
-leaving_tells : (t : List Item) (r : ℕ) (listed : List ℕ) (e : Ending) → EndTells t e → EndTells t (leaving r listed e)
+pub leaving_tells : (t : List Item) (r : ℕ) (listed : List ℕ) (e : Ending) → EndTells t e → EndTells t (leaving r listed e)
 leaving_tells t r listed (Through store s) is = (left_through {g = nothing_more} r listed store).tells t s is
 leaving_tells t r listed (Out x store s) is = (left_out {g = nothing_more} r listed x store).tells t s is
 leaving_tells t r listed (Halted u calls store) is = is
@@ -112,7 +112,7 @@ leaving_grows_by g r listed (Halted t calls store) other is = leaving_tells t r 
 leaving_grows_by g r listed (Ended t) other is = ap (leaving r listed) is
 leaving_grows_by g r listed Unknown other is = tt
 
-leaving_grows : {g : More} {part other : Session → Ending} (r : ℕ) (listed : List ℕ) → EndExtends g part other → EndExtends g (λ s. leaving r listed (part s)) (λ s. leaving r listed (other s))
+pub leaving_grows : {g : More} {part other : Session → Ending} (r : ℕ) (listed : List ℕ) → EndExtends g part other → EndExtends g (λ s. leaving r listed (part s)) (λ s. leaving r listed (other s))
 leaving_grows {g = g} {part = part} {other = other} r listed is = record {
   grows = λ s. leaving_grows_by g r listed (part s) (other (extended g s)) (is.grows s);
   tells = λ t s b. leaving_tells t r listed (other s) (is.tells t s b);
@@ -148,13 +148,13 @@ in_region_grows (Some r) listed now store all = if_ends_grow (is_open r now) (al
 
 -- ---- calls and bodies
 
-abbrev BodiesExtend : More → Bodies → Bodies → Type 0
+abbrev pub BodiesExtend : More → Bodies → Bodies → Type 0
 BodiesExtend g bodies others = (k frames : ℕ) (now : List ℕ) (ts : List Taken) → EndExtends g (bodies k frames now ts) (others k frames now ts)
 
-out_of_call : {g : More} (k : ℕ) (o : Option BodyRowTree) (x : _) (inner : Store) → Extends {A = Store} g (λ store s. at_call k o store (Out x inner s)) (λ store s. at_call k o store (Out x inner s))
+pub out_of_call : {g : More} (k : ℕ) (o : Option BodyRowTree) (x : _) (inner : Store) → Extends {A = Store} g (λ store s. at_call k o store (Out x inner s)) (λ store s. at_call k o store (Out x inner s))
 out_of_call k o x inner = if_grows (names_exception (listed_by o) x) same_raises (finish_grows (RaisedHow x) (record { body = k; store = inner } ∷ []))
 
-at_call_tells : (t : List Item) (k : ℕ) (o : Option BodyRowTree) (store : Store) (e : Ending) → EndTells t e → TellsOn t (at_call k o store e)
+pub at_call_tells : (t : List Item) (k : ℕ) (o : Option BodyRowTree) (store : Store) (e : Ending) → EndTells t e → TellsOn t (at_call k o store e)
 at_call_tells t k o store (Through inner s) is = is
 at_call_tells t k o store (Out x inner s) is = (out_of_call {g = nothing_more} k o x inner).tells t store s is
 at_call_tells t k o store (Halted u calls inner) is = is
@@ -168,16 +168,16 @@ at_call_grows_by g k o store (Halted t calls inner) other is = at_call_tells t k
 at_call_grows_by g k o store (Ended t) other is = ap (at_call k o store) is
 at_call_grows_by g k o store Unknown other is = tt
 
-at_call_grows : {g : More} {part other : Session → Ending} (k : ℕ) (o : Option BodyRowTree) → EndExtends g part other → Extends g (λ store s. at_call k o store (part s)) (λ store s. at_call k o store (other s))
+pub at_call_grows : {g : More} {part other : Session → Ending} (k : ℕ) (o : Option BodyRowTree) → EndExtends g part other → Extends g (λ store s. at_call k o store (part s)) (λ store s. at_call k o store (other s))
 at_call_grows {g = g} {part = part} {other = other} k o is = record {
   grows = λ store s. at_call_grows_by g k o store (part s) (other (extended g s)) (is.grows s);
   tells = λ t store s b. at_call_tells t k o store (other s) (is.tells t s b);
 }
 
-calls_grow : {g : More} (p : CheckedTree) (bodies others : Bodies) (frames : ℕ) → BodiesExtend g bodies others → CallsExtend g (calls_in p bodies frames) (calls_in p others frames)
+pub calls_grow : {g : More} (p : CheckedTree) (bodies others : Bodies) (frames : ℕ) → BodiesExtend g bodies others → CallsExtend g (calls_in p bodies frames) (calls_in p others frames)
 calls_grow p bodies others frames all now k ts = if_grows (nat_lt frames most_frames) (tick_grows (at_call_grows k (slice_get p.bodies k) (all k (frames + 1) now ts))) same_raises
 
-inside_grows : {g : More} (w : Sides g) (b : BodyRowTree) (store : Store) → EndExtends g (λ s. close (inside_of b w.turns w.setting store s)) (λ s. close (inside_of b w.looked (record w.setting { calls = w.calls }) store s))
+pub inside_grows : {g : More} (w : Sides g) (b : BodyRowTree) (store : Store) → EndExtends g (λ s. close (inside_of b w.turns w.setting store s)) (λ s. close (inside_of b w.looked (record w.setting { calls = w.calls }) store s))
 inside_grows w b store = close_grows store (caught_grows (statements_grow w b.statements) (λ x. handler_grows w b.handler x))
 
 body_grows : {g : More} (instance n m : ℕ) (calls others : List ℕ → Calls) (now : List ℕ) (ts : List Taken) (o : Option BodyRowTree) → n ≤ m → CallsExtend g calls others → EndExtends g (body_of instance calls n now ts o) (body_of instance others m now ts o)
@@ -186,7 +186,7 @@ body_grows instance n m calls others now ts (Some b) low all =
     in_region_grows (critical_region b) b.listed now (first_store b ts) (λ now'. inside_grows (record { setting = setting_of b instance calls now'; calls = others; grow = all; turns = n; looked = m; below = low }) b (first_store b ts))
 
 -- bodies that nest as deep on both sides
-same_bodies : {g : More} (p : CheckedTree) (instance n : ℕ) → BodiesExtend g (body_mean p instance n) (body_mean p instance n)
+pub same_bodies : {g : More} (p : CheckedTree) (instance n : ℕ) → BodiesExtend g (body_mean p instance n) (body_mean p instance n)
 same_bodies p instance zero k frames now ts = record { grows = λ s. tt; tells = λ t s b. tt }
 same_bodies p instance (suc n) k frames now ts =
     body_grows instance (suc n) (suc n) (calls_in p (body_mean p instance n) frames) (calls_in p (body_mean p instance n) frames) now ts (slice_get p.bodies k) (omega arith)
@@ -201,13 +201,13 @@ bodies_grow p instance (suc n) (suc m) low k frames now ts =
 
 -- ---- talks
 
-through_end : {g : More} → Extends {A = Unit {0}} g (λ store s. process_end (Through store s)) (λ store s. process_end (Through store s))
+pub through_end : {g : More} → Extends {A = Unit {0}} g (λ store s. process_end (Through store s)) (λ store s. process_end (Through store s))
 through_end = finish_grows Normal []
 
-out_end : {g : More} (x : _) → Extends {A = Unit {0}} g (λ store s. process_end (Out x store s)) (λ store s. process_end (Out x store s))
+pub out_end : {g : More} (x : _) → Extends {A = Unit {0}} g (λ store s. process_end (Out x store s)) (λ store s. process_end (Out x store s))
 out_end x = finish_grows (RaisedHow x) []
 
-end_tells : (t : List Item) (e : Ending) → EndTells t e → TellsOn t (process_end e)
+pub end_tells : (t : List Item) (e : Ending) → EndTells t e → TellsOn t (process_end e)
 end_tells t (Through store s) is = (through_end {g = nothing_more}).tells t store s is
 end_tells t (Out x store s) is = (out_end {g = nothing_more} x).tells t store s is
 end_tells t (Halted u calls store) is = is

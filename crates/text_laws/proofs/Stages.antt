@@ -37,7 +37,7 @@ ask_on p (Tick ∷ items) all request w f = ask_on p items all request w f
 ask_on p (Ask other ∷ items) [] request w f = (w.0, ask_on p items [] request w.1 (λ has. f tt))
 ask_on p (Ask other ∷ items) (a ∷ all) request w f = (w.0, λ fit. ask_on p items all request (w.1 fit) (λ has. f (fit, has)))
 
-tick_on : (p : CheckedTree) (items : List Item) (all : List Answer) → AskWell p items all → AskWell p (items ++ Tick ∷ []) all
+pub tick_on : (p : CheckedTree) (items : List Item) (all : List Answer) → AskWell p items all → AskWell p (items ++ Tick ∷ []) all
 tick_on p [] all w = tt
 tick_on p (Tick ∷ items) all w = tick_on p items all w
 tick_on p (Ask other ∷ items) [] w = (w.0, tick_on p items [] w.1)
@@ -50,7 +50,7 @@ linked_ask (Tick ∷ items) all request a left l = linked_ask items all request 
 linked_ask (Ask other ∷ items) [] request a left l = absurd l
 linked_ask (Ask other ∷ items) (b ∷ all) request a left l = linked_ask items all request a left l
 
-linked_tick : (items : List Item) (all left : List Answer) → Linked items all left → Linked (items ++ Tick ∷ []) all left
+pub linked_tick : (items : List Item) (all left : List Answer) → Linked items all left → Linked (items ++ Tick ∷ []) all left
 linked_tick [] all left l = l
 linked_tick (Tick ∷ items) all left l = linked_tick items all left l
 linked_tick (Ask other ∷ items) [] left l = absurd l
@@ -64,7 +64,7 @@ fit_ask p (Tick ∷ items) all request a left l h = fit_ask p items all request 
 fit_ask p (Ask other ∷ items) [] request a left l h = absurd l
 fit_ask p (Ask other ∷ items) (b ∷ all) request a left l h = let r = fit_ask p items all request a left l h.1 in ((h.0, r.0), r.1)
 
-fit_tick : (p : CheckedTree) (items : List Item) (all : List Answer) → HasFittingAnswers p (items ++ Tick ∷ []) all → HasFittingAnswers p items all
+pub fit_tick : (p : CheckedTree) (items : List Item) (all : List Answer) → HasFittingAnswers p (items ++ Tick ∷ []) all → HasFittingAnswers p items all
 fit_tick p [] all h = tt
 fit_tick p (Tick ∷ items) all h = fit_tick p items all h
 fit_tick p (Ask other ∷ items) [] h = tt

@@ -70,11 +70,11 @@ labelled_as_such : (g : Whole) (w : Setting) (region : Option ℕ) (sort : Sort)
 labelled_as_such g w region sort result n true = record { region = region; labelled = suc n; is = refl }
 labelled_as_such g w region sort result n false = record { region = region; labelled = n; is = refl }
 
-around_as : (g : Whole) (w : Setting) (region : Option ℕ) (sort : Sort) (result : Option ModeTree) (n : ℕ) (t : Bool) (a : ActionTree) → AroundAs g w sort result (around_action t a (around_at g w region sort result n))
+pub around_as : (g : Whole) (w : Setting) (region : Option ℕ) (sort : Sort) (result : Option ModeTree) (n : ℕ) (t : Bool) (a : ActionTree) → AroundAs g w sort result (around_action t a (around_at g w region sort result n))
 around_as g w region sort result n t (region_at r ss) = record { region = Some r; labelled = n; is = refl }
 around_as g w region sort result n t a = labelled_as_such g w region sort result n (is_label t a)
 
-handler_as : (g : Whole) (w : Setting) (region other : Option ℕ) (sort : Sort) (result : Option ModeTree) (n : ℕ) (t : Bool) (a : ActionTree) → AroundAs g w sort result (around_handler other t a (around_at g w region sort result n))
+pub handler_as : (g : Whole) (w : Setting) (region other : Option ℕ) (sort : Sort) (result : Option ModeTree) (n : ℕ) (t : Bool) (a : ActionTree) → AroundAs g w sort result (around_handler other t a (around_at g w region sort result n))
 handler_as g w region other sort result n t do_nothing = labelled_as_such g w other sort result n t
 handler_as g w region other sort result n t a = around_as g w region sort result n t a
 
@@ -84,11 +84,11 @@ pairs_name : (n k : ℕ) (es : List ℕ) → All (λ e. e < n) es → NameThings
 pairs_name n k [] h = All-nil (λ (a : Alternative). a.thing < n)
 pairs_name n k (e ∷ es) h = All-cons (λ (a : Alternative). a.thing < n) (record { thing = e; number = k }) (pairs_with k es) (All-head (λ e. e < n) e es h) (pairs_name n k es (All-tail (λ e. e < n) e es h))
 
-delays_name : (at : Around) (k : ℕ) (ds : DelayNodes) → AreTypedDelays at ds → NameThings (length at.context.program.events) (delay_pairs k ds)
+pub delays_name : (at : Around) (k : ℕ) (ds : DelayNodes) → AreTypedDelays at ds → NameThings (length at.context.program.events) (delay_pairs k ds)
 delays_name at k no_delays t = All-nil (λ (a : Alternative). a.thing < length at.context.program.events)
 delays_name at k (more_delays es ss ds) t = All-append (λ (a : Alternative). a.thing < length at.context.program.events) (pairs_with k es) (delay_pairs (suc k) ds) (pairs_name (length at.context.program.events) k es t.0) (delays_name at (suc k) ds t.2)
 
-receives_name : (n : ℕ) (at : Around) (brings : Brings) (k : ℕ) (rs : ReceiveNodes) → ((thing : ℕ) (ms : List ModeTree) → brings thing ms → thing < n) → AreTypedReceives at brings rs → NameThings n (receive_list k rs)
+pub receives_name : (n : ℕ) (at : Around) (brings : Brings) (k : ℕ) (rs : ReceiveNodes) → ((thing : ℕ) (ms : List ModeTree) → brings thing ms → thing < n) → AreTypedReceives at brings rs → NameThings n (receive_list k rs)
 receives_name n at brings k no_receives low t = All-nil (λ (a : Alternative). a.thing < n)
 receives_name n at brings k (more_receives thing is ss rs) low t = All-cons (λ (a : Alternative). a.thing < n) (record { thing = thing; number = k }) (receive_list (suc k) rs) (low thing t.0.0 t.0.1) (receives_name n at brings (suc k) rs low t.2)
 
@@ -149,7 +149,7 @@ counts_there rows no_receives k = refl
 counts_there rows (more_receives thing is ss rs) zero = refl
 counts_there rows (more_receives thing is ss rs) (suc k) = counts_there rows rs k
 
-received_tells : (at : Around) (brings : Brings) (rs : ReceiveNodes) → AreTypedReceives at brings rs → NumbersTell (receive_list 0 rs)
+pub received_tells : (at : Around) (brings : Brings) (rs : ReceiveNodes) → AreTypedReceives at brings rs → NumbersTell (receive_list 0 rs)
 received_tells at brings rs t thing number e = (brought_by_list at brings rs 0 thing number t e).tells
 
 -- the actions of the alternatives
@@ -157,7 +157,7 @@ abbrev pub AlternativesTyped : Around → ReceiveNodes → Type 0
 AlternativesTyped at no_receives = Unit {0}
 AlternativesTyped at (more_receives thing is ss rs) = AreTyped at ss × AlternativesTyped at rs
 
-alternatives_typed : (at : Around) (brings : Brings) (rs : ReceiveNodes) → AreTypedReceives at brings rs → AlternativesTyped at rs
+pub alternatives_typed : (at : Around) (brings : Brings) (rs : ReceiveNodes) → AreTypedReceives at brings rs → AlternativesTyped at rs
 alternatives_typed at brings no_receives t = tt
 alternatives_typed at brings (more_receives thing is ss rs) t = (t.1, alternatives_typed at brings rs t.2)
 
@@ -170,7 +170,7 @@ abbrev pub SetFits : Context → Option Address → Type 0
 SetFits c None = Unit {0}
 SetFits c (Some a) = (m : ModeTree) × AddressFits c m a × (domains_of m ≡ any_instance ∷ [])
 
-woken_fits : (g : Whole) (request : Request) (a : Answer) → Answers g request a → ComeFits (woken_as a)
+pub woken_fits : (g : Whole) (request : Request) (a : Answer) → Answers g request a → ComeFits (woken_as a)
 woken_fits g request (Value xs) f = tt
 woken_fits g request Done f = tt
 woken_fits g request (Woken k by) f = f.in_range.1
@@ -185,7 +185,7 @@ woken_fits g request Stored f = tt
 abbrev gone_on : Store → Session → Flow (Unit {0})
 gone_on store s = Goes tt store s
 
-modes_fit : (ms : List ModeTree) → All IsOfLanguage ms → ModesFit ms
+pub modes_fit : (ms : List ModeTree) → All IsOfLanguage ms → ModesFit ms
 modes_fit [] h = tt
 modes_fit (m ∷ ms) h = ((All-head IsOfLanguage m ms h).parts, modes_fit ms (All-tail IsOfLanguage m ms h))
 
@@ -200,7 +200,7 @@ module _ (g : Whole) (result : Option ModeTree) (sort : Sort) (mode : IfSome res
       (m, address_fits g w region b m m 0 (All-head (λ b. BaseHas (context_in g w region) b m) b bs t) (part_whole m), sym (within_length (domains_of m) xs (v f)) ∙ count_domains m, v f)))
       (λ u store1 s1 h1 q. names_ask w region stands m bs xs store1 s1 h1 (All-tail (λ b. BaseHas (context_in g w region) b m) b bs t) (λ f. v (q f).0))
 
-  set_asks : (w : Setting) (region : Option ℕ) (stands : Stands g w result) (o : Option Address) (by : ℕ) (store : Store) (s : Session) → Here g (StoreFits w.rows result) store s → (Fits g s → SetFits (context_in g w region) o) → (Fits g s → IsNumber by) → Comes g (StoreFits w.rows result) s Any (set_to o by store s)
+  pub set_asks : (w : Setting) (region : Option ℕ) (stands : Stands g w result) (o : Option Address) (by : ℕ) (store : Store) (s : Session) → Here g (StoreFits w.rows result) store s → (Fits g s → SetFits (context_in g w region) o) → (Fits g s → IsNumber by) → Comes g (StoreFits w.rows result) s Any (set_to o by store s)
   set_asks w region stands None by store s h t v = goes g (StoreFits w.rows result) h (λ f. tt)
   set_asks w region stands (Some a) by store s h t v = assigns g w result region stands 1 a (one (pos by)) store s h (λ f.
       let u = t f in
@@ -209,7 +209,7 @@ module _ (g : Whole) (result : Option ModeTree) (sort : Sort) (mode : IfSome res
       let single : length (domains_of u.0) ≡ 1 = ap length u.2 in
       (u.0, u.1, omega (arith, count, single), subst (λ (ds : List Domain). AreWithin ds (one (pos by))) (sym u.2) ((omega (arith, ints), omega (arith, ints, low)), tt)))
 
-  address_asks : (w : Setting) (region : Option ℕ) (stands : Stands g w result) (o : Option LocationTree) (store : Store) (s : Session) → Here g (StoreFits w.rows result) store s → TakesInstance (context_in g w region) o → Comes g (StoreFits w.rows result) s (SetFits (context_in g w region)) (set_address w o store s)
+  pub address_asks : (w : Setting) (region : Option ℕ) (stands : Stands g w result) (o : Option LocationTree) (store : Store) (s : Session) → Here g (StoreFits w.rows result) store s → TakesInstance (context_in g w region) o → Comes g (StoreFits w.rows result) s (SetFits (context_in g w region)) (set_address w o store s)
   address_asks w region stands None store s h t = goes g (StoreFits w.rows result) h (λ f. tt)
   address_asks w region stands (Some (location b ps n)) store s h t =
       let m : ModeTree = t.0 in
@@ -224,7 +224,7 @@ module _ (g : Whole) (result : Option ModeTree) (sort : Sort) (mode : IfSome res
       bind g (StoreFits w.rows result) Any (set_asks w region stands o by store s h t v) (λ u store1 s1 h1 q. a k store1 s1 h1)
   wait_asks w region stands o alternative none nothing_came store s h t v a n = n store s h
 
-  skips : (w : Setting) (store : Store) (s : Session) → Here g (StoreFits w.rows result) store s → Comes g (StoreFits w.rows result) s Any (skip store s)
+  pub skips : (w : Setting) (store : Store) (s : Session) → Here g (StoreFits w.rows result) store s → Comes g (StoreFits w.rows result) s Any (skip store s)
   skips w store s h = goes g (StoreFits w.rows result) h (λ f. tt)
 
   delay_asks : (w : Setting) (region : Option ℕ) (stands : Stands g w result) (n : ℕ) (set : Option LocationTree) (priority : ℕ) (ds : DelayNodes) (alternative : ℕ → Meaning (Unit {0})) (store : Store) (s : Session) → Here g (StoreFits w.rows result) store s → TakesInstance (context_in g w region) set → AreTypedDelays (around_at g w region sort result n) ds → ((k : ℕ) (store1 : Store) (s1 : Session) → Here g (StoreFits w.rows result) store1 s1 → Comes g (StoreFits w.rows result) s1 Any (alternative k store1 s1)) → Comes g (StoreFits w.rows result) s Any (delay_with w set priority ds alternative store s)
@@ -235,7 +235,7 @@ module _ (g : Whole) (result : Option ModeTree) (sort : Sort) (mode : IfSome res
       wait_asks w region stands o alternative skip (woken_as v) store2 s2 h2 (λ f. (q (r f).0).1) (λ f. woken_fits g (Delay (delay_pairs 0 ds) priority) v (r f).1) a (skips w)))
 
   -- the names that an answer sets
-  takes_in : (w : Setting) (region : Option ℕ) (stands : Stands g w result) (n : ℕ) (request : Request) (brings : Brings) (rs : ReceiveNodes) (a : Answer) (store : Store) (s : Session) → Here g (StoreFits w.rows result) store s → AreTypedReceives (around_at g w region sort result n) brings rs → (Fits g s → Answers g request a) → ((number sent by : ℕ) (xs : List ℤ) → FitsAnswer g.program request (Got number sent xs by) → (thing : ℕ) × (number_for (receive_list 0 rs) thing ≡ Some number) × ((ms : List ModeTree) → brings thing ms → thing_of (receive_list 0 rs) number ≡ thing → AreWithin (flat_map domains_of ms) xs)) → Comes g (StoreFits w.rows result) s ComeFits (take_in w.rows rs a store s)
+  pub takes_in : (w : Setting) (region : Option ℕ) (stands : Stands g w result) (n : ℕ) (request : Request) (brings : Brings) (rs : ReceiveNodes) (a : Answer) (store : Store) (s : Session) → Here g (StoreFits w.rows result) store s → AreTypedReceives (around_at g w region sort result n) brings rs → (Fits g s → Answers g request a) → ((number sent by : ℕ) (xs : List ℤ) → FitsAnswer g.program request (Got number sent xs by) → (thing : ℕ) × (number_for (receive_list 0 rs) thing ≡ Some number) × ((ms : List ModeTree) → brings thing ms → thing_of (receive_list 0 rs) number ≡ thing → AreWithin (flat_map domains_of ms) xs)) → Comes g (StoreFits w.rows result) s ComeFits (take_in w.rows rs a store s)
   takes_in w region stands n request brings rs (Got number sent xs by) store s h t v b =
       goes g (StoreFits w.rows result)
       (record {
@@ -251,7 +251,7 @@ module _ (g : Whole) (result : Option ModeTree) (sort : Sort) (mode : IfSome res
   takes_in w region stands n request brings rs a store s h t v b = goes g (StoreFits w.rows result) h (λ f. tt)
 
   -- what comes fills the locals of its alternative
-  receive_fills : (w : Setting) (region : Option ℕ) (stands : Stands g w result) (n : ℕ) (request : Request) (brings : Brings) (rs : ReceiveNodes) → AreTypedReceives (around_at g w region sort result n) brings rs → ((number sent by : ℕ) (xs : List ℤ) → FitsAnswer g.program request (Got number sent xs by) → (thing : ℕ) × (number_for (receive_list 0 rs) thing ≡ Some number) × ((ms : List ModeTree) → brings thing ms → thing_of (receive_list 0 rs) number ≡ thing → AreWithin (flat_map domains_of ms) xs)) → Fills g request (receive_counts w.rows rs)
+  pub receive_fills : (w : Setting) (region : Option ℕ) (stands : Stands g w result) (n : ℕ) (request : Request) (brings : Brings) (rs : ReceiveNodes) → AreTypedReceives (around_at g w region sort result n) brings rs → ((number sent by : ℕ) (xs : List ℤ) → FitsAnswer g.program request (Got number sent xs by) → (thing : ℕ) × (number_for (receive_list 0 rs) thing ≡ Some number) × ((ms : List ModeTree) → brings thing ms → thing_of (receive_list 0 rs) number ≡ thing → AreWithin (flat_map domains_of ms) xs)) → Fills g request (receive_counts w.rows rs)
   receive_fills w region stands n request brings rs t b number sent by xs f =
       let c = b number sent by xs f in
       let r = brought_by_list (around_at g w region sort result n) brings rs 0 c.0 number t c.1 in
@@ -268,7 +268,7 @@ module _ (g : Whole) (result : Option ModeTree) (sort : Sort) (mode : IfSome res
 
   -- ---- loops
 
-  where_asks : {C : Type 0} (Inv : C → Type 0) (w : Setting) (region : Option ℕ) (stands : Stands g w result) (o : Option ExprTree) (c : C) (store : Store) (s : Session) → Here g (StoreFits w.rows result) store s → IsSomeCondition (context_in g w region) o → (Fits g s → Inv c) → Comes g (StoreFits w.rows result) s (TestFits Inv) (where_holds w o c store s)
+  pub where_asks : {C : Type 0} (Inv : C → Type 0) (w : Setting) (region : Option ℕ) (stands : Stands g w result) (o : Option ExprTree) (c : C) (store : Store) (s : Session) → Here g (StoreFits w.rows result) store s → IsSomeCondition (context_in g w region) o → (Fits g s → Inv c) → Comes g (StoreFits w.rows result) s (TestFits Inv) (where_holds w o c store s)
   where_asks Inv w region stands None c store s h t i = goes g (StoreFits w.rows result) h i
   where_asks {C} Inv w region stands (Some e) c store s h t i =
       bind g (StoreFits w.rows result) (IsValueOf t.0) (expr_asks g w result region stands e t.0 store s h t.1)
@@ -278,7 +278,7 @@ module _ (g : Whole) (result : Option ModeTree) (sort : Sort) (mode : IfSome res
       either true v = v
       either false v = tt
 
-  bound_asks : (w : Setting) (region : Option ℕ) (stands : Stands g w result) (e : ExprTree) (m : ModeTree) (P : ℤ → Type 0) (store : Store) (s : Session) → Here g (StoreFits w.rows result) store s → HasMode (context_in g w region) e m → ((xs : List ℤ) → IsValueOf m xs → P (sole_number xs)) → Comes g (StoreFits w.rows result) s P (bound_mean w e store s)
+  pub bound_asks : (w : Setting) (region : Option ℕ) (stands : Stands g w result) (e : ExprTree) (m : ModeTree) (P : ℤ → Type 0) (store : Store) (s : Session) → Here g (StoreFits w.rows result) store s → HasMode (context_in g w region) e m → ((xs : List ℤ) → IsValueOf m xs → P (sole_number xs)) → Comes g (StoreFits w.rows result) s P (bound_mean w e store s)
   bound_asks w region stands e m P store s h t p =
       bind g (StoreFits w.rows result) (IsValueOf m) (expr_asks g w result region stands e m store s h t) (λ xs store1 s1 h1 q.
       weaker g (StoreFits w.rows result) (λ (z : ℤ). z ≡ sole_number xs) (λ v f i. subst P (sym i) (p xs (q f).1))
@@ -288,7 +288,7 @@ module _ (g : Whole) (result : Option ModeTree) (sort : Sort) (mode : IfSome res
       same_by true z v e = let f : z ≡ v = cc in sym f
       same_by false z v e = absurd (let f : ⊥ = cc in f)
 
-  step_asks : (w : Setting) (region : Option ℕ) (stands : Stands g w result) (o : Option ExprTree) (form : FormTree) (store : Store) (s : Session) → Here g (StoreFits w.rows result) store s → IsStepped (context_in g w region) o form → Comes g (StoreFits w.rows result) s (λ (z : ℤ). pos 1 ≤ℤ z) (step_mean w o store s)
+  pub step_asks : (w : Setting) (region : Option ℕ) (stands : Stands g w result) (o : Option ExprTree) (form : FormTree) (store : Store) (s : Session) → Here g (StoreFits w.rows result) store s → IsStepped (context_in g w region) o form → Comes g (StoreFits w.rows result) s (λ (z : ℤ). pos 1 ≤ℤ z) (step_mean w o store s)
   step_asks w region stands None form store s h t = goes g (StoreFits w.rows result) h (λ f. omega (arith, ints))
   step_asks w region stands (Some e) form store s h t =
       bind g (StoreFits w.rows result) Any (bound_asks w region stands e t.0.0 Any store s h t.0.1 (λ xs v. tt)) (λ z store1 s1 h1 q.
@@ -299,7 +299,7 @@ module _ (g : Whole) (result : Option ModeTree) (sort : Sort) (mode : IfSome res
       least_by false z v u e = absurd (let f : ⊥ = cc in f)
 
   -- the next member of a powerset
-  member_asks : (w : Setting) (region : Option ℕ) (stands : Stands g w result) (counter : ℕ) (low : ℤ) (condition : Option ExprTree) (own : ModeTree) (b : Bounds) (set : List ℤ) (store : Store) (s : Session) → Here g (StoreFits w.rows result) store s → bounds_of own ≡ Some b → b.low ≡ low → LocalHas (context_in g w region) own counter → IsSomeCondition (context_in g w region) condition → (Fits g s → AreWithin (member_domains (values_of own) 0 (numbers_of (values_of own))) set) → Comes g (StoreFits w.rows result) s (TestFits (AreWithin (member_domains (values_of own) 0 (numbers_of (values_of own))))) (next_member w counter low condition set (first_of_list (offsets_of set)) store s)
+  pub member_asks : (w : Setting) (region : Option ℕ) (stands : Stands g w result) (counter : ℕ) (low : ℤ) (condition : Option ExprTree) (own : ModeTree) (b : Bounds) (set : List ℤ) (store : Store) (s : Session) → Here g (StoreFits w.rows result) store s → bounds_of own ≡ Some b → b.low ≡ low → LocalHas (context_in g w region) own counter → IsSomeCondition (context_in g w region) condition → (Fits g s → AreWithin (member_domains (values_of own) 0 (numbers_of (values_of own))) set) → Comes g (StoreFits w.rows result) s (TestFits (AreWithin (member_domains (values_of own) 0 (numbers_of (values_of own))))) (next_member w counter low condition set (first_of_list (offsets_of set)) store s)
   member_asks w region stands counter low condition own b set store s h bounds at local c v = next_by (first_of_list (offsets_of set)) refl
     where
       next_by : (o : Option ℕ) → first_of_list (offsets_of set) ≡ o → Comes g (StoreFits w.rows result) s (TestFits (AreWithin (member_domains (values_of own) 0 (numbers_of (values_of own))))) (next_member w counter low condition set o store s)
@@ -336,7 +336,7 @@ module _ (g : Whole) (result : Option ModeTree) (sort : Sort) (mode : IfSome res
   counts_on false b value by p i = omega (arith, ints, p, i)
   counts_on true b value by p i = omega (arith, ints, p, i)
 
-  counted_value : (down : Bool) (b : Bounds) (value end : ℤ) → Counts down b value → (b.low ≤ℤ end) × (end ≤ℤ b.high) → passes_end down value end ≡ false → (b.low ≤ℤ value) × (value ≤ℤ b.high)
+  pub counted_value : (down : Bool) (b : Bounds) (value end : ℤ) → Counts down b value → (b.low ≤ℤ end) × (end ≤ℤ b.high) → passes_end down value end ≡ false → (b.low ≤ℤ value) × (value ≤ℤ b.high)
   counted_value false b value end i l e =
       let low = l.0 in
       let high = l.1 in
@@ -358,7 +358,7 @@ module _ (g : Whole) (result : Option ModeTree) (sort : Sort) (mode : IfSome res
       not_false true e = refl
       not_false false e = absurd (let f : ⊥ = cc in f)
 
-  step_on : (w : Setting) (region : Option ℕ) (stands : Stands g w result) (counter : ℕ) (down : Bool) (by end : ℤ) (condition : Option ExprTree) (m : ModeTree) (b : Bounds) (value : ℤ) (store : Store) (s : Session) → Here g (StoreFits w.rows result) store s → bounds_of m ≡ Some b → LocalHas (context_in g w region) m counter → IsSomeCondition (context_in g w region) condition → (Fits g s → Counts down b value × (pos 1 ≤ℤ by) × (b.low ≤ℤ end) × (end ≤ℤ b.high)) → Comes g (StoreFits w.rows result) s (TestFits (λ (z : ℤ). Counts down b z × (pos 1 ≤ℤ by) × (b.low ≤ℤ end) × (end ≤ℤ b.high))) (next_step w counter down by end condition value store s)
+  pub step_on : (w : Setting) (region : Option ℕ) (stands : Stands g w result) (counter : ℕ) (down : Bool) (by end : ℤ) (condition : Option ExprTree) (m : ModeTree) (b : Bounds) (value : ℤ) (store : Store) (s : Session) → Here g (StoreFits w.rows result) store s → bounds_of m ≡ Some b → LocalHas (context_in g w region) m counter → IsSomeCondition (context_in g w region) condition → (Fits g s → Counts down b value × (pos 1 ≤ℤ by) × (b.low ≤ℤ end) × (end ≤ℤ b.high)) → Comes g (StoreFits w.rows result) s (TestFits (λ (z : ℤ). Counts down b z × (pos 1 ≤ℤ by) × (b.low ≤ℤ end) × (end ≤ℤ b.high))) (next_step w counter down by end condition value store s)
   step_on w region stands counter down by end condition m b value store s h bounds local c v = step_by (passes_end down value end) refl
     where
       step_by : (t : Bool) → passes_end down value end ≡ t → Comes g (StoreFits w.rows result) s (TestFits (λ (z : ℤ). Counts down b z × (pos 1 ≤ℤ by) × (b.low ≤ℤ end) × (end ≤ℤ b.high))) (if t then Goes None store s else where_holds w condition (next_value down value by) (with_local store counter (one value)) s)
@@ -376,11 +376,11 @@ module _ (g : Whole) (result : Option ModeTree) (sort : Sort) (mode : IfSome res
           (λ f. let u = v f in (counts_on down b value by u.1 u.0, u.1, u.2, u.3))
 
   -- a start or an end lies in the bounds of the counter
-  bound_in : (w : Setting) (region : Option ℕ) (m own other : ModeTree) (b : Bounds) → shape_of own ≡ shape_of other → IsRootOfEither m own other → bounds_of m ≡ Some b → shape_bounds (shape_of own) ≡ Some b
+  pub bound_in : (w : Setting) (region : Option ℕ) (m own other : ModeTree) (b : Bounds) → shape_of own ≡ shape_of other → IsRootOfEither m own other → bounds_of m ≡ Some b → shape_bounds (shape_of own) ≡ Some b
   bound_in w region m own other b s (inl is) e = sym (root_bounds own) ∙ (ap bounds_of (sym is) ∙ e)
   bound_in w region m own other b s (inr is) e = ap shape_bounds s ∙ (sym (root_bounds other) ∙ (ap bounds_of (sym is) ∙ e))
 
-  counts_first : (down : Bool) (b : Bounds) (z : ℤ) → (b.low ≤ℤ z) × (z ≤ℤ b.high) → Counts down b z
+  pub counts_first : (down : Bool) (b : Bounds) (z : ℤ) → (b.low ≤ℤ z) × (z ≤ℤ b.high) → Counts down b z
   counts_first false b z l = l.0
   counts_first true b z l = l.1
 
@@ -452,13 +452,13 @@ module _ (g : Whole) (result : Option ModeTree) (sort : Sort) (mode : IfSome res
   return_asks w region stands n (Some r) store s h t =
       bind g (StoreFits w.rows result) Any (result_asks w region stands r store s h t.1 t.2 t.3) (λ v store1 s1 h1 q. record { by = (h1, λ f. f) })
 
-  buffer_below : (w : Setting) (region : Option ℕ) (thing : ℕ) (ms : List ModeTree) → BufferBrings (context_in g w region) thing ms → thing < length g.program.buffers
+  pub buffer_below : (w : Setting) (region : Option ℕ) (thing : ℕ) (ms : List ModeTree) → BufferBrings (context_in g w region) thing ms → thing < length g.program.buffers
   buffer_below w region thing ms t = slice_get_within g.program.buffers thing t.2.0 t.2.1
 
-  signal_below : (w : Setting) (region : Option ℕ) (thing : ℕ) (ms : List ModeTree) → SignalHas (context_in g w region) thing ms → thing < length g.program.signals
+  pub signal_below : (w : Setting) (region : Option ℕ) (thing : ℕ) (ms : List ModeTree) → SignalHas (context_in g w region) thing ms → thing < length g.program.signals
   signal_below w region thing ms t = slice_get_within g.program.signals thing t.0 t.1
 
-  buffer_gives : (w : Setting) (region : Option ℕ) (rs : ReceiveNodes) (o : Bool) (number sent by : ℕ) (xs : List ℤ) → FitsAnswer g.program (ReceiveBuffer (receive_list 0 rs) o) (Got number sent xs by) → (thing : ℕ) × (number_for (receive_list 0 rs) thing ≡ Some number) × ((ms : List ModeTree) → BufferBrings (context_in g w region) thing ms → thing_of (receive_list 0 rs) number ≡ thing → AreWithin (flat_map domains_of ms) xs)
+  pub buffer_gives : (w : Setting) (region : Option ℕ) (rs : ReceiveNodes) (o : Bool) (number sent by : ℕ) (xs : List ℤ) → FitsAnswer g.program (ReceiveBuffer (receive_list 0 rs) o) (Got number sent xs by) → (thing : ℕ) × (number_for (receive_list 0 rs) thing ≡ Some number) × ((ms : List ModeTree) → BufferBrings (context_in g w region) thing ms → thing_of (receive_list 0 rs) number ≡ thing → AreWithin (flat_map domains_of ms) xs)
   buffer_gives w region rs o number sent by xs f =
       let listed = f.gives.0 in (
         listed.0,
@@ -469,7 +469,7 @@ module _ (g : Whole) (result : Option ModeTree) (sort : Sort) (mode : IfSome res
             subst (λ (l : List ModeTree). AreWithin (flat_map domains_of l) xs) (sym t.1) (subst (λ (ds : List Domain). AreWithin ds xs) (same ∙ sym joined) f.brings),
       )
 
-  signal_gives : (w : Setting) (region : Option ℕ) (rs : ReceiveNodes) (o : Bool) (number sent by : ℕ) (xs : List ℤ) → FitsAnswer g.program (ReceiveSignal (receive_list 0 rs) o) (Got number sent xs by) → (thing : ℕ) × (number_for (receive_list 0 rs) thing ≡ Some number) × ((ms : List ModeTree) → SignalHas (context_in g w region) thing ms → thing_of (receive_list 0 rs) number ≡ thing → AreWithin (flat_map domains_of ms) xs)
+  pub signal_gives : (w : Setting) (region : Option ℕ) (rs : ReceiveNodes) (o : Bool) (number sent by : ℕ) (xs : List ℤ) → FitsAnswer g.program (ReceiveSignal (receive_list 0 rs) o) (Got number sent xs by) → (thing : ℕ) × (number_for (receive_list 0 rs) thing ≡ Some number) × ((ms : List ModeTree) → SignalHas (context_in g w region) thing ms → thing_of (receive_list 0 rs) number ≡ thing → AreWithin (flat_map domains_of ms) xs)
   signal_gives w region rs o number sent by xs f =
       let listed = f.gives.0 in (
         listed.0,
@@ -483,7 +483,7 @@ module _ (g : Whole) (result : Option ModeTree) (sort : Sort) (mode : IfSome res
   bytes_ask w None store s h = raises g (StoreFits w.rows result) h
   bytes_ask w (Some bytes) store s h = does g (StoreFits w.rows result) (Put bytes) store s h (λ f. tt) tt
 
-  either_asks : (t : Bool) (a b : Flow (Unit {0})) {S : Store → Type 0} (store : Store) (s : Session) → Comes g S s Any a → Comes g S s Any b → Comes g S s Any (if t then a else b)
+  pub either_asks : (t : Bool) (a b : Flow (Unit {0})) {S : Store → Type 0} (store : Store) (s : Session) → Comes g S s Any a → Comes g S s Any b → Comes g S s Any (if t then a else b)
   either_asks true a b store s c d = c
   either_asks false a b store s c d = d
 

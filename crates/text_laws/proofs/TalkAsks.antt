@@ -124,11 +124,11 @@ calls_fit g S bodies frames fit = record { each = λ open_now b body ts store s 
         (λ s1 h1 back. record { by = call_by g S b body (slice_get g.program.bodies b) store s1 s1 (bodies b (frames + 1) open_now ts s1) (λ f. f) h1.holds (fit.each b body (frames + 1) open_now ts s1 at h1.stage (λ f. v (back f))).by })
     each_by open_now b body ts store s at h v false = raises g S h
 
-result_begins : (o : Option ModeTree) → IfSome o IsOfLanguage → ResultFits o (lowest_result o)
+pub result_begins : (o : Option ModeTree) → IfSome o IsOfLanguage → ResultFits o (lowest_result o)
 result_begins None t = tt
 result_begins (Some m) t = lowest_within m t.parts
 
-critical_there : (g : Whole) (b : BodyRowTree) (k : ℕ) (sort : Sort) → HasHead g.program k b sort → IsRegion g (critical_region b)
+pub critical_there : (g : Whole) (b : BodyRowTree) (k : ℕ) (sort : Sort) → HasHead g.program k b sort → IsRegion g (critical_region b)
 critical_there g b k Outermost h = alone_by b.critical b.region h.1.alone.0
   where
     alone_by : (critical : Bool) (r : Option ℕ) → r ≡ None → IsRegion g (region_if critical r)
@@ -194,7 +194,7 @@ takens_ahead : (row : LocalRowTree) (rows : List LocalRowTree) (k : ℕ) (ts : L
 takens_ahead row rows k [] w = tt
 takens_ahead row rows k (t ∷ ts) w = (w.0, takens_ahead row rows (suc k) ts w.1)
 
-split_fits : (rows : List LocalRowTree) (ps : List Parameter) (xs : List ℤ) → RowsFit rows → AreWithin (domains_of_parameters rows ps) xs → TakensFit rows 0 (split_over rows ps xs)
+pub split_fits : (rows : List LocalRowTree) (ps : List Parameter) (xs : List ℤ) → RowsFit rows → AreWithin (domains_of_parameters rows ps) xs → TakensFit rows 0 (split_over rows ps xs)
 split_fits rows [] xs r w = tt
 split_fits [] (q ∷ ps) xs r w = tt
 split_fits (row ∷ rows) (q ∷ ps) xs r w =
