@@ -15,7 +15,7 @@ impl<'a, 'b, 'c> Elaboration<'a, 'b, 'c> {
         args: &[tree::Expr],
     ) -> Result<Box<Action>, ElaborationRefusal> {
         match self.values.walk.callee_named(name) {
-            Callee::Procedure { .. } => {
+            Callee::Procedure(name) => {
                 let call = boxed(self.alloc(), self.values.call(name, args)?)?;
                 self.boxed(Action::Call(call))
             }

@@ -13,8 +13,8 @@ use program_numbers::{ElaborationRefusal, Numbering};
 use program_ranges::are_in_range;
 use value_elaboration::Values;
 
-/// The elaborated program of a text that breaks no rule, of its tree and its evaluated definitions: all its numbers are in
-/// range. `Unsound` comes of no such text.
+/// The elaborated program of a text that breaks no rule, of its tree and its evaluated definitions, counters and received
+/// names among them: all its numbers are in range. `Unsound` comes of no such text.
 pub fn elaborate(evaluation: &Evaluation<'_>, tree: &Tree) -> Result<Program, ElaborationRefusal>
     ensures in_range { IfOk result (λ p. AreInRange p.checked.value) }
 {
@@ -36,8 +36,8 @@ fn elaborated(
     evaluation: &Evaluation<'_>,
     tree: &Tree,
 ) -> Result<Box<Checked>, ElaborationRefusal> {
-    let mut walk = Walk::new(evaluation)?;
-    let numbering = Numbering::of(&mut walk, tree)?;
+    let walk = Walk { evaluation };
+    let numbering = Numbering::of(&walk, tree)?;
     let elaboration = Elaboration {
         values: Values {
             walk: &walk,

@@ -52,11 +52,7 @@ impl<'a, 'b, 'c> Elaboration<'a, 'b, 'c> {
 
     /// The mode of the location or counter that a name defines, or of the result of the procedure that it defines.
     pub fn mode_defined(&self, name: &Name) -> Option<&Rc<Mode>> {
-        let number = self.values.walk.evaluation.defined_at(name.at)?;
-        match self.values.walk.counter(number) {
-            Some(mode) => Some(mode),
-            None => self.values.walk.evaluation.mode_defined(name),
-        }
+        self.values.walk.evaluation.mode_defined(name)
     }
 
     /// A condition.

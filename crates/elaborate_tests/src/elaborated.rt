@@ -2,7 +2,7 @@
 use chill_lexer::lex;
 use chill_parser::parse;
 use elaborate::{Program, elaborate};
-use mode_rules::Evaluation;
+use mode_rules::evaluate;
 use process_checks::check_processes;
 use static_checks::check_statements;
 use std::alloc::Global;
@@ -25,10 +25,10 @@ pub fn elaborated(alloc: Global, text: &[u8]) -> Result<Program, &'static str> {
     let Ok(names) = resolve(alloc, &tree) else {
         return Err("it breaks a rule on names");
     };
-    let Ok(evaluation) = Evaluation::of(alloc, &tree, &names) else {
+    let Ok(mut evaluation) = evaluate(alloc, &tree, &names) else {
         return Err("there is no memory");
     };
-    if check_statements(&evaluation, &tree).is_err() {
+    if check_statements(&mut evaluation, &tree).is_err() {
         return Err("it breaks a rule on modes or statements");
     }
     if check_processes(&evaluation, &tree).is_err() {

@@ -1,7 +1,6 @@
 // Assignments, and the rules on them (Z.200, chapter on actions).
 use crate::receiving::Receiver;
 use crate::surroundings::Walk;
-use crate::values::tell_unfit;
 use chill_base::{Memory, Pos};
 use chill_tree::tree::{Expr, Operator};
 use mode_rules::Told;
@@ -25,8 +24,7 @@ impl<'a, 'b> Walk<'a, 'b> {
     ) -> Result<(), Memory> {
         let located = self.target(target, told)?;
         let known = self.value(value, Receiver::Nothing, told)?;
-        let found = self.binary(operator, &located.known()?, &known)?;
-        let _ = tell_unfit(found, sign, told)?;
+        let _ = self.between(operator, sign, &located.class()?, &known.class, told)?;
         Ok(())
     }
 }

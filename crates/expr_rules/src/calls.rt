@@ -1,32 +1,37 @@
 // Calls, STARTs and messages, and the rules on them.
+use crate::classed::Classed;
+use crate::classes::{Callee, cannot_be_put, gives_no_value, number_of_arguments, takes_no_value};
 use crate::formals::Formal;
 use crate::receiving::Receiver;
-use crate::results::{Callee, gives_no_value, number_of_arguments, takes_no_value};
 use crate::surroundings::Walk;
+use crate::telling::{tell_if, tell_wrong_number};
 use crate::values::tell_unfit;
 use chill_base::{Memory, Pos};
-use chill_tree::tree::{Expr, Name, Procedure};
-use diagnostics::Rule;
-use mode_rules::{Known, Predefined, Told};
+use chill_tree::tree::{Expr, Name};
+use mode_rules::{CheckRule, Measured, Predefined, Told};
+use modes::Class;
 
 impl<'a, 'b> Walk<'a, 'b> {
-    /// Tells what arguments break: each goes to its formal, or to a place of no known mode where their number is wrong.
+    /// Tells what arguments break; whether it is nothing. Each goes to its formal, or to a place of no known mode where their
+    /// number is wrong.
     #[cycle(expr)]
     pub fn arguments(
         &self,
         args: &[Expr],
         formals: &[Formal<'_>],
         told: &mut Told,
-    ) -> Result<(), Memory> {
+    ) -> Result<bool, Memory> {
         let fits = args.len() == formals.len();
+        let mut is_clean = true;
         for (place, arg) in args.iter().enumerate() {
             let receiver = match formals.get(place) {
                 Some(formal) if fits => formal.receiver(),
                 _ => Receiver::Mode(None),
             };
-            let _ = self.value(arg, receiver, told)?;
+            let known = self.value(arg, receiver, told)?;
+            is_clean = is_clean && known.is_clean;
         }
-        Ok(())
+        Ok(is_clean)
     }
 
     // A call of a procedure that stands as a value.
@@ -34,25 +39,19 @@ impl<'a, 'b> Walk<'a, 'b> {
     pub(crate) fn called(
         &self,
         args: &[Expr],
-        at: Pos,
-        number: u32,
-        procedure: &Procedure,
+        name: &Name,
         told: &mut Told,
-    ) -> Result<Known, Memory> {
-        let before = told.count();
-        let formals = self.formals_of_procedure(procedure)?;
-        self.arguments(args, formals.as_slice(), told)?;
-        if told.count() > before {
-            return Ok(Known::unknown());
+    ) -> Result<Classed, Memory> {
+        let formals = self.formals_of(name)?;
+        if !self.arguments(args, formals.as_slice(), told)? {
+            return Ok(Classed::broken());
         }
-        tell_wrong_number(args.len(), formals.len(), at, told)?;
-        if call_gives_no_value(procedure) {
-            told.tell(Rule::S10, at)?;
+        let has_number = tell_wrong_number(args.len(), formals.len(), name.at, told)?;
+        let gives_value = tell_if(self.returns_none(name), CheckRule::S10, name.at, told)?;
+        if !has_number || !gives_value {
+            return Ok(Classed::broken());
         }
-        if told.count() > before {
-            return Ok(Known::unknown());
-        }
-        self.result(number)
+        Ok(Classed::clean(self.class_of_result(name)?))
     }
 
     // A call of a routine that stands as a value.
@@ -63,65 +62,124 @@ impl<'a, 'b> Walk<'a, 'b> {
         at: Pos,
         own: Predefined,
         told: &mut Told,
-    ) -> Result<Known, Memory> {
-        let before = told.count();
+    ) -> Result<Classed, Memory> {
         let known = self.routine_arguments(args, own, told)?;
-        if told.count() > before {
-            return Ok(Known::unknown());
+        if !known.is_clean {
+            return Ok(Classed::broken());
         }
-        if gives_no_value(own) {
-            told.tell(Rule::S10, at)?;
+        let gives_value = tell_if(gives_no_value(own), CheckRule::S10, at, told)?;
+        let result = self.routine(own, args, &known, at, told)?;
+        if !gives_value {
+            return Ok(Classed::broken());
         }
-        if args.len() != number_of_arguments(own) {
-            told.tell(Rule::S5, at)?;
-            return Ok(Known::unknown());
-        }
-        let found = self.routine(own, args, &known)?;
-        let result = tell_unfit(found, at, told)?;
-        Ok(if told.count() > before {
-            Known::unknown()
-        } else {
-            result
-        })
+        Ok(result)
     }
 
-    // What is told in a routine's arguments, and what is known of the last.
+    // What is told in a routine's arguments, and what is known of the only one.
     #[cycle(expr)]
-    pub(crate) fn routine_arguments(
+    fn routine_arguments(
         &self,
         args: &[Expr],
         own: Predefined,
         told: &mut Told,
-    ) -> Result<Known, Memory> {
-        let mut known = Known::unknown();
-        for arg in args {
-            known = if takes_no_value(own) {
-                self.measured(arg, told)?
-            } else {
-                self.value(arg, Receiver::Nothing, told)?
-            };
+    ) -> Result<Classed, Memory> {
+        if let [arg] = args {
+            return self.routine_argument(arg, own, told);
         }
-        Ok(known)
+        let mut is_clean = true;
+        for arg in args {
+            let known = self.routine_argument(arg, own, told)?;
+            is_clean = is_clean && known.is_clean;
+        }
+        Ok(Classed {
+            class: None,
+            is_clean,
+        })
     }
 
-    // What UPPER, LOWER or SIZE measures: no value, nor is what stands there in parentheses.
+    // What is told in an argument of a routine. What UPPER, LOWER and SIZE measure is no value.
     #[cycle(expr)]
-    fn measured(&self, arg: &Expr, told: &mut Told) -> Result<Known, Memory> {
-        match arg {
-            Expr::Paren { inner, .. } => self.measured(inner, told),
-            Expr::Whole { .. }
-            | Expr::Char { .. }
-            | Expr::Text { .. }
-            | Expr::This { .. }
-            | Expr::Receive { .. }
-            | Expr::Start { .. }
-            | Expr::Tuple { .. }
-            | Expr::Uniform { .. }
-            | Expr::Name(_)
-            | Expr::Apply { .. }
-            | Expr::Field { .. }
-            | Expr::Prefixed { .. }
-            | Expr::Binary { .. } => self.node(arg, Receiver::Nothing, told),
+    pub(crate) fn routine_argument(
+        &self,
+        arg: &Expr,
+        own: Predefined,
+        told: &mut Told,
+    ) -> Result<Classed, Memory> {
+        if takes_no_value(own) {
+            return self.node(arg, Receiver::Nothing, told);
+        }
+        self.value(arg, Receiver::Nothing, told)
+    }
+
+    // What a routine gives of arguments, of the only one of which this is known. Tells rules S5 and S1.
+    fn routine(
+        &self,
+        own: Predefined,
+        args: &[Expr],
+        known: &Classed,
+        at: Pos,
+        told: &mut Told,
+    ) -> Result<Classed, Memory> {
+        if !tell_wrong_number(args.len(), number_of_arguments(own), at, told)? {
+            return Ok(Classed::broken());
+        }
+        match args.first() {
+            None => Ok(Classed::clean(self.class_without_argument(own)?)),
+            Some(arg) => {
+                if takes_no_value(own) {
+                    self.measuring_routine(own, arg, known, at, told)
+                } else {
+                    self.value_routine(own, &known.class, at, told)
+                }
+            }
+        }
+    }
+
+    // NUM and the like, PUT_INT and PUT_TEXT, of an argument of a class.
+    fn value_routine(
+        &self,
+        own: Predefined,
+        class: &Option<Class>,
+        at: Pos,
+        told: &mut Told,
+    ) -> Result<Classed, Memory> {
+        let Some(class) = class else {
+            return Ok(Classed::clean(None));
+        };
+        if !gives_no_value(own) {
+            let found = self.evaluation.class_of_routine(own, class)?;
+            return tell_unfit(found, at, told);
+        }
+        let is_clean = tell_if(cannot_be_put(own, class), CheckRule::S1, at, told)?;
+        Ok(Classed {
+            class: None,
+            is_clean,
+        })
+    }
+
+    // UPPER, LOWER or SIZE of a mode, or of a location or parameter with its parts.
+    fn measuring_routine(
+        &self,
+        own: Predefined,
+        arg: &Expr,
+        known: &Classed,
+        at: Pos,
+        told: &mut Told,
+    ) -> Result<Classed, Memory> {
+        if !known.is_clean {
+            return Ok(Classed::broken());
+        }
+        match self.evaluation.measured(arg)? {
+            Measured::Mode(mode) => tell_unfit(self.class_of_measure(own, &mode)?, at, told),
+            Measured::Misfit => tell_unfit(None, at, told),
+            Measured::Broken => Ok(Classed::clean(None)),
+            Measured::Other => {
+                let is_clean = tell_if(known.class.is_some(), CheckRule::S1, at, told)?;
+                Ok(Classed {
+                    class: None,
+                    is_clean,
+                })
+            }
         }
     }
 
@@ -132,28 +190,21 @@ impl<'a, 'b> Walk<'a, 'b> {
         process: &Name,
         args: &[Expr],
         told: &mut Told,
-    ) -> Result<Known, Memory> {
-        let before = told.count();
-        let formals = self.formals_of_process(process)?;
-        self.arguments(args, formals.as_slice(), told)?;
-        if told.count() > before {
-            return Ok(Known::unknown());
+    ) -> Result<Classed, Memory> {
+        let formals = self.formals_of(process)?;
+        if !self.arguments(args, formals.as_slice(), told)? {
+            return Ok(Classed::broken());
         }
-        tell_wrong_number(args.len(), formals.len(), process.at, told)?;
-        if told.count() > before {
-            return Ok(Known::unknown());
+        if !tell_wrong_number(args.len(), formals.len(), process.at, told)? {
+            return Ok(Classed::broken());
         }
-        self.instance()
+        Ok(Classed::clean(Some(self.class_of_instance()?)))
     }
 
     /// Tells what a call breaks that stands as an action. Its result, if it has one, is dropped.
     pub fn call_action(&self, name: &Name, args: &[Expr], told: &mut Told) -> Result<(), Memory> {
         match self.callee_named(name) {
-            Callee::Procedure { procedure, .. } => {
-                let formals = self.formals_of_procedure(procedure)?;
-                self.arguments(args, formals.as_slice(), told)?;
-                tell_wrong_number(args.len(), formals.len(), name.at, told)
-            }
+            Callee::Procedure(name) => self.arguments_of(name, args, told),
             Callee::Routine(own) => self.routine_action(name, own, args, told),
             Callee::Nothing => Ok(()),
         }
@@ -169,11 +220,7 @@ impl<'a, 'b> Walk<'a, 'b> {
         told: &mut Told,
     ) -> Result<(), Memory> {
         let known = self.routine_arguments(args, own, told)?;
-        if args.len() != number_of_arguments(own) {
-            return told.tell(Rule::S5, name.at);
-        }
-        let found = self.routine(own, args, &known)?;
-        let _ = tell_unfit(found, name.at, told)?;
+        let _ = self.routine(own, args, &known, name.at, told)?;
         Ok(())
     }
 
@@ -184,38 +231,36 @@ impl<'a, 'b> Walk<'a, 'b> {
         args: &[Expr],
         told: &mut Told,
     ) -> Result<(), Memory> {
-        let formals = self.formals_of_process(process)?;
-        self.arguments(args, formals.as_slice(), told)?;
-        tell_wrong_number(args.len(), formals.len(), process.at, told)
+        self.arguments_of(process, args, told)
+    }
+
+    // What is told of the arguments of a procedure or process, and of their number.
+    fn arguments_of(&self, name: &Name, args: &[Expr], told: &mut Told) -> Result<(), Memory> {
+        let formals = self.formals_of(name)?;
+        self.all_arguments(args, formals.as_slice(), name.at, told)
+    }
+
+    // What is told of arguments, and of their number.
+    fn all_arguments(
+        &self,
+        args: &[Expr],
+        formals: &[Formal<'_>],
+        at: Pos,
+        told: &mut Told,
+    ) -> Result<(), Memory> {
+        let _ = self.arguments(args, formals, told)?;
+        let _ = tell_wrong_number(args.len(), formals.len(), at, told)?;
+        Ok(())
     }
 
     /// Tells what the parts of a SEND break, of which there are none where it has no brackets.
     pub fn message(&self, target: &Name, args: &[Expr], told: &mut Told) -> Result<(), Memory> {
-        let Some(formals) = self.formals_of_message(target)? else {
-            for arg in args {
-                let _ = self.value(arg, Receiver::Mode(None), told)?;
+        match self.formals_of_message(target)? {
+            None => {
+                let _ = self.arguments(args, &[], told)?;
+                Ok(())
             }
-            return Ok(());
-        };
-        self.arguments(args, formals.as_slice(), told)?;
-        tell_wrong_number(args.len(), formals.len(), target.at, told)
+            Some(formals) => self.all_arguments(args, formals.as_slice(), target.at, told),
+        }
     }
-}
-
-/// Rule S5 at a place: there are more or fewer parts than there should be.
-pub fn tell_wrong_number(
-    parts: usize,
-    needed: usize,
-    at: Pos,
-    told: &mut Told,
-) -> Result<(), Memory> {
-    if parts == needed {
-        return Ok(());
-    }
-    told.tell(Rule::S5, at)
-}
-
-// Rule S10 of a procedure: it returns nothing.
-fn call_gives_no_value(procedure: &Procedure) -> bool {
-    procedure.returns.is_none()
 }

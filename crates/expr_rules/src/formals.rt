@@ -2,7 +2,7 @@
 use crate::receiving::Receiver;
 use crate::surroundings::Walk;
 use chill_base::Memory;
-use chill_tree::tree::{Name, Passing, Procedure, Process};
+use chill_tree::tree::{Name, Passing};
 use mode_rules::Origin;
 use modes::Mode;
 use std::rc::Rc;
@@ -25,41 +25,55 @@ impl<'f> Formal<'f> {
 }
 
 impl<'a, 'b> Walk<'a, 'b> {
-    /// The parameters of a procedure, in order.
-    pub fn formals_of_procedure(&self, procedure: &Procedure) -> Result<Vec<Formal<'_>>, Memory> {
+    /// The parameters of the procedure or process that a name stands for, in order.
+    pub fn formals_of(&self, name: &Name) -> Result<Vec<Formal<'b>>, Memory> {
         let mut found = Vec::new(self.evaluation.alloc);
-        for param in procedure.params.as_slice() {
-            let passing = param.passing.unwrap_or(Passing::In);
-            for name in param.names.as_slice() {
-                found.push(self.formal(name, passing))?;
-            }
-        }
-        Ok(found)
-    }
-
-    /// The parameters of the process that a name stands for, in order.
-    pub fn formals_of_process(&self, name: &Name) -> Result<Vec<Formal<'_>>, Memory> {
-        let mut found = Vec::new(self.evaluation.alloc);
-        if let Some(Origin::Process(process)) = self.evaluation.origin_used(name.at) {
-            for formal in process.formals.as_slice() {
-                for name in formal.names.as_slice() {
-                    found.push(self.formal(name, Passing::In))?;
+        match self.evaluation.origin_used(name.at) {
+            Some(Origin::Procedure(procedure)) => {
+                for param in procedure.params.as_slice() {
+                    let passing = param.passing.unwrap_or(Passing::In);
+                    self.add_formals(param.names.as_slice(), passing, &mut found)?;
                 }
             }
+            Some(Origin::Process(process)) => {
+                for formal in process.formals.as_slice() {
+                    self.add_formals(formal.names.as_slice(), Passing::In, &mut found)?;
+                }
+            }
+            Some(Origin::Synonym { .. })
+            | Some(Origin::SynMode(_))
+            | Some(Origin::NewMode(_))
+            | Some(Origin::Element(_))
+            | Some(Origin::Location { .. })
+            | Some(Origin::Parameter { .. })
+            | Some(Origin::Counter(_))
+            | Some(Origin::Received { .. })
+            | Some(Origin::Signal(_))
+            | Some(Origin::Modulion(_))
+            | Some(Origin::Predefined(_))
+            | None => {}
         }
         Ok(found)
     }
 
-    // The parameter of a name.
-    fn formal(&self, name: &Name, passing: Passing) -> Formal<'_> {
-        Formal {
-            mode: self.evaluation.mode_defined(name),
-            passing,
+    // Adds the parameters of some names.
+    fn add_formals(
+        &self,
+        names: &[Name],
+        passing: Passing,
+        found: &mut Vec<Formal<'b>>,
+    ) -> Result<(), Memory> {
+        for name in names {
+            found.push(Formal {
+                mode: self.evaluation.mode_defined(name),
+                passing,
+            })?;
         }
+        Ok(())
     }
 
     /// The parts of the messages that are sent to a buffer or by a signal, or none where the name is neither.
-    pub fn formals_of_message(&self, target: &Name) -> Result<Option<Vec<Formal<'_>>>, Memory> {
+    pub fn formals_of_message(&self, target: &Name) -> Result<Option<Vec<Formal<'b>>>, Memory> {
         let mut found = Vec::new(self.evaluation.alloc);
         if let Some(parts) = self.parts_of_signal(target) {
             for mode in parts {

@@ -1,11 +1,12 @@
 // Locations: what they are of, their modes, and whether they can be written (Z.200, chapter on locations).
+use crate::classed::Classed;
+use crate::classes::{Callee, takes_no_value};
 use crate::receiving::Receiver;
-use crate::results::{Callee, takes_no_value};
 use crate::surroundings::Walk;
+use crate::telling::tell_if;
 use chill_base::Memory;
 use chill_tree::tree::{Expr, Name};
-use diagnostics::Rule;
-use mode_rules::{Known, Origin, Predefined, Told, field_in, shared};
+use mode_rules::{CheckRule, Origin, Predefined, Told, field_in, shared};
 use modes::{Class, Mode, holds_read, is_read};
 use std::rc::Rc;
 
@@ -49,10 +50,19 @@ impl Located {
     }
 
     /// Its class: the value of its mode, for an operator with it.
-    pub fn known(&self) -> Result<Known, Memory> {
+    pub fn class(&self) -> Result<Option<Class>, Memory> {
         match &self.mode {
-            None => Ok(Known::unknown()),
-            Some(mode) => Ok(Known::of_class(Class::Value(mode.clone()?))),
+            None => Ok(None),
+            Some(mode) => Ok(Some(Class::Value(mode.clone()?))),
+        }
+    }
+
+    // The same, where something in it is broken.
+    fn without_mode(self) -> Located {
+        Located {
+            definition: self.definition,
+            mode: None,
+            access: self.access,
         }
     }
 
@@ -74,43 +84,36 @@ impl Located {
 impl<'a, 'b> Walk<'a, 'b> {
     /// What stands where a value is to be put; tells what its indices break, and rule S3.
     pub fn target(&self, expr: &Expr, told: &mut Told) -> Result<Located, Memory> {
-        let before = told.count();
-        let located = self.location(expr, told)?;
-        if told.count() == before && target_cannot_be_written(&located) {
-            told.tell(Rule::S3, expr.at())?;
+        let indices = self.indices(expr, told)?;
+        let located = self.place(expr)?;
+        if !indices.is_clean {
+            return Ok(located.without_mode());
         }
+        let _ = tell_if(cannot_be_written(&located), CheckRule::S3, expr.at(), told)?;
         Ok(located)
     }
 
-    /// What stands where a location is needed; tells what its indices break. Its mode is none where they break something.
-    pub fn location(&self, expr: &Expr, told: &mut Told) -> Result<Located, Memory> {
-        let before = told.count();
+    /// Tells what the indices of a location break.
+    pub fn tell_in_location(&self, expr: &Expr, told: &mut Told) -> Result<(), Memory> {
         let _ = self.indices(expr, told)?;
-        let mut located = self.place(expr)?;
-        if told.count() > before {
-            located.mode = None;
-        }
-        Ok(located)
+        Ok(())
     }
 
     // The routine that measures what stands in the brackets behind an expression, if it does: that is no value here either.
     fn measured_by(&self, of: &Expr) -> Option<Predefined> {
         match self.callee(of) {
-            Callee::Routine(own) if takes_no_value(own) => Some(own),
-            Callee::Routine(_) | Callee::Procedure { .. } | Callee::Nothing => None,
+            Callee::Routine(own) => { if takes_no_value(own) { Some(own) } else { None } }
+            Callee::Procedure(_) | Callee::Nothing => None,
         }
     }
 
-    // What the indices of a location break, and what is known of it. Brackets behind a name call nothing here.
+    // What the indices of a location break, and its class. Brackets behind a name call nothing here.
     #[cycle(location)]
-    fn indices(&self, expr: &Expr, told: &mut Told) -> Result<Known, Memory> {
+    fn indices(&self, expr: &Expr, told: &mut Told) -> Result<Classed, Memory> {
         match expr {
-            Expr::Name(name) => self.name(name),
+            Expr::Name(name) => Ok(Classed::clean(self.class_of_name(name)?)),
             Expr::Apply { of, args, .. } => match self.measured_by(of) {
-                Some(own) => {
-                    let _ = self.routine_arguments(args.as_slice(), own, told)?;
-                    Ok(Known::no_value())
-                }
+                Some(own) => self.tell_in_measured(args.as_slice(), own, told),
                 None => {
                     let base = self.indices(of, told)?;
                     self.indexed(args.as_slice(), of.at(), &base, told)
@@ -118,7 +121,7 @@ impl<'a, 'b> Walk<'a, 'b> {
             },
             Expr::Field { of, field, .. } => {
                 let base = self.indices(of, told)?;
-                self.field(&base, field.text.as_slice())
+                self.field(&base, field)
             }
             Expr::Whole { .. }
             | Expr::Char { .. }
@@ -130,8 +133,26 @@ impl<'a, 'b> Walk<'a, 'b> {
             | Expr::Tuple { .. }
             | Expr::Uniform { .. }
             | Expr::Prefixed { .. }
-            | Expr::Binary { .. } => Ok(Known::unknown()),
+            | Expr::Binary { .. } => Ok(Classed::clean(None)),
         }
+    }
+
+    // What is told in what UPPER, LOWER or SIZE measures where a location is needed: it is none.
+    fn tell_in_measured(
+        &self,
+        args: &[Expr],
+        own: Predefined,
+        told: &mut Told,
+    ) -> Result<Classed, Memory> {
+        let mut is_clean = true;
+        for arg in args {
+            let known = self.routine_argument(arg, own, told)?;
+            is_clean = is_clean && known.is_clean;
+        }
+        if !is_clean {
+            return Ok(Classed::broken());
+        }
+        Ok(Classed::clean(Some(Class::Nothing)))
     }
 
     /// What an expression is as a location. It tells nothing.
@@ -194,7 +215,18 @@ impl<'a, 'b> Walk<'a, 'b> {
                     Access::Free
                 }
             }
-            _ => Access::NoLocation,
+            Some(Origin::Synonym { .. })
+            | Some(Origin::SynMode(_))
+            | Some(Origin::NewMode(_))
+            | Some(Origin::Element(_))
+            | Some(Origin::Counter(_))
+            | Some(Origin::Received { .. })
+            | Some(Origin::Procedure(_))
+            | Some(Origin::Process(_))
+            | Some(Origin::Signal(_))
+            | Some(Origin::Modulion(_))
+            | Some(Origin::Predefined(_))
+            | None => Access::NoLocation,
         };
         Ok(Located {
             definition: Some(number),
@@ -214,6 +246,6 @@ fn no_location(definition: Option<u32>) -> Located {
 }
 
 // Rule S3: the target is only read, a counter, a received name, or no location.
-fn target_cannot_be_written(target: &Located) -> bool {
+fn cannot_be_written(target: &Located) -> bool {
     target.access != Access::Free
 }

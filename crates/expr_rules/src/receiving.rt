@@ -1,11 +1,11 @@
 // The places that receive an expression, and the rules of what they receive.
 use crate::places::{Access, Located};
 use crate::surroundings::Walk;
+use crate::telling::tell_if;
 use chill_base::Memory;
 use chill_tree::tree::Expr;
-use diagnostics::Rule;
-use mode_rules::{Known, Told, form_in, is_of_discrete};
-use modes::{Form, Mode, v_equivalent};
+use mode_rules::{CheckRule, Told, form_in, is_of_discrete};
+use modes::{Class, Form, Mode, goes_with, v_equivalent};
 use std::rc::Rc;
 
 /// What receives an expression.
@@ -31,80 +31,72 @@ pub enum Receiver<'r> {
 }
 
 impl<'a, 'b> Walk<'a, 'b> {
-    /// Tells the rule that an expression breaks for what receives it. It is asked where nothing was told in or at the
-    /// expression.
+    /// Tells the rule that an expression of a class breaks for what receives it; whether it breaks none. It is asked where
+    /// nothing was told in or at the expression.
     pub fn tell_received(
         &self,
         expr: &Expr,
-        known: &Known,
+        class: &Option<Class>,
         receiver: Receiver<'_>,
         told: &mut Told,
-    ) -> Result<(), Memory> {
-        match self.broken_by(expr, known, receiver)? {
-            None => Ok(()),
-            Some(rule) => told.tell(rule, expr.at()),
+    ) -> Result<bool, Memory> {
+        match receiver {
+            Receiver::Nothing | Receiver::Mode(None) | Receiver::Location(None) => Ok(true),
+            Receiver::Mode(Some(mode)) => {
+                tell_if(does_not_go(class, mode), CheckRule::S2, expr.at(), told)
+            }
+            Receiver::Location(Some(mode)) => {
+                let argument = self.place(expr)?;
+                tell_if(
+                    does_not_fit_parameter(&argument, mode),
+                    CheckRule::S6,
+                    expr.at(),
+                    told,
+                )
+            }
+            Receiver::Condition => tell_if(is_not_boolean(class), CheckRule::S4, expr.at(), told),
+            Receiver::Selector => tell_if(is_not_discrete(class), CheckRule::S7, expr.at(), told),
+            Receiver::Bound => tell_if(is_not_discrete(class), CheckRule::S8, expr.at(), told),
+            Receiver::Members => tell_if(is_no_powerset(class), CheckRule::S8, expr.at(), told),
         }
     }
+}
 
-    // The rule that an expression breaks for what receives it.
-    fn broken_by(
-        &self,
-        expr: &Expr,
-        known: &Known,
-        receiver: Receiver<'_>,
-    ) -> Result<Option<Rule>, Memory> {
-        let (rule, is_broken) = match receiver {
-            Receiver::Nothing | Receiver::Mode(None) | Receiver::Location(None) => return Ok(None),
-            Receiver::Mode(Some(mode)) => (Rule::S2, known.goes_not_with(mode)),
-            Receiver::Location(Some(mode)) => {
-                (Rule::S6, argument_does_not_fit(&self.place(expr)?, mode))
-            }
-            Receiver::Condition => (Rule::S4, condition_is_not_boolean(known)),
-            Receiver::Selector => (Rule::S7, selector_is_not_discrete(known)),
-            Receiver::Bound => (Rule::S8, bound_is_not_discrete(known)),
-            Receiver::Members => (Rule::S8, value_is_no_powerset(known)),
-        };
-        Ok(if is_broken { Some(rule) } else { None })
+// Rule S2: a value doesn't go with the mode that receives it.
+fn does_not_go(class: &Option<Class>, mode: &Mode) -> bool {
+    match class {
+        None => false,
+        Some(class) => !goes_with(class, mode),
     }
 }
 
 // Rule S6: the argument isn't a location that can be written, of a mode that is v-equivalent to the parameter's.
-fn argument_does_not_fit(argument: &Located, mode: &Mode) -> bool {
+fn does_not_fit_parameter(argument: &Located, mode: &Mode) -> bool {
     match &argument.mode {
         None => true,
         Some(own) => argument.access != Access::Free || !v_equivalent(own, mode),
     }
 }
 
-// Rule S4: the condition isn't of root BOOL.
-fn condition_is_not_boolean(condition: &Known) -> bool {
-    match &condition.class {
+// Rule S4: a condition isn't of root BOOL.
+fn is_not_boolean(class: &Option<Class>) -> bool {
+    match class {
         None => false,
         Some(class) => !matches!(form_in(class), Some(Form::Bool)),
     }
 }
 
-// Rule S7 of a selector: its mode isn't discrete.
-fn selector_is_not_discrete(selector: &Known) -> bool {
-    selector.class.is_some() && !is_discrete_value(selector)
-}
-
-// Rule S8 of a bound by itself: its mode isn't discrete.
-fn bound_is_not_discrete(bound: &Known) -> bool {
-    bound.class.is_some() && !is_discrete_value(bound)
-}
-
-// Whether a value is known to be discrete.
-fn is_discrete_value(value: &Known) -> bool {
-    match &value.class {
+// Rule S7 of a selector, and S8 of a bound by itself: its mode isn't discrete.
+fn is_not_discrete(class: &Option<Class>) -> bool {
+    match class {
         None => false,
-        Some(class) => is_of_discrete(class),
+        Some(class) => !is_of_discrete(class),
     }
 }
 
 // Rule S8 of what follows IN: it is no powerset.
-fn value_is_no_powerset(value: &Known) -> bool {
-    match &value.class {
+fn is_no_powerset(class: &Option<Class>) -> bool {
+    match class {
         None => false,
         Some(class) => !matches!(form_in(class), Some(Form::Powerset(_))),
     }

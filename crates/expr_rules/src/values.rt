@@ -1,49 +1,54 @@
-// The walk over expressions: what is known of each, and the rules that it breaks.
+// The walk over expressions: the class of each, and the rules that it breaks.
+use crate::classed::Classed;
+use crate::classes::Callee;
 use crate::receiving::Receiver;
-use crate::results::Callee;
 use crate::surroundings::Walk;
+use crate::telling::tell_if;
 use chill_base::{Memory, Pos};
-use chill_tree::tree::{Expr, Name, Prefix};
-use diagnostics::Rule;
-use mode_rules::{Known, Told, mode_in};
-use modes::number_of_scalars;
+use chill_tree::tree::{Expr, Name, Operator, Prefix};
+use mode_rules::{CheckRule, Told, mode_in};
+use modes::{Class, number_of_scalars};
 
 // How many scalars a value may have.
 const SCALARS: u32 = 256;
 
 impl<'a, 'b> Walk<'a, 'b> {
     /// What is known of an expression that something receives; tells its own rules, and the rule of its receiver where
-    /// nothing was told in or at it. Its class is none where one of its own rules, L6 aside, is broken, or one in its
-    /// parts.
+    /// nothing was told in or at it.
     #[cycle(expr)]
     pub fn value(
         &self,
         expr: &Expr,
         receiver: Receiver<'_>,
         told: &mut Told,
-    ) -> Result<Known, Memory> {
-        let before = told.count();
+    ) -> Result<Classed, Memory> {
         let known = self.own_value(expr, receiver, told)?;
-        if told.count() == before {
-            self.tell_received(expr, &known, receiver, told)?;
+        if !known.is_clean {
+            return Ok(known);
         }
-        Ok(known)
+        let is_clean = self.tell_received(expr, &known.class, receiver, told)?;
+        Ok(known.told(is_clean))
     }
 
-    // What is known of an expression that stands as a value, with its own rules alone.
+    // What is known of an expression that stands as a value, with its own rules alone. Rule L6 stands behind parentheses.
     #[cycle(expr)]
     fn own_value(
         &self,
         expr: &Expr,
         receiver: Receiver<'_>,
         told: &mut Told,
-    ) -> Result<Known, Memory> {
-        let before = told.count();
+    ) -> Result<Classed, Memory> {
         let known = self.node(expr, receiver, told)?;
-        if told.count() == before && value_has_too_many_scalars(&known) {
-            told.tell(Rule::L6, expr.at())?;
+        if !known.is_clean {
+            return Ok(known);
         }
-        Ok(known)
+        let is_clean = tell_if(
+            is_too_large(&known.class),
+            CheckRule::L6,
+            bare_place(expr),
+            told,
+        )?;
+        Ok(known.told(is_clean))
     }
 
     // What is known of an expression, which may also be only a part of a value: its own rules but L6.
@@ -53,14 +58,14 @@ impl<'a, 'b> Walk<'a, 'b> {
         expr: &Expr,
         receiver: Receiver<'_>,
         told: &mut Told,
-    ) -> Result<Known, Memory> {
+    ) -> Result<Classed, Memory> {
         match expr {
-            Expr::Whole { value, .. } => self.whole(*value, false),
-            Expr::Char { value, .. } => self.evaluation.character(*value),
-            Expr::Text { value, .. } => self.evaluation.text(value),
-            Expr::This { .. } => self.instance(),
-            Expr::Paren { inner, .. } => self.own_value(inner, receiver, told),
-            Expr::Receive { buffer, .. } => self.received_value(buffer),
+            Expr::Whole { .. } => Ok(Classed::clean(Some(self.class_of_whole()?))),
+            Expr::Char { .. } => Ok(Classed::clean(Some(self.class_of_character()?))),
+            Expr::Text { value, .. } => Ok(Classed::clean(Some(self.class_of_text(value)?))),
+            Expr::This { .. } => Ok(Classed::clean(Some(self.class_of_instance()?))),
+            Expr::Paren { inner, .. } => self.node(inner, receiver, told),
+            Expr::Receive { buffer, .. } => Ok(Classed::clean(self.class_of_received(buffer)?)),
             Expr::Start { process, args, .. } => self.started(process, args.as_slice(), told),
             Expr::Tuple {
                 mode,
@@ -74,7 +79,7 @@ impl<'a, 'b> Walk<'a, 'b> {
                 value,
                 ..
             } => self.uniform(value, mode, *bracket, receiver, told),
-            Expr::Name(name) => self.name(name),
+            Expr::Name(name) => Ok(Classed::clean(self.class_of_name(name)?)),
             Expr::Apply { .. } => self.applied(expr, told),
             Expr::Field { of, field, .. } => self.field_of(of, field, told),
             Expr::Prefixed {
@@ -89,84 +94,90 @@ impl<'a, 'b> Walk<'a, 'b> {
     // A call, or an element: brackets behind an expression, which is handed down whole, since both it and what is in the
     // brackets are parts.
     #[cycle(expr)]
-    fn applied(&self, expr: &Expr, told: &mut Told) -> Result<Known, Memory> {
+    fn applied(&self, expr: &Expr, told: &mut Told) -> Result<Classed, Memory> {
         let Expr::Apply { of, args, .. } = expr else {
-            return Ok(Known::unknown());
+            return Ok(Classed::broken());
         };
         match self.callee(of) {
-            Callee::Procedure { number, procedure } => {
-                self.called(args.as_slice(), of.at(), number, procedure, told)
-            }
+            Callee::Procedure(name) => self.called(args.as_slice(), name, told),
             Callee::Routine(own) => self.routine_called(args.as_slice(), of.at(), own, told),
             Callee::Nothing => {
-                let base = self.base(of, told)?;
+                let base = self.node(of, Receiver::Nothing, told)?;
                 self.indexed(args.as_slice(), of.at(), &base, told)
             }
         }
     }
 
-    // What a part is of: nothing is known of it where something is told in it.
-    #[cycle(expr)]
-    fn base(&self, of: &Expr, told: &mut Told) -> Result<Known, Memory> {
-        let before = told.count();
-        let known = self.node(of, Receiver::Nothing, told)?;
-        Ok(if told.count() > before {
-            Known::unknown()
-        } else {
-            known
-        })
-    }
-
-    // An element of something that begins at a place. Nothing is known of the base where something in it is broken.
+    // An element of something that begins at a place.
     #[cycle(expr)]
     pub(crate) fn indexed(
         &self,
         args: &[Expr],
         at: Pos,
-        base: &Known,
+        base: &Classed,
         told: &mut Told,
-    ) -> Result<Known, Memory> {
-        let before = told.count();
-        (&*self).tell_in_indices(args, &*base, told)?;
-        if told.count() > before {
-            return Ok(Known::unknown());
+    ) -> Result<Classed, Memory> {
+        let is_clean = (&*self).tell_in_indices(args, &*base, told)?;
+        if !base.is_clean || !is_clean {
+            return Ok(Classed::broken());
         }
-        if self.wrong_number_of_indices(base, args.len()) {
-            told.tell(Rule::S5, at)?;
-            return Ok(Known::unknown());
+        if !tell_if(
+            self.has_wrong_number(base, args.len()),
+            CheckRule::S5,
+            at,
+            told,
+        )? {
+            return Ok(Classed::broken());
         }
-        self.element(base)
+        match &base.class {
+            None => Ok(Classed::clean(None)),
+            Some(class) => Ok(Classed::clean(Some(self.class_of_element(class)?))),
+        }
     }
 
-    // What is told in indices. Where there isn't exactly one, none has a mode that it should go with.
+    // What is told in indices; whether it is nothing. Where there isn't exactly one, none has a mode that it should go with.
     #[cycle(expr)]
     fn tell_in_indices<'k>(
         &'k self,
         args: &[Expr],
-        base: &'k Known,
+        base: &'k Classed,
         told: &mut Told,
-    ) -> Result<(), Memory> {
+    ) -> Result<bool, Memory> {
         let mode = if args.len() == 1 {
-            self.index_mode(base)
+            self.index_mode(base.class.as_ref())
         } else {
             None
         };
+        let mut is_clean = true;
         for arg in args {
-            let _ = self.value(arg, Receiver::Mode(mode), told)?;
+            let known = self.value(arg, Receiver::Mode(mode), told)?;
+            is_clean = is_clean && known.is_clean;
         }
-        Ok(())
+        Ok(is_clean)
     }
 
     // Rule S5 of an array or a text: not exactly one index.
-    fn wrong_number_of_indices(&self, base: &Known, count: usize) -> bool {
-        self.index_mode(base).is_some() && count != 1
+    fn has_wrong_number(&self, base: &Classed, count: usize) -> bool {
+        self.index_mode(base.class.as_ref()).is_some() && count != 1
     }
 
     // A field of something.
     #[cycle(expr)]
-    fn field_of(&self, of: &Expr, field: &Name, told: &mut Told) -> Result<Known, Memory> {
-        let base = self.base(of, told)?;
-        self.field(&base, field.text.as_slice())
+    fn field_of(&self, of: &Expr, field: &Name, told: &mut Told) -> Result<Classed, Memory> {
+        let base = self.node(of, Receiver::Nothing, told)?;
+        self.field(&base, field)
+    }
+
+    // A field of what is known.
+    pub(crate) fn field(&self, base: &Classed, field: &Name) -> Result<Classed, Memory> {
+        let class = match &base.class {
+            None => None,
+            Some(class) => Some(self.class_of_field(class, field.text.as_slice())?),
+        };
+        Ok(Classed {
+            class,
+            is_clean: base.is_clean,
+        })
     }
 
     // An operator before its operand.
@@ -177,22 +188,23 @@ impl<'a, 'b> Walk<'a, 'b> {
         operator: Prefix,
         at: Pos,
         told: &mut Told,
-    ) -> Result<Known, Memory> {
-        if let (Prefix::Minus, Expr::Whole { value, .. }) = (operator, operand) {
-            return self.whole(*value, true);
-        }
-        let before = told.count();
+    ) -> Result<Classed, Memory> {
         let known = self.own_value(operand, Receiver::Nothing, told)?;
-        if told.count() > before {
-            return Ok(Known::unknown());
+        if !known.is_clean {
+            return Ok(Classed::broken());
         }
-        let result = self.unary(operator, &known)?;
-        tell_unfit(result, at, told)
+        match &known.class {
+            None => Ok(Classed::clean(None)),
+            Some(class) => {
+                let found = self.evaluation.class_of_unary(operator, class)?;
+                tell_unfit(found, at, told)
+            }
+        }
     }
 
     // Two operands with an operator between them: an expression that is handed down whole, since both are its parts.
     #[cycle(expr)]
-    fn operands(&self, expr: &Expr, told: &mut Told) -> Result<Known, Memory> {
+    fn operands(&self, expr: &Expr, told: &mut Told) -> Result<Classed, Memory> {
         let Expr::Binary {
             left,
             operator,
@@ -201,34 +213,77 @@ impl<'a, 'b> Walk<'a, 'b> {
             ..
         } = expr
         else {
-            return Ok(Known::unknown());
+            return Ok(Classed::broken());
         };
-        let before = told.count();
         let one = self.own_value(left, Receiver::Nothing, told)?;
         let other = self.own_value(right, Receiver::Nothing, told)?;
-        if told.count() > before {
-            return Ok(Known::unknown());
+        if !one.is_clean || !other.is_clean {
+            return Ok(Classed::broken());
         }
-        let found = self.binary(*operator, &one, &other)?;
-        tell_unfit(found, *sign, told)
+        self.between(*operator, *sign, &one.class, &other.class, told)
+    }
+
+    // The class of an operator between two operands of classes; tells rule S1.
+    pub(crate) fn between(
+        &self,
+        operator: Operator,
+        sign: Pos,
+        left: &Option<Class>,
+        right: &Option<Class>,
+        told: &mut Told,
+    ) -> Result<Classed, Memory> {
+        match (left, right) {
+            (Some(left), Some(right)) => {
+                let found = self.evaluation.class_of_binary(operator, left, right)?;
+                tell_unfit(found, sign, told)
+            }
+            (Some(_), None) | (None, _) => Ok(Classed::clean(None)),
+        }
     }
 }
 
-/// Rule S1 at an operator or a routine: what is known of its result is none where its operands don't fit.
-pub(crate) fn tell_unfit(found: Option<Known>, at: Pos, told: &mut Told) -> Result<Known, Memory> {
+/// Rule S1 at an operator or a routine: there is no class of its result, since its operands don't fit.
+pub(crate) fn tell_unfit(
+    found: Option<Class>,
+    at: Pos,
+    told: &mut Told,
+) -> Result<Classed, Memory> {
     match found {
-        Some(known) => Ok(known),
+        Some(class) => Ok(Classed::clean(Some(class))),
         None => {
-            told.tell(Rule::S1, at)?;
-            Ok(Known::unknown())
+            told.tell(CheckRule::S1, at)?;
+            Ok(Classed::broken())
         }
     }
 }
 
 // Rule L6: more scalars than a value may have.
-fn value_has_too_many_scalars(value: &Known) -> bool {
-    match value.class.as_ref().and_then(|class| mode_in(class)) {
+fn is_too_large(class: &Option<Class>) -> bool {
+    match class {
         None => false,
-        Some(mode) => number_of_scalars(mode) > SCALARS,
+        Some(class) => match mode_in(class) {
+            None => false,
+            Some(mode) => number_of_scalars(mode) > SCALARS,
+        },
+    }
+}
+
+// The place of what stands in the parentheses of an expression, or of the expression itself.
+fn bare_place(expr: &Expr) -> Pos {
+    match expr {
+        Expr::Paren { inner, .. } => bare_place(inner),
+        Expr::Whole { .. }
+        | Expr::Char { .. }
+        | Expr::Text { .. }
+        | Expr::This { .. }
+        | Expr::Receive { .. }
+        | Expr::Start { .. }
+        | Expr::Tuple { .. }
+        | Expr::Uniform { .. }
+        | Expr::Name(_)
+        | Expr::Apply { .. }
+        | Expr::Field { .. }
+        | Expr::Prefixed { .. }
+        | Expr::Binary { .. } => expr.at(),
     }
 }

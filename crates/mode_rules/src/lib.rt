@@ -1,40 +1,22 @@
 //! The modes, classes and values of a program's definitions (Z.200, chapters on modes and on values), each evaluated once,
 //! and the rules on modes and constants that they break.
 //!
-//! It stands on `visibility`'s names, on `modes`, whose tests it asks, and on `layout_map`; the checks of statements and
-//! of processes and the elaborated program stand on it. What is known of a definition or an expression is none where
-//! something that it needs is broken, so nothing is told twice for one fault. What they share is public: the evaluated
-//! definitions, what is told, and the class and value of each operator and routine on constants.
+//! It stands on `written_modes` and `constant_rules`, which tell of one mode and of one constant; the checks of statements
+//! and of processes and the elaborated program stand on it, and find here what they share of the crates below.
 #![tactic(auto)]
 
-mod constants;
-mod evaluation;
 mod exceptions;
-mod known;
 mod meeting;
-mod numbers;
-mod operators;
-mod order;
-mod origin;
 mod phase;
-mod places;
-mod predefined;
-mod routines;
-mod told;
-mod tuple_value;
-mod tuples;
-mod uses;
-mod written;
+mod table;
 
-pub use evaluation::{Entry, Evaluation, Plain, copied, shared};
+pub use constant_operators::{
+    Computed, Entry, Evaluation, Known, Measured, Plain, copied, field_in, form_in, is_measuring,
+    is_of_discrete, is_value_routine, mode_in, shared,
+};
+pub use constant_rules::{TupleValue, has_parts, known, needed};
+pub use definition_origins::{CheckRule, Element, Origin, Origins, Owner, Predefined, Told};
 pub use exceptions::{FIRST_OWN_EXCEPTION, exception_of_language, one_spelling};
-pub use known::{Known, field_in, form_in, is_of_discrete, mode_in};
 pub use meeting::{Meeting, meeting_of};
-pub use operators::Computed;
-pub use origin::{Element, Origin, Origins, Owner};
-pub use phase::told_of_modes;
-pub use predefined::Predefined;
-pub use routines::Measured;
-pub use told::Told;
-pub use tuple_value::TupleValue;
-pub use tuples::{has_parts, is_measuring, is_value_routine};
+pub use phase::{told_of_modes, told_of_program};
+pub use table::evaluate;

@@ -6,8 +6,7 @@ use chill_base::Memory;
 use chill_tree::tree::{
     Bracketed, CaseAlternative, Control, ElsIf, Name, NamedAlternative, ReceiveAlternative, Simple,
 };
-use diagnostics::Rule;
-use mode_rules::Told;
+use mode_rules::{CheckRule, Told};
 
 impl<'a, 'b> Checks<'a, 'b> {
     /// What is told in an action that holds no others.
@@ -189,7 +188,7 @@ impl<'a, 'b> Checks<'a, 'b> {
         };
         let named = self.met_at(name);
         if is_listed_twice_or_mixed(listed, definition, named) {
-            told.tell_name(Rule::P5, name.at, name.text.as_slice())?;
+            told.tell_name(CheckRule::P5, name.at, name.text.as_slice())?;
         }
         listed.add(definition, named)
     }

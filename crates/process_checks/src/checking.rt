@@ -1,6 +1,7 @@
 // The phase of processes.
 ghost use Rattle.std.specs.List.Sorted.{IsStrictlySortedBy};
 ghost use Rattle.diagnostics.specs.Order.{diagnostic_cmp};
+ghost use Rattle.definition_origins.specs.CheckRules.{AreOfChecks};
 ghost use Rattle.process_checks.specs.Answers.{TellsInOrder};
 
 use crate::walk::Checks;
@@ -17,7 +18,7 @@ pub fn check_processes(evaluation: &Evaluation<'_>, tree: &Tree) -> Result<(), R
 {
     let checks = Checks {
         evaluation,
-        locations: Walk::new(evaluation)?,
+        locations: Walk { evaluation },
     };
     let mut told = Told::new(evaluation.alloc);
     for modulion in tree.modulions.as_slice() {
@@ -28,7 +29,8 @@ pub fn check_processes(evaluation: &Evaluation<'_>, tree: &Tree) -> Result<(), R
 
 // No rule is broken where the list is empty.
 fn answer(list: Diagnostics) -> Result<(), Refusal>
-    requires { IsStrictlySortedBy diagnostic_cmp list }
+    requires sorted { IsStrictlySortedBy diagnostic_cmp list }
+    requires checks { AreOfChecks list }
     ensures { TellsInOrder result }
 {
     if list.is_empty() {

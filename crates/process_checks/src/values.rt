@@ -5,8 +5,7 @@ use crate::rules::{
 use crate::walk::Checks;
 use chill_base::Memory;
 use chill_tree::tree::{Base, Discrete, Expr, Field, Index, Mode, Name, Place, Spread, ValueRange};
-use diagnostics::Rule;
-use mode_rules::Told;
+use mode_rules::{CheckRule, Told, known};
 
 impl<'a, 'b> Checks<'a, 'b> {
     /// Rule P3 of a name that stands in an action of a purpose.
@@ -18,7 +17,7 @@ impl<'a, 'b> Checks<'a, 'b> {
     ) -> Result<(), Memory> {
         match self.met_at(name) {
             Some(named) if does_not_fit_this_action(purpose, named) => {
-                told.tell_name(Rule::P3, name.at, name.text.as_slice())
+                told.tell_name(CheckRule::P3, name.at, name.text.as_slice())
             }
             _ => Ok(()),
         }
@@ -40,9 +39,9 @@ impl<'a, 'b> Checks<'a, 'b> {
         }
         // The phase of modes and constants told what is told here, which is nothing.
         let mut told_before = Told::new(self.evaluation.alloc);
-        let known = self.evaluation.known(priority, &mut told_before)?;
+        let known = known(self.evaluation, priority, &mut told_before)?;
         if is_priority_out_of_limits(&known, &self.evaluation.plain.int) {
-            return told.tell(Rule::P6, priority.at());
+            return told.tell(CheckRule::P6, priority.at());
         }
         Ok(())
     }
@@ -59,7 +58,7 @@ impl<'a, 'b> Checks<'a, 'b> {
         }
         let located = self.locations.place(set)?;
         if is_no_instance_location(&located) {
-            return told.tell(Rule::P7, set.at());
+            return told.tell(CheckRule::P7, set.at());
         }
         Ok(())
     }

@@ -8,8 +8,7 @@ use chill_tree::tree::{
     Declaration, Item, Local, ModeDefinition, Modulion, ModulionKind, Name, Passed, Procedure,
     Process, Signal, Statement, Synonym,
 };
-use diagnostics::Rule;
-use mode_rules::{Evaluation, Told};
+use mode_rules::{CheckRule, Evaluation, Told};
 use std::collections::HashSet;
 
 /// What the rules are asked against: the evaluated definitions of a program, and what stands at its locations.
@@ -63,10 +62,10 @@ impl<'a, 'b> Checks<'a, 'b> {
     fn tell_place(&self, around: ModulionKind, item: &Item, told: &mut Told) -> Result<(), Memory> {
         match item {
             Item::Statement(statement) if is_not_allowed_in_a_region(around) => {
-                told.tell(Rule::P2, first_place(statement))
+                told.tell(CheckRule::P2, first_place(statement))
             }
             Item::Modulion(modulion) if is_not_allowed_in_a_region(around) => {
-                told.tell(Rule::P2, modulion.name.at)
+                told.tell(CheckRule::P2, modulion.name.at)
             }
             _ => Ok(()),
         }
@@ -140,7 +139,7 @@ impl<'a, 'b> Checks<'a, 'b> {
         told: &mut Told,
     ) -> Result<(), Memory> {
         if is_not_directly_in_a_module(around) {
-            told.tell_name(Rule::P1, own.name.at, own.name.text.as_slice())?;
+            told.tell_name(CheckRule::P1, own.name.at, own.name.text.as_slice())?;
         }
         for formal in own.formals.as_slice() {
             self.tell_in_mode(&formal.mode, told)?;
@@ -204,7 +203,7 @@ impl<'a, 'b> Checks<'a, 'b> {
         for name in names {
             match self.met_in(name.at) {
                 Some(declared) if is_a_local_event_or_buffer(declared) => {
-                    told.tell_name(Rule::P8, name.at, name.text.as_slice())?;
+                    told.tell_name(CheckRule::P8, name.at, name.text.as_slice())?;
                 }
                 _ => {}
             }
@@ -221,7 +220,7 @@ fn tell_granted(
 ) -> Result<(), Memory> {
     for name in names {
         if is_a_location_of_the_region(locations, name) {
-            told.tell_name(Rule::P4, name.at, name.text.as_slice())?;
+            told.tell_name(CheckRule::P4, name.at, name.text.as_slice())?;
         }
     }
     Ok(())

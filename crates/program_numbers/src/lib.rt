@@ -7,7 +7,6 @@
 #![tactic(auto)]
 
 mod bodies;
-mod counters;
 mod definitions;
 mod exception_walk;
 mod exceptions;

@@ -1,5 +1,4 @@
 // The numbers of a program's definitions and exceptions, and its lists.
-use crate::counters::set_counters;
 use crate::exceptions::Exceptions;
 use crate::refusal::ElaborationRefusal;
 use crate::source::Source;
@@ -72,10 +71,9 @@ fn lists_of(
 }
 
 impl Numbering {
-    /// Numbers a program that breaks no rule. From here on the walk knows the modes of all counters. Unsound comes where a
-    /// location, parameter, counter, received name or part of a signal has no mode.
-    pub fn of(walk: &mut Walk<'_, '_>, tree: &Tree) -> Result<Numbering, ElaborationRefusal> {
-        set_counters(walk)?;
+    /// Numbers a program that breaks no rule. Unsound comes where a location, parameter, counter, received name or part of a
+    /// signal has no mode.
+    pub fn of(walk: &Walk<'_, '_>, tree: &Tree) -> Result<Numbering, ElaborationRefusal> {
         let things = things_of(walk)?;
         let exceptions = Exceptions::of(walk.evaluation.alloc, tree)?;
         let source = Source {

@@ -14,7 +14,7 @@ const OUTERMOST: u32 = 0;
 /// What each definition of a text is, by its number.
 pub type Things = List<Thing>;
 
-/// What each definition of a program is. The walk knows the modes of all counters.
+/// What each definition of a program is.
 pub fn things_of(walk: &Walk<'_, '_>) -> Result<Things, ElaborationRefusal> {
     let alloc = walk.evaluation.alloc;
     let mut found = List::new(alloc);

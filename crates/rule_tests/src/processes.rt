@@ -4,7 +4,7 @@ use crate::process_rows::ROWS;
 use chill_lexer::lex;
 use chill_parser::parse;
 use diagnostics::Diagnostics;
-use mode_rules::Evaluation;
+use mode_rules::evaluate;
 use process_checks::check_processes;
 use static_checks::check_statements;
 use std::alloc::Global;
@@ -22,8 +22,8 @@ fn told(alloc: Global, text: &[u8]) -> Option<Diagnostics> {
     let tokens = lex(alloc, text).ok()?;
     let tree = parse(alloc, tokens.as_slice()).ok()?;
     let names = resolve(alloc, &tree).ok()?;
-    let evaluation = Evaluation::of(alloc, &tree, &names).ok()?;
-    if check_statements(&evaluation, &tree).is_err() {
+    let mut evaluation = evaluate(alloc, &tree, &names).ok()?;
+    if check_statements(&mut evaluation, &tree).is_err() {
         return None;
     }
     match check_processes(&evaluation, &tree) {

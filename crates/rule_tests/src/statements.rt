@@ -4,7 +4,7 @@ use crate::statement_rows::ROWS;
 use chill_lexer::lex;
 use chill_parser::parse;
 use diagnostics::Diagnostics;
-use mode_rules::Evaluation;
+use mode_rules::evaluate;
 use static_checks::check_statements;
 use std::alloc::Global;
 use std::test::Fail;
@@ -21,8 +21,8 @@ fn told(alloc: Global, text: &[u8]) -> Option<Diagnostics> {
     let tokens = lex(alloc, text).ok()?;
     let tree = parse(alloc, tokens.as_slice()).ok()?;
     let names = resolve(alloc, &tree).ok()?;
-    let evaluation = Evaluation::of(alloc, &tree, &names).ok()?;
-    match check_statements(&evaluation, &tree) {
+    let mut evaluation = evaluate(alloc, &tree, &names).ok()?;
+    match check_statements(&mut evaluation, &tree) {
         Ok(()) => Some(Diagnostics::new(alloc)),
         Err(Refusal::Broken(list)) => Some(list),
         Err(Refusal::Memory) => None,

@@ -1,25 +1,21 @@
-// CASE actions (Z.200, chapter on actions).
+// The labels of CASE actions (Z.200, chapter on actions).
 use crate::walk::Statements;
 use chill_base::Memory;
-use chill_tree::tree::{CaseAlternative, Expr, ValueRange};
-use diagnostics::Rule;
-use expr_rules::Receiver;
-use mode_rules::{Known, Told, is_of_discrete};
-use modes::compatible;
+use chill_tree::tree::{Expr, ValueRange};
+use expr_rules::{Receiver, tell_if};
+use mode_rules::{CheckRule, Told, is_of_discrete};
+use modes::{Class, compatible};
 
 impl<'a, 'b> Statements<'a, 'b> {
-    /// What is told of the selector and the labels of a CASE.
-    pub fn tell_choice(
+    /// What is told of labels, where the selector is of a class.
+    pub fn tell_labels(
         &self,
-        selector: &Expr,
-        alternatives: &[CaseAlternative],
+        labels: &[ValueRange],
+        selector: &Option<Class>,
         told: &mut Told,
     ) -> Result<(), Memory> {
-        let selector = self.walk.value(selector, Receiver::Selector, told)?;
-        for alternative in alternatives {
-            for label in alternative.labels.as_slice() {
-                self.tell_label(label, &selector, told)?;
-            }
+        for label in labels {
+            self.tell_label(label, selector, told)?;
         }
         Ok(())
     }
@@ -27,7 +23,7 @@ impl<'a, 'b> Statements<'a, 'b> {
     fn tell_label(
         &self,
         label: &ValueRange,
-        selector: &Known,
+        selector: &Option<Class>,
         told: &mut Told,
     ) -> Result<(), Memory> {
         self.tell_end_of_label(&label.first, selector, told)?;
@@ -40,22 +36,26 @@ impl<'a, 'b> Statements<'a, 'b> {
     fn tell_end_of_label(
         &self,
         label: &Expr,
-        selector: &Known,
+        selector: &Option<Class>,
         told: &mut Told,
     ) -> Result<(), Memory> {
-        let before = told.count();
         let known = self.walk.value(label, Receiver::Nothing, told)?;
-        if told.count() == before && label_does_not_fit(&known, selector) {
-            told.tell(Rule::S7, label.at())?;
+        if known.is_clean {
+            let _ = tell_if(
+                label_misfits(&known.class, selector),
+                CheckRule::S7,
+                label.at(),
+                told,
+            )?;
         }
         Ok(())
     }
 }
 
 // Rule S7 of a label: it isn't compatible with the selector, which is discrete.
-fn label_does_not_fit(label: &Known, selector: &Known) -> bool {
-    match (&label.class, &selector.class) {
+fn label_misfits(label: &Option<Class>, selector: &Option<Class>) -> bool {
+    match (label, selector) {
         (Some(label), Some(selector)) => is_of_discrete(selector) && !compatible(label, selector),
-        _ => false,
+        (Some(_), None) | (None, _) => false,
     }
 }

@@ -1,10 +1,9 @@
 // Handlers (Z.200, chapter on exception handling).
-use crate::surroundings::Surroundings;
+use crate::surroundings::Returning;
 use crate::walk::Statements;
 use chill_base::Memory;
-use chill_tree::tree::{Handler, NamedAlternative};
-use diagnostics::Rule;
-use mode_rules::{Told, one_spelling};
+use chill_tree::tree::{Handler, Name, NamedAlternative};
+use mode_rules::{CheckRule, Told, one_spelling};
 use std::alloc::Global;
 use std::collections::HashSet;
 
@@ -12,27 +11,49 @@ impl<'a, 'b> Statements<'a, 'b> {
     /// What is told of a handler, where there is one.
     #[cycle(statement)]
     pub fn tell_in_handler(
-        &mut self,
+        &self,
         handler: &Option<Box<Handler>>,
-        around: &Surroundings,
+        around: Returning<'_>,
         told: &mut Told,
     ) -> Result<(), Memory> {
         match handler {
             None => Ok(()),
-            Some(handler) => self.tell_in_its_actions(handler, around, told),
+            Some(handler) => {
+                self.tell_in_exceptions(handler.alternatives.as_slice(), around, told)?;
+                self.tell_in_otherwise(handler, around, told)
+            }
         }
     }
 
+    // Each alternative of a handler: the exceptions that it lists, and its actions.
     #[cycle(statement)]
-    fn tell_in_its_actions(
-        &mut self,
-        handler: &Handler,
-        around: &Surroundings,
+    fn tell_in_exceptions(
+        &self,
+        alternatives: &[NamedAlternative],
+        around: Returning<'_>,
         told: &mut Told,
     ) -> Result<(), Memory> {
-        let alternatives = handler.alternatives.as_slice();
-        tell_exceptions_listed_twice(self.walk.evaluation.alloc, alternatives, told)?;
-        self.tell_in_alternatives(alternatives, around, told)?;
+        let mut earlier = HashSet::new(self.walk.evaluation.alloc);
+        for alternative in alternatives {
+            tell_exceptions(
+                self.walk.evaluation.alloc,
+                alternative.names.as_slice(),
+                &mut earlier,
+                told,
+            )?;
+            self.tell_in_actions(alternative.actions.as_slice(), around, told)?;
+        }
+        Ok(())
+    }
+
+    // The actions behind ELSE.
+    #[cycle(statement)]
+    fn tell_in_otherwise(
+        &self,
+        handler: &Handler,
+        around: Returning<'_>,
+        told: &mut Told,
+    ) -> Result<(), Memory> {
         match &handler.otherwise {
             None => Ok(()),
             Some(actions) => self.tell_in_actions(actions.as_slice(), around, told),
@@ -40,21 +61,19 @@ impl<'a, 'b> Statements<'a, 'b> {
     }
 }
 
-// Rule S12: each exception that the handler lists before, in whichever spelling.
-fn tell_exceptions_listed_twice(
+// Rule S12: each exception that the handler lists before, in whichever spelling. Those that it lists are added to those before.
+fn tell_exceptions(
     alloc: Global,
-    alternatives: &[NamedAlternative],
+    names: &[Name],
+    earlier: &mut HashSet<Vec<u8>>,
     told: &mut Told,
 ) -> Result<(), Memory> {
-    let mut earlier: HashSet<Vec<u8>> = HashSet::new(alloc);
-    for alternative in alternatives {
-        for name in alternative.names.as_slice() {
-            let exception = one_spelling(name.text.as_slice());
-            if earlier.contains(exception) {
-                told.tell_name(Rule::S12, name.at, name.text.as_slice())?;
-            } else {
-                earlier.insert(Vec::from_slice(alloc, exception)?)?;
-            }
+    for name in names {
+        let exception = one_spelling(name.text.as_slice());
+        if earlier.contains(exception) {
+            told.tell_name(CheckRule::S12, name.at, name.text.as_slice())?;
+        } else {
+            earlier.insert(Vec::from_slice(alloc, exception)?)?;
         }
     }
     Ok(())

@@ -1,8 +1,7 @@
 // How many scalars the locals of a body have (our own limit).
 use crate::walk::Statements;
 use chill_base::{Memory, Pos};
-use diagnostics::Rule;
-use mode_rules::Told;
+use mode_rules::{CheckRule, Told};
 use modes::number_of_scalars;
 use names_model::{Definition, Inside, Kind};
 
@@ -23,11 +22,11 @@ impl<'a, 'b> Statements<'a, 'b> {
             if own.kind == Kind::Modulion {
                 outermost = outermost.saturating_add(*sum);
             } else if too_many_local_scalars(*sum) {
-                told.tell(Rule::L4, own.name.at)?;
+                told.tell(CheckRule::L4, own.name.at)?;
             }
         }
         if too_many_local_scalars(outermost) {
-            told.tell(Rule::L4, OUTERMOST)?;
+            told.tell(CheckRule::L4, OUTERMOST)?;
         }
         Ok(())
     }

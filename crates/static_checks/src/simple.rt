@@ -1,18 +1,17 @@
 // Actions that hold no others (Z.200, chapters on actions and on concurrent execution).
-use crate::surroundings::{Returning, Surroundings};
+use crate::surroundings::Returning;
 use crate::walk::Statements;
 use chill_base::{List, Memory, Pos};
 use chill_tree::tree::{Expr, Name, Simple};
-use diagnostics::Rule;
-use expr_rules::Receiver;
-use mode_rules::Told;
+use expr_rules::{Receiver, tell_if};
+use mode_rules::{CheckRule, Told};
 
 impl<'a, 'b> Statements<'a, 'b> {
     /// What is told of an action that holds no others.
     pub fn tell_in_simple(
         &self,
         action: &Simple,
-        around: &Surroundings,
+        around: Returning<'_>,
         told: &mut Told,
     ) -> Result<(), Memory> {
         match action {
@@ -77,12 +76,15 @@ impl<'a, 'b> Statements<'a, 'b> {
         &self,
         at: Pos,
         value: &Option<Box<Expr>>,
-        around: &Surroundings,
+        around: Returning<'_>,
         told: &mut Told,
     ) -> Result<(), Memory> {
-        if result_not_allowed(&around.returning, value.is_some()) {
-            told.tell(Rule::S9, at)?;
-        }
+        let _ = tell_if(
+            is_not_allowed(around, value.is_some()),
+            CheckRule::S9,
+            at,
+            told,
+        )?;
         self.tell_some_value(value, around.receiver(), told)
     }
 
@@ -90,18 +92,16 @@ impl<'a, 'b> Statements<'a, 'b> {
         &self,
         at: Pos,
         value: &Expr,
-        around: &Surroundings,
+        around: Returning<'_>,
         told: &mut Told,
     ) -> Result<(), Memory> {
-        if result_not_allowed(&around.returning, true) {
-            told.tell(Rule::S9, at)?;
-        }
+        let _ = tell_if(is_not_allowed(around, true), CheckRule::S9, at, told)?;
         self.tell_value(value, around.receiver(), told)
     }
 }
 
 // Rule S9: RETURN outside a procedure, or a value in RETURN or RESULT where none is returned.
-fn result_not_allowed(returning: &Returning, has_value: bool) -> bool {
+fn is_not_allowed(returning: Returning<'_>, has_value: bool) -> bool {
     match returning {
         Returning::NoProcedure => true,
         Returning::NoValue => has_value,

@@ -1,19 +1,21 @@
-// Statements, and what they hold (Z.200, chapter on actions).
-use crate::surroundings::Surroundings;
+// Statements, and what they hold (Z.200, chapter on actions). An action that holds others is told of in the order of the text:
+// what is evaluated before its actions, these with what is evaluated among them, and ELSE.
+use crate::surroundings::Returning;
 use crate::walk::Statements;
 use chill_base::Memory;
 use chill_tree::tree::{
     BodyPart, Bracketed, CaseAlternative, ElsIf, NamedAlternative, ReceiveAlternative, Statement,
 };
+use expr_rules::{Classed, Receiver};
 use mode_rules::Told;
 
 impl<'a, 'b> Statements<'a, 'b> {
     /// What is told of the parts of a body.
     #[cycle(statement)]
     pub fn tell_in_body(
-        &mut self,
+        &self,
         body: &[BodyPart],
-        around: &Surroundings,
+        around: Returning<'_>,
         told: &mut Told,
     ) -> Result<(), Memory> {
         for part in body {
@@ -28,9 +30,9 @@ impl<'a, 'b> Statements<'a, 'b> {
     /// What is told of a list of actions.
     #[cycle(statement)]
     pub fn tell_in_actions(
-        &mut self,
+        &self,
         actions: &[Statement],
-        around: &Surroundings,
+        around: Returning<'_>,
         told: &mut Told,
     ) -> Result<(), Memory> {
         for statement in actions {
@@ -42,9 +44,9 @@ impl<'a, 'b> Statements<'a, 'b> {
     /// What is told of a statement.
     #[cycle(statement)]
     pub fn tell_in_statement(
-        &mut self,
+        &self,
         statement: &Statement,
-        around: &Surroundings,
+        around: Returning<'_>,
         told: &mut Told,
     ) -> Result<(), Memory> {
         match statement {
@@ -62,86 +64,92 @@ impl<'a, 'b> Statements<'a, 'b> {
                 handler,
                 ..
             } => {
-                self.tell_head(action, told)?;
-                self.tell_in_bracketed(action, around, told)?;
+                let evaluated = self.tell_evaluated(action, told)?;
+                self.tell_held(action, &evaluated, around, told)?;
+                self.tell_in_else(action, around, told)?;
                 self.tell_in_handler(handler, around, told)
             }
         }
     }
 
-    // What is told of the actions that an action holds.
+    // What is told of the actions that an action holds, ELSE aside, and of what is evaluated for each of its alternatives. Of
+    // a selector this is known.
     #[cycle(statement)]
-    fn tell_in_bracketed(
-        &mut self,
+    fn tell_held(
+        &self,
         action: &Bracketed,
-        around: &Surroundings,
+        selector: &Classed,
+        around: Returning<'_>,
         told: &mut Told,
     ) -> Result<(), Memory> {
         match action {
             Bracketed::If {
                 actions,
                 branches,
-                otherwise,
                 ..
             } => {
                 self.tell_in_actions(actions.as_slice(), around, told)?;
-                self.tell_in_branches(branches.as_slice(), around, told)?;
-                match otherwise {
-                    None => Ok(()),
-                    Some(actions) => self.tell_in_actions(actions.as_slice(), around, told),
-                }
+                self.tell_in_branches(branches.as_slice(), around, told)
             }
-            Bracketed::Case {
-                alternatives,
-                otherwise,
-                ..
-            } => {
-                self.tell_in_choices(alternatives.as_slice(), around, told)?;
-                match otherwise {
-                    None => Ok(()),
-                    Some(actions) => self.tell_in_actions(actions.as_slice(), around, told),
-                }
+            Bracketed::Case { alternatives, .. } => {
+                self.tell_in_choices(alternatives.as_slice(), selector, around, told)
             }
             Bracketed::Do { actions, .. } => self.tell_in_actions(actions.as_slice(), around, told),
             Bracketed::Begin { body, .. } => self.tell_in_body(body.as_slice(), around, told),
             Bracketed::DelayCase { alternatives, .. } => {
                 self.tell_in_alternatives(alternatives.as_slice(), around, told)
             }
-            Bracketed::ReceiveCase {
-                alternatives,
-                otherwise,
-                ..
-            } => {
-                self.tell_in_receiving(alternatives.as_slice(), around, told)?;
-                match otherwise {
-                    None => Ok(()),
-                    Some(actions) => self.tell_in_actions(actions.as_slice(), around, told),
-                }
+            Bracketed::ReceiveCase { alternatives, .. } => {
+                self.tell_in_receiving(alternatives.as_slice(), around, told)
             }
         }
     }
 
+    // What is told of the actions behind ELSE.
+    #[cycle(statement)]
+    fn tell_in_else(
+        &self,
+        action: &Bracketed,
+        around: Returning<'_>,
+        told: &mut Told,
+    ) -> Result<(), Memory> {
+        match action {
+            Bracketed::If { otherwise, .. }
+            | Bracketed::Case { otherwise, .. }
+            | Bracketed::ReceiveCase { otherwise, .. } => match otherwise {
+                None => Ok(()),
+                Some(actions) => self.tell_in_actions(actions.as_slice(), around, told),
+            },
+            Bracketed::Do { .. } | Bracketed::Begin { .. } | Bracketed::DelayCase { .. } => Ok(()),
+        }
+    }
+
+    // Each ELSIF: its condition, and its actions.
     #[cycle(statement)]
     fn tell_in_branches(
-        &mut self,
+        &self,
         branches: &[ElsIf],
-        around: &Surroundings,
+        around: Returning<'_>,
         told: &mut Told,
     ) -> Result<(), Memory> {
         for branch in branches {
+            self.tell_value(&branch.condition, Receiver::Condition, told)?;
             self.tell_in_actions(branch.actions.as_slice(), around, told)?;
         }
         Ok(())
     }
 
+    // Each alternative of a CASE: its labels, and its actions.
     #[cycle(statement)]
     fn tell_in_choices(
-        &mut self,
+        &self,
         alternatives: &[CaseAlternative],
-        around: &Surroundings,
+        selector: &Classed,
+        around: Returning<'_>,
         told: &mut Told,
     ) -> Result<(), Memory> {
         for alternative in alternatives {
+            self.tell_labels(alternative.labels.as_slice(), &selector.class, told)?;
             self.tell_in_actions(alternative.actions.as_slice(), around, told)?;
         }
         Ok(())
@@ -150,9 +158,9 @@ impl<'a, 'b> Statements<'a, 'b> {
     /// What is told of the actions of alternatives of a DELAY CASE or of a handler.
     #[cycle(statement)]
     pub fn tell_in_alternatives(
-        &mut self,
+        &self,
         alternatives: &[NamedAlternative],
-        around: &Surroundings,
+        around: Returning<'_>,
         told: &mut Told,
     ) -> Result<(), Memory> {
         for alternative in alternatives {
@@ -161,14 +169,16 @@ impl<'a, 'b> Statements<'a, 'b> {
         Ok(())
     }
 
+    // Each alternative of a RECEIVE CASE: the names that it receives, and its actions.
     #[cycle(statement)]
     fn tell_in_receiving(
-        &mut self,
+        &self,
         alternatives: &[ReceiveAlternative],
-        around: &Surroundings,
+        around: Returning<'_>,
         told: &mut Told,
     ) -> Result<(), Memory> {
         for alternative in alternatives {
+            self.tell_received(alternative, told)?;
             self.tell_in_actions(alternative.actions.as_slice(), around, told)?;
         }
         Ok(())

@@ -4,34 +4,21 @@ use modes::Mode;
 use std::rc::Rc;
 
 /// What the body that a statement stands in gives back.
-#[derive(Drop)]
-pub enum Returning {
+#[derive(Clone, Copy)]
+pub enum Returning<'r> {
     /// It is no procedure.
     NoProcedure,
     /// A procedure without RETURNS.
     NoValue,
     /// A procedure that returns a value of the mode, where that is there.
-    Value(Option<Rc<Mode>>),
+    Value(Option<&'r Rc<Mode>>),
 }
 
-/// What stands around a statement.
-#[derive(Drop)]
-pub struct Surroundings {
-    pub returning: Returning,
-}
-
-impl Surroundings {
-    /// Those of a statement in a process or directly in a modulion.
-    pub fn without_procedure() -> Surroundings {
-        Surroundings {
-            returning: Returning::NoProcedure,
-        }
-    }
-
+impl<'r> Returning<'r> {
     /// What receives a value that is given back. Where none may be, that is told by itself.
-    pub fn receiver(&self) -> Receiver<'_> {
-        match &self.returning {
-            Returning::Value(mode) => Receiver::Mode(mode.as_ref()),
+    pub fn receiver(&self) -> Receiver<'r> {
+        match self {
+            Returning::Value(mode) => Receiver::Mode(*mode),
             Returning::NoProcedure | Returning::NoValue => Receiver::Mode(None),
         }
     }

@@ -5,17 +5,10 @@ use expr_rules::{Receiver, Walk};
 use mode_rules::Told;
 
 /// The walk through the statements of a program.
+#[derive(Clone, Copy)]
 pub struct Statements<'a, 'b> {
     /// What expressions are asked against.
     pub walk: Walk<'a, 'b>,
-}
-
-// Dropped by hand, so that whoever drops one makes one call.
-impl<'a, 'b> Drop for Statements<'a, 'b> {
-    fn drop(self) {
-        let Statements { walk } = self;
-        drop(walk);
-    }
 }
 
 impl<'a, 'b> Statements<'a, 'b> {

@@ -10,16 +10,16 @@ use Rattle.text_laws.specs.Laws.{AsksFitLaw}
 use Rattle.text_laws.proofs.TalkAsks.{talk_asks}
 use Rattle.text_laws.proofs.InRange.{fits_facts}
 
+pub no_answers_fit : (p : CheckedTree) (items : List Item) → HasFittingAnswers p items []
+no_answers_fit p [] = tt
+no_answers_fit p (Tick ∷ items) = no_answers_fit p items
+no_answers_fit p (Ask request ∷ items) = tt
+
 -- where all answers fit, all requests do
 all_fit : (p : CheckedTree) (items : List Item) (answers : List Answer) → AskWell p items answers → HasFittingAnswers p items answers → AllFitText p items
 all_fit p [] answers w h = tt
 all_fit p (Tick ∷ items) answers w h = all_fit p items answers w h
-all_fit p (Ask request ∷ items) [] w h = (w.0, all_fit p items [] w.1 (none_left p items))
-  where
-    none_left : (p : CheckedTree) (items : List Item) → HasFittingAnswers p items []
-    none_left p [] = tt
-    none_left p (Tick ∷ items) = none_left p items
-    none_left p (Ask request ∷ items) = tt
+all_fit p (Ask request ∷ items) [] w h = (w.0, all_fit p items [] w.1 (no_answers_fit p items))
 all_fit p (Ask request ∷ items) (a ∷ answers) w h = (w.0, all_fit p items answers (w.1 h.0) h.1)
 
 pub asks_fit : AsksFitLaw
@@ -28,5 +28,5 @@ asks_fit = record {
   all = λ p instance process zs answers n typed f.
       all_fit p (talk p instance process zs answers n).trace answers
       (talk_asks p instance process zs answers n f.body typed f.in_range f.is_body f.fits) (f.answered n);
-  in_range = fits_facts;
+  in_range = λ p facts request t. fits_facts p t.input t.units facts request t.typed t.are;
 }

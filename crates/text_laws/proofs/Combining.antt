@@ -42,8 +42,8 @@ module _ (g : Whole) (S : Store → Type 0) where
   labels true s o c = record { by = exit_by s o c.by }
 
   leave_by : (r : ℕ) (s : Session) (o : Flow (Unit {0})) → r < g.program.regions → ComesBy g S s Any o → ComesBy g S s Any (then_leave r o)
-  leave_by r s (Goes v store s1) low c = (earlier g S s s1 Any (done (Leave r) store s1) (λ f. (c.1 f).0) (does g S (Leave r) store s1 c.0 (λ f. low))).by
-  leave_by r s (Raised x store s1) low c = (earlier g S s s1 Any (then_do (done (Leave r) store s1) (λ _. Raised x)) c.1 (bind g S Any (does g S (Leave r) store s1 c.0 (λ f. low)) (λ v store2 s2 h q. raises g S h))).by
+  leave_by r s (Goes v store s1) low c = (earlier g S s s1 Any (done (Leave r) store s1) (λ f. (c.1 f).0) (does g S (Leave r) store s1 c.0 (λ f. low) tt)).by
+  leave_by r s (Raised x store s1) low c = (earlier g S s s1 Any (then_do (done (Leave r) store s1) (λ _. Raised x)) c.1 (bind g S Any (does g S (Leave r) store s1 c.0 (λ f. low) tt) (λ v store2 s2 h q. raises g S h))).by
   leave_by r s (Exits k store s1) low c = c
   leave_by r s (Returned store s1) low c = c
   leave_by r s (Stops t inner store) low c = c
@@ -55,7 +55,7 @@ module _ (g : Whole) (S : Store → Type 0) where
     where
       region_by : (now : Bool) → Comes g S s Any (if now then inside w store s else then_do (done (Enter r) store s) (λ _ store1 s1. then_leave r (inside (opened w r) store1 s1)))
       region_by true = outside store s h
-      region_by false = bind g S Any (does g S (Enter r) store s h (λ f. low)) (λ v store1 s1 h1 q. record { by = leave_by r s1 (inside (opened w r) store1 s1) low (each store1 s1 h1).by })
+      region_by false = bind g S Any (does g S (Enter r) store s h (λ f. low) tt) (λ v store1 s1 h1 q. record { by = leave_by r s1 (inside (opened w r) store1 s1) low (each store1 s1 h1).by })
 
   -- ---- loops
 

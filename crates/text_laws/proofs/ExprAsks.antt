@@ -1,6 +1,6 @@
 -- What expressions ask fits the text, and their values are of their modes.
 use Rattle.std.proofs.Common.{◌≡◌, ℕ, zero, suc, ◌+◌, ◌*◌, ◌<◌, ◌≤◌, min, Bool, true, false, List, [], ◌∷◌, ◌++◌, length, take, drop, replicate, Option, Some, None, inl, inr, refl, sym, ap, ◌∙◌, subst, arith}
-use Rattle.std.specs.Prelude.{ℤ, pos, negsuc, ◌≤ℤ◌, ◌-ℤ◌, ◌+ℤ◌, ◌*ℤ◌, nat_abs, int_le, slice_get, IsTrue, IfSome, if◌then◌else◌, ◌==◌}
+use Rattle.std.specs.Prelude.{ℤ, pos, negsuc, ◌≤ℤ◌, ◌-ℤ◌, ◌+ℤ◌, ◌*ℤ◌, nat_abs, int_le, slice_get, slice_index_or, IsTrue, IfSome, if◌then◌else◌, ◌==◌}
 use Rattle.std.specs.List.{flat_map}
 use Rattle.std.proofs.lemmas.Bool.{eqb-true}
 use Rattle.std.proofs.lemmas.Int.{ints}
@@ -45,12 +45,12 @@ use Rattle.text_laws.specs.Requests.{LiesInText, NumbersTell}
 use Rattle.modes.proofs.SimilarLemmas.{both}
 use Rattle.text_laws.proofs.Held.{untrue}
 use Rattle.text_laws.proofs.SoundFacts.{all_at}
-use Rattle.text_laws.proofs.Values.{within_append, within_repeated, none_within, count_domains}
+use Rattle.text_laws.proofs.Values.{within_length, within_append, within_repeated, none_within, count_domains}
 use Rattle.text_laws.proofs.Operations.{Computes, binary_computes, first_stays, prefix_computes, routine_computes, set_domains, set_members}
 use Rattle.text_laws.proofs.Powersets.{union_tells, pairs_tell, spans_tell, and_left, and_right}
 use Rattle.text_laws.proofs.Taking.{PassesTest, taken_value, PartAt, part_whole, part_in, element_part, field_part, FormFits, domains_in_form, form_domains, form_fits, field_fits}
 use Rattle.text_laws.proofs.Stores.{StoreFits, ResultFits, local_fits, with_local_fits, part_value, patched_value, TakenFits, TakensFit, RowsFit, row_fits, ValuesFit, values_fit}
-use Rattle.text_laws.proofs.Stages.{Whole, Fits, Here, Comes, Any, Answers, goes, raises, bind, weaker, asks, does}
+use Rattle.text_laws.proofs.Stages.{Whole, Fits, Here, Comes, Any, Answers, goes, raises, bind, weaker, no_got, asks, does}
 
 abbrev pub context_in : Whole → Setting → Option ℕ → Context
 context_in g w region = record { program = g.program; rows = w.rows; region = region }
@@ -241,6 +241,15 @@ receive_value p b row at (Got number send zs by) f =
 receive_value p b row at Otherwise f = untrue f.gives
 receive_value p b row at a f = absurd f.gives
 
+-- what comes alone fills what it is taken into
+alone_fills : (p : CheckedTree) (b : ℕ) (row : BufferRowTree) (n : ℕ) → slice_get p.buffers b ≡ Some row → n ≡ scalars_of row.element → (k send by : ℕ) (xs : List ℤ) → FitsAnswer p (ReceiveBuffer (alone b) false) (Got k send xs by) → length xs ≡ slice_index_or (n ∷ []) k 0
+alone_fills p b row n at count k send by xs f =
+    let first = alone_is b f.gives.0.0 k f.gives.0.1 in
+    let came = within_length (domains_of row.element) xs (receive_value p b row at (Got k send xs by) f) in
+    let all = count_domains row.element in
+    let whole : n ≡ length xs = omega (arith, came, all, count) in
+    subst (λ (i : ℕ). length xs ≡ slice_index_or (n ∷ []) i 0) (sym first.0) (sym whole)
+
 -- ---- values that are taken one after another
 
 abbrev pub ModesFit : List ModeTree → Type 0
@@ -393,7 +402,7 @@ module _ (g : Whole) (w : Setting) (result : Option ModeTree) (region : Option �
   reads m n (in_shared l first) store s h q =
       let place : Place = record { location = l; first = first; count = n } in
       bind g (StoreFits w.rows result) (Answers g (Read place))
-      (asks g (StoreFits w.rows result) (Read place) [] store s h (λ f. let a = q f in lies_there g.program place m a.0.0 a.0.1 a.0.2 a.1))
+      (asks g (StoreFits w.rows result) (Read place) [] store s h (λ f. let a = q f in lies_there g.program place m a.0.0 a.0.1 a.0.2 a.1) (no_got g (Read place) [] tt))
       (λ v store1 s1 h1 r. goes g (StoreFits w.rows result) h1 (λ f.
       let u = r f in
       let a = q u.0 in
@@ -416,7 +425,7 @@ module _ (g : Whole) (w : Setting) (result : Option ModeTree) (region : Option �
       let a = q f in (
         lies_there g.program place a.0 a.1.0 a.1.1 a.1.2 a.2,
         subst (λ (ds : List Domain). AreWithin ds xs) (sym (place_domains g.program place a.0 a.1.0 a.1.1 a.1.2 a.2)) a.3,
-      ))
+      )) tt
 
   -- what is copied out
   copy_asks : (m : ModeTree) (o : Option CopyOut) (xs : List ℤ) (store : Store) (s : Session) → Here g (StoreFits w.rows result) store s → IsTrue (parts_fit m) → (Fits g s → CopyFits (context_in g w region) m o) → (Fits g s → IsValueOf m xs) → Comes g (StoreFits w.rows result) s Any (copied_out o xs store s)
@@ -483,7 +492,8 @@ module _ (g : Whole) (w : Setting) (result : Option ModeTree) (region : Option �
     operation_asks n (receive b) m store s h l count t =
         let row : BufferRowTree = t.0 in
         bind g (StoreFits w.rows result) (Answers g (ReceiveBuffer (alone b) false))
-        (asks g (StoreFits w.rows result) (ReceiveBuffer (alone b) false) (n ∷ []) store s h (λ f. (All-cons (λ (a : Alternative). a.thing < length g.program.buffers) (record { thing = b; number = 0 }) [] (slice_get_within g.program.buffers b row t.1) (All-nil (λ (a : Alternative). a.thing < length g.program.buffers)), alone_tells b)))
+        (asks g (StoreFits w.rows result) (ReceiveBuffer (alone b) false) (n ∷ []) store s h (λ f. (All-cons (λ (a : Alternative). a.thing < length g.program.buffers) (record { thing = b; number = 0 }) [] (slice_get_within g.program.buffers b row t.1) (All-nil (λ (a : Alternative). a.thing < length g.program.buffers)), alone_tells b))
+        (λ k send by xs f. alone_fills g.program b row n t.1 (count ∙ ap scalars_of (sym t.2)) k send by xs f))
         (λ v store1 s1 h1 r. goes g (StoreFits w.rows result) h1 (λ f. subst (λ (x : ModeTree). IsValueOf x (brought_by v)) t.2 (receive_value g.program b row t.1 v (r f).1.fits)))
     operation_asks n (start st) m store s h l count t =
         weaker g (StoreFits w.rows result) (IsValueOf instance) (λ v f i. subst (λ (x : ModeTree). IsValueOf x v) (sym t.0) i) (start_asks st store s h t.1)
@@ -517,7 +527,7 @@ module _ (g : Whole) (w : Setting) (result : Option ModeTree) (region : Option �
         bind g (StoreFits w.rows result) (IsValueOf t.0) (expr_asks (expr j root_j o) t.0 store s h t.1) (λ xs store1 s1 h1 q.
         computes m (routine_value r xs) store1 s1 h1 (λ f. routine_computes r t.0 m xs t.1.0 t.2 (q f).1))
     operation_asks n get_int m store s h l count t =
-        bind g (StoreFits w.rows result) (Answers g Get) (asks g (StoreFits w.rows result) Get [] store s h (λ f. tt))
+        bind g (StoreFits w.rows result) (Answers g Get) (asks g (StoreFits w.rows result) Get [] store s h (λ f. tt) (no_got g Get [] tt))
         (λ v store1 s1 h1 r. goes g (StoreFits w.rows result) h1 (λ f. subst (λ (x : ModeTree). IsValueOf x (brought_by v)) (sym t) (get_value g v (r f).1)))
     operation_asks n (prefixed r (expr j root_j o)) m store s h l count t =
         bind g (StoreFits w.rows result) (IsValueOf t.0) (expr_asks (expr j root_j o) t.0 store s h t.1) (λ xs store1 s1 h1 q.
@@ -590,7 +600,7 @@ module _ (g : Whole) (w : Setting) (result : Option ModeTree) (region : Option �
         let u = parameters_taken (context_in g w region) rs b 0 b.locals b.parameters (rows_typed g.program g.typed process b t.1) (behind_first b) t.3 in
         bind g (StoreFits w.rows result) (AreWithin (flat_map domains_of u.modes)) (all_received_asks rs u.modes store s h u.fit u.have) (λ xs store1 s1 h1 r.
         bind g (StoreFits w.rows result) (Answers g (Start process xs))
-        (asks g (StoreFits w.rows result) (Start process xs) [] store1 s1 h1 (λ f. (b, t.1, t.2, subst (λ (ds : List Domain). AreWithin ds xs) (sym u.domains) (r f).1)))
+        (asks g (StoreFits w.rows result) (Start process xs) [] store1 s1 h1 (λ f. (b, t.1, t.2, subst (λ (ds : List Domain). AreWithin ds xs) (sym u.domains) (r f).1)) (no_got g (Start process xs) [] tt))
         (λ v store2 s2 h2 q. goes g (StoreFits w.rows result) h2 (λ f. start_value g process xs v (q f).1)))
 
     pub call_asks : (ct : CallTree) (res : Option ModeTree) (store : Store) (s : Session) → Here g (StoreFits w.rows result) store s → IsTypedCall (context_in g w region) ct res → Comes g (StoreFits w.rows result) s (ResultFits res) (call_mean w ct store s)

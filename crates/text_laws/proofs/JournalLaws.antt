@@ -1,8 +1,8 @@
 -- Runs of the text: their requests fit it, and so do all that its processes get.
-use Rattle.std.proofs.Common.{◌≡◌, ◌≤◌, ◌<◌, ℕ, zero, suc, Bool, true, false, List, [], ◌∷◌, ◌++◌, ℤ, length, map, get_or, refl, sym, ap, ◌∙◌, subst, inl, inr, arith, Option, Some, None, slice_get, append-nil, append_assoc, eq-eqb, length-append}
+use Rattle.std.proofs.Common.{◌≡◌, ◌≤◌, ◌<◌, ℕ, zero, suc, Bool, true, false, List, [], ◌∷◌, ◌++◌, ℤ, length, map, get_or, refl, sym, ap, ◌∙◌, subst, inl, inr, arith, Option, Some, None, slice_get, append-nil, append_assoc, eq-eqb}
 use Rattle.std.specs.Prelude.{if◌then◌else◌, ◌==◌, slice_index_or, replicate, All, IfSome}
 use Rattle.std.specs.List.{flat_map}
-use Rattle.std.proofs.lemmas.Bool.{eqb-true}
+use Rattle.std.proofs.lemmas.Bool.{eqb-true, cases_lt}
 use Rattle.std.proofs.lemmas.Option.{slice_get-get_or, slice_get_within}
 use Rattle.std.proofs.lemmas.List.Concat.{flat_map-append}
 use Rattle.std.proofs.lemmas.List.Elements.{All-nil, All-cons, All-append}
@@ -30,26 +30,25 @@ use Rattle.run_laws.specs.Laws.{birth_in, Births}
 use Rattle.run_laws.proofs.Births.{births_law}
 use Rattle.modes.specs.Scalars.{lowest_of}
 use Rattle.modes.specs.Language.{IsOfLanguage}
-use Rattle.checked_program.specs.declared.program.Parameter.{Parameter}
-use Rattle.program_trees.specs.ProgramTree.{LocationRowTree, LocalRowTree, CheckedTree}
-use Rattle.code_types.specs.Runs.{ticks_in}
-use Rattle.source_meaning.specs.Talk.{parameter_scalars}
+use Rattle.program_trees.specs.ProgramTree.{LocationRowTree, CheckedTree}
+use Rattle.code_types.specs.Runs.{Begins, ticks_in}
+use Rattle.source_meaning.specs.Talk.{talk}
 use Rattle.source_meaning.specs.Runs.{talk_in_journal, FollowsText}
-use Rattle.source_meaning.specs.Values.{domains_of, IsValueOf}
-use Rattle.source_meaning.specs.Fitting.{domains_of_parameters, AreOfTypes, HasFittingAnswers}
+use Rattle.source_meaning.specs.Values.{IsValueOf}
+use Rattle.source_meaning.specs.Fitting.{AreOfTypes, HasFittingAnswers, IsFitting}
 use Rattle.source_meaning.specs.Facts.{AreFactsOf}
 use Rattle.source_meaning.specs.Typed.{IsTyped}
 use Rattle.text_laws.specs.Requests.{FitsText, AskWell}
 use Rattle.text_laws.specs.Journals.{AsksText, AllAskText, IsOpenWith, PhaseFits, IsBirth, KeepsValues}
-use Rattle.text_laws.specs.Laws.{FitsBirth, WorldKeepsLaw, RunFitsLaw, SameRunsLaw}
-use Rattle.text_laws.proofs.Values.{within_length, lowest_within, count_domains}
+use Rattle.text_laws.specs.Laws.{AreTypedFacts, IsTextRun, WorldKeepsLaw, RunFitsLaw}
+use Rattle.text_laws.proofs.Values.{lowest_within}
 use Rattle.text_laws.proofs.SoundFacts.{all_at, facts_are_sound}
-use Rattle.text_laws.proofs.Stores.{RowsFit}
-use Rattle.text_laws.proofs.ExprAsks.{rows_typed}
 use Rattle.text_laws.proofs.TalkAsks.{talk_asks}
+use Rattle.text_laws.proofs.AsksFit.{no_answers_fit, asks_fit}
 use Rattle.text_laws.proofs.WorldValues.{StoreIsOfModes}
 use Rattle.text_laws.proofs.Journals.{births_first, first_in, KeptSome, if_true, step_kept}
-use Rattle.text_laws.proofs.SameRuns.{as_text, as_code, in_journal}
+use Rattle.text_laws.proofs.Traces.{begins_on}
+use Rattle.text_laws.proofs.GrowingTalks.{talk_grows}
 
 -- ---- the opening
 
@@ -90,9 +89,12 @@ opening_kept p input units facts typed are = record {
   };
 }
 
+pub typed_opening : (p : CheckedTree) (facts : Facts) → AreTypedFacts p facts → KeptSome p (opening facts) []
+typed_opening p facts t = opening_kept p t.input t.units facts t.typed t.are
+
 -- ---- event by event
 
-after_more : (facts : Facts) (w : World) (xs ys : List Event) → after_all facts w (xs ++ ys) ≡ after_all facts (after_all facts w xs) ys
+pub after_more : (facts : Facts) (w : World) (xs ys : List Event) → after_all facts w (xs ++ ys) ≡ after_all facts (after_all facts w xs) ys
 after_more facts w [] ys = refl
 after_more facts w (x ∷ xs) ys = after_more facts (after facts w x) xs ys
 
@@ -112,9 +114,8 @@ keep_on p facts final sound run good before (event ∷ behind) e k =
     keep_on p facts final sound run good (before ++ event ∷ []) behind (e ∙ sym (append_assoc before (event ∷ []) behind))
     (subst (λ (w : World). KeptSome p w (before ++ event ∷ [])) (sym (after_more facts (opening facts) before (event ∷ []))) next)
 
-all_kept : (p : CheckedTree) (input : List ℕ) (units : ℕ) (facts : Facts) (final : List Event) → IsTyped p → 1 ≤ units → units ≤ 10000000 → AreFactsOf p input units facts → IsRun facts final → GoodEvents p facts final → KeptSome p (world_of facts final) final
-all_kept p input units facts final typed least most are run good =
-    keep_on p facts final (facts_are_sound p input units facts typed least most are) run good [] final refl (opening_kept p input units facts typed are)
+all_kept : (p : CheckedTree) (facts : Facts) (final : List Event) → AreTypedFacts p facts → IsRun facts final → GoodEvents p facts final → KeptSome p (world_of facts final) final
+all_kept p facts final t run good = keep_on p facts final (facts_are_sound p facts t) run good [] final refl (typed_opening p facts t)
 
 -- what is kept, as the laws say it
 keeps_values : (p : CheckedTree) (facts : Facts) (final : List Event) → KeptSome p (world_of facts final) final → KeepsValues p facts final
@@ -134,8 +135,8 @@ one_asks p [] event behind a = a.0
 one_asks p (x ∷ before) event behind a = one_asks p before event behind a.1
 
 pub world_keeps : WorldKeepsLaw
-world_keeps p input units facts events typed least most are run asks =
-    keeps_values p facts events (all_kept p input units facts events typed least most are run (λ before event behind e k. one_asks p before event behind (subst (AllAskText p) e asks)))
+world_keeps p facts events t run asks =
+    keeps_values p facts events (all_kept p facts events t run (λ before event behind e k. one_asks p before event behind (subst (AllAskText p) e asks)))
 
 -- ---- lines
 
@@ -177,21 +178,26 @@ first_keeps : (xs ys : List Birth) (birth : Birth) → first_birth xs ≡ Some b
 first_keeps [] ys birth e = absurd (let f : ⊥ = cc in f)
 first_keeps (x ∷ xs) ys birth e = e
 
-born_more : (before more : List Event) (who : ℕ) (birth : Birth) → born_of who before ≡ Some birth → born_of who (before ++ more) ≡ Some birth
+pub born_more : (before more : List Event) (who : ℕ) (birth : Birth) → born_of who before ≡ Some birth → born_of who (before ++ more) ≡ Some birth
 born_more before more zero birth e = ap first_birth (flat_map-append (births_by 0) before more) ∙ first_keeps (flat_map (births_by 0) before) (flat_map (births_by 0) more) birth e
 born_more before more (suc zero) birth e = e
 born_more before more (suc (suc i)) birth e = ap first_birth (flat_map-append (births_by (suc (suc i))) before more) ∙ first_keeps (flat_map (births_by (suc (suc i))) before) (flat_map (births_by (suc (suc i))) more) birth e
+
+-- an active instance was born, before and in the whole journal
+pub active_birth : (facts : Facts) (before behind final : List Event) (event : Event) (who : ℕ) → IsSound facts → final ≡ before ++ event ∷ behind → IsRun facts final → IsActive (world_of facts before) who → (birth : Birth) × (born_of who before ≡ Some birth) × (born_of who final ≡ Some birth)
+active_birth facts before behind final event who sound e run active =
+    let run' : IsRun facts (before ++ event ∷ behind) = subst (IsRun facts) e run in
+    let front : IsRun facts before = front_runs facts (opening facts) before (event ∷ behind) run' in
+    let well : IsWell facts (world_of facts before) = run_well facts (opening facts) before front (opening_well facts sound) in
+    let made = made_birth (world_of facts before) before (births_law facts before front) who (some_active (world_of facts before).phases who well.phases active) (slice_get_within (world_of facts before).phases who Active active) in
+    (made.0, made.1, ap (born_of who) e ∙ born_more before (event ∷ behind) who made.0 made.1)
 
 module _ (p : CheckedTree) (facts : Facts) (final : List Event) (sound : IsSound facts) (run : IsRun facts final) (lines : LinesAsk p final) where
   -- the request that an active process asks next
   next_fits : (before : List Event) (event : Event) (behind : List Event) (who ticks : ℕ) (request : Request) → final ≡ before ++ event ∷ behind → KeptSome p (world_of facts before) before → IsActive (world_of facts before) who → items_by who event ≡ ticks_of ticks ++ Ask request ∷ [] → FitsText p request
   next_fits before event behind who ticks request e k active items =
-      let run' : IsRun facts (before ++ event ∷ behind) = subst (IsRun facts) e run in
-      let front : IsRun facts before = front_runs facts (opening facts) before (event ∷ behind) run' in
-      let well : IsWell facts (world_of facts before) = run_well facts (opening facts) before front (opening_well facts sound) in
-      let made = made_birth (world_of facts before) before (births_law facts before front) who (some_active (world_of facts before).phases who well.phases active) (slice_get_within (world_of facts before).phases who Active active) in
-      let born : born_of who final ≡ Some made.0 = ap (born_of who) e ∙ born_more before (event ∷ behind) who made.0 made.1 in
-      let w : AskWell p (line_of who final) (answers_of who final) = lines who made.0 born (k.kept.births who made.0 made.1) in
+      let made = active_birth facts before behind final event who sound e run active in
+      let w : AskWell p (line_of who final) (answers_of who final) = lines who made.0 made.2 (k.kept.births who made.0 made.1) in
       let line : line_of who final ≡ line_of who before ++ ((ticks_of ticks ++ Ask request ∷ []) ++ line_of who behind) =
       ap (line_of who) e ∙ (flat_map-append (items_by who) before (event ∷ behind) ∙ ap (λ (l : List Item). line_of who before ++ (l ++ line_of who behind)) items) in
       let answers : answers_of who final ≡ answers_of who before ++ (answers_by who event ++ answers_of who behind) =
@@ -227,7 +233,7 @@ answer_in_range i (Goes who answer) r = by_test (who == i)
     by_test false = All-nil IsAnswerInRange
 answer_in_range i (Runs who ticks) r = All-nil IsAnswerInRange
 
-answers_in_range : (facts : Facts) (w : World) (events : List Event) (i : ℕ) → IsRunFrom facts w events → All IsAnswerInRange (answers_of i events)
+pub answers_in_range : (facts : Facts) (w : World) (events : List Event) (i : ℕ) → IsRunFrom facts w events → All IsAnswerInRange (answers_of i events)
 answers_in_range facts w [] i run = All-nil IsAnswerInRange
 answers_in_range facts w (event ∷ events) i run = All-append IsAnswerInRange (answers_by i event) (answers_of i events) (answer_in_range i event run.0.in_range) (answers_in_range facts (after facts w event) events i run.1)
 
@@ -253,7 +259,7 @@ started_in_range facts w (event ∷ events) i birth run e = elim (first_in (birt
   | inr there ↦ started_in_range facts (after facts w event) events i birth run.1 there
 ]
 
-born_in_range : (facts : Facts) (w : World) (events : List Event) (i : ℕ) (birth : Birth) → IsRunFrom facts w events → born_of i events ≡ Some birth → IsNumber i × AreScalars birth.arguments
+pub born_in_range : (facts : Facts) (w : World) (events : List Event) (i : ℕ) (birth : Birth) → IsRunFrom facts w events → born_of i events ≡ Some birth → IsNumber i × AreScalars birth.arguments
 born_in_range facts w events zero birth run e = started_in_range facts w events 0 birth run e
 born_in_range facts w events (suc zero) birth run e =
     let is : record { process = 0; arguments = [] } ≡ birth = cc in
@@ -275,58 +281,60 @@ lines_follow p facts events typed run follows who birth born fits =
     let w : AskWell p trace (answers_of who events) = talk_asks p who birth.process birth.arguments (answers_of who events) (suc (ticks_in (line_of who events))) fits.0 typed (types_of facts events who birth run born) fits.1 fits.2 in
     ask_front p (line_of who events) f.0 (answers_of who events) (subst (λ (t : List Item). AskWell p t (answers_of who events)) f.1 w)
 
-pub run_kept : (p : CheckedTree) (input : List ℕ) (units : ℕ) (facts : Facts) (events : List Event) → IsTyped p → 1 ≤ units → units ≤ 10000000 → AreFactsOf p input units facts → IsRun facts events → ((who : ℕ) (birth : Birth) → born_of who events ≡ Some birth → IsBirth p birth.process birth.arguments → FollowsText p events who birth) → KeptSome p (world_of facts events) events
-run_kept p input units facts events typed least most are run follows =
-    all_kept p input units facts events typed least most are run (good_lines p facts events (facts_are_sound p input units facts typed least most are) run (lines_follow p facts events typed run follows))
+pub run_kept : (p : CheckedTree) (facts : Facts) (events : List Event) → AreTypedFacts p facts → IsRun facts events → ((who : ℕ) (birth : Birth) → born_of who events ≡ Some birth → IsBirth p birth.process birth.arguments → FollowsText p events who birth) → KeptSome p (world_of facts events) events
+run_kept p facts events t run follows =
+    all_kept p facts events t run (good_lines p facts events (facts_are_sound p facts t) run (lines_follow p facts events t.typed run follows))
+
+-- where what an instance did begins its talk, its answers fit, whatever ticks are left
+fits_front : (p : CheckedTree) (front rest : List Item) (as' : List Answer) → HasFittingAnswers p (front ++ rest) as' → HasFittingAnswers p front as'
+fits_front p [] rest as' h = tt
+fits_front p (Tick ∷ front) rest as' h = fits_front p front rest as' h
+fits_front p (Ask q ∷ front) rest [] h = tt
+fits_front p (Ask q ∷ front) rest (a ∷ as') h = (h.0, fits_front p front rest as' h.1)
 
 open_fits : (p : CheckedTree) (line rest : List Item) (as' : List Answer) (o : Option Request) → IsOpenWith p line as' o → HasFittingAnswers p (line ++ rest) as'
-open_fits p [] rest as' o h = subst (HasFittingAnswers p rest) (sym h.0) (none_left rest)
-  where
-    none_left : (items : List Item) → HasFittingAnswers p items []
-    none_left [] = tt
-    none_left (Tick ∷ items) = none_left items
-    none_left (Ask request ∷ items) = tt
+open_fits p [] rest as' o h = subst (HasFittingAnswers p rest) (sym h.0) (no_answers_fit p rest)
 open_fits p (Tick ∷ line) rest as' o h = open_fits p line rest as' o h
 open_fits p (Ask q ∷ line) rest [] o h = tt
 open_fits p (Ask q ∷ line) rest (a ∷ as') o h = (h.0, open_fits p line rest as' o h.1)
 
-pub run_fits : RunFitsLaw
-run_fits = record {
-  keeps = λ p input units facts events typed least most are r. keeps_values p facts events (run_kept p input units facts events typed least most are r.run (λ who birth born fits. r.follows who birth born));
-  answers = λ p input units facts events who birth typed least most are r born.
-      let k = run_kept p input units facts events typed least most are r.run (λ who birth born fits. r.follows who birth born) in
-      let f = r.follows who birth born in
-      subst (λ (t : List Item). HasFittingAnswers p t (answers_of who events)) (sym f.1) (open_fits p (line_of who events) f.0 (answers_of who events) (k.opens who) (k.kept.lines who));
-}
+-- the same talk with no more answers
+more_ticks : (p : CheckedTree) (who process : ℕ) (zs : List ℤ) (as' : List Answer) (n m : ℕ) → 1 ≤ m → n ≤ m → Begins (talk p who process zs as' n).trace (talk p who process zs as' m).trace
+more_ticks p who process zs as' n m some low = subst (λ (bs : List Answer). Begins (talk p who process zs as' n).trace (talk p who process zs bs m).trace) (append-nil as') (talk_grows p who process zs as' [] n m some low)
 
--- ---- runs of a code with the text's talk
+pub all_answered : (p : CheckedTree) (who process : ℕ) (zs : List ℤ) (line : List Item) (as' : List Answer) (o : Option Request) (n : ℕ) → 1 ≤ n → IsOpenWith p line as' o → Begins line (talk p who process zs as' n).trace → (m : ℕ) → HasFittingAnswers p (talk p who process zs as' m).trace as'
+all_answered p who process zs line as' o n some h begins m = elim (cases_lt m n) [
+  | inl low ↦ (
+      let more = more_ticks p who process zs as' m n some (omega (arith, low)) in
+      let whole : HasFittingAnswers p (talk p who process zs as' n).trace as' = subst (λ (t : List Item). HasFittingAnswers p t as') (sym begins.1) (open_fits p line begins.0 as' o h) in
+      fits_front p (talk p who process zs as' m).trace more.0 as' (subst (λ (t : List Item). HasFittingAnswers p t as') more.1 whole))
+  | inr high ↦ (
+      let on = begins_on line (talk p who process zs as' n).trace (talk p who process zs as' m).trace begins (more_ticks p who process zs as' n m (omega (arith, some, high)) high) in
+      subst (λ (t : List Item). HasFittingAnswers p t as') (sym on.1) (open_fits p line on.0 as' o h))
+]
 
-count_parameters : (rows : List LocalRowTree) (ps : List Parameter) → RowsFit rows → length (domains_of_parameters rows ps) ≡ parameter_scalars rows ps
-count_parameters rows [] r = refl
-count_parameters [] (q ∷ ps) r = refl
-count_parameters (row ∷ rows) (q ∷ ps) r =
-    let a = count_domains row.mode in
-    let b = count_parameters rows ps r.1 in
-    let c = length-append (domains_of row.mode) (domains_of_parameters rows ps) in
-    let d = r.0.0 in
-    omega (arith, a, b, c, d)
-
-pub counted_birth : (p : CheckedTree) (process : ℕ) (zs : List ℤ) → IsTyped p → IsBirth p process zs → FitsBirth p process zs
-counted_birth p process zs typed b = record {
+-- an instance of a run whose line begins its talk fits
+pub instance_fits : (p : CheckedTree) (facts : Facts) (events : List Event) (who : ℕ) (birth : Birth) (k : KeptSome p (world_of facts events) events) (n : ℕ) → 1 ≤ n → AreOfTypes who birth.arguments (answers_of who events) → IsBirth p birth.process birth.arguments
+    → Begins (line_of who events) (talk p who birth.process birth.arguments (answers_of who events) n).trace → IsFitting p who birth.process birth.arguments (answers_of who events)
+instance_fits p facts events who birth k n some types b begins = record {
+  in_range = types;
   body = b.0;
   is_body = b.1;
-  process = b.2.process;
-  counted = sym (count_parameters b.0.locals b.0.parameters (rows_typed p typed process b.0 b.1)) ∙ within_length (domains_of_parameters b.0.locals b.0.parameters) zs b.2.values;
+  fits = b.2;
+  answered = all_answered p who birth.process birth.arguments (line_of who events) (answers_of who events) (k.opens who) n some (k.kept.lines who) begins;
 }
 
-pub same_runs : SameRunsLaw
-same_runs p code input units facts events typed least most are has = (
-  λ r.
-      let follows : (who : ℕ) (birth : Birth) → born_of who events ≡ Some birth → IsBirth p birth.process birth.arguments → FollowsText p events who birth =
-      λ who birth born fits. as_text p code events who birth (in_journal p code has events who birth (counted_birth p birth.process birth.arguments typed fits)) (r.follows who birth born) in
-      let k = run_kept p input units facts events typed least most are r.run follows in
-      record { run = r.run; follows = λ who birth born. follows who birth born (k.kept.births who birth born) },
-  λ r.
-      let k = run_kept p input units facts events typed least most are r.run (λ who birth born fits. r.follows who birth born) in
-      record { run = r.run; follows = λ who birth born. as_code p code events who birth (in_journal p code has events who birth (counted_birth p birth.process birth.arguments typed (k.kept.births who birth born))) (r.follows who birth born) },
-)
+pub source_kept : (p : CheckedTree) (facts : Facts) (events : List Event) → IsTextRun p facts events → KeptSome p (world_of facts events) events
+source_kept p facts events r = run_kept p facts events r.typed r.run.run (λ who birth born fits. r.run.follows who birth born)
+
+pub source_fits : (p : CheckedTree) (facts : Facts) (events : List Event) (who : ℕ) (birth : Birth) → IsTextRun p facts events → born_of who events ≡ Some birth → IsFitting p who birth.process birth.arguments (answers_of who events)
+source_fits p facts events who birth r born =
+    let k = source_kept p facts events r in
+    instance_fits p facts events who birth k (suc (ticks_in (line_of who events))) (omega arith) (types_of facts events who birth r.run.run born) (k.kept.births who birth born) (r.run.follows who birth born)
+
+pub run_fits : RunFitsLaw
+run_fits = record {
+  keeps = λ p facts events r. keeps_values p facts events (source_kept p facts events r);
+  fits = source_fits;
+  asks = λ p facts events who birth n r born. asks_fit.all p who birth.process birth.arguments (answers_of who events) n r.typed.typed (source_fits p facts events who birth r born);
+}

@@ -34,7 +34,7 @@ use Rattle.source_meaning.specs.Values.{AreWithin}
 use Rattle.source_meaning.specs.Fitting.{domains_of_parameters, has_instances, FitsAnswer}
 use Rattle.source_meaning.specs.Typed.{IsTyped, HasHead}
 use Rattle.text_laws.specs.Requests.{FitsText}
-use Rattle.text_laws.specs.Journals.{AsksText, IsOpenWith, PhaseFits, IsBirth, BirthsFit}
+use Rattle.text_laws.specs.Journals.{AsksText, IsOpenWith, PhaseFits, IsBirth, BirthsFitText}
 use Rattle.text_laws.proofs.WorldValues.{AreOfModes, kept_modes, OfferFits, did_modes, StoreIsOfModes, did_store_modes, offer_fits}
 use Rattle.text_laws.proofs.WorldSteps.{did_brings, answer_brings, phase_moved, changed, changed_here, changed_elsewhere, differs, open_more, open_ticks, open_goes}
 
@@ -74,12 +74,12 @@ started_fits p before event i birth f old e =
       | inr new ↦ birth_in_event p i event birth f new
     ]
 
-births_on : (p : CheckedTree) (before : List Event) (event : Event) → AsksText p event → BirthsFit p before → BirthsFit p (before ++ event ∷ [])
+births_on : (p : CheckedTree) (before : List Event) (event : Event) → AsksText p event → BirthsFitText p before → BirthsFitText p (before ++ event ∷ [])
 births_on p before event f old zero birth e = started_fits p before event 0 birth f (λ b q. old 0 b q) e
 births_on p before event f old (suc zero) birth e = old 1 birth e
 births_on p before event f old (suc (suc i)) birth e = started_fits p before event (suc (suc i)) birth f (λ b q. old (suc (suc i)) b q) e
 
-pub births_first : (p : CheckedTree) → IsTyped p → BirthsFit p []
+pub births_first : (p : CheckedTree) → IsTyped p → BirthsFitText p []
 births_first p t zero birth e = absurd (let no : ⊥ = cc in no)
 births_first p t (suc zero) birth e =
     let is : record { process = 0; arguments = [] } ≡ birth = cc in
@@ -94,16 +94,16 @@ pub record Kept (p : CheckedTree) (w : World) (before : List Event) (opens : ℕ
   pub phases : (i : ℕ) → PhaseFits p (opens i) (phase_of w i)
   pub asked : (i : ℕ) (r : Request) → opens i ≡ Some r → FitsText p r
   pub lines : (i : ℕ) → IsOpenWith p (line_of i before) (answers_of i before) (opens i)
-  pub births : BirthsFit p before
+  pub births : BirthsFitText p before
 
 pub record KeptSome (p : CheckedTree) (w : World) (before : List Event) : Type 0 where
   pub opens : ℕ → Option Request
   pub kept : Kept p w before opens
 
-line_on : (i : ℕ) (before : List Event) (event : Event) (items : List Item) → items_by i event ≡ items → line_of i (before ++ event ∷ []) ≡ line_of i before ++ items
+pub line_on : (i : ℕ) (before : List Event) (event : Event) (items : List Item) → items_by i event ≡ items → line_of i (before ++ event ∷ []) ≡ line_of i before ++ items
 line_on i before event items e = flat_map-append (items_by i) before (event ∷ []) ∙ ap (λ (l : List Item). line_of i before ++ l) (append-nil (items_by i event) ∙ e)
 
-answers_on : (i : ℕ) (before : List Event) (event : Event) (bs : List Answer) → answers_by i event ≡ bs → answers_of i (before ++ event ∷ []) ≡ answers_of i before ++ bs
+pub answers_on : (i : ℕ) (before : List Event) (event : Event) (bs : List Answer) → answers_by i event ≡ bs → answers_of i (before ++ event ∷ []) ≡ answers_of i before ++ bs
 answers_on i before event bs e = flat_map-append (answers_by i) before (event ∷ []) ∙ ap (λ (l : List Answer). answers_of i before ++ l) (append-nil (answers_by i event) ∙ e)
 
 opened_on : (p : CheckedTree) (i : ℕ) (before : List Event) (event : Event) (items : List Item) (bs : List Answer) (o : Option Request) → items_by i event ≡ items → answers_by i event ≡ bs → IsOpenWith p (line_of i before ++ items) (answers_of i before ++ bs) o → IsOpenWith p (line_of i (before ++ event ∷ [])) (answers_of i (before ++ event ∷ [])) o
@@ -120,7 +120,7 @@ quiet_on p i before event o e f h =
 pub if_true : {A : Type 0} (t : Bool) (x y : A) → t ≡ true → (if t then x else y) ≡ x
 if_true t x y e = rw e refl
 
-if_false : {A : Type 0} (t : Bool) (x y : A) → t ≡ false → (if t then x else y) ≡ y
+pub if_false : {A : Type 0} (t : Bool) (x y : A) → t ≡ false → (if t then x else y) ≡ y
 if_false t x y e = rw e refl
 
 -- one phase is set

@@ -1,4 +1,3 @@
-pub mod SameRuns
 pub mod Held
 pub mod Values
 pub mod SoundFacts
@@ -17,4 +16,11 @@ pub mod WorldValues
 pub mod WorldSteps
 pub mod Journals
 pub mod JournalLaws
-pub mod NextFits
+pub mod Traces
+pub mod Growing
+pub mod GrowingExpressions
+pub mod GrowingStatements
+pub mod GrowingTalks
+pub mod FewerAnswers
+pub mod CodeJournals
+pub mod Suits

@@ -202,10 +202,12 @@ signals_in_range p input units facts typed are =
     (λ row h. IfSome_then row.process h.1 (λ process there. subst (λ (n : ℕ). process < n) (sym are.processes) (process_below p process there.0 there.1 there.2))) p.signals typed.signals))
 
 pub facts_are_sound : FactsAreSoundLaw
-facts_are_sound p input units facts typed least most are = record {
-  locations = ap length are.layouts ∙ (length-map p.locations (λ (row : LocationRowTree). spots_of row.mode) ∙ (sym (length-map p.locations (λ (row : LocationRowTree). lowest_of row.mode)) ∙ (sym (ap length are.store.scalars) ∙ length-map facts.store scalars_of)));
-  laid_out = laid_out p input units facts typed are;
-  signals = signals_in_range p input units facts typed are;
-  least_budget = subst (λ (n : ℕ). 1 ≤ n) (sym are.given_units) least;
-  greatest_budget = subst (λ (n : ℕ). n ≤ 10000000) (sym are.given_units) most;
-}
+facts_are_sound p facts t =
+    let are = t.are in
+    record {
+      locations = ap length are.layouts ∙ (length-map p.locations (λ (row : LocationRowTree). spots_of row.mode) ∙ (sym (length-map p.locations (λ (row : LocationRowTree). lowest_of row.mode)) ∙ (sym (ap length are.store.scalars) ∙ length-map facts.store scalars_of)));
+      laid_out = laid_out p t.input t.units facts t.typed are;
+      signals = signals_in_range p t.input t.units facts t.typed are;
+      least_budget = subst (λ (n : ℕ). 1 ≤ n) (sym are.given_units) t.least;
+      greatest_budget = subst (λ (n : ℕ). n ≤ 10000000) (sym are.given_units) t.most;
+    }

@@ -1,6 +1,6 @@
 -- What statements ask fits the text, and they leave values of the modes of the locals.
 use Rattle.std.proofs.Common.{◌≡◌, ℕ, zero, suc, ◌+◌, ◌<◌, Bool, true, false, List, [], ◌∷◌, length, Option, Some, None, inl, inr, refl, sym, ap, ◌∙◌, subst, arith, append-nil}
-use Rattle.std.specs.Prelude.{ℤ, pos, ◌≤ℤ◌, int_le, not, slice_get, IsTrue, IfSome, All, if◌then◌else◌, ◌==◌}
+use Rattle.std.specs.Prelude.{ℤ, pos, ◌≤ℤ◌, int_le, not, slice_get, slice_index_or, IsTrue, IfSome, All, if◌then◌else◌, ◌==◌}
 use Rattle.std.specs.List.{flat_map}
 use Rattle.std.proofs.lemmas.Bool.{eqb-true, eq-eqb}
 use Rattle.std.proofs.lemmas.Int.{ints}
@@ -26,11 +26,11 @@ use Rattle.checked_program.specs.declared.expr.Base.{Base}
 use Rattle.checked_program.specs.declared.program.Sort.{Sort}
 use Rattle.program_trees.specs.ExprTree.{ExprTree, expr, ReceivedTree, received, LocationTree, location}
 use Rattle.program_trees.specs.StatementTree.{SentTree, to_buffer, signal, ControlTree, while_true, for_ever, for_members, for_steps, StatementTree, statement, ActionTree, do_nothing, declare, set_lowest, module_at, region_at, assign, update, perform, drop_routine, evaluate, put_int, put_text, put_line, exit_from, return_with, set_result, assert_that, cause, stop, start_of, delay, continue_at, send, if_then, case_of, do_loop, begin_end, delay_case, receive_buffers, receive_signals, StatementNodes, no_statements, more_statements, ChoiceNodes, no_choices, more_choices, CaseNodes, no_cases, more_cases, DelayNodes, no_delays, more_delays, ReceiveNodes, no_receives, more_receives, OtherwiseNode, no_otherwise, otherwise, HandledNodes, no_handled, more_handled, HandlerNode, no_handler, handler}
-use Rattle.program_trees.specs.ProgramTree.{BufferRowTree, SignalRowTree}
+use Rattle.program_trees.specs.ProgramTree.{LocalRowTree, BufferRowTree, SignalRowTree}
 use Rattle.world_model.specs.Session.{Session}
 use Rattle.world_model.specs.Lists.{number_for}
 use Rattle.world_model.specs.Ranges.{IsNumber}
-use Rattle.scalar_operators.specs.Numbers.{is_int, where_true}
+use Rattle.scalar_operators.specs.Numbers.{decimal_text, is_int, where_true}
 use Rattle.scalar_operators.specs.Powersets.{first_of_list}
 use Rattle.scalar_operators.specs.Members.{offsets_of, span_in}
 use Rattle.code_types.specs.Operands.{number_in as number_of_32, bytes_of}
@@ -39,7 +39,7 @@ use Rattle.source_meaning.specs.Store.{Store, Address, address_of, with_local, w
 use Rattle.source_meaning.specs.Flow.{Flow, Goes, Raised, Meaning, then_do}
 use Rattle.source_meaning.specs.Operators.{sole_number, one, is_true, member_at, without_offset, routine_value}
 use Rattle.source_meaning.specs.ExprMeaning.{Setting, expr_mean, received_mean}
-use Rattle.source_meaning.specs.StatementMeaning.{skip, no_state, set_names, set_locals, spread_over, set_to, set_address, put_bytes, send_to, sent_signal, sent_mean, result_mean, return_mean, holds_one, pairs_with, delay_pairs, receive_list, receive_counts, is_written, received_by, Come, comes_to, nothing_came, take_in, woken_as, where_holds, next_member, passes_end, next_value, next_step, bound_mean, step_mean, loop_mean, is_label, opened, caught, behind_wait, delay_with, receive_with, statement_mean, handler_mean, alternatives_mean, otherwise_mean, statements_mean, action_mean, choices_mean, cases_mean, delay_mean, receive_mean}
+use Rattle.source_meaning.specs.StatementMeaning.{skip, no_state, set_names, set_locals, spread_over, counts_over, set_to, set_address, put_bytes, send_to, sent_signal, sent_mean, result_mean, return_mean, holds_one, pairs_with, delay_pairs, receive_list, receive_counts, is_written, received_by, Come, comes_to, nothing_came, take_in, woken_as, where_holds, next_member, passes_end, next_value, next_step, bound_mean, step_mean, loop_mean, is_label, opened, caught, behind_wait, delay_with, receive_with, statement_mean, handler_mean, alternatives_mean, otherwise_mean, statements_mean, action_mean, choices_mean, cases_mean, delay_mean, receive_mean}
 use Rattle.source_meaning.specs.Values.{Domain, any_instance, member_domains, domains_of, AreWithin, IsValueOf}
 use Rattle.source_meaning.specs.Fitting.{domains_in_buffer, domains_in_signal, thing_of, FitsAnswer}
 use Rattle.source_meaning.specs.TypedValues.{Context, BaseHas, IsRootOfEither, HasMode, IsTakenBy}
@@ -51,8 +51,8 @@ use Rattle.text_laws.proofs.Values.{within_length, lowest_within, count_domains}
 use Rattle.text_laws.proofs.Operations.{result_fits_text, routine_computes, number_value, set_domains, member_by}
 use Rattle.text_laws.proofs.Powersets.{differences_tell, span_length, offsets_below, first_below}
 use Rattle.text_laws.proofs.Taking.{taken_value, part_whole, domains_in_form, form_domains, shape_bounds, root_bounds, number_in_root}
-use Rattle.text_laws.proofs.Stores.{StoreFits, with_local_fits, with_result_fits, RowsFit, row_fits, set_locals_fit, spread_fits}
-use Rattle.text_laws.proofs.Stages.{Whole, Fits, Here, Comes, Any, Answers, goes, raises, bind, weaker, asks, does, finishes}
+use Rattle.text_laws.proofs.Stores.{StoreFits, with_local_fits, with_result_fits, RowsFit, row_fits, set_locals_fit, counts_have, spread_fits}
+use Rattle.text_laws.proofs.Stages.{Whole, Fits, Here, Comes, Any, Answers, Fills, goes, raises, bind, weaker, no_got, asks, does, finishes}
 use Rattle.text_laws.proofs.ExprAsks.{context_in, Stands, AddressFits, ModesFit, ranges, passes, computes, reads, assigns, with_asks, expr_asks, received_asks, all_received_asks, location_asks, start_asks, call_asks, base_fits, address_fits, parts_lead}
 use Rattle.text_laws.proofs.Combining.{TestFits, catches, labels, region_asks, turns_ask}
 
@@ -143,6 +143,12 @@ brought_by_list at brings (more_receives own is ss rs) first thing number t e = 
           tells = thing_later own first number (receive_list (suc first) rs) (omega (arith, number_is)) ∙ r.tells;
         }
 
+-- how many scalars an alternative takes
+counts_there : (rows : List LocalRowTree) (rs : ReceiveNodes) (k : ℕ) → counts_over rows (received_by k rs) ≡ slice_index_or (receive_counts rows rs) k 0
+counts_there rows no_receives k = refl
+counts_there rows (more_receives thing is ss rs) zero = refl
+counts_there rows (more_receives thing is ss rs) (suc k) = counts_there rows rs k
+
 received_tells : (at : Around) (brings : Brings) (rs : ReceiveNodes) → AreTypedReceives at brings rs → NumbersTell (receive_list 0 rs)
 received_tells at brings rs t thing number e = (brought_by_list at brings rs 0 thing number t e).tells
 
@@ -225,7 +231,7 @@ module _ (g : Whole) (result : Option ModeTree) (sort : Sort) (mode : IfSome res
   delay_asks w region stands n set priority ds alternative store s h t d a =
       bind g (StoreFits w.rows result) (SetFits (context_in g w region)) (address_asks w region stands set store s h t) (λ o store1 s1 h1 q.
       bind g (StoreFits w.rows result) (Answers g (Delay (delay_pairs 0 ds) priority))
-      (asks g (StoreFits w.rows result) (Delay (delay_pairs 0 ds) priority) [] store1 s1 h1 (λ f. delays_name (around_at g w region sort result n) 0 ds d)) (λ v store2 s2 h2 r.
+      (asks g (StoreFits w.rows result) (Delay (delay_pairs 0 ds) priority) [] store1 s1 h1 (λ f. delays_name (around_at g w region sort result n) 0 ds d) (no_got g (Delay (delay_pairs 0 ds) priority) [] tt)) (λ v store2 s2 h2 r.
       wait_asks w region stands o alternative skip (woken_as v) store2 s2 h2 (λ f. (q (r f).0).1) (λ f. woken_fits g (Delay (delay_pairs 0 ds) priority) v (r f).1) a (skips w)))
 
   -- the names that an answer sets
@@ -244,10 +250,19 @@ module _ (g : Whole) (result : Option ModeTree) (sort : Sort) (mode : IfSome res
       (λ f. (v f).in_range.3)
   takes_in w region stands n request brings rs a store s h t v b = goes g (StoreFits w.rows result) h (λ f. tt)
 
+  -- what comes fills the locals of its alternative
+  receive_fills : (w : Setting) (region : Option ℕ) (stands : Stands g w result) (n : ℕ) (request : Request) (brings : Brings) (rs : ReceiveNodes) → AreTypedReceives (around_at g w region sort result n) brings rs → ((number sent by : ℕ) (xs : List ℤ) → FitsAnswer g.program request (Got number sent xs by) → (thing : ℕ) × (number_for (receive_list 0 rs) thing ≡ Some number) × ((ms : List ModeTree) → brings thing ms → thing_of (receive_list 0 rs) number ≡ thing → AreWithin (flat_map domains_of ms) xs)) → Fills g request (receive_counts w.rows rs)
+  receive_fills w region stands n request brings rs t b number sent by xs f =
+      let c = b number sent by xs f in
+      let r = brought_by_list (around_at g w region sort result n) brings rs 0 c.0 number t c.1 in
+      let at : r.place ≡ number = (let e = r.is in omega (arith, e)) in
+      let whole : length xs ≡ counts_over w.rows (received_by r.place rs) = sym (within_length (flat_map domains_of r.modes) xs (c.2 r.modes r.brought r.tells)) ∙ counts_have (context_in g w region) (received_by r.place rs) r.modes stands.rows r.locals in
+      whole ∙ (counts_there w.rows rs r.place ∙ ap (λ (k : ℕ). slice_index_or (receive_counts w.rows rs) k 0) at)
+
   receive_asks : (w : Setting) (region : Option ℕ) (stands : Stands g w result) (n : ℕ) (request : Request) (brings : Brings) (set : Option LocationTree) (rs : ReceiveNodes) (alternative : ℕ → Meaning (Unit {0})) (none : Meaning (Unit {0})) (store : Store) (s : Session) → Here g (StoreFits w.rows result) store s → TakesInstance (context_in g w region) set → AreTypedReceives (around_at g w region sort result n) brings rs → FitsText g.program request → ((number sent by : ℕ) (xs : List ℤ) → FitsAnswer g.program request (Got number sent xs by) → (thing : ℕ) × (number_for (receive_list 0 rs) thing ≡ Some number) × ((ms : List ModeTree) → brings thing ms → thing_of (receive_list 0 rs) number ≡ thing → AreWithin (flat_map domains_of ms) xs)) → ((k : ℕ) (store1 : Store) (s1 : Session) → Here g (StoreFits w.rows result) store1 s1 → Comes g (StoreFits w.rows result) s1 Any (alternative k store1 s1)) → ((store1 : Store) (s1 : Session) → Here g (StoreFits w.rows result) store1 s1 → Comes g (StoreFits w.rows result) s1 Any (none store1 s1)) → Comes g (StoreFits w.rows result) s Any (receive_with w request set rs alternative none store s)
   receive_asks w region stands n request brings set rs alternative none store s h t d fit b a e =
       bind g (StoreFits w.rows result) (SetFits (context_in g w region)) (address_asks w region stands set store s h t) (λ o store1 s1 h1 q.
-      bind g (StoreFits w.rows result) (Answers g request) (asks g (StoreFits w.rows result) request (receive_counts w.rows rs) store1 s1 h1 (λ f. fit)) (λ v store2 s2 h2 r.
+      bind g (StoreFits w.rows result) (Answers g request) (asks g (StoreFits w.rows result) request (receive_counts w.rows rs) store1 s1 h1 (λ f. fit) (receive_fills w region stands n request brings rs d b)) (λ v store2 s2 h2 r.
       bind g (StoreFits w.rows result) ComeFits (takes_in w region stands n request brings rs v store2 s2 h2 d (λ f. (r f).1) b) (λ come store3 s3 h3 u.
       wait_asks w region stands o alternative none come store3 s3 h3 (λ f. (q (r (u f).0).0).1) (λ f. (u f).1) a e)))
 
@@ -405,7 +420,7 @@ module _ (g : Whole) (result : Option ModeTree) (sort : Sort) (mode : IfSome res
       let fit : IsTrue (parts_fit m) = subst (λ (x : ModeTree). IsTrue (parts_fit x)) t.1.2 (all_at (λ (row : BufferRowTree). IsOfLanguage row.element) g.program.buffers b row g.typed.buffers t.1.1).parts in
       let same : domains_in_buffer (slice_get g.program.buffers b) ≡ domains_of m = ap domains_in_buffer t.1.1 ∙ ap domains_of t.1.2 in
       bind g (StoreFits w.rows result) (IsValueOf m) (received_asks g w result region stands r m store s h fit t.2) (λ xs store1 s1 h1 q.
-      does g (StoreFits w.rows result) (SendBuffer b xs priority) store1 s1 h1 (λ f. (slice_get_within g.program.buffers b row t.1.1, subst (λ (ds : List Domain). AreWithin ds xs) (sym same) (q f).1)))
+      does g (StoreFits w.rows result) (SendBuffer b xs priority) store1 s1 h1 (λ f. (slice_get_within g.program.buffers b row t.1.1, subst (λ (ds : List Domain). AreWithin ds xs) (sym same) (q f).1)) tt)
   sent_asks w region stands (signal k rs to) priority store s h t =
       let ms : List ModeTree = t.0.0 in
       let row : SignalRowTree = t.0.1.0 in
@@ -417,10 +432,10 @@ module _ (g : Whole) (result : Option ModeTree) (sort : Sort) (mode : IfSome res
     where
       sends_to : (xs : List ℤ) (o : Option ℕ) (store1 : Store) (s1 : Session) → Here g (StoreFits w.rows result) store1 s1 → (Fits g s1 → (k < length g.program.signals) × AreWithin (domains_in_signal (slice_get g.program.signals k)) xs) → Comes g (StoreFits w.rows result) s1 Any (send_to k priority xs o store1 s1)
       sends_to xs None store1 s1 h1 v = raises g (StoreFits w.rows result) h1
-      sends_to xs (Some i) store1 s1 h1 v = does g (StoreFits w.rows result) (SendSignal k xs (Some i) priority) store1 s1 h1 v
+      sends_to xs (Some i) store1 s1 h1 v = does g (StoreFits w.rows result) (SendSignal k xs (Some i) priority) store1 s1 h1 v tt
 
       to_by : (o : Option ExprTree) → IsReceiver (context_in g w region) o → (xs : List ℤ) (store1 : Store) (s1 : Session) → Here g (StoreFits w.rows result) store1 s1 → (Fits g s1 → (k < length g.program.signals) × AreWithin (domains_in_signal (slice_get g.program.signals k)) xs) → Comes g (StoreFits w.rows result) s1 Any (sent_signal w k priority o xs store1 s1)
-      to_by None u xs store1 s1 h1 v = does g (StoreFits w.rows result) (SendSignal k xs None priority) store1 s1 h1 v
+      to_by None u xs store1 s1 h1 v = does g (StoreFits w.rows result) (SendSignal k xs None priority) store1 s1 h1 v tt
       to_by (Some e) u xs store1 s1 h1 v =
           bind g (StoreFits w.rows result) (IsValueOf u.0) (expr_asks g w result region stands e u.0 store1 s1 h1 u.1) (λ ys store2 s2 h2 q. sends_to xs (number_of_32 (sole_number ys)) store2 s2 h2 (λ f. v (q f).0))
 
@@ -466,7 +481,7 @@ module _ (g : Whole) (result : Option ModeTree) (sort : Sort) (mode : IfSome res
 
   bytes_ask : (w : Setting) (o : Option (List ℕ)) (store : Store) (s : Session) → Here g (StoreFits w.rows result) store s → Comes g (StoreFits w.rows result) s Any (put_bytes o store s)
   bytes_ask w None store s h = raises g (StoreFits w.rows result) h
-  bytes_ask w (Some bytes) store s h = does g (StoreFits w.rows result) (Put bytes) store s h (λ f. tt)
+  bytes_ask w (Some bytes) store s h = does g (StoreFits w.rows result) (Put bytes) store s h (λ f. tt) tt
 
   either_asks : (t : Bool) (a b : Flow (Unit {0})) {S : Store → Type 0} (store : Store) (s : Session) → Comes g S s Any a → Comes g S s Any b → Comes g S s Any (if t then a else b)
   either_asks true a b store s c d = c
@@ -565,10 +580,10 @@ module _ (g : Whole) (result : Option ModeTree) (sort : Sort) (mode : IfSome res
     action_asks (evaluate e) w region stands labelled n store s h t =
         bind g (StoreFits w.rows result) (IsValueOf t.0) (expr_asks g w result region stands e t.0 store s h t.1) (λ v store1 s1 h1 q. goes g (StoreFits w.rows result) h1 (λ f. tt))
     action_asks (put_int e) w region stands labelled n store s h t =
-        bind g (StoreFits w.rows result) (IsValueOf t.0) (expr_asks g w result region stands e t.0 store s h t.1) (λ xs store1 s1 h1 q. does g (StoreFits w.rows result) _ store1 s1 h1 (λ f. tt))
+        bind g (StoreFits w.rows result) (IsValueOf t.0) (expr_asks g w result region stands e t.0 store s h t.1) (λ xs store1 s1 h1 q. does g (StoreFits w.rows result) (Put (decimal_text (sole_number xs))) store1 s1 h1 (λ f. tt) tt)
     action_asks (put_text e) w region stands labelled n store s h t =
         bind g (StoreFits w.rows result) (IsValueOf t.0) (expr_asks g w result region stands e t.0 store s h t.2) (λ xs store1 s1 h1 q. bytes_ask w (bytes_of xs) store1 s1 h1)
-    action_asks put_line w region stands labelled n store s h t = does g (StoreFits w.rows result) (Put (10 ∷ [])) store s h (λ f. tt)
+    action_asks put_line w region stands labelled n store s h t = does g (StoreFits w.rows result) (Put (10 ∷ [])) store s h (λ f. tt) tt
     action_asks (exit_from k) w region stands labelled n store s h t = record { by = (h, λ f. f) }
     action_asks (return_with r) w region stands labelled n store s h t = return_asks w region stands labelled r store s h t
     action_asks (set_result r) w region stands labelled n store s h t = result_asks w region stands r store s h t.1 t.2 t.3
@@ -581,8 +596,8 @@ module _ (g : Whole) (result : Option ModeTree) (sort : Sort) (mode : IfSome res
         bind g (StoreFits w.rows result) Any (weaker g (StoreFits w.rows result) _ (λ v f i. tt) (start_asks g w result region stands st store s h t)) (λ v store1 s1 h1 q. goes g (StoreFits w.rows result) h1 (λ f. tt))
     action_asks (delay e priority) w region stands labelled n store s h t =
         does g (StoreFits w.rows result) (Delay (record { thing = e; number = 0 } ∷ []) priority) store s h
-        (λ f. All-cons (λ (a : Alternative). a.thing < length g.program.events) (record { thing = e; number = 0 }) [] t.0 (All-nil (λ (a : Alternative). a.thing < length g.program.events)))
-    action_asks (continue_at e) w region stands labelled n store s h t = does g (StoreFits w.rows result) (Continue e) store s h (λ f. t)
+        (λ f. All-cons (λ (a : Alternative). a.thing < length g.program.events) (record { thing = e; number = 0 }) [] t.0 (All-nil (λ (a : Alternative). a.thing < length g.program.events))) tt
+    action_asks (continue_at e) w region stands labelled n store s h t = does g (StoreFits w.rows result) (Continue e) store s h (λ f. t) tt
     action_asks (send sent priority) w region stands labelled n store s h t = sent_asks w region stands sent priority store s h t.0
     action_asks (if_then cs ss) w region stands labelled n store s h t =
         choices_ask cs w region stands labelled n (statements_mean w n ss) store s h t.0 (λ store1 s1 h1. statements_ask ss w region stands labelled n store1 s1 h1 t.1)

@@ -1,5 +1,5 @@
 -- Stores whose values are those of the modes of the locals, and what reads and writes of them give.
-use Rattle.std.proofs.Common.{◌≡◌, ℕ, zero, suc, ◌+◌, ◌≤◌, List, [], ◌∷◌, ◌++◌, length, take, drop, Option, Some, None, sym, ap, ◌∙◌, subst, arith}
+use Rattle.std.proofs.Common.{◌≡◌, ℕ, zero, suc, ◌+◌, ◌≤◌, List, [], ◌∷◌, ◌++◌, length, take, drop, Option, Some, None, sym, ap, ◌∙◌, subst, arith, length-append}
 use Rattle.std.specs.Prelude.{ℤ, slice_get, slice_set, slice_index_or, IsTrue, All}
 use Rattle.std.specs.List.{flat_map}
 use Rattle.std.proofs.lemmas.List.{take_at, drop_at}
@@ -10,7 +10,7 @@ use Rattle.modes.specs.Language.{parts_fit}
 use Rattle.program_trees.specs.ProgramTree.{LocalRowTree}
 use Rattle.world_model.specs.Lists.{scalars_at, with_scalars}
 use Rattle.source_meaning.specs.Store.{Store, with_local, with_result, Taken, brings, lowest, begins_with, first_locals, count_in}
-use Rattle.source_meaning.specs.StatementMeaning.{set_locals, spread_over}
+use Rattle.source_meaning.specs.StatementMeaning.{set_locals, spread_over, counts_over}
 use Rattle.source_meaning.specs.Values.{Domain, domains_of, AreWithin, IsValueOf}
 use Rattle.source_meaning.specs.TypedValues.{Context}
 use Rattle.source_meaning.specs.TypedStatements.{LocalHas, LocalsHave}
@@ -156,6 +156,19 @@ count_of_row : (rows : List LocalRowTree) (i : ℕ) (row : LocalRowTree) → sli
 count_of_row rows i row e = ap count_in e
 
 -- what is received goes to the locals one after another
+-- what locals take together
+pub counts_have : (c : Context) (is : List ℕ) (ms : List ModeTree) → RowsFit c.rows → LocalsHave c is ms → length (flat_map domains_of ms) ≡ counts_over c.rows is
+counts_have c [] ms r h = ap (λ (l : List ModeTree). length (flat_map domains_of l)) h
+counts_have c (i ∷ is) ms r h =
+    let row : LocalRowTree = h.3.0 in
+    let at : slice_get c.rows i ≡ Some row = h.3.1 in
+    let count : count_in (slice_get c.rows i) ≡ scalars_of h.0 = count_of_row c.rows i row at ∙ ((row_fits c.rows i row r at).0 ∙ ap scalars_of h.3.2) in
+    let whole = ap (λ (l : List ModeTree). length (flat_map domains_of l)) h.2 in
+    let sum = length-append (domains_of h.0) (flat_map domains_of h.1) in
+    let first = count_domains h.0 in
+    let behind = counts_have c is h.1 r h.4 in
+    omega (arith, count, whole, sum, first, behind)
+
 pub spread_fits : (c : Context) (result : Option ModeTree) (is : List ℕ) (ms : List ModeTree) (xs : List ℤ) (store : Store) → RowsFit c.rows → StoreFits c.rows result store → LocalsHave c is ms → AreWithin (flat_map domains_of ms) xs → StoreFits c.rows result (spread_over c.rows is xs store)
 spread_fits c result [] ms xs store r w h v = w
 spread_fits c result (i ∷ is) ms xs store r w h v =

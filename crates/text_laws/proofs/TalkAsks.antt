@@ -1,11 +1,12 @@
 -- What bodies, calls and processes ask fits the text.
-use Rattle.std.proofs.Common.{◌≡◌, ℕ, zero, suc, ◌+◌, ◌<◌, Bool, true, false, List, [], ◌∷◌, ◌++◌, length, take, drop, Option, Some, None, refl, sym, ◌∙◌, subst}
+use Rattle.std.proofs.Common.{◌≡◌, ℕ, zero, suc, ◌+◌, ◌<◌, ◌≤◌, Bool, true, false, List, [], ◌∷◌, ◌++◌, length, take, drop, Option, Some, None, refl, sym, ◌∙◌, subst, arith, eq-eqb, length-append}
 use Rattle.std.specs.Prelude.{ℤ, slice_get, IsTrue, IfSome, nat_lt, if◌then◌else◌, ◌==◌}
 use Rattle.std.proofs.lemmas.Option.{IfSome_then}
 use Rattle.std.proofs.lemmas.List.{take_at, drop_at}
 use Rattle.kernel_base.specs.declared.ends.Exc.TheVariants.{Spacefail}
+use Rattle.kernel_base.specs.declared.ends.How.{How}
 use Rattle.kernel_base.specs.declared.ends.How.TheVariants.{Normal, Raised as RaisedHow}
-use Rattle.kernel_base.specs.declared.request.Request.TheVariants.{Enter, Leave}
+use Rattle.kernel_base.specs.declared.request.Request.TheVariants.{Enter, Leave, End}
 use Rattle.kernel_base.specs.declared.answer.Answer.{Answer}
 use Rattle.modes.specs.ModeTree.{ModeTree}
 use Rattle.modes.specs.Language.{parts_fit, IsOfLanguage}
@@ -13,23 +14,24 @@ use Rattle.checked_program.specs.declared.program.Sort.{Sort}
 use Rattle.checked_program.specs.declared.program.Sort.TheVariants.{Outermost, Process, Procedure}
 use Rattle.checked_program.specs.declared.program.Parameter.{Parameter}
 use Rattle.program_trees.specs.ProgramTree.{LocalRowTree, BodyRowTree, CheckedTree}
-use Rattle.world_model.specs.Session.{Session, session_of, tick}
+use Rattle.world_model.specs.Session.{Item, Session, session_of, tick}
 use Rattle.world_model.specs.Ranges.{IsNumber}
 use Rattle.code_types.specs.Places.{names_exception}
 use Rattle.code_types.specs.Actions.{most_frames}
 use Rattle.source_meaning.specs.Store.{Store, Taken, lowest_result, first_store}
-use Rattle.source_meaning.specs.Flow.{Flow, Goes, Raised, Exits, Returned, Stops, Gone, Bound, then_do, done, finish, after_tick}
+use Rattle.source_meaning.specs.Flow.{Flow, Goes, Raised, Exits, Returned, Stops, Gone, Bound, then_do, Reply, Given, Halts, reply, done, finished, finish, after_tick}
 use Rattle.source_meaning.specs.ExprMeaning.{Calls, Setting}
 use Rattle.source_meaning.specs.StatementMeaning.{is_open}
 use Rattle.source_meaning.specs.BodyMeaning.{Ending, Through, Out, Halted, Ended, Unknown, close, Bodies, listed_by, at_call, calls_in, leaving, behind_enter, in_region, region_if, critical_region, setting_of, inside_of, body_of, body_mean}
 use Rattle.source_meaning.specs.Talk.{Talk, process_end, talk_at, split_over, parameter_scalars, no_talk, talk_in, talk}
 use Rattle.source_meaning.specs.Values.{Domain, domains_of, AreWithin, IsValueOf}
-use Rattle.source_meaning.specs.Fitting.{domains_of_parameters, FitsBody, AreOfTypes}
+use Rattle.source_meaning.specs.Fitting.{domains_of_parameters, FitsBody, AreOfTypes, HasFittingAnswers, IsFitting}
 use Rattle.source_meaning.specs.Typed.{IsTyped, IsTypedBody, HasHead, RegionIsThere}
 use Rattle.text_laws.specs.Requests.{AskWell}
-use Rattle.text_laws.proofs.Values.{lowest_within, within_take, within_drop, count_domains}
+use Rattle.source_meaning.proofs.EnoughBodies.{enough_law}
+use Rattle.text_laws.proofs.Values.{lowest_within, within_take, within_drop, within_length, count_domains}
 use Rattle.text_laws.proofs.Stores.{StoreFits, ResultFits, RowsFit, TakensFit, first_fits}
-use Rattle.text_laws.proofs.Stages.{Whole, Fits, Stage, Here, Comes, ComesBy, Any, earlier, raises, bind, does, finishes, ticked}
+use Rattle.text_laws.proofs.Stages.{Whole, Fits, StopsFor, Halting, Stage, Here, Comes, ComesBy, Any, earlier, raises, bind, RepliesBy, does, finished_halts, ends, finishes, ticked}
 use Rattle.text_laws.proofs.ExprAsks.{CallsFit, Stands, rows_typed}
 use Rattle.text_laws.proofs.Combining.{catches}
 use Rattle.text_laws.proofs.StatementAsks.{statements_ask, handler_asks}
@@ -39,8 +41,8 @@ use Rattle.text_laws.proofs.StatementAsks.{statements_ask, handler_asks}
 abbrev pub EndsBy : Whole → (Store → Type 0) → Session → Ending → Type 0
 EndsBy g S from (Through store s) = Here g S store s × (Fits g s → Fits g from)
 EndsBy g S from (Out x store s) = Here g S store s × (Fits g s → Fits g from)
-EndsBy g S from (Halted t inner store) = AskWell g.program t g.answers
-EndsBy g S from (Ended t) = AskWell g.program t g.answers
+EndsBy g S from (Halted t inner store) = Halting g t
+EndsBy g S from (Ended t) = Halting g t
 EndsBy g S from Unknown = Unit {0}
 
 pub record Ends (g : Whole) (S : Store → Type 0) (from : Session) (o : Ending) : Type 0 where
@@ -67,11 +69,11 @@ module _ (g : Whole) (S : Store → Type 0) where
   ends_from from to Unknown b c = c
 
   leaving_by : (r : ℕ) (listed : List ℕ) (s : Session) (o : Ending) → r < g.program.regions → EndsBy g S s o → EndsBy g S s (leaving r listed o)
-  leaving_by r listed s (Through store s1) low c = ends_from s s1 (close (done (Leave r) store s1)) c.1 (closes (does g S (Leave r) store s1 c.0 (λ f. low))).by
+  leaving_by r listed s (Through store s1) low c = ends_from s s1 (close (done (Leave r) store s1)) c.1 (closes (does g S (Leave r) store s1 c.0 (λ f. low) tt)).by
   leaving_by r listed s (Out x store s1) low c = out_by (names_exception listed x)
     where
       out_by : (t : Bool) → EndsBy g S s (if t then close (then_do (done (Leave r) store s1) (λ _. Raised x)) else Out x store s1)
-      out_by true = ends_from s s1 (close (then_do (done (Leave r) store s1) (λ _. Raised x))) c.1 (closes (bind g S Any (does g S (Leave r) store s1 c.0 (λ f. low)) (λ v store2 s2 h q. raises g S h))).by
+      out_by true = ends_from s s1 (close (then_do (done (Leave r) store s1) (λ _. Raised x))) c.1 (closes (bind g S Any (does g S (Leave r) store s1 c.0 (λ f. low) tt) (λ v store2 s2 h q. raises g S h))).by
       out_by false = c
   leaving_by r listed s (Halted t inner store) low c = c
   leaving_by r listed s (Ended t) low c = c
@@ -156,7 +158,7 @@ module _ (g : Whole) (instance : ℕ) (who : IsNumber instance) where
       now_by false = enter_by g S s (done (Enter r) store s) (λ s1. leaving r listed (inside (open_now ++ r ∷ []) s1)) done_at.by (λ store1 s1 h1 back. record { by = leaving_by g S r listed s1 (inside (open_now ++ r ∷ []) s1) there (k (open_now ++ r ∷ []) s1 h1.stage (λ f. h.holds (back f))).by })
         where
           done_at : Comes g S s Any (done (Enter r) store s)
-          done_at = does g S (Enter r) store s h (λ f. there)
+          done_at = does g S (Enter r) store s h (λ f. there) tt
 
   -- a body, where the bodies that it calls ask what fits
   body_ends : (bodies : Bodies) (frames n k : ℕ) (b : BodyRowTree) (open_now : List ℕ) (ts : List Taken) (s : Session) → BodiesFit g bodies → slice_get g.program.bodies k ≡ Some b → Stage g s → (Fits g s → TakensFit b.locals 0 ts) → Ends g (StoreFits b.locals b.result) s (body_of instance (calls_in g.program bodies frames) n open_now ts (Some b) s)
@@ -201,35 +203,65 @@ split_fits (row ∷ rows) (q ∷ ps) xs r w =
     let behind : AreWithin (domains_of_parameters rows ps) (drop row.count xs) = subst (λ (ds : List Domain). AreWithin ds (drop row.count xs)) (drop_at (domains_of row.mode) (domains_of_parameters rows ps) row.count c) (within_drop row.count (domains_of row.mode ++ domains_of_parameters rows ps) xs w) in
     ((row, refl, front), takens_ahead row rows 0 (split_over rows ps (drop row.count xs)) (split_fits rows ps (drop row.count xs) r.1 behind))
 
-ending_asks : (g : Whole) (S : Store → Type 0) (s : Session) (e : Ending) → EndsBy g S s e → ComesBy g S s Any (process_end e)
-ending_asks g S s (Through store s1) c = (earlier g S s s1 Any (finish Normal [] store s1) c.1 (finishes g S Any Normal [] store s1 c.0)).by
-ending_asks g S s (Out x store s1) c = (earlier g S s s1 Any (finish (RaisedHow x) [] store s1) c.1 (finishes g S Any (RaisedHow x) [] store s1 c.0)).by
-ending_asks g S s (Halted t inner store) c = c
-ending_asks g S s (Ended t) c = c
-ending_asks g S s Unknown c = tt
+-- how a talk is over: what it asks fits, and it stops for a reason, unless more turns or calls were looked at than there are
+record TalkHalts (g : Whole) (o : Flow (Unit {0})) (t : List Item) : Type 0 where
+  pub asks : AskWell g.program t g.answers
+  pub rests : (o ≡ Bound → ⊥) → HasFittingAnswers g.program t g.answers → StopsFor g.answers g.ticks t
 
-talk_by : (g : Whole) (S : Store → Type 0) (s : Session) (b : ℕ) (o : Flow (Unit {0})) → ComesBy g S s Any o → AskWell g.program (talk_at b o).trace g.answers
-talk_by g S s b (Goes v store s1) c = c.0.stage.asks
-talk_by g S s b (Raised x store s1) c = c.0.stage.asks
-talk_by g S s b (Exits k store s1) c = c.0.stage.asks
-talk_by g S s b (Returned store s1) c = c.0.stage.asks
-talk_by g S s b (Stops t inner store) c = c
-talk_by g S s b (Gone t) c = c
-talk_by g S s b Bound c = tt
+halts : (g : Whole) (o : Flow (Unit {0})) (t : List Item) → Halting g t → TalkHalts g o t
+halts g o t h = record { asks = h.asks; rests = λ some fit. h.rests fit }
+
+ended_halts : (g : Whole) (S : Store → Type 0) (b : ℕ) (how : How) (store : Store) (from : Session) (r : Reply) → RepliesBy g S store from (End how) r → TalkHalts g (finished r [] store) (talk_at b (finished r [] store)).trace
+ended_halts g S b how store from (Given a s) c = halts g (Gone s.trace) s.trace (finished_halts g S how store from a s c)
+ended_halts g S b how store from (Halts t) c = halts g (Stops t [] store) t c
+
+end_halts : (g : Whole) (S : Store → Type 0) (b : ℕ) (s : Session) (e : Ending) → EndsBy g S s e → TalkHalts g (process_end e) (talk_at b (process_end e)).trace
+end_halts g S b s (Through store s1) c = ended_halts g S b Normal store s1 (reply (End Normal) [] s1) (ends g S Normal store s1 c.0)
+end_halts g S b s (Out x store s1) c = ended_halts g S b (RaisedHow x) store s1 (reply (End (RaisedHow x)) [] s1) (ends g S (RaisedHow x) store s1 c.0)
+end_halts g S b s (Halted t inner store) c = halts g (Stops t inner store) t c
+end_halts g S b s (Ended t) c = halts g (Gone t) t c
+end_halts g S b s Unknown c = record { asks = tt; rests = λ some fit. absurd (some refl) }
+
+count_parameters : (rows : List LocalRowTree) (ps : List Parameter) → RowsFit rows → length (domains_of_parameters rows ps) ≡ parameter_scalars rows ps
+count_parameters rows [] r = refl
+count_parameters [] (q ∷ ps) r = refl
+count_parameters (row ∷ rows) (q ∷ ps) r =
+    let a = count_domains row.mode in
+    let b = count_parameters rows ps r.1 in
+    let c = length-append (domains_of row.mode) (domains_of_parameters rows ps) in
+    let d = r.0.0 in
+    omega (arith, a, b, c, d)
+
+-- there are as many arguments as the parameters of a body have scalars
+pub counted_arguments : (p : CheckedTree) (process : ℕ) (zs : List ℤ) (body : BodyRowTree) → IsTyped p → slice_get p.bodies process ≡ Some body → FitsBody body zs → parameter_scalars body.locals body.parameters ≡ length zs
+counted_arguments p process zs body typed at fits = sym (count_parameters body.locals body.parameters (rows_typed p typed process body at)) ∙ within_length (domains_of_parameters body.locals body.parameters) zs fits.values
+
+-- the talk of an instance that was born as it should
+record TalkIs (p : CheckedTree) (answers : List Answer) (n : ℕ) (t : List Item) : Type 0 where
+  pub asks : AskWell p t answers
+  pub rests : 1 ≤ n → HasFittingAnswers p t answers → StopsFor answers n t
 
 abbrev one_talk_of : Bool → Talk → Talk
 one_talk_of t talked = if t then talked else no_talk
 
-pub talk_asks : (p : CheckedTree) (instance process : ℕ) (zs : List ℤ) (answers : List Answer) (n : ℕ) (body : BodyRowTree) → IsTyped p → AreOfTypes instance zs answers → slice_get p.bodies process ≡ Some body → FitsBody body zs → AskWell p (talk p instance process zs answers n).trace answers
-talk_asks p instance process zs answers n body typed types at fits =
-    subst (λ (o : Option BodyRowTree). AskWell p (talk_in p instance process zs answers n o).trace answers) (sym at) (counted_by (parameter_scalars body.locals body.parameters == length zs))
-  where
-    g : Whole
-    g = record { program = p; typed = typed; answers = answers; in_range = types.given }
+told_is : (p : CheckedTree) (instance process : ℕ) (zs : List ℤ) (answers : List Answer) (n : ℕ) (body : BodyRowTree) → IsTyped p → AreOfTypes instance zs answers → slice_get p.bodies process ≡ Some body → FitsBody body zs → TalkIs p answers n (talk_at process (process_end (body_mean p instance n process 1 [] (split_over body.locals body.parameters zs) (session_of answers n)))).trace
+told_is p instance process zs answers n body typed types at fits =
+    let g : Whole = record { program = p; typed = typed; answers = answers; in_range = types.given; ticks = n } in
+    let ts : List Taken = split_over body.locals body.parameters zs in
+    let ends = (bodies_fit g instance types.who n).each process body 1 [] ts (session_of answers n) at (record { asks = tt; linked = refl; ticked = omega arith }) (λ f. split_fits body.locals body.parameters zs (rows_typed p typed process body at) fits.values) in
+    let h = end_halts g (StoreFits body.locals body.result) process (session_of answers n) (body_mean p instance n process 1 [] ts (session_of answers n)) ends.by in
+    record { asks = h.asks; rests = λ some fit. h.rests (enough_law p instance process ts answers n some) fit }
 
-    counted_by : (t : Bool) → AskWell p (one_talk_of t (talk_at process (process_end (body_mean p instance n process 1 [] (split_over body.locals body.parameters zs) (session_of answers n))))).trace answers
-    counted_by true =
-        let ends = (bodies_fit g instance types.who n).each process body 1 [] (split_over body.locals body.parameters zs) (session_of answers n) at (record { asks = tt; linked = refl }) (λ f. split_fits body.locals body.parameters zs (rows_typed p typed process body at) fits.values) in
-        talk_by g (StoreFits body.locals body.result) (session_of answers n) process (process_end (body_mean p instance n process 1 [] (split_over body.locals body.parameters zs) (session_of answers n)))
-        (ending_asks g (StoreFits body.locals body.result) (session_of answers n) (body_mean p instance n process 1 [] (split_over body.locals body.parameters zs) (session_of answers n)) ends.by)
-    counted_by false = tt
+talk_is : (p : CheckedTree) (instance process : ℕ) (zs : List ℤ) (answers : List Answer) (n : ℕ) (body : BodyRowTree) → IsTyped p → AreOfTypes instance zs answers → slice_get p.bodies process ≡ Some body → FitsBody body zs → TalkIs p answers n (talk p instance process zs answers n).trace
+talk_is p instance process zs answers n body typed types at fits =
+    let counted : (parameter_scalars body.locals body.parameters == length zs) ≡ true = eq-eqb (parameter_scalars body.locals body.parameters) (length zs) (counted_arguments p process zs body typed at fits) in
+    subst (λ (o : Option BodyRowTree). TalkIs p answers n (talk_in p instance process zs answers n o).trace) (sym at)
+    (subst (λ (t : Bool). TalkIs p answers n (one_talk_of t (talk_at process (process_end (body_mean p instance n process 1 [] (split_over body.locals body.parameters zs) (session_of answers n))))).trace) (sym counted)
+    (told_is p instance process zs answers n body typed types at fits))
+
+pub talk_asks : (p : CheckedTree) (instance process : ℕ) (zs : List ℤ) (answers : List Answer) (n : ℕ) (body : BodyRowTree) → IsTyped p → AreOfTypes instance zs answers → slice_get p.bodies process ≡ Some body → FitsBody body zs → AskWell p (talk p instance process zs answers n).trace answers
+talk_asks p instance process zs answers n body typed types at fits = (talk_is p instance process zs answers n body typed types at fits).asks
+
+-- where arguments and answers fit, a talk stops for a reason
+pub talk_rests : (p : CheckedTree) (instance process : ℕ) (zs : List ℤ) (answers : List Answer) (n : ℕ) → IsTyped p → 1 ≤ n → IsFitting p instance process zs answers → StopsFor answers n (talk p instance process zs answers n).trace
+talk_rests p instance process zs answers n typed some f = (talk_is p instance process zs answers n f.body typed f.in_range f.is_body f.fits).rests some (f.answered n)

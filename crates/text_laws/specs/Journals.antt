@@ -56,8 +56,8 @@ pub record GetsValues (p : CheckedTree) (w : World) (events : List Event) (who :
   pub answered : IsOpenWith p (line_of who events) (answers_of who events) open_request
   pub phase : PhaseFits p open_request (phase_of w who)
 
-abbrev pub BirthsFit : CheckedTree → List Event → Type 0
-BirthsFit p events = (who : ℕ) (birth : Birth) → born_of who events ≡ Some birth → IsBirth p birth.process birth.arguments
+abbrev pub BirthsFitText : CheckedTree → List Event → Type 0
+BirthsFitText p events = (who : ℕ) (birth : Birth) → born_of who events ≡ Some birth → IsBirth p birth.process birth.arguments
 
 abbrev pub AllAskText : CheckedTree → List Event → Type 0
 AllAskText p [] = Unit {0}
@@ -67,4 +67,4 @@ AllAskText p (event ∷ events) = AsksText p event × AllAskText p events
 pub record KeepsValues (p : CheckedTree) (facts : Facts) (events : List Event) : Type 0 where
   pub holds : HoldsValues p (world_of facts events)
   pub gets : (who : ℕ) → GetsValues p (world_of facts events) events who
-  pub births : BirthsFit p events
+  pub births : BirthsFitText p events

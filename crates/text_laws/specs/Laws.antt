@@ -1,5 +1,5 @@
 -- The laws of the runs of a text.
-use Rattle.std.specs.Prelude.{◌≡◌, ◌↔◌, ℕ, ◌≤◌, true, List, ℤ, length, Some, slice_get, IsSomeAnd}
+use Rattle.std.specs.Prelude.{◌≡◌, ◌↔◌, ℕ, ◌≤◌, List, ◌++◌, ℤ, Some, slice_get}
 use Rattle.kernel_base.specs.declared.facts.Facts.{Facts}
 use Rattle.kernel_base.specs.declared.answer.Answer.{Answer}
 use Rattle.kernel_base.specs.declared.event.Event.{Event}
@@ -10,20 +10,44 @@ use Rattle.world_model.specs.Allowed.{IsRun}
 use Rattle.program_trees.specs.ProgramTree.{BodyRowTree, CheckedTree}
 use Rattle.code_types.specs.declared.code.Code.{Code}
 use Rattle.code_types.specs.Talk.{CodeTalk}
-use Rattle.code_types.specs.Runs.{IsCodeRun, RequestsFit, BirthsFit}
-use Rattle.source_meaning.specs.Talk.{talk, parameter_scalars}
-use Rattle.source_meaning.specs.Fitting.{has_instances, HasFittingAnswers, FitsBody, AreOfTypes, IsFitting}
-use Rattle.source_meaning.specs.Runs.{IsSourceRun, talk_in_journal}
+use Rattle.code_types.specs.Runs.{Begins, IsCodeRun, Suits}
+use Rattle.source_meaning.specs.Talk.{talk}
+use Rattle.source_meaning.specs.Fitting.{FitsBody, AreOfTypes, IsFitting}
+use Rattle.source_meaning.specs.Runs.{IsSourceRun}
 use Rattle.source_meaning.specs.Facts.{AreFactsOf}
 use Rattle.source_meaning.specs.Typed.{IsTyped}
 use Rattle.text_laws.specs.Journals.{AllAskText, KeepsValues}
 use Rattle.text_laws.specs.Requests.{FitsText, AskWell, AllFitText}
 
+-- ---- premises
+
+-- The facts are those of a typed program, with an input, and with a budget that there may be.
+pub record AreTypedFacts (p : CheckedTree) (facts : Facts) : Type 0 where
+  pub typed : IsTyped p
+  pub input : List ℕ
+  pub units : ℕ
+  pub least : 1 ≤ units
+  pub most : units ≤ 10000000
+  pub are : AreFactsOf p input units facts
+
+-- The journal is a run of a typed program.
+pub record IsTextRun (p : CheckedTree) (facts : Facts) (events : List Event) : Type 0 where
+  pub typed : AreTypedFacts p facts
+  pub run : IsSourceRun p facts events
+
+-- Wherever arguments and answers fit, the code has the text's talk. Of others nothing is said: compiled code leaves out tests that
+-- no fitting answer fails.
+abbrev pub HasFittingTalks : CheckedTree → Code → Type 0
+HasFittingTalks p code = (instance process : ℕ) (zs : List ℤ) (answers : List Answer) (n : ℕ)
+    → 1 ≤ n
+    → IsFitting p instance process zs answers
+    → CodeTalk code instance process zs answers n (talk p instance process zs answers n).trace
+
 -- ---- facts
 
--- The facts of a typed program, with any input and with a budget that there may be, are sound.
+-- The facts of a typed program are sound.
 abbrev pub FactsAreSoundLaw : Type 0
-FactsAreSoundLaw = (p : CheckedTree) (input : List ℕ) (units : ℕ) (facts : Facts) → IsTyped p → 1 ≤ units → units ≤ 10000000 → AreFactsOf p input units facts → IsSound facts
+FactsAreSoundLaw = (p : CheckedTree) (facts : Facts) → AreTypedFacts p facts → IsSound facts
 
 -- ---- requests
 
@@ -31,61 +55,62 @@ FactsAreSoundLaw = (p : CheckedTree) (input : List ℕ) (units : ℕ) (facts : F
 -- and its answers fit. And what fits the text fits the facts of the program.
 pub record AsksFitLaw : Type 0 where
   pub far : (p : CheckedTree) (instance process : ℕ) (zs : List ℤ) (answers : List Answer) (n : ℕ) (body : BodyRowTree)
-      → IsTyped p → AreOfTypes instance zs answers → slice_get p.bodies process ≡ Some body → FitsBody body zs
+      → IsTyped p
+      → AreOfTypes instance zs answers
+      → slice_get p.bodies process ≡ Some body
+      → FitsBody body zs
       → AskWell p (talk p instance process zs answers n).trace answers
   pub all : (p : CheckedTree) (instance process : ℕ) (zs : List ℤ) (answers : List Answer) (n : ℕ)
-      → IsTyped p → IsFitting p instance process zs answers
+      → IsTyped p
+      → IsFitting p instance process zs answers
       → AllFitText p (talk p instance process zs answers n).trace
-  pub in_range : (p : CheckedTree) (input : List ℕ) (units : ℕ) (facts : Facts) (request : Request)
-      → IsTyped p → AreFactsOf p input units facts → FitsText p request
+  pub in_range : (p : CheckedTree) (facts : Facts) (request : Request)
+      → AreTypedFacts p facts
+      → FitsText p request
       → FitsRequest facts request
+
+-- ---- talks
+
+-- With more answers behind and with more ticks a talk goes on where it stopped, and takes nothing back.
+abbrev pub TalkGrowsLaw : Type 0
+TalkGrowsLaw = (p : CheckedTree) (instance process : ℕ) (zs : List ℤ) (answers behind : List Answer) (n m : ℕ)
+    → 1 ≤ m
+    → n ≤ m
+    → Begins (talk p instance process zs answers n).trace (talk p instance process zs (answers ++ behind) m).trace
 
 -- ---- journals
 
 -- In an allowed journal from the facts of a typed program whose requests fit the text, values stay of their modes.
 abbrev pub WorldKeepsLaw : Type 0
-WorldKeepsLaw = (p : CheckedTree) (input : List ℕ) (units : ℕ) (facts : Facts) (events : List Event) → IsTyped p → 1 ≤ units → units ≤ 10000000 → AreFactsOf p input units facts → IsRun facts events → AllAskText p events → KeepsValues p facts events
+WorldKeepsLaw = (p : CheckedTree) (facts : Facts) (events : List Event)
+    → AreTypedFacts p facts
+    → IsRun facts events
+    → AllAskText p events
+    → KeepsValues p facts events
 
--- So it is in each run of the text, and each instance's answers fit what it asks in its talk.
+-- So it is in each run of a typed program; the arguments and answers of each instance fit, and all that it asks in its talk fits
+-- the text, however many ticks it may make.
 pub record RunFitsLaw : Type 0 where
-  pub keeps : (p : CheckedTree) (input : List ℕ) (units : ℕ) (facts : Facts) (events : List Event)
-      → IsTyped p → 1 ≤ units → units ≤ 10000000 → AreFactsOf p input units facts → IsSourceRun p facts events
-      → KeepsValues p facts events
-  pub answers : (p : CheckedTree) (input : List ℕ) (units : ℕ) (facts : Facts) (events : List Event) (who : ℕ) (birth : Birth)
-      → IsTyped p → 1 ≤ units → units ≤ 10000000 → AreFactsOf p input units facts → IsSourceRun p facts events → born_of who events ≡ Some birth
-      → HasFittingAnswers p (talk_in_journal p events who birth).trace (answers_of who events)
+  pub keeps : (p : CheckedTree) (facts : Facts) (events : List Event) → IsTextRun p facts events → KeepsValues p facts events
+  pub fits : (p : CheckedTree) (facts : Facts) (events : List Event) (who : ℕ) (birth : Birth)
+      → IsTextRun p facts events
+      → born_of who events ≡ Some birth
+      → IsFitting p who birth.process birth.arguments (answers_of who events)
+  pub asks : (p : CheckedTree) (facts : Facts) (events : List Event) (who : ℕ) (birth : Birth) (n : ℕ)
+      → IsTextRun p facts events
+      → born_of who events ≡ Some birth
+      → AllFitText p (talk p who birth.process birth.arguments (answers_of who events) n).trace
 
--- ---- a code with the talk of a text
+-- ---- a code with the talks of a text
 
--- instances run the body, and there are as many arguments as its parameters have scalars
-pub record FitsBirth (p : CheckedTree) (number : ℕ) (zs : List ℤ) : Type 0 where
-  pub body : BodyRowTree
-  pub is_body : slice_get p.bodies number ≡ Some body
-  pub process : has_instances body.sort ≡ true
-  pub counted : parameter_scalars body.locals body.parameters ≡ length zs
+-- From the facts of a typed program the runs of a code that has the text's talks wherever answers fit are exactly those of the text.
+abbrev pub TextRunsLaw : Type 0
+TextRunsLaw = (p : CheckedTree) (code : Code) (facts : Facts) (events : List Event)
+    → AreTypedFacts p facts
+    → HasFittingTalks p code
+    → IsCodeRun code facts events ↔ IsSourceRun p facts events
 
--- The code has the text's talk, whatever is answered.
-abbrev pub HasTalkOf : CheckedTree → Code → Type 0
-HasTalkOf p code = (instance process : ℕ) (zs : List ℤ) (answers : List Answer) (n : ℕ) → 1 ≤ n → FitsBirth p process zs → CodeTalk code instance process zs answers n (talk p instance process zs answers n).trace
-
--- the instances of a journal were born as processes of the program
-abbrev pub BirthsCount : CheckedTree → List Event → Type 0
-BirthsCount p events = (who : ℕ) (birth : Birth) → born_of who events ≡ Some birth → FitsBirth p birth.process birth.arguments
-
--- Of such journals the runs of a code with the text's talk are those of the text.
-abbrev pub SameTalkLaw : Type 0
-SameTalkLaw = (p : CheckedTree) (code : Code) → HasTalkOf p code → (facts : Facts) (events : List Event) → BirthsCount p events → IsCodeRun code facts events ↔ IsSourceRun p facts events
-
--- From the facts of a typed program the runs of a code with the text's talk are those of the text.
-abbrev pub SameRunsLaw : Type 0
-SameRunsLaw = (p : CheckedTree) (code : Code) (input : List ℕ) (units : ℕ) (facts : Facts) (events : List Event) → IsTyped p → 1 ≤ units → units ≤ 10000000 → AreFactsOf p input units facts → HasTalkOf p code → IsCodeRun code facts events ↔ IsSourceRun p facts events
-
--- the code has each process of the program, with as many parameters as its arguments are
-abbrev pub HasProcessesOf : CheckedTree → Code → Type 0
-HasProcessesOf p code = (process : ℕ) (zs : List ℤ) → FitsBirth p process zs → IsSomeAnd (slice_get code.bodies process) (λ row. row.params ≡ length zs)
-
--- In each run of a code with the text's talk, each next request of an active process fits the facts, and each instance names a body
--- with as many parameters as it has arguments.
-pub record NextFitsLaw : Type 0 where
-  pub requests : (p : CheckedTree) (code : Code) (input : List ℕ) (units : ℕ) (facts : Facts) → IsTyped p → 1 ≤ units → units ≤ 10000000 → AreFactsOf p input units facts → HasTalkOf p code → RequestsFit code facts
-  pub births : (p : CheckedTree) (code : Code) (input : List ℕ) (units : ℕ) (facts : Facts) → IsTyped p → 1 ≤ units → units ≤ 10000000 → AreFactsOf p input units facts → HasTalkOf p code → HasProcessesOf p code → BirthsFit code facts
+-- Such a code suits the facts: each next request fits them, each instance names a body with as many parameters as it has arguments,
+-- and each answer has as many scalars as the waiting instruction takes.
+abbrev pub SuitsLaw : Type 0
+SuitsLaw = (p : CheckedTree) (code : Code) (facts : Facts) → AreTypedFacts p facts → HasFittingTalks p code → Suits code facts

@@ -1,5 +1,5 @@
 // Laws of the runs of a text. Each is a fact about the definitions, which a caller learns by calling the function.
-ghost use Rattle.text_laws.specs.Laws.{AsksFitLaw, FactsAreSoundLaw, NextFitsLaw, RunFitsLaw, SameRunsLaw, SameTalkLaw, WorldKeepsLaw};
+ghost use Rattle.text_laws.specs.Laws.{AsksFitLaw, FactsAreSoundLaw, RunFitsLaw, SuitsLaw, TalkGrowsLaw, TextRunsLaw, WorldKeepsLaw};
 
 /// The facts of a typed program are sound.
 pub fn facts_are_sound_law()
@@ -11,9 +11,9 @@ pub fn asks_fit_law()
     ensures { AsksFitLaw }
 {}
 
-/// Of journals whose births fit the runs of a code with the text's talk are those of the text.
-pub fn same_talk_law()
-    ensures { SameTalkLaw }
+/// With more answers behind and with more ticks a talk goes on where it stopped.
+pub fn talk_grows_law()
+    ensures { TalkGrowsLaw }
 {}
 
 /// In an allowed journal whose requests fit the text, values stay of their modes.
@@ -21,17 +21,17 @@ pub fn world_keeps_law()
     ensures { WorldKeepsLaw }
 {}
 
-/// In a run of the text values stay of their modes, and answers and births fit.
+/// In a run of a typed program values stay of their modes, and the arguments and answers of each instance fit.
 pub fn run_fits_law()
     ensures { RunFitsLaw }
 {}
 
-/// The runs of a code with the text's talk are those of the text.
+/// The runs of a code with the text's talks where answers fit are those of the text.
 pub fn same_runs_law()
-    ensures { SameRunsLaw }
+    ensures { TextRunsLaw }
 {}
 
-/// In a run of a code with the text's talk each next request fits the facts, and each instance names a body.
-pub fn next_fits_law()
-    ensures { NextFitsLaw }
+/// A code with the text's talks where answers fit suits the facts of the text.
+pub fn suits_law()
+    ensures { SuitsLaw }
 {}

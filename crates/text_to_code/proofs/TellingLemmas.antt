@@ -25,7 +25,7 @@ use Rattle.tree_print.proofs.TreeTokensItem.{tokens_are}
 use Rattle.names_model.specs.Resolving.{broken_names, level_of}
 use Rattle.text_size.specs.Sizes.{program_size}
 use Rattle.text_to_code.specs.Building.{IsUnbuilt}
-use Rattle.text_to_code.specs.Telling.{IsResolved, Breaks, Refuses, broken, misnamed, breaks, later, MayTell, SameButForPlace, RefusesTree, TellsTree, Tells}
+use Rattle.text_to_code.specs.Telling.{IsResolved, Breaks, Refuses, broken, misnamed, breaks, later, SameButForPlace, RefusesTree, TellsTree, Tells}
 use Rattle.text_to_code.specs.declared.told.Told.{Told}
 use Rattle.text_to_code.specs.declared.told.Told.TheVariants as tellings
 

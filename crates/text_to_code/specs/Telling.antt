@@ -1,5 +1,5 @@
 -- What is told of a text: that it is accepted, or why it is refused.
-use Rattle.std.specs.Prelude.{◌≡◌, ◌≢◌, ◌⊎◌, ◌<◌, ◌≤◌, ℕ, List, [], ◌∷◌, Some, None, Result, Ok, Err}
+use Rattle.std.specs.Prelude.{◌≡◌, ◌≢◌, ◌⊎◌, ◌<◌, ◌≤◌, ℕ, List, [], ◌∷◌, Result, Ok, Err}
 use Rattle.std.specs.List.Sorted.{IsStrictlySortedBy}
 use Rattle.chill_base.specs.declared.pos.Pos.{Pos}
 use Rattle.diagnostics.specs.Order.{diagnostic_cmp}
@@ -15,6 +15,7 @@ use Rattle.checked_program.specs.declared.program.Checked.{Checked}
 use Rattle.code_types.specs.declared.code.Code.{Code}
 use Rattle.text_to_code.specs.Building.{IsBuiltOf, IsUnbuilt}
 use Rattle.text_to_code.specs.declared.build.Built.{Built}
+use Rattle.definition_origins.specs.CheckRules.{AreOfChecks}
 use Rattle.visibility.specs.declared.refusal.Refusal.{Refusal}
 use Rattle.visibility.specs.declared.refusal.Refusal.TheVariants as refusals
 use Rattle.text_to_code.specs.declared.grammar.NoTree.{NoTree}
@@ -37,10 +38,11 @@ pub data Breaks : List ℕ → List Diagnostic → Type 0 where
   -- it has a tree, which breaks rules on names: exactly these
   misnamed : {text : List ℕ} {tree : ProgramTree} → HasTree text tree → broken_names (level_of tree) ≢ [] → Breaks text (broken_names (level_of tree))
 
--- what the checks tell: some, in order and each once
+-- what the checks tell: some, in order and each once, and of their own rules alone
 pub record AreInOrder (told : List Diagnostic) : Type 0 where
   pub sorted : IsStrictlySortedBy diagnostic_cmp told
   pub some : told ≢ []
+  pub own : AreOfChecks told
 
 -- the same of what the checks answer
 abbrev pub IsInOrder : Result Unit Refusal → Type 0
@@ -60,8 +62,9 @@ pub record TellsUnbuilt (tree : ProgramTree) (told : List Diagnostic) : Type 0 w
   pub cause : IsUnbuilt tree
   pub is : told ≡ plain first_place rules.B1 ∷ []
 
--- What may be told of a tree that breaks no rule on names: what the checks tell; or that the text is too large, exactly by its
--- size; or that it isn't built. That the checks tell exactly the rules which it breaks isn't said here.
+-- What may be told of a tree that breaks no rule on names: what the checks tell, of M1 to M14, S1 to S12, P1 to P8 and L4 to L7
+-- alone; or that the text is too large, exactly by its size; or that it isn't built. So it is told of no rule on tokens, grammar
+-- or names. That the checks tell exactly the rules which it breaks isn't said here.
 abbrev pub MayTell : ProgramTree → List Diagnostic → Type 0
 MayTell tree told = AreInOrder told ⊎ ((65536 < program_size tree) × (told ≡ plain first_place rules.L8 ∷ [])) ⊎ TellsUnbuilt tree told
 

@@ -13,7 +13,7 @@ use crate::grammar::{FIRST_PLACE, NoTree, plainly, tokens_of, tree_of};
 use chill_base::Memory;
 use chill_tree::tree::Tree;
 use diagnostics::{Diagnostic, Diagnostics, Rule};
-use mode_rules::Evaluation;
+use mode_rules::{Evaluation, evaluate};
 use names_model::Names;
 use process_checks::check_processes;
 use static_checks::check_statements;
@@ -64,7 +64,7 @@ fn refuse_plainly(alloc: Global, rule: Rule) -> Result<Told, Memory>
 }
 
 // What the checks of modes, constants and statements tell, and where that is nothing what the checks of processes tell.
-fn check(evaluation: &Evaluation<'_>, tree: &Tree) -> Result<(), Refusal>
+fn check(evaluation: &mut Evaluation<'_>, tree: &Tree) -> Result<(), Refusal>
     ensures { IsInOrder result }
 {
     check_statements(evaluation, tree)?;
@@ -91,8 +91,8 @@ fn tell_of_checks(alloc: Global, tree: &Tree, names: &Names) -> Result<Told, Mem
     requires { broken_names (level_of (program_tree tree.now)) ≡ [] }
     ensures { IfOk result (λ told. TellsTree (program_tree tree.now) told) }
 {
-    let evaluation = Evaluation::of(alloc, tree, names)?;
-    match check(&evaluation, tree) {
+    let mut evaluation = evaluate(alloc, tree, names)?;
+    match check(&mut evaluation, tree) {
         Ok(()) => tell_of_code(alloc, tree, &evaluation),
         Err(Refusal::Broken(told)) => Ok(Told::Refused(told)),
         Err(Refusal::Memory) => Err(Memory),

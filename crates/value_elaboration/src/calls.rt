@@ -5,9 +5,9 @@ use crate::operators::routine_on;
 use crate::values::{Values, fitting};
 use checked_program::{Argument, Call, Expr, Operation, Received, Routine, Start};
 use chill_base::List;
-use chill_tree::tree::{Expr as Tree, Name, Passing, Procedure};
+use chill_tree::tree::{Expr as Tree, Name, Passing};
 use expr_rules::{Callee, Formal, Receiver, gives_no_value};
-use mode_rules::{Known, Predefined, is_measuring};
+use mode_rules::{Predefined, is_measuring};
 use modes::{Class, bounds};
 use program_numbers::{ElaborationRefusal, Thing};
 
@@ -22,23 +22,18 @@ impl<'a, 'b, 'c> Values<'a, 'b, 'c> {
     /// The call of the procedure of a name.
     pub fn call(&self, of: &Name, args: &[Tree]) -> Result<Call, ElaborationRefusal> {
         match self.walk.callee_named(of) {
-            Callee::Procedure { number, procedure } => self.call_of(number, procedure, args),
+            Callee::Procedure(name) => self.call_of(name, args),
             Callee::Routine(_) | Callee::Nothing => Err(ElaborationRefusal::Unsound),
         }
     }
 
-    // The call of the procedure of that number.
+    // The call of the procedure of that name.
     #[cycle(value)]
-    fn call_of(
-        &self,
-        number: u32,
-        procedure: &Procedure,
-        args: &[Tree],
-    ) -> Result<Call, ElaborationRefusal> {
-        let Thing::Body(body) = self.numbering.thing(number) else {
+    fn call_of(&self, name: &Name, args: &[Tree]) -> Result<Call, ElaborationRefusal> {
+        let Thing::Body(body) = self.numbering.thing_used(self.walk, name.at) else {
             return Err(ElaborationRefusal::Unsound);
         };
-        let formals = self.walk.formals_of_procedure(procedure)?;
+        let formals = self.walk.formals_of(name)?;
         let arguments = self.arguments(args, formals.as_slice())?;
         Ok(Call { body, arguments })
     }
@@ -47,12 +42,11 @@ impl<'a, 'b, 'c> Values<'a, 'b, 'c> {
     #[cycle(value)]
     pub(crate) fn called(
         &self,
-        number: u32,
-        procedure: &Procedure,
+        name: &Name,
         args: &[Tree],
     ) -> Result<Elaborated, ElaborationRefusal> {
-        let call = self.call_of(number, procedure, args)?;
-        let known = self.walk.result(number)?;
+        let call = self.call_of(name, args)?;
+        let known = self.known_result(name)?;
         let call = boxed(self.alloc(), call)?;
         self.found(known, Operation::Call(call))
     }
@@ -107,7 +101,7 @@ impl<'a, 'b, 'c> Values<'a, 'b, 'c> {
         let Thing::Body(number) = self.numbering.thing_used(self.walk, process.at) else {
             return Err(ElaborationRefusal::Unsound);
         };
-        let formals = self.walk.formals_of_process(process)?;
+        let formals = self.walk.formals_of(process)?;
         let arguments = self.all_received(args, formals.as_slice())?;
         Ok(Start {
             process: number,
@@ -123,7 +117,7 @@ impl<'a, 'b, 'c> Values<'a, 'b, 'c> {
         args: &[Tree],
     ) -> Result<Elaborated, ElaborationRefusal> {
         let start = self.start(process, args)?;
-        let known = self.walk.instance()?;
+        let known = self.known_instance()?;
         let start = boxed(self.alloc(), start)?;
         self.found(known, Operation::Start(start))
     }
@@ -166,18 +160,17 @@ impl<'a, 'b, 'c> Values<'a, 'b, 'c> {
     ) -> Result<Elaborated, ElaborationRefusal> {
         match args {
             [] if own == Predefined::GetInt => {
-                let known = fitting(self.walk.routine(own, args, &Known::unknown())?)?;
-                self.found(known, Operation::GetInt)
+                self.found(self.known_input()?, Operation::GetInt)
             }
-            [_] if is_measuring(own) => self.measured(own, args),
+            [arg] if is_measuring(own) => self.measured(own, arg),
             [arg] if !gives_no_value(own) => self.routine_of(own, arg),
             _ => Err(ElaborationRefusal::Unsound),
         }
     }
 
     // UPPER, LOWER or SIZE, whose argument isn't evaluated.
-    fn measured(&self, own: Predefined, args: &[Tree]) -> Result<Elaborated, ElaborationRefusal> {
-        let known = fitting(self.walk.routine(own, args, &Known::unknown())?)?;
+    fn measured(&self, own: Predefined, arg: &Tree) -> Result<Elaborated, ElaborationRefusal> {
+        let known = fitting(self.known_measure(own, arg)?)?;
         Ok(Elaborated::constant(known))
     }
 
@@ -185,7 +178,7 @@ impl<'a, 'b, 'c> Values<'a, 'b, 'c> {
     #[cycle(value)]
     fn routine_of(&self, own: Predefined, arg: &Tree) -> Result<Elaborated, ElaborationRefusal> {
         let argument = self.node(arg, Receiver::Nothing)?;
-        let known = fitting(self.walk.routine(own, &[], &argument.known)?)?;
+        let known = fitting(self.known_routine(own, &argument.known)?)?;
         if known.is_constant {
             return Ok(Elaborated::constant(known));
         }

@@ -2,12 +2,13 @@
 //! becomes that of `checked_program`, with numbers in place of names and constants in place of all that has their form.
 //!
 //! It meets the comments of `checked_program`, in the meaning that Z.200 gives to values, operations and locations. It
-//! stands on `expr_rules`, of which it asks what is known of each node, and on the numbers of `program_numbers`; the
-//! elaborated statements stand on it. It speaks of programs that break no rule; of others it only says that it returns.
+//! stands on `expr_rules`, of which it asks the class of each node, and on the numbers of `program_numbers`; the elaborated
+//! statements stand on it. It speaks of programs that break no rule; of others it only says that it returns.
 #![tactic(auto)]
 
 mod calls;
 mod elaborated;
+mod known;
 mod locations;
 mod operators;
 mod tuples;

@@ -118,9 +118,7 @@ impl<'a, 'b, 'c> Values<'a, 'b, 'c> {
         match expr {
             Tree::Name(name) => self.constant_named(name),
             Tree::Apply { of, args, .. } => match self.walk.callee(of) {
-                Callee::Procedure { number, procedure } => {
-                    Ok(Some(self.called(number, procedure, args.as_slice())?))
-                }
+                Callee::Procedure(name) => Ok(Some(self.called(name, args.as_slice())?)),
                 Callee::Routine(own) => Ok(Some(self.routine_value(own, args.as_slice())?)),
                 Callee::Nothing => Ok(None),
             },
@@ -130,7 +128,7 @@ impl<'a, 'b, 'c> Values<'a, 'b, 'c> {
 
     // The value of a constant's name.
     fn constant_named(&self, name: &Name) -> Result<Option<Elaborated>, ElaborationRefusal> {
-        let known = self.walk.name(name)?;
+        let known = self.known_name(name)?;
         Ok(if known.is_constant {
             Some(Elaborated::constant(known))
         } else {
@@ -174,7 +172,7 @@ impl<'a, 'b, 'c> Values<'a, 'b, 'c> {
         Ok(Path {
             root: Root::Place(base),
             parts: List::new(self.alloc()),
-            known: self.walk.name(name)?,
+            known: self.known_name(name)?,
         })
     }
 
@@ -191,9 +189,9 @@ impl<'a, 'b, 'c> Values<'a, 'b, 'c> {
         let Some(bounds) = index_bounds(&path.known) else {
             return Err(ElaborationRefusal::Unsound);
         };
-        let receiver = Receiver::Mode(self.walk.index_mode(&path.known));
+        let receiver = Receiver::Mode(self.walk.index_mode(path.known.class.as_ref()));
         let index = self.node(index, receiver)?.into_expr(self.alloc())?;
-        let known = self.walk.element(&path.known)?;
+        let known = self.known_element(&path.known)?;
         let count = count_of(&known)?;
         let part = Part::Element {
             index,
@@ -205,7 +203,7 @@ impl<'a, 'b, 'c> Values<'a, 'b, 'c> {
 
     // A field of a structure.
     fn field(&self, path: Path, name: &[u8]) -> Result<Path, ElaborationRefusal> {
-        let known = self.walk.field(&path.known, name)?;
+        let known = self.known_field(&path.known, name)?;
         let Some(first) = first_of_field(&path.known, name) else {
             return Err(ElaborationRefusal::Unsound);
         };

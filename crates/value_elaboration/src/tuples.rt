@@ -4,9 +4,9 @@ use crate::values::Values;
 use checked_program::{Operation, Range, Received};
 use chill_base::{List, Memory};
 use chill_tree::tree::{Expr as Tree, Name, ValueRange};
-use expr_rules::{Receiver, Shape, shape_of, tuple_known, uniform_shape_of, value_of};
+use expr_rules::{Receiver, Shape, shape_of};
 use mode_rules::{Known, TupleValue};
-use modes::{Mode, bounds};
+use modes::{Class, Form, Mode, bounds, form_of, number_of_values};
 use program_numbers::ElaborationRefusal;
 use std::rc::Rc;
 
@@ -64,12 +64,29 @@ impl<'a, 'b, 'c> Values<'a, 'b, 'c> {
         is_named: bool,
     ) -> Result<Elaborated, ElaborationRefusal> {
         let shape = shape_of(Receiver::Mode(Some(mode)), parts);
-        let mut value = value_of(self.alloc(), shape)?;
-        let operation = match shape {
-            Shape::Members(member) => self.members(parts, member, &mut value)?,
-            Shape::Elements(_) | Shape::Fields(_) => self.parts(parts, shape, &mut value)?,
-            Shape::Unknown | Shape::Misfit => return Err(ElaborationRefusal::Unsound),
-        };
+        match shape {
+            Shape::Members(member) => self.powerset(parts, mode, member, is_named),
+            Shape::Elements(_) | Shape::Fields(_) => {
+                let mut value = TupleValue::of_parts(self.alloc());
+                let operation = self.parts(parts, shape, &mut value)?;
+                let known = tuple_known(value, mode, is_named)?;
+                Ok(Elaborated::found(known, operation))
+            }
+            Shape::Unknown | Shape::Misfit => Err(ElaborationRefusal::Unsound),
+        }
+    }
+
+    // A tuple of members of a powerset.
+    #[cycle(value)]
+    fn powerset(
+        &self,
+        parts: &[ValueRange],
+        mode: &Rc<Mode>,
+        member: &Rc<Mode>,
+        is_named: bool,
+    ) -> Result<Elaborated, ElaborationRefusal> {
+        let mut value = TupleValue::of_members(self.alloc(), member)?;
+        let operation = self.members(parts, member, &mut value)?;
         let known = tuple_known(value, mode, is_named)?;
         Ok(Elaborated::found(known, operation))
     }
@@ -153,12 +170,12 @@ impl<'a, 'b, 'c> Values<'a, 'b, 'c> {
         mode: &Rc<Mode>,
         is_named: bool,
     ) -> Result<Elaborated, ElaborationRefusal> {
-        let (shape, count) = uniform_shape_of(Receiver::Mode(Some(mode)));
-        let Shape::Elements(element) = shape else {
+        let Form::Array { index, element, .. } = form_of(mode) else {
             return Err(ElaborationRefusal::Unsound);
         };
+        let count = number_of_values(index);
         let node = self.node(value, Receiver::Mode(Some(element)))?;
-        let copies = self.copies(&node.known, shape, count)?;
+        let copies = self.copies(&node.known, count)?;
         let known = tuple_known(copies, mode, is_named)?;
         let value = node.into_received(self.alloc(), element)?;
         let elements = u32::try_from(count).unwrap_or(u32::MAX);
@@ -166,8 +183,8 @@ impl<'a, 'b, 'c> Values<'a, 'b, 'c> {
     }
 
     // The value of an array of so many elements of which this is known.
-    fn copies(&self, element: &Known, shape: Shape<'_>, count: u64) -> Result<TupleValue, Memory> {
-        let mut all = value_of(self.alloc(), shape)?;
+    fn copies(&self, element: &Known, count: u64) -> Result<TupleValue, Memory> {
+        let mut all = TupleValue::of_parts(self.alloc());
         for _ in 0..count {
             all.add(element)?;
             if element.value.is_none() {
@@ -176,4 +193,17 @@ impl<'a, 'b, 'c> Values<'a, 'b, 'c> {
         }
         Ok(all)
     }
+}
+
+// What is known of a tuple, whose mode is this. It is a constant where it has a value and is written with its mode's name;
+// without one it has a value only to be a part of such a tuple.
+fn tuple_known(value: TupleValue, mode: &Rc<Mode>, is_named: bool) -> Result<Known, Memory> {
+    let value = value.into_value();
+    let is_constant = is_named && value.is_some();
+    Ok(Known {
+        class: Some(Class::Value(mode.clone()?)),
+        value,
+        is_constant,
+        is_clean: true,
+    })
 }

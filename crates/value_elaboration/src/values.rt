@@ -61,7 +61,7 @@ impl<'a, 'b, 'c> Values<'a, 'b, 'c> {
                 Ok(Elaborated::constant(self.walk.evaluation.character(*value)?))
             }
             Tree::Text { value, .. } => Ok(Elaborated::constant(self.walk.evaluation.text(value)?)),
-            Tree::This { .. } => self.found(self.walk.instance()?, Operation::This),
+            Tree::This { .. } => self.found(self.known_instance()?, Operation::This),
             Tree::Paren { inner, .. } => self.node(inner, receiver),
             Tree::Receive { buffer, .. } => self.received_from(buffer),
             Tree::Start { process, args, .. } => self.started(process, args.as_slice()),
@@ -79,7 +79,7 @@ impl<'a, 'b, 'c> Values<'a, 'b, 'c> {
 
     // A whole number, which makes one with the minus before it.
     fn whole(&self, value: u64, is_negative: bool) -> Result<Elaborated, ElaborationRefusal> {
-        Ok(Elaborated::constant(self.walk.whole(value, is_negative)?))
+        Ok(Elaborated::constant(self.known_whole(value, is_negative)?))
     }
 
     /// What is found by an operation.
@@ -96,7 +96,7 @@ impl<'a, 'b, 'c> Values<'a, 'b, 'c> {
         let Thing::Buffer(buffer) = self.numbering.thing_used(self.walk, name.at) else {
             return Err(ElaborationRefusal::Unsound);
         };
-        let known = self.walk.received_value(name)?;
+        let known = self.known_received(name)?;
         self.found(known, Operation::Receive { buffer })
     }
 
@@ -107,7 +107,7 @@ impl<'a, 'b, 'c> Values<'a, 'b, 'c> {
             return self.whole(*value, true);
         }
         let operand = self.node(operand, Receiver::Nothing)?;
-        let known = fitting(self.walk.unary(operator, &operand.known)?)?;
+        let known = fitting(self.known_unary(operator, &operand.known)?)?;
         if known.is_constant {
             return Ok(Elaborated::constant(known));
         }
@@ -130,7 +130,7 @@ impl<'a, 'b, 'c> Values<'a, 'b, 'c> {
         };
         let left = self.node(left, Receiver::Nothing)?;
         let right = self.node(right, Receiver::Nothing)?;
-        let known = fitting(self.walk.binary(*operator, &left.known, &right.known)?)?;
+        let known = fitting(self.known_binary(*operator, &left.known, &right.known)?)?;
         if known.is_constant {
             return Ok(Elaborated::constant(known));
         }

@@ -1,5 +1,5 @@
 use Rattle.text_laws.proofs.laws.same_runs_law.Goals as goal
-use Rattle.text_laws.proofs.JournalLaws.{same_runs}
+use Rattle.text_laws.proofs.CodeJournals.{same_runs}
 
 pub returns : goal.returns
 returns c = same_runs

@@ -1,0 +1,184 @@
+// What is known of an expression.
+use chill_base::Scalars;
+use modes::{Bounds, Class, Form, Mode, bounds, form_of, goes_with, is_discrete, number_of_values};
+use std::rc::Rc;
+
+/// What is known of an expression of the phase of modes and constants: its class and, where it is a constant, its value.
+/// Each is none where there is none, or where something that the expression uses is broken.
+pub struct Known {
+    pub class: Option<Class>,
+    pub value: Option<Scalars>,
+    /// Whether it has the form of a constant.
+    pub is_constant: bool,
+    /// Whether nothing is told in it or at it.
+    pub is_clean: bool,
+}
+
+// Dropped by hand, so that whoever drops one makes one call.
+impl Drop for Known {
+    fn drop(self) {
+        let Known {
+            class,
+            value,
+            is_constant: _,
+            is_clean: _,
+        } = self;
+        drop(class);
+        drop(value);
+    }
+}
+
+impl Known {
+    /// What isn't constant, of a class.
+    pub fn of_class(class: Class) -> Known {
+        Known {
+            class: Some(class),
+            value: None,
+            is_constant: false,
+            is_clean: true,
+        }
+    }
+
+    /// What doesn't have the form of a constant, and isn't asked for its class.
+    pub fn varying(is_clean: bool) -> Known {
+        Known {
+            class: None,
+            value: None,
+            is_constant: false,
+            is_clean,
+        }
+    }
+
+    /// That at which or in which something is told.
+    pub fn told(is_constant: bool) -> Known {
+        Known {
+            class: None,
+            value: None,
+            is_constant,
+            is_clean: false,
+        }
+    }
+
+    /// What has the form of a constant, and uses what isn't known.
+    pub fn unknown_constant() -> Known {
+        Known {
+            class: None,
+            value: None,
+            is_constant: true,
+            is_clean: true,
+        }
+    }
+
+    /// That of which nothing is known: a rule is broken at it or in it, or what it uses isn't known.
+    pub fn unknown() -> Known {
+        Known {
+            class: None,
+            value: None,
+            is_constant: false,
+            is_clean: true,
+        }
+    }
+
+    /// What gives no value.
+    pub fn no_value() -> Known {
+        Known::of_class(Class::Nothing)
+    }
+
+    /// A constant of a class, whose value isn't known.
+    pub fn constant_of_class(class: Class) -> Known {
+        Known {
+            class: Some(class),
+            value: None,
+            is_constant: true,
+            is_clean: true,
+        }
+    }
+
+    /// A constant.
+    pub fn constant(class: Class, value: Scalars) -> Known {
+        Known {
+            class: Some(class),
+            value: Some(value),
+            is_constant: true,
+            is_clean: true,
+        }
+    }
+
+    /// Its class and its value.
+    pub fn into_parts(self) -> (Option<Class>, Option<Scalars>) {
+        let Known {
+            class,
+            value,
+            is_constant: _,
+            is_clean: _,
+        } = self;
+        (class, value)
+    }
+
+    /// The value of a constant of a discrete mode.
+    pub fn number(&self) -> Option<i64> {
+        self.value
+            .as_ref()
+            .and_then(|value| value.as_slice().first().copied())
+    }
+
+    /// Whether its class is there and doesn't go with a mode.
+    pub fn goes_not_with(&self, mode: &Mode) -> bool {
+        match &self.class {
+            None => false,
+            Some(class) => !goes_with(class, mode),
+        }
+    }
+
+    /// Whether its value is there and lies outside a discrete mode.
+    pub fn lies_outside(&self, mode: &Mode) -> bool {
+        match (self.number(), bounds(mode)) {
+            (Some(number), Some(Bounds { low, high })) => number < low || number > high,
+            (None, _) | (_, None) => false,
+        }
+    }
+}
+
+/// The mode of a class, where it has one.
+pub fn mode_in(class: &Class) -> Option<&Mode> {
+    match class {
+        Class::Value(mode) => Some(&**mode),
+        Class::Derived(mode) => Some(&**mode),
+        Class::Null => None,
+        Class::Nothing => None,
+    }
+}
+
+/// What the mode of a class is, where it has one.
+pub fn form_in(class: &Class) -> Option<Form<'_>> {
+    match mode_in(class) {
+        None => None,
+        Some(mode) => Some(form_of(mode)),
+    }
+}
+
+/// The mode of the field of that name of a structure.
+pub fn field_in<'k>(of: &'k Mode, name: &[u8]) -> Option<&'k Rc<Mode>> {
+    let Form::Struct { fields, .. } = form_of(of) else {
+        return None;
+    };
+    for field in fields.as_slice() {
+        if field.name.as_slice() == name {
+            return Some(&field.mode);
+        }
+    }
+    None
+}
+
+/// Whether a class has a discrete mode.
+pub fn is_of_discrete(class: &Class) -> bool {
+    match mode_in(class) {
+        None => false,
+        Some(mode) => is_discrete(mode),
+    }
+}
+
+/// How many members a powerset of a mode's values may have.
+pub fn member_count(member: &Mode) -> i64 {
+    i64::try_from(number_of_values(member)).unwrap_or(i64::MAX)
+}

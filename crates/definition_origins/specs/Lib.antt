@@ -1,0 +1,2 @@
+pub mod CheckRules
+pub mod Told

@@ -1,0 +1,355 @@
+// The class of a node of an expression by the classes of its parts (Z.200, chapters on values and on operations). Nothing is
+// told here, so the elaborated program asks the same functions.
+use crate::surroundings::Walk;
+use chill_base::{Memory, Text};
+use chill_tree::tree::{Expr, Name};
+use mode_rules::{
+    Origin, Predefined, copied, field_in, form_in, is_measuring, is_value_routine, mode_in,
+};
+use modes::{Class, Form, Mode, bounds, form_of};
+use std::rc::Rc;
+
+/// What a name with brackets behind it calls, if it does.
+#[derive(Clone, Copy)]
+pub enum Callee<'e> {
+    /// The procedure of that name.
+    Procedure(&'e Name),
+    Routine(Predefined),
+    /// Nothing: the brackets hold an index.
+    Nothing,
+}
+
+impl<'a, 'b> Walk<'a, 'b> {
+    /// The class of a whole number.
+    pub fn class_of_whole(&self) -> Result<Class, Memory> {
+        Ok(Class::Derived(self.evaluation.plain.int.clone()?))
+    }
+
+    /// The class of a character.
+    pub fn class_of_character(&self) -> Result<Class, Memory> {
+        Ok(Class::Derived(self.evaluation.plain.char.clone()?))
+    }
+
+    /// The class of a text.
+    pub fn class_of_text(&self, text: &Text) -> Result<Class, Memory> {
+        let length = u32::try_from(text.len()).unwrap_or(u32::MAX);
+        let mode = Rc::new(self.evaluation.alloc, Mode::Chars { length })?;
+        Ok(Class::Derived(mode))
+    }
+
+    /// The class of THIS, and of what START gives.
+    pub fn class_of_instance(&self) -> Result<Class, Memory> {
+        Ok(Class::Derived(self.evaluation.plain.instance.clone()?))
+    }
+
+    /// The class of what RECEIVE gives of a buffer; none where the name is of none.
+    pub fn class_of_received(&self, buffer: &Name) -> Result<Option<Class>, Memory> {
+        value_of_mode(self.element_of_buffer(buffer))
+    }
+
+    /// The class of a name alone. One that is called stands for no value.
+    pub fn class_of_name(&self, name: &Name) -> Result<Option<Class>, Memory> {
+        let Some(origin) = self.evaluation.origin_used(name.at) else {
+            return Ok(None);
+        };
+        match origin {
+            Origin::Synonym { .. } | Origin::Element(_) => self.class_of_constant(name),
+            Origin::Location { .. }
+            | Origin::Parameter { .. }
+            | Origin::Counter(_)
+            | Origin::Received { .. } => value_of_mode(self.mode_used(name)),
+            Origin::Procedure(_) => Ok(Some(Class::Nothing)),
+            Origin::Predefined(own) => self.class_of_predefined(own),
+            // No name of these stands as a value.
+            Origin::SynMode(_)
+            | Origin::NewMode(_)
+            | Origin::Process(_)
+            | Origin::Signal(_)
+            | Origin::Modulion(_) => Ok(None),
+        }
+    }
+
+    // The class of a synonym or an element.
+    fn class_of_constant(&self, name: &Name) -> Result<Option<Class>, Memory> {
+        match self.entry_used(name.at) {
+            None => Ok(None),
+            Some(entry) => match &entry.class {
+                None => Ok(None),
+                Some(class) => Ok(Some(copied(class)?)),
+            },
+        }
+    }
+
+    // The mode that is known of what a name stands for.
+    fn mode_used(&self, name: &Name) -> Option<&'b Rc<Mode>> {
+        self.entry_used(name.at)?.mode.as_ref()
+    }
+
+    fn class_of_predefined(&self, own: Predefined) -> Result<Option<Class>, Memory> {
+        match own {
+            Predefined::True | Predefined::False => Ok(Some(Class::Derived(
+                self.evaluation.plain.bool.clone()?,
+            ))),
+            Predefined::Null => Ok(Some(Class::Null)),
+            Predefined::Int | Predefined::Bool | Predefined::Char | Predefined::Instance => {
+                Ok(None)
+            }
+            Predefined::Num
+            | Predefined::Succ
+            | Predefined::Pred
+            | Predefined::Abs
+            | Predefined::Card
+            | Predefined::Min
+            | Predefined::Max
+            | Predefined::Upper
+            | Predefined::Lower
+            | Predefined::Size
+            | Predefined::PutInt
+            | Predefined::PutText
+            | Predefined::PutLine
+            | Predefined::GetInt => Ok(Some(Class::Nothing)),
+        }
+    }
+
+    /// The mode that an index of something of a class has to go with, where it has elements.
+    pub fn index_mode<'k>(&'k self, of: Option<&'k Class>) -> Option<&'k Rc<Mode>> {
+        self.index_in(mode_in(of?)?)
+    }
+
+    // The mode that the indices of an array or a text have to go with.
+    fn index_in<'k>(&'k self, of: &'k Mode) -> Option<&'k Rc<Mode>> {
+        match form_of(of) {
+            Form::Array { index, .. } => Some(index),
+            Form::Chars(_) => Some(&self.evaluation.plain.int),
+            Form::Int
+            | Form::Bool
+            | Form::Char
+            | Form::Instance
+            | Form::Set { .. }
+            | Form::Powerset(_)
+            | Form::Struct { .. }
+            | Form::Meeting => None,
+        }
+    }
+
+    /// The class of an element of something: Nothing where it has none.
+    pub fn class_of_element(&self, of: &Class) -> Result<Class, Memory> {
+        match mode_in(of) {
+            None => Ok(Class::Nothing),
+            Some(mode) => part_class(self.evaluation.element_in(mode)),
+        }
+    }
+
+    /// The class of a field of something: Nothing where it has none of that name.
+    pub fn class_of_field(&self, of: &Class, name: &[u8]) -> Result<Class, Memory> {
+        match mode_in(of) {
+            None => Ok(Class::Nothing),
+            Some(mode) => part_class(field_in(mode, name)),
+        }
+    }
+
+    /// What the brackets behind an expression do.
+    pub fn callee<'e>(&self, of: &'e Expr) -> Callee<'e> {
+        match of {
+            Expr::Name(name) => self.callee_named(name),
+            Expr::Whole { .. }
+            | Expr::Char { .. }
+            | Expr::Text { .. }
+            | Expr::This { .. }
+            | Expr::Paren { .. }
+            | Expr::Receive { .. }
+            | Expr::Start { .. }
+            | Expr::Tuple { .. }
+            | Expr::Uniform { .. }
+            | Expr::Apply { .. }
+            | Expr::Field { .. }
+            | Expr::Prefixed { .. }
+            | Expr::Binary { .. } => Callee::Nothing,
+        }
+    }
+
+    /// What a name calls, where it is one of a procedure or a routine.
+    pub fn callee_named<'e>(&self, name: &'e Name) -> Callee<'e> {
+        match self.evaluation.origin_used(name.at) {
+            Some(Origin::Procedure(_)) => Callee::Procedure(name),
+            Some(Origin::Predefined(own)) => {
+                if is_routine(own) {
+                    Callee::Routine(own)
+                } else {
+                    Callee::Nothing
+                }
+            }
+            Some(Origin::Synonym { .. })
+            | Some(Origin::SynMode(_))
+            | Some(Origin::NewMode(_))
+            | Some(Origin::Element(_))
+            | Some(Origin::Location { .. })
+            | Some(Origin::Parameter { .. })
+            | Some(Origin::Counter(_))
+            | Some(Origin::Received { .. })
+            | Some(Origin::Process(_))
+            | Some(Origin::Signal(_))
+            | Some(Origin::Modulion(_))
+            | None => Callee::Nothing,
+        }
+    }
+
+    /// The class of what a call of the procedure of that name gives; none where it returns nothing.
+    pub fn class_of_result(&self, name: &Name) -> Result<Option<Class>, Memory> {
+        value_of_mode(self.mode_used(name))
+    }
+
+    /// Whether a name is that of a procedure that returns nothing.
+    pub fn returns_none(&self, name: &Name) -> bool {
+        match self.evaluation.origin_used(name.at) {
+            Some(Origin::Procedure(procedure)) => procedure.returns.is_none(),
+            Some(Origin::Synonym { .. })
+            | Some(Origin::SynMode(_))
+            | Some(Origin::NewMode(_))
+            | Some(Origin::Element(_))
+            | Some(Origin::Location { .. })
+            | Some(Origin::Parameter { .. })
+            | Some(Origin::Counter(_))
+            | Some(Origin::Received { .. })
+            | Some(Origin::Process(_))
+            | Some(Origin::Signal(_))
+            | Some(Origin::Modulion(_))
+            | Some(Origin::Predefined(_))
+            | None => false,
+        }
+    }
+
+    /// The class of what a routine gives without an argument, where that is a value.
+    pub(crate) fn class_without_argument(&self, own: Predefined) -> Result<Option<Class>, Memory> {
+        if own != Predefined::GetInt {
+            return Ok(None);
+        }
+        Ok(Some(Class::Value(self.evaluation.plain.int.clone()?)))
+    }
+
+    /// The class of UPPER, LOWER or SIZE of a mode; none where the mode doesn't fit.
+    pub(crate) fn class_of_measure(
+        &self,
+        own: Predefined,
+        mode: &Rc<Mode>,
+    ) -> Result<Option<Class>, Memory> {
+        if own == Predefined::Size {
+            return match form_of(mode) {
+                Form::Meeting => Ok(None),
+                Form::Int
+                | Form::Bool
+                | Form::Char
+                | Form::Instance
+                | Form::Set { .. }
+                | Form::Powerset(_)
+                | Form::Chars(_)
+                | Form::Array { .. }
+                | Form::Struct { .. } => Ok(Some(self.class_of_whole()?)),
+            };
+        }
+        let of = match form_of(mode) {
+            Form::Array { index, .. } => index,
+            Form::Int
+            | Form::Bool
+            | Form::Char
+            | Form::Instance
+            | Form::Set { .. }
+            | Form::Powerset(_)
+            | Form::Chars(_)
+            | Form::Struct { .. }
+            | Form::Meeting => mode,
+        };
+        if bounds(of).is_none() {
+            return Ok(None);
+        }
+        Ok(Some(Class::Derived(of.clone()?)))
+    }
+}
+
+// The class of a part of this mode: Nothing where it doesn't fit what it is a part of.
+fn part_class(mode: Option<&Rc<Mode>>) -> Result<Class, Memory> {
+    match mode {
+        None => Ok(Class::Nothing),
+        Some(mode) => Ok(Class::Value(mode.clone()?)),
+    }
+}
+
+// The class of a value of a mode, where that is known.
+fn value_of_mode(mode: Option<&Rc<Mode>>) -> Result<Option<Class>, Memory> {
+    match mode {
+        None => Ok(None),
+        Some(mode) => Ok(Some(Class::Value(mode.clone()?))),
+    }
+}
+
+/// Rule S1 of PUT_INT and PUT_TEXT, which take root INT and root CHARS: the argument is of another.
+pub fn cannot_be_put(own: Predefined, argument: &Class) -> bool {
+    match own {
+        Predefined::PutInt => !matches!(form_in(argument), Some(Form::Int)),
+        Predefined::PutText => !matches!(form_in(argument), Some(Form::Chars(_))),
+        Predefined::Int
+        | Predefined::Bool
+        | Predefined::Char
+        | Predefined::Instance
+        | Predefined::True
+        | Predefined::False
+        | Predefined::Null
+        | Predefined::Num
+        | Predefined::Succ
+        | Predefined::Pred
+        | Predefined::Abs
+        | Predefined::Card
+        | Predefined::Min
+        | Predefined::Max
+        | Predefined::Upper
+        | Predefined::Lower
+        | Predefined::Size
+        | Predefined::PutLine
+        | Predefined::GetInt => false,
+    }
+}
+
+/// Whether a predefined name is one of a routine.
+pub fn is_routine(own: Predefined) -> bool {
+    is_value_routine(own) || gives_no_value(own) || own == Predefined::GetInt
+}
+
+/// Whether a routine gives no value.
+pub fn gives_no_value(own: Predefined) -> bool {
+    matches!(
+        own,
+        Predefined::PutInt | Predefined::PutText | Predefined::PutLine
+    )
+}
+
+/// How many arguments a routine has.
+pub fn number_of_arguments(own: Predefined) -> usize {
+    match own {
+        Predefined::PutLine | Predefined::GetInt => 0,
+        Predefined::Num
+        | Predefined::Succ
+        | Predefined::Pred
+        | Predefined::Abs
+        | Predefined::Card
+        | Predefined::Min
+        | Predefined::Max
+        | Predefined::Upper
+        | Predefined::Lower
+        | Predefined::Size
+        | Predefined::PutInt
+        | Predefined::PutText => 1,
+        // What is no routine isn't called.
+        Predefined::Int
+        | Predefined::Bool
+        | Predefined::Char
+        | Predefined::Instance
+        | Predefined::True
+        | Predefined::False
+        | Predefined::Null => 1,
+    }
+}
+
+/// Whether the argument of a routine is no value: UPPER, LOWER and SIZE ask of its mode alone.
+pub fn takes_no_value(own: Predefined) -> bool {
+    is_measuring(own)
+}
