@@ -20,53 +20,60 @@ use Rattle.checked_program.specs.declared.expr.Start.{Start, Start-F, map-Start,
 use Rattle.checked_program.specs.declared.program.Passing.TheVariants as passings
 use Rattle.program_ranges.specs.Around.{is_count, base_count, bounds_fit, are_ints, are_members, is_procedure, is_process, is_passed}
 use Rattle.program_ranges.specs.ExprRanges as tests
-use Rattle.program_ranges.specs.ExprRanges.{Test, Counted, Cut, Called, ArgumentTest, OperationTest, argument_in_range, operation_in_range, part_ranges, call_ranges, expr_ranges, location_ranges, range_in_range, received_ranges, start_in_range, all_hold, parts_lead, values_fill, values_fit, arguments_fit, is_number, lies_in, call_fits, start_fits, operands_fit}
+use Rattle.program_ranges.specs.ExprRanges.{Test, Counted, Cut, Called, ArgumentTest, OperationTest, argument_in_range, operation_in_range, part_ranges, call_ranges, expr_ranges, location_ranges, range_in_range, received_ranges, start_in_range, all_hold, parts_lead, values_fill, values_fit, arguments_fit, is_number, lies_in, result_count, call_fits, start_fits, operands_fit}
 use Rattle.program_trees.specs.ExprTree as trees
 use Rattle.program_trees.specs.ExprTree.{ArgumentTree, OperationTree, PartTree, CallTree, ExprTree, LocationTree, RangeTree, ReceivedTree, StartTree, ReceivedNodes, PartNodes, RangeNodes, ArgumentNodes, one_field, one_element, alone, between, taken, given, both, received_nodes, part_nodes, range_nodes, argument_nodes, count_of, received_count, location_count, argument_tree, operation_tree, part_tree, call_tree, expr_tree, location_tree, range_tree, received_tree, start_tree}
-use Rattle.range_laws.specs.ExprInRange.{ExprInRange, OperationInRange, ReceivedInRange, AllInRange, ValuesInRange, PartsInRange, RangesInRange, LocationInRange, StartInRange, CallInRange, ArgumentsInRange, NumberInRange}
+use Rattle.range_laws.specs.ExprInRange.{ExprInRange, OperationInRange, ReceivedInRange, AllInRange, ValuesInRange, PartsInRange, RangesInRange, LocationInRange, StartInRange, CallInRange, ArgumentsInRange, NumberInRange, IsPassed, CallGives}
+use Rattle.std.proofs.lemmas.Option.{slice_get_within}
+use Rattle.checked_program.specs.declared.program.Passing.TheVariants.{In, Out, InOut}
+use Rattle.program_trees.specs.ProgramTree.{BodyRowTree, CheckedTree, body_row_tree, checked_tree}
 use Rattle.range_laws.proofs.Tests.{both_hold, equal, at_most, below}
+use Rattle.range_laws.proofs.Rows.{base_told, passed_told, result_told, body_there}
+
 
 -- ---- what is to be known of each kind
 
-abbrev PartKnown : ℕ → ℕ → PartTree → Type 0
-PartKnown of count (one_field first n) = (n ≡ count) × (first + n ≤ of)
-PartKnown of count (one_element e b n) = (n ≡ count) × (IsTrue (are_ints b) × NumberInRange e × (count_between b.low b.high * n ≤ of))
+abbrev PartKnown : CheckedTree → BodyRowTree → ℕ → ℕ → PartTree → Type 0
+PartKnown p body of count (one_field first n) = (n ≡ count) × (first + n ≤ of)
+PartKnown p body of count (one_element e b n) = (n ≡ count) × (IsTrue (are_ints b) × NumberInRange p body e × (count_between b.low b.high * n ≤ of))
 
-abbrev RangeKnown : RangeTree → Type 0
-RangeKnown (alone e) = NumberInRange e
-RangeKnown (between e f) = NumberInRange e × NumberInRange f
+abbrev RangeKnown : CheckedTree → BodyRowTree → RangeTree → Type 0
+RangeKnown p body (alone e) = NumberInRange p body e
+RangeKnown p body (between e f) = NumberInRange p body e × NumberInRange p body f
 
-abbrev ArgumentKnown : ArgumentTree → Type 0
-ArgumentKnown (taken r) = ReceivedInRange r
-ArgumentKnown (given l bounds) = LocationInRange l × IsTrue (bounds_fit bounds (location_count l))
-ArgumentKnown (both l taken_by bounds) = LocationInRange l × IsTrue (bounds_fit taken_by (location_count l)) × IsTrue (bounds_fit bounds (location_count l))
+abbrev ArgumentKnown : CheckedTree → BodyRowTree → BodyRowTree → ℕ → ArgumentTree → Type 0
+ArgumentKnown p body callee k (taken r) = ReceivedInRange p body r × IsPassed callee k In (received_count r)
+ArgumentKnown p body callee k (given l bounds) = LocationInRange p body l × IsPassed callee k Out (location_count l) × IsTrue (bounds_fit bounds (location_count l))
+ArgumentKnown p body callee k (both l taken_by bounds) =
+    LocationInRange p body l × IsPassed callee k InOut (location_count l) × IsTrue (bounds_fit taken_by (location_count l)) × IsTrue (bounds_fit bounds (location_count l))
 
 abbrev TellsArgument : ArgumentTest → ArgumentTree → Type 0
-TellsArgument test t = (callee : Body) (number : ℕ) (program : Checked) (body : Body) → IsTrue (test callee number program body) → ArgumentKnown t
+TellsArgument test t = (callee : Body) (number : ℕ) (program : Checked) (body : Body) → IsTrue (test callee number program body) → ArgumentKnown (checked_tree program) (body_row_tree body) (body_row_tree callee) number t
 
 abbrev TellsOperation : OperationTest → OperationTree → Type 0
-TellsOperation test t = (n : ℕ) (program : Checked) (body : Body) → IsTrue (test n program body) → OperationInRange n t
+TellsOperation test t = (n : ℕ) (program : Checked) (body : Body) → IsTrue (test n program body) → OperationInRange (checked_tree program) (body_row_tree body) n t
 
 abbrev TellsPart : Cut → PartTree → Type 0
-TellsPart cut t = (of : ℕ) (program : Checked) (body : Body) → IsTrue (cut.fits of program body) → PartKnown of cut.count t
+TellsPart cut t = (of : ℕ) (program : Checked) (body : Body) → IsTrue (cut.fits of program body) → PartKnown (checked_tree program) (body_row_tree body) of cut.count t
 
 abbrev TellsCall : Called → CallTree → Type 0
-TellsCall call t = (program : Checked) (body : Body) → IsTrue (call.holds program body) → CallInRange t
+TellsCall call t = (program : Checked) (body : Body)
+    → (IsTrue (call.holds program body) → CallInRange (checked_tree program) (body_row_tree body) t) × ((n : ℕ) → IsTrue (is_count (result_count (slice_get program.bodies call.body)) n) → CallGives (checked_tree program) t n)
 
 abbrev TellsExpr : Counted → ExprTree → Type 0
-TellsExpr counted t = (count_of t ≡ counted.count) × ((program : Checked) (body : Body) → IsTrue (counted.holds program body) → ExprInRange t)
+TellsExpr counted t = (count_of t ≡ counted.count) × ((program : Checked) (body : Body) → IsTrue (counted.holds program body) → ExprInRange (checked_tree program) (body_row_tree body) t)
 
 abbrev TellsLocation : Counted → LocationTree → Type 0
-TellsLocation counted t = (location_count t ≡ counted.count) × ((program : Checked) (body : Body) → IsTrue (counted.holds program body) → LocationInRange t)
+TellsLocation counted t = (location_count t ≡ counted.count) × ((program : Checked) (body : Body) → IsTrue (counted.holds program body) → LocationInRange (checked_tree program) (body_row_tree body) t)
 
 abbrev TellsRange : Test → RangeTree → Type 0
-TellsRange test t = (program : Checked) (body : Body) → IsTrue (test program body) → RangeKnown t
+TellsRange test t = (program : Checked) (body : Body) → IsTrue (test program body) → RangeKnown (checked_tree program) (body_row_tree body) t
 
 abbrev TellsReceived : Counted → ReceivedTree → Type 0
-TellsReceived counted t = (received_count t ≡ counted.count) × ((program : Checked) (body : Body) → IsTrue (counted.holds program body) → ReceivedInRange t)
+TellsReceived counted t = (received_count t ≡ counted.count) × ((program : Checked) (body : Body) → IsTrue (counted.holds program body) → ReceivedInRange (checked_tree program) (body_row_tree body) t)
 
 abbrev TellsStart : Test → StartTree → Type 0
-TellsStart test t = (program : Checked) (body : Body) → IsTrue (test program body) → StartInRange t
+TellsStart test t = (program : Checked) (body : Body) → IsTrue (test program body) → StartInRange (checked_tree program) (body_row_tree body) t
 
 -- ---- nodes of which that is known
 
@@ -207,45 +214,45 @@ treed_start y = map-Start Argument Operation Part Call Expr Location Range Recei
 
 -- ---- lists of nodes
 
-parts_known : (ps : List KnownPart) (of n : ℕ) (program : Checked) (body : Body) → IsTrue (parts_lead of (map part_ranges (map bare_part ps)) n program body) → PartsInRange of (part_nodes (map part_tree (map bare_part ps))) n
+parts_known : (ps : List KnownPart) (of n : ℕ) (program : Checked) (body : Body) → IsTrue (parts_lead of (map part_ranges (map bare_part ps)) n program body) → PartsInRange (checked_tree program) (body_row_tree body) of (part_nodes (map part_tree (map bare_part ps))) n
 parts_known [] of n program body holds = equal of n holds
 parts_known (p ∷ ps) of n program body holds =
     let parts = both_hold ((part_ranges p.0).fits of program body) (parts_lead (part_ranges p.0).count (map part_ranges (map bare_part ps)) n program body) holds in
     with_part (part_tree p.0) of n (part_ranges p.0).count (part_nodes (map part_tree (map bare_part ps))) (p.1 of program body parts.0) (parts_known ps (part_ranges p.0).count n program body parts.1) where
-  with_part : (p : PartTree) (of n count : ℕ) (ps : PartNodes) → PartKnown of count p → PartsInRange count ps n → PartsInRange of (trees.with_part p ps) n
-  with_part (one_field first m) of n count ps known rest = (known.1, subst (λ k. PartsInRange k ps n) (sym known.0) rest)
-  with_part (one_element e b m) of n count ps known rest = (known.1, subst (λ k. PartsInRange k ps n) (sym known.0) rest)
+  with_part : (p : PartTree) (of n count : ℕ) (ps : PartNodes) → PartKnown (checked_tree program) (body_row_tree body) of count p → PartsInRange (checked_tree program) (body_row_tree body) count ps n → PartsInRange (checked_tree program) (body_row_tree body) of (trees.with_part p ps) n
+  with_part (one_field first m) of n count ps known rest = (known.1, subst (λ k. PartsInRange (checked_tree program) (body_row_tree body) k ps n) (sym known.0) rest)
+  with_part (one_element e b m) of n count ps known rest = (known.1, subst (λ k. PartsInRange (checked_tree program) (body_row_tree body) k ps n) (sym known.0) rest)
 
-ranges_known : (rs : List KnownRange) (program : Checked) (body : Body) → IsTrue (all_hold (map range_in_range (map bare_range rs)) program body) → RangesInRange (range_nodes (map range_tree (map bare_range rs)))
+ranges_known : (rs : List KnownRange) (program : Checked) (body : Body) → IsTrue (all_hold (map range_in_range (map bare_range rs)) program body) → RangesInRange (checked_tree program) (body_row_tree body) (range_nodes (map range_tree (map bare_range rs)))
 ranges_known [] program body holds = tt
 ranges_known (r ∷ rs) program body holds =
     let parts = both_hold (range_in_range r.0 program body) (all_hold (map range_in_range (map bare_range rs)) program body) holds in
     with_range (range_tree r.0) (range_nodes (map range_tree (map bare_range rs))) (r.1 program body parts.0) (ranges_known rs program body parts.1) where
-  with_range : (r : RangeTree) (rs : RangeNodes) → RangeKnown r → RangesInRange rs → RangesInRange (trees.with_range r rs)
+  with_range : (r : RangeTree) (rs : RangeNodes) → RangeKnown (checked_tree program) (body_row_tree body) r → RangesInRange (checked_tree program) (body_row_tree body) rs → RangesInRange (checked_tree program) (body_row_tree body) (trees.with_range r rs)
   with_range (alone e) rs known rest = (known, rest)
   with_range (between e f) rs known rest = (known, rest)
 
-arguments_known : (as' : List KnownArgument) (callee : Body) (number : ℕ) (program : Checked) (body : Body) → IsTrue (arguments_fit callee number (map argument_in_range (map bare_argument as')) program body) → ArgumentsInRange (argument_nodes (map argument_tree (map bare_argument as')))
-arguments_known [] callee number program body holds = tt
+arguments_known : (as' : List KnownArgument) (callee : Body) (number : ℕ) (program : Checked) (body : Body) → IsTrue (arguments_fit callee number (map argument_in_range (map bare_argument as')) program body) → ArgumentsInRange (checked_tree program) (body_row_tree body) (body_row_tree callee) number (argument_nodes (map argument_tree (map bare_argument as')))
+arguments_known [] callee number program body holds = equal number (length callee.parameters) holds
 arguments_known (a ∷ as') callee number program body holds =
     let parts = both_hold (argument_in_range a.0 callee number program body) (arguments_fit callee (number + 1) (map argument_in_range (map bare_argument as')) program body) holds in
     with_argument (argument_tree a.0) (argument_nodes (map argument_tree (map bare_argument as'))) (a.1 callee number program body parts.0) (arguments_known as' callee (number + 1) program body parts.1) where
-  with_argument : (a : ArgumentTree) (as' : ArgumentNodes) → ArgumentKnown a → ArgumentsInRange as' → ArgumentsInRange (trees.with_argument a as')
+  with_argument : (a : ArgumentTree) (as' : ArgumentNodes) → ArgumentKnown (checked_tree program) (body_row_tree body) (body_row_tree callee) number a → ArgumentsInRange (checked_tree program) (body_row_tree body) (body_row_tree callee) (number + 1) as' → ArgumentsInRange (checked_tree program) (body_row_tree body) (body_row_tree callee) number (trees.with_argument a as')
   with_argument (taken r) as' known rest = (known, rest)
   with_argument (given l bounds) as' known rest = (known, rest)
   with_argument (both l taken_by bounds) as' known rest = (known, rest)
 
-values_known : (vs : List KnownReceived) (n : ℕ) (program : Checked) (body : Body) → IsTrue (values_fill (map received_ranges (map bare_received vs)) n program body) → ValuesInRange (received_nodes (map received_tree (map bare_received vs))) n
+values_known : (vs : List KnownReceived) (n : ℕ) (program : Checked) (body : Body) → IsTrue (values_fill (map received_ranges (map bare_received vs)) n program body) → ValuesInRange (checked_tree program) (body_row_tree body) (received_nodes (map received_tree (map bare_received vs))) n
 values_known [] n program body holds = equal n 0 holds
 values_known (v ∷ vs) n program body holds =
     let counted = received_ranges v.0 in
     let parts = both_hold (counted.holds program body) (nat_le counted.count n && values_fill (map received_ranges (map bare_received vs)) (n - counted.count) program body) holds in
     let more = both_hold (nat_le counted.count n) (values_fill (map received_ranges (map bare_received vs)) (n - counted.count) program body) parts.1 in
     let rest = values_known vs (n - counted.count) program body more.1 in
-    let both = subst (λ k. (k ≤ n) × ValuesInRange (received_nodes (map received_tree (map bare_received vs))) (n - k)) (sym v.1.0) (at_most counted.count n more.0, rest) in
+    let both = subst (λ k. (k ≤ n) × ValuesInRange (checked_tree program) (body_row_tree body) (received_nodes (map received_tree (map bare_received vs))) (n - k)) (sym v.1.0) (at_most counted.count n more.0, rest) in
     (v.1.1 program body parts.0, both.0, both.1)
 
-taken_known : (vs : List KnownReceived) (callee : Body) (number : ℕ) (program : Checked) (body : Body) → IsTrue (values_fit callee number (map received_ranges (map bare_received vs)) program body) → AllInRange (received_nodes (map received_tree (map bare_received vs)))
+taken_known : (vs : List KnownReceived) (callee : Body) (number : ℕ) (program : Checked) (body : Body) → IsTrue (values_fit callee number (map received_ranges (map bare_received vs)) program body) → AllInRange (checked_tree program) (body_row_tree body) (received_nodes (map received_tree (map bare_received vs)))
 taken_known [] callee number program body holds = tt
 taken_known (v ∷ vs) callee number program body holds =
     let counted = received_ranges v.0 in
@@ -253,7 +260,7 @@ taken_known (v ∷ vs) callee number program body holds =
     let one = both_hold (counted.holds program body) (is_passed callee number passings.In counted.count) parts.0 in
     (v.1.1 program body one.0, taken_known vs callee (number + 1) program body parts.1)
 
-number_known : (e : KnownExpr) (program : Checked) (body : Body) → IsTrue (is_number (expr_ranges e.0) program body) → NumberInRange (expr_tree e.0)
+number_known : (e : KnownExpr) (program : Checked) (body : Body) → IsTrue (is_number (expr_ranges e.0) program body) → NumberInRange (checked_tree program) (body_row_tree body) (expr_tree e.0)
 number_known e program body holds =
     let parts = both_hold ((expr_ranges e.0).holds program body) (nat_eq (expr_ranges e.0).count 1) holds in
     (e.1.1 program body parts.0, e.1.0 ∙ equal (expr_ranges e.0).count 1 parts.1)
@@ -270,18 +277,18 @@ part_step (opens.Element i bounds count) of program body holds =
 argument_step : (y : Argument-F KnownArgument KnownOperation KnownPart KnownCall KnownExpr KnownLocation KnownRange KnownReceived KnownStart) → TellsArgument (tests.argument_layer (tested_argument y)) (trees.argument_layer (treed_argument y))
 argument_step (opens.In v) callee number program body holds =
     let parts = both_hold ((received_ranges v.0).holds program body) (is_passed callee number passings.In (received_ranges v.0).count) holds in
-    v.1.1 program body parts.0
+    (v.1.1 program body parts.0, passed_told callee number passings.In (received_count (received_tree v.0)) (received_ranges v.0).count v.1.0 parts.1)
 argument_step (opens.Out l bounds) callee number program body holds =
     let counted = location_ranges l.0 in
     let parts = both_hold (counted.holds program body) (is_passed callee number passings.Out counted.count && bounds_fit bounds counted.count) holds in
     let more = both_hold (is_passed callee number passings.Out counted.count) (bounds_fit bounds counted.count) parts.1 in
-    (l.1.1 program body parts.0, subst (λ k. IsTrue (bounds_fit bounds k)) (sym l.1.0) more.1)
+    (l.1.1 program body parts.0, passed_told callee number passings.Out (location_count (location_tree l.0)) counted.count l.1.0 more.0, subst (λ k. IsTrue (bounds_fit bounds k)) (sym l.1.0) more.1)
 argument_step (opens.InOut l taken_by bounds) callee number program body holds =
     let counted = location_ranges l.0 in
     let parts = both_hold (counted.holds program body) (is_passed callee number passings.InOut counted.count && (bounds_fit taken_by counted.count && bounds_fit bounds counted.count)) holds in
     let more = both_hold (is_passed callee number passings.InOut counted.count) (bounds_fit taken_by counted.count && bounds_fit bounds counted.count) parts.1 in
     let fitting = both_hold (bounds_fit taken_by counted.count) (bounds_fit bounds counted.count) more.1 in
-    (l.1.1 program body parts.0, subst (λ k. IsTrue (bounds_fit taken_by k)) (sym l.1.0) fitting.0, subst (λ k. IsTrue (bounds_fit bounds k)) (sym l.1.0) fitting.1)
+    (l.1.1 program body parts.0, passed_told callee number passings.InOut (location_count (location_tree l.0)) counted.count l.1.0 more.0, subst (λ k. IsTrue (bounds_fit taken_by k)) (sym l.1.0) fitting.0, subst (λ k. IsTrue (bounds_fit bounds k)) (sym l.1.0) fitting.1)
 
 range_step : (y : Range-F KnownArgument KnownOperation KnownPart KnownCall KnownExpr KnownLocation KnownRange KnownReceived KnownStart) → TellsRange (tests.range_layer (tested_range y)) (trees.range_layer (treed_range y))
 range_step y program body holds = to_last y.first y.last program body holds where
@@ -299,24 +306,29 @@ received_step y =
         (y.value.value.1.1 program body parts.0, subst (λ k. IsTrue (bounds_fit y.bounds k)) (sym y.value.value.1.0) parts.1))
 
 location_step : (y : Location-F KnownArgument KnownOperation KnownPart KnownCall KnownExpr KnownLocation KnownRange KnownReceived KnownStart) → TellsLocation (tests.location_layer (tested_location y)) (trees.location_layer (treed_location y))
-location_step y = (refl, λ program body holds. led (base_count y.base program body) program body holds) where
-  led : (of : Option ℕ) (program : Checked) (body : Body) → IsTrue (lies_in of (map part_ranges (map bare_part y.parts)) y.count program body) → LocationInRange (trees.location y.base (part_nodes (map part_tree (map bare_part y.parts))) y.count)
-  led None program body holds = absurd (let no : ⊥ = cc in no)
-  led (Some of) program body holds = (of, parts_known y.parts of y.count program body holds)
+location_step y = (refl, λ program body holds. led (base_count y.base program body) program body refl holds) where
+  led : (of : Option ℕ) (program : Checked) (body : Body) → base_count y.base program body ≡ of → IsTrue (lies_in of (map part_ranges (map bare_part y.parts)) y.count program body) → LocationInRange (checked_tree program) (body_row_tree body) (trees.location y.base (part_nodes (map part_tree (map bare_part y.parts))) y.count)
+  led None program body is holds = absurd (let no : ⊥ = cc in no)
+  led (Some of) program body is holds = (of, base_told y.base of program body is, parts_known y.parts of y.count program body holds)
 
 start_step : (y : Start-F KnownArgument KnownOperation KnownPart KnownCall KnownExpr KnownLocation KnownRange KnownReceived KnownStart) → TellsStart (tests.start_layer (tested_start y)) (trees.start_layer (treed_start y))
-start_step y program body holds = begun (slice_get program.bodies y.process) holds where
-  begun : (callee : Option Body) → IsTrue (start_fits callee (map received_ranges (map bare_received y.arguments)) program body) → AllInRange (received_nodes (map received_tree (map bare_received y.arguments)))
-  begun None holds = absurd (let no : ⊥ = cc in no)
-  begun (Some callee) holds =
-      taken_known y.arguments callee 0 program body (both_hold (is_process callee.sort) (values_fit callee 0 (map received_ranges (map bare_received y.arguments)) program body) holds).1
+start_step y program body holds = begun (slice_get program.bodies y.process) refl holds where
+  begun : (callee : Option Body) → slice_get program.bodies y.process ≡ callee → IsTrue (start_fits callee (map received_ranges (map bare_received y.arguments)) program body) → StartInRange (checked_tree program) (body_row_tree body) (trees.started y.process (received_nodes (map received_tree (map bare_received y.arguments))))
+  begun None is holds = absurd (let no : ⊥ = cc in no)
+  begun (Some callee) is holds =
+      (slice_get_within (checked_tree program).bodies y.process (body_row_tree callee) (body_there program y.process callee is), taken_known y.arguments callee 0 program body (both_hold (is_process callee.sort) (values_fit callee 0 (map received_ranges (map bare_received y.arguments)) program body) holds).1)
 
 call_step : (y : Call-F KnownArgument KnownOperation KnownPart KnownCall KnownExpr KnownLocation KnownRange KnownReceived KnownStart) → TellsCall (tests.call_layer (tested_call y)) (trees.call_layer (treed_call y))
-call_step y program body holds = entered (slice_get program.bodies y.body) holds where
-  entered : (callee : Option Body) → IsTrue (call_fits callee (map argument_in_range (map bare_argument y.arguments)) program body) → ArgumentsInRange (argument_nodes (map argument_tree (map bare_argument y.arguments)))
-  entered None holds = absurd (let no : ⊥ = cc in no)
-  entered (Some callee) holds =
-      arguments_known y.arguments callee 0 program body (both_hold (is_procedure callee.sort) (arguments_fit callee 0 (map argument_in_range (map bare_argument y.arguments)) program body) holds).1
+call_step y program body = (λ holds. entered (slice_get program.bodies y.body) refl holds, λ n holds. gives (slice_get program.bodies y.body) n refl holds) where
+  nodes : ArgumentNodes
+  nodes = argument_nodes (map argument_tree (map bare_argument y.arguments))
+  entered : (callee : Option Body) → slice_get program.bodies y.body ≡ callee → IsTrue (call_fits callee (map argument_in_range (map bare_argument y.arguments)) program body) → CallInRange (checked_tree program) (body_row_tree body) (trees.called y.body nodes)
+  entered None is holds = absurd (let no : ⊥ = cc in no)
+  entered (Some callee) is holds =
+      (body_row_tree callee, body_there program y.body callee is, arguments_known y.arguments callee 0 program body (both_hold (is_procedure callee.sort) (arguments_fit callee 0 (map argument_in_range (map bare_argument y.arguments)) program body) holds).1)
+  gives : (callee : Option Body) (n : ℕ) → slice_get program.bodies y.body ≡ callee → IsTrue (is_count (result_count callee) n) → CallGives (checked_tree program) (trees.called y.body nodes) n
+  gives None n is holds = absurd (let no : ⊥ = cc in no)
+  gives (Some callee) n is holds = (body_row_tree callee, body_there program y.body callee is, result_told callee.result n holds)
 
 operation_step : (y : Operation-F KnownArgument KnownOperation KnownPart KnownCall KnownExpr KnownLocation KnownRange KnownReceived KnownStart) → TellsOperation (tests.operation_layer (tested_operation y)) (trees.operation_layer (treed_operation y))
 operation_step (opens.Constant xs) n program body holds = equal n (length xs) holds
@@ -328,13 +340,15 @@ operation_step (opens.Contents l) n program body holds =
 operation_step (opens.PartOf of ps) n program body holds =
     let counted = expr_ranges of.value.0 in
     let parts = both_hold (counted.holds program body) (parts_lead counted.count (map part_ranges (map bare_part ps)) n program body) holds in
-    (of.value.1.1 program body parts.0, subst (λ k. PartsInRange k (part_nodes (map part_tree (map bare_part ps))) n) (sym of.value.1.0) (parts_known ps counted.count n program body parts.1))
+    (of.value.1.1 program body parts.0, subst (λ k. PartsInRange (checked_tree program) (body_row_tree body) k (part_nodes (map part_tree (map bare_part ps))) n) (sym of.value.1.0) (parts_known ps counted.count n program body parts.1))
 operation_step (opens.Receive b) n program body holds = tt
 operation_step (opens.Start s) n program body holds =
     let parts = both_hold (start_in_range s.value.0 program body) (nat_eq n 1) holds in
     (s.value.1 program body parts.0, equal n 1 parts.1)
 operation_step (opens.Call c) n program body holds =
-    c.value.1 program body (both_hold ((call_ranges c.value.0).holds program body) (is_count (tests.result_count (slice_get program.bodies (call_ranges c.value.0).body)) n) holds).0
+    let parts = both_hold ((call_ranges c.value.0).holds program body) (is_count (result_count (slice_get program.bodies (call_ranges c.value.0).body)) n) holds in
+    let known = c.value.1 program body in
+    (known.0 parts.0, known.1 n parts.1)
 operation_step (opens.Powerset bounds rs) n program body holds =
     let parts = both_hold (are_members bounds) (all_hold (map range_in_range (map bare_range rs)) program body && nat_eq n 1) holds in
     let more = both_hold (all_hold (map range_in_range (map bare_range rs)) program body) (nat_eq n 1) parts.1 in

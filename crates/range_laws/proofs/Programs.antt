@@ -15,28 +15,28 @@ use Rattle.range_laws.specs.StatementInRange.{StatementsInRange, HandlerInRange,
 use Rattle.range_laws.proofs.Tests.{both_hold}
 use Rattle.range_laws.proofs.Statements.{statement_told, handler_told}
 
-statements_told : (ss : List Statement) (items : Bool) (program : Checked) (body : Body) → IsTrue (statements_hold items (map statement_in_range ss) 0 program body) → StatementsInRange items (statements_of ss)
+statements_told : (ss : List Statement) (items : Bool) (program : Checked) (body : Body) → IsTrue (statements_hold items (map statement_in_range ss) 0 program body) → StatementsInRange (checked_tree program) (body_row_tree body) items (statements_of ss)
 statements_told [] items program body holds = tt
 statements_told (s ∷ ss) items program body holds =
     let parts = both_hold (statement_in_range s items 0 program body) (statements_hold items (map statement_in_range ss) 0 program body) holds in
     (statement_told s items 0 program body parts.0, statements_told ss items program body parts.1)
 
-some_handler_told : (h : Option (Box Handler Global)) (program : Checked) (body : Body) → IsTrue (some_within (option_map (λ x. handler_in_range x.value) h) 0 program body) → HandlerInRange (handler_of h)
+some_handler_told : (h : Option (Box Handler Global)) (program : Checked) (body : Body) → IsTrue (some_within (option_map (λ x. handler_in_range x.value) h) 0 program body) → HandlerInRange (checked_tree program) (body_row_tree body) (handler_of h)
 some_handler_told None program body holds = tt
 some_handler_told (Some h) program body holds = handler_told h.value 0 program body holds
 
-body_told : (body : Body) (program : Checked) → IsTrue (inside_fits body program) → BodyInRange (body_row_tree body)
+body_told : (body : Body) (program : Checked) → IsTrue (inside_fits body program) → BodyInRange (checked_tree program) (body_row_tree body)
 body_told body program holds =
     let parts = both_hold (statements_hold true (map statement_in_range body.statements) 0 program body) (some_within (option_map (λ x. handler_in_range x.value) body.handler) 0 program body) holds in
     record { items = statements_told body.statements true program body parts.0; handled = some_handler_told body.handler program body parts.1 }
 
-bodies_told : (bodies : List Body) (program : Checked) → IsTrue (bodies_fit bodies program) → (k : ℕ) (b : BodyRowTree) → slice_get (map body_row_tree bodies) k ≡ Some b → BodyInRange b
+bodies_told : (bodies : List Body) (program : Checked) → IsTrue (bodies_fit bodies program) → (k : ℕ) (b : BodyRowTree) → slice_get (map body_row_tree bodies) k ≡ Some b → BodyInRange (checked_tree program) b
 bodies_told [] program holds k b is = absurd (let no : ⊥ = cc in no)
 bodies_told (x ∷ xs) program holds zero b is =
     let parts = both_hold (head_fits x program && inside_fits x program) (bodies_fit xs program) holds in
     let here = both_hold (head_fits x program) (inside_fits x program) parts.0 in
     let same : body_row_tree x ≡ b = cc in
-    subst BodyInRange same (body_told x program here.1)
+    subst (BodyInRange (checked_tree program)) same (body_told x program here.1)
 bodies_told (x ∷ xs) program holds (suc k) b is =
     bodies_told xs program (both_hold (head_fits x program && inside_fits x program) (bodies_fit xs program) holds).1 k b is
 

@@ -21,7 +21,7 @@ use Rattle.checked_program.specs.declared.statement.Handler.{Handler, Handler-F,
 use Rattle.checked_program.specs.declared.statement.HandlerAlternative.{HandlerAlternative, HandlerAlternative-F, map-HandlerAlternative, roll-HandlerAlternative, fold-HandlerAlternative, fold-roll-HandlerAlternative, ind-HandlerAlternative}
 use Rattle.checked_program.specs.declared.statement.ReceiveAlternative.{ReceiveAlternative, ReceiveAlternative-F, map-ReceiveAlternative, roll-ReceiveAlternative, fold-ReceiveAlternative, fold-roll-ReceiveAlternative, ind-ReceiveAlternative}
 use Rattle.checked_program.specs.declared.statement.Statement.{Statement, Statement-F, map-Statement, roll-Statement, fold-Statement, fold-roll-Statement, ind-Statement}
-use Rattle.program_ranges.specs.Around.{is_count, mode_count, buffer_count}
+use Rattle.program_ranges.specs.Around.{is_count, base_count, mode_count, buffer_count}
 use Rattle.program_ranges.specs.ExprRanges.{Counted, is_number, some_number, operands_fit, expr_ranges, received_ranges, location_ranges, start_in_range, call_ranges}
 use Rattle.program_ranges.specs.Messages.{signal_part, is_part, parts_sent, parts_received, locals_follow, sent_in_range}
 use Rattle.program_ranges.specs.ActionRanges.{names_fit, is_local, all_below, all_exceptions, is_result, some_result, control_in_range}
@@ -30,24 +30,27 @@ use Rattle.program_ranges.specs.StatementRanges.{Acting, LabelTest, ReceiveTest,
 use Rattle.program_trees.specs.ExprTree.{ExprTree, received_nodes, count_of, received_count, location_count, expr_tree, received_tree, location_tree, boxed_expr}
 use Rattle.program_trees.specs.StatementTree as trees
 use Rattle.program_trees.specs.StatementTree.{ActionTree, CaseTree, ChoiceTree, NumbersTree, ReceiveTree, HandlerNode, StatementTree, statement_nodes, choice_nodes, case_nodes, delay_nodes, receive_nodes, handled_nodes, otherwise_node, sent_tree, control_tree, set_tree, action_tree, handler_tree, statement_tree}
-use Rattle.range_laws.specs.ExprInRange.{NumberInRange, ReceivedInRange, AllInRange}
-use Rattle.range_laws.specs.StatementInRange.{SomeNumberInRange, SomeReceivedInRange, SetInRange, SentInRange, ControlInRange, StatementsInRange, StatementInRange, HandlerInRange, HandledInRange, OtherwiseInRange, ActionInRange, ChoicesInRange, CasesInRange, DelaysInRange, ReceivesInRange}
-use Rattle.range_laws.proofs.Tests.{both_hold, equal, truly}
+use Rattle.range_laws.specs.ExprInRange.{ResultInRange, NumberInRange, ReceivedInRange, AllInRange}
+use Rattle.range_laws.specs.StatementInRange.{SomeNumberInRange, GivenInRange, SomeGivenInRange, NamesInRange, SetInRange, SentInRange, ControlInRange, StatementsInRange, StatementInRange, HandlerInRange, HandledInRange, OtherwiseInRange, ActionInRange, ChoicesInRange, CasesInRange, DelaysInRange, ReceivesInRange}
+use Rattle.range_laws.proofs.Tests.{both_hold, equal, below, truly}
+use Rattle.range_laws.proofs.Rows.{base_told, counted, local_told, result_told}
+use Rattle.checked_program.specs.declared.expr.Base.{Base}
+use Rattle.program_trees.specs.ProgramTree.{body_row_tree, checked_tree, shared_mode}
 use Rattle.range_laws.proofs.Expressions.{expr_told, location_told, received_told, start_told, call_told}
 
 -- ---- expressions of actions
 
-number_told : (e : Expr) (program : Checked) (body : Body) → IsTrue (is_number (expr_ranges e) program body) → NumberInRange (expr_tree e)
+number_told : (e : Expr) (program : Checked) (body : Body) → IsTrue (is_number (expr_ranges e) program body) → NumberInRange (checked_tree program) (body_row_tree body) (expr_tree e)
 number_told e program body holds =
     let known = expr_told e in
     let parts = both_hold ((expr_ranges e).holds program body) (nat_eq (expr_ranges e).count 1) holds in
     (known.1 program body parts.0, known.0 ∙ equal (expr_ranges e).count 1 parts.1)
 
-some_number_told : (o : Option (Box Expr Global)) (program : Checked) (body : Body) → IsTrue (some_number (option_map (λ e. expr_ranges e.value) o) program body) → SomeNumberInRange (option_map boxed_expr o)
+some_number_told : (o : Option (Box Expr Global)) (program : Checked) (body : Body) → IsTrue (some_number (option_map (λ e. expr_ranges e.value) o) program body) → SomeNumberInRange (checked_tree program) (body_row_tree body) (option_map boxed_expr o)
 some_number_told None program body holds = tt
 some_number_told (Some e) program body holds = number_told e.value program body holds
 
-set_told : (o : Option (Box Location Global)) (program : Checked) (body : Body) → IsTrue (is_set o program body) → SetInRange (set_tree o)
+set_told : (o : Option (Box Location Global)) (program : Checked) (body : Body) → IsTrue (is_set o program body) → SetInRange (checked_tree program) (body_row_tree body) (set_tree o)
 set_told None program body holds = tt
 set_told (Some l) program body holds =
     let known = location_told l.value in
@@ -55,16 +58,23 @@ set_told (Some l) program body holds =
     let parts = both_hold (counted.holds program body) (nat_eq counted.count 1) holds in
     (known.1 program body parts.0, known.0 ∙ equal counted.count 1 parts.1)
 
-result_told : (v : Received) (program : Checked) (body : Body) → IsTrue (is_result (received_ranges v) program body) → ReceivedInRange (received_tree v)
-result_told v program body holds =
+given_told : (v : Received) (program : Checked) (body : Body) → IsTrue (is_result (received_ranges v) program body) → GivenInRange (checked_tree program) (body_row_tree body) (received_tree v)
+given_told v program body holds =
     let counted = received_ranges v in
-    (received_told v).1 program body (both_hold (counted.holds program body) (is_count (mode_count body.result) counted.count) holds).0
+    let parts = both_hold (counted.holds program body) (is_count (mode_count body.result) counted.count) holds in
+    ((received_told v).1 program body parts.0, subst (λ k. ResultInRange (option_map shared_mode body.result) k) (sym (received_told v).0) (result_told body.result counted.count parts.1))
 
-some_result_told : (o : Option Received) (program : Checked) (body : Body) → IsTrue (some_result o program body) → SomeReceivedInRange (option_map received_tree o)
-some_result_told None program body holds = tt
-some_result_told (Some v) program body holds = result_told v program body holds
+some_given_told : (o : Option Received) (program : Checked) (body : Body) → IsTrue (some_result o program body) → SomeGivenInRange (checked_tree program) (body_row_tree body) (option_map received_tree o)
+some_given_told None program body holds = tt
+some_given_told (Some v) program body holds = given_told v program body holds
 
-parts_told : (vs : List Received) (n i : ℕ) (program : Checked) (body : Body) → IsTrue (parts_sent n i (map received_ranges vs) program body) → AllInRange (received_nodes (map received_tree vs))
+names_told : (names : List Base) (n : ℕ) (program : Checked) (body : Body) → IsTrue (names_fit names n program body) → NamesInRange (checked_tree program) (body_row_tree body) names n
+names_told [] n program body holds = tt
+names_told (b ∷ bs) n program body holds =
+    let parts = both_hold (is_count (base_count b program body) n) (names_fit bs n program body) holds in
+    (base_told b n program body (counted (base_count b program body) n parts.0), names_told bs n program body parts.1)
+
+parts_told : (vs : List Received) (n i : ℕ) (program : Checked) (body : Body) → IsTrue (parts_sent n i (map received_ranges vs) program body) → AllInRange (checked_tree program) (body_row_tree body) (received_nodes (map received_tree vs))
 parts_told [] n i program body holds = tt
 parts_told (v ∷ vs) n i program body holds =
     let counted = received_ranges v in
@@ -72,7 +82,7 @@ parts_told (v ∷ vs) n i program body holds =
     let one = both_hold (counted.holds program body) (is_count (signal_part (slice_get program.signals n) i) counted.count) parts.0 in
     ((received_told v).1 program body one.0, parts_told vs n (i + 1) program body parts.1)
 
-sent_told : (s : Sent) (program : Checked) (body : Body) → IsTrue (sent_in_range s program body) → SentInRange (sent_tree s)
+sent_told : (s : Sent) (program : Checked) (body : Body) → IsTrue (sent_in_range s program body) → SentInRange (checked_tree program) (body_row_tree body) (sent_tree s)
 sent_told (ToBuffer b v) program body holds =
     let counted = received_ranges v in
     (received_told v).1 program body (both_hold (counted.holds program body) (is_count (buffer_count (slice_get program.buffers b)) counted.count) holds).0
@@ -80,14 +90,14 @@ sent_told (Signal n vs to) program body holds =
     let parts = both_hold (parts_sent n 0 (map received_ranges vs) program body) (some_number (option_map (λ e. expr_ranges e.value) to) program body) holds in
     (parts_told vs n 0 program body parts.0, some_number_told to program body parts.1)
 
-control_told : (c : Control) (program : Checked) (body : Body) → IsTrue (control_in_range c program body) → ControlInRange (control_tree c)
+control_told : (c : Control) (program : Checked) (body : Body) → IsTrue (control_in_range c program body) → ControlInRange (checked_tree program) (body_row_tree body) (control_tree c)
 control_told (While e) program body holds = number_told e.value program body holds
 control_told Forever program body holds = tt
 control_told (Members counter set low condition) program body holds =
     let last = some_number (option_map (λ e. expr_ranges e.value) condition) program body in
     let all = both_hold (is_local counter 1 body) (is_number (expr_ranges set.value) program body && last) holds in
     let parts = both_hold (is_number (expr_ranges set.value) program body) last all.1 in
-    (number_told set.value program body parts.0, some_number_told condition program body parts.1)
+    (local_told counter 1 body all.0, number_told set.value program body parts.0, some_number_told condition program body parts.1)
 control_told (Steps counter first step end down condition) program body holds =
     let last = some_number (option_map (λ e. expr_ranges e.value) condition) program body in
     let third = is_number (expr_ranges end.value) program body in
@@ -96,33 +106,33 @@ control_told (Steps counter first step end down condition) program body holds =
     let a = both_hold (is_number (expr_ranges first.value) program body) (second && (third && last)) all.1 in
     let b = both_hold second (third && last) a.1 in
     let c = both_hold third last b.1 in
-    (number_told first.value program body a.0, some_number_told step program body b.0, number_told end.value program body c.0, some_number_told condition program body c.1)
+    (local_told counter 1 body all.0, number_told first.value program body a.0, some_number_told step program body b.0, number_told end.value program body c.0, some_number_told condition program body c.1)
 
 -- ---- what is to be known of each kind
 
 abbrev TellsAction : Acting → ActionTree → Type 0
-TellsAction acting t = (items : Bool) (labels : ℕ) (program : Checked) (body : Body) → IsTrue (acting.holds items labels program body) → ActionInRange items t
+TellsAction acting t = (items : Bool) (labels : ℕ) (program : Checked) (body : Body) → IsTrue (acting.holds items labels program body) → ActionInRange (checked_tree program) (body_row_tree body) items t
 
 abbrev TellsCaseAlternative : LabelTest → CaseTree → Type 0
-TellsCaseAlternative test t = (labels : ℕ) (program : Checked) (body : Body) → IsTrue (test labels program body) → StatementsInRange false t.actions
+TellsCaseAlternative test t = (labels : ℕ) (program : Checked) (body : Body) → IsTrue (test labels program body) → StatementsInRange (checked_tree program) (body_row_tree body) false t.actions
 
 abbrev TellsChoice : LabelTest → ChoiceTree → Type 0
-TellsChoice test t = (labels : ℕ) (program : Checked) (body : Body) → IsTrue (test labels program body) → NumberInRange t.condition × StatementsInRange false t.actions
+TellsChoice test t = (labels : ℕ) (program : Checked) (body : Body) → IsTrue (test labels program body) → NumberInRange (checked_tree program) (body_row_tree body) t.condition × StatementsInRange (checked_tree program) (body_row_tree body) false t.actions
 
 abbrev TellsDelayAlternative : LabelTest → NumbersTree → Type 0
-TellsDelayAlternative test t = (labels : ℕ) (program : Checked) (body : Body) → IsTrue (test labels program body) → StatementsInRange false t.actions
+TellsDelayAlternative test t = (labels : ℕ) (program : Checked) (body : Body) → IsTrue (test labels program body) → StatementsInRange (checked_tree program) (body_row_tree body) false t.actions
 
 abbrev TellsHandler : LabelTest → HandlerNode → Type 0
-TellsHandler test t = (labels : ℕ) (program : Checked) (body : Body) → IsTrue (test labels program body) → HandlerInRange t
+TellsHandler test t = (labels : ℕ) (program : Checked) (body : Body) → IsTrue (test labels program body) → HandlerInRange (checked_tree program) (body_row_tree body) t
 
 abbrev TellsHandlerAlternative : LabelTest → NumbersTree → Type 0
-TellsHandlerAlternative test t = (labels : ℕ) (program : Checked) (body : Body) → IsTrue (test labels program body) → StatementsInRange false t.actions
+TellsHandlerAlternative test t = (labels : ℕ) (program : Checked) (body : Body) → IsTrue (test labels program body) → StatementsInRange (checked_tree program) (body_row_tree body) false t.actions
 
 abbrev TellsReceiveAlternative : ReceiveTest → ReceiveTree → Type 0
-TellsReceiveAlternative test t = (source : _) (labels : ℕ) (program : Checked) (body : Body) → IsTrue (test source labels program body) → StatementsInRange false t.actions
+TellsReceiveAlternative test t = (source : _) (labels : ℕ) (program : Checked) (body : Body) → IsTrue (test source labels program body) → StatementsInRange (checked_tree program) (body_row_tree body) false t.actions
 
 abbrev TellsStatement : StatementTest → StatementTree → Type 0
-TellsStatement test t = (items : Bool) (labels : ℕ) (program : Checked) (body : Body) → IsTrue (test items labels program body) → StatementInRange items t
+TellsStatement test t = (items : Bool) (labels : ℕ) (program : Checked) (body : Body) → IsTrue (test items labels program body) → StatementInRange (checked_tree program) (body_row_tree body) items t
 
 -- ---- nodes of which that is known
 
@@ -263,37 +273,37 @@ treed_statement y = map-Statement Action CaseAlternative Choice DelayAlternative
 
 -- ---- lists of nodes
 
-statements_known : (ss : List KnownStatement) (items : Bool) (labels : ℕ) (program : Checked) (body : Body) → IsTrue (statements_hold items (map statement_in_range (map bare_statement ss)) labels program body) → StatementsInRange items (statement_nodes (map statement_tree (map bare_statement ss)))
+statements_known : (ss : List KnownStatement) (items : Bool) (labels : ℕ) (program : Checked) (body : Body) → IsTrue (statements_hold items (map statement_in_range (map bare_statement ss)) labels program body) → StatementsInRange (checked_tree program) (body_row_tree body) items (statement_nodes (map statement_tree (map bare_statement ss)))
 statements_known [] items labels program body holds = tt
 statements_known (s ∷ ss) items labels program body holds =
     let parts = both_hold (statement_in_range s.0 items labels program body) (statements_hold items (map statement_in_range (map bare_statement ss)) labels program body) holds in
     (s.1 items labels program body parts.0, statements_known ss items labels program body parts.1)
 
-cases_known : (as' : List KnownCaseAlternative) (labels : ℕ) (program : Checked) (body : Body) → IsTrue (all_within (map case_in_range (map bare_case as')) labels program body) → CasesInRange (case_nodes (map case_tree (map bare_case as')))
+cases_known : (as' : List KnownCaseAlternative) (labels : ℕ) (program : Checked) (body : Body) → IsTrue (all_within (map case_in_range (map bare_case as')) labels program body) → CasesInRange (checked_tree program) (body_row_tree body) (case_nodes (map case_tree (map bare_case as')))
 cases_known [] labels program body holds = tt
 cases_known (a ∷ as') labels program body holds =
     let parts = both_hold (case_in_range a.0 labels program body) (all_within (map case_in_range (map bare_case as')) labels program body) holds in
     (a.1 labels program body parts.0, cases_known as' labels program body parts.1)
 
-choices_known : (as' : List KnownChoice) (labels : ℕ) (program : Checked) (body : Body) → IsTrue (all_within (map choice_in_range (map bare_choice as')) labels program body) → ChoicesInRange (choice_nodes (map choice_tree (map bare_choice as')))
+choices_known : (as' : List KnownChoice) (labels : ℕ) (program : Checked) (body : Body) → IsTrue (all_within (map choice_in_range (map bare_choice as')) labels program body) → ChoicesInRange (checked_tree program) (body_row_tree body) (choice_nodes (map choice_tree (map bare_choice as')))
 choices_known [] labels program body holds = tt
 choices_known (a ∷ as') labels program body holds =
     let parts = both_hold (choice_in_range a.0 labels program body) (all_within (map choice_in_range (map bare_choice as')) labels program body) holds in
     (a.1 labels program body parts.0, choices_known as' labels program body parts.1)
 
-delays_known : (as' : List KnownDelayAlternative) (labels : ℕ) (program : Checked) (body : Body) → IsTrue (all_within (map delay_in_range (map bare_delay as')) labels program body) → DelaysInRange (delay_nodes (map delay_tree (map bare_delay as')))
+delays_known : (as' : List KnownDelayAlternative) (labels : ℕ) (program : Checked) (body : Body) → IsTrue (all_within (map delay_in_range (map bare_delay as')) labels program body) → DelaysInRange (checked_tree program) (body_row_tree body) (delay_nodes (map delay_tree (map bare_delay as')))
 delays_known [] labels program body holds = tt
 delays_known (a ∷ as') labels program body holds =
     let parts = both_hold (delay_in_range a.0 labels program body) (all_within (map delay_in_range (map bare_delay as')) labels program body) holds in
     (a.1 labels program body parts.0, delays_known as' labels program body parts.1)
 
-all_handled_known : (as' : List KnownHandlerAlternative) (labels : ℕ) (program : Checked) (body : Body) → IsTrue (all_within (map handled_in_range (map bare_handled as')) labels program body) → HandledInRange (handled_nodes (map handled_tree (map bare_handled as')))
+all_handled_known : (as' : List KnownHandlerAlternative) (labels : ℕ) (program : Checked) (body : Body) → IsTrue (all_within (map handled_in_range (map bare_handled as')) labels program body) → HandledInRange (checked_tree program) (body_row_tree body) (handled_nodes (map handled_tree (map bare_handled as')))
 all_handled_known [] labels program body holds = tt
 all_handled_known (a ∷ as') labels program body holds =
     let parts = both_hold (handled_in_range a.0 labels program body) (all_within (map handled_in_range (map bare_handled as')) labels program body) holds in
     (a.1 labels program body parts.0, all_handled_known as' labels program body parts.1)
 
-receives_known : (source : _) (as' : List KnownReceiveAlternative) (labels : ℕ) (program : Checked) (body : Body) → IsTrue (all_receive source (map receive_in_range (map bare_receive as')) labels program body) → ReceivesInRange (receive_nodes (map receive_tree (map bare_receive as')))
+receives_known : (source : _) (as' : List KnownReceiveAlternative) (labels : ℕ) (program : Checked) (body : Body) → IsTrue (all_receive source (map receive_in_range (map bare_receive as')) labels program body) → ReceivesInRange (checked_tree program) (body_row_tree body) (receive_nodes (map receive_tree (map bare_receive as')))
 receives_known source [] labels program body holds = tt
 receives_known source (a ∷ as') labels program body holds =
     let parts = both_hold (receive_in_range a.0 source labels program body) (all_receive source (map receive_in_range (map bare_receive as')) labels program body) holds in
@@ -334,7 +344,7 @@ statement_step : (y : Statement-F KnownAction KnownCaseAlternative KnownChoice K
 statement_step y items labels program body holds = to_handler y.action y.handler items holds where
   inside : Box KnownAction Global → ℕ
   inside a = labels_inside (action_ranges a.value.0).is_modulion y.labelled labels
-  to_handler : (a : Box KnownAction Global) (h : Option (Box KnownHandler Global)) (items : Bool) → IsTrue (tests.statement_layer (tested_statement (record { labelled = y.labelled; action = a; handler = h })) items labels program body) → StatementInRange items (trees.statement_layer (treed_statement (record { labelled = y.labelled; action = a; handler = h })))
+  to_handler : (a : Box KnownAction Global) (h : Option (Box KnownHandler Global)) (items : Bool) → IsTrue (tests.statement_layer (tested_statement (record { labelled = y.labelled; action = a; handler = h })) items labels program body) → StatementInRange (checked_tree program) (body_row_tree body) items (trees.statement_layer (treed_statement (record { labelled = y.labelled; action = a; handler = h })))
   to_handler a None items holds = (a.value.1 items (inside a) program body (both_hold ((action_ranges a.value.0).holds items (inside a) program body) true holds).0, tt)
   to_handler a (Some h) items holds =
       let parts = both_hold ((action_ranges a.value.0).holds items (inside a) program body) (handler_in_range h.value.0 (inside a) program body) holds in
@@ -343,7 +353,9 @@ statement_step y items labels program body holds = to_handler y.action y.handler
 action_step : (y : Action-F KnownAction KnownCaseAlternative KnownChoice KnownDelayAlternative KnownHandler KnownHandlerAlternative KnownReceiveAlternative KnownStatement) → TellsAction (tests.action_layer (tested_action y)) (trees.action_layer (treed_action y))
 action_step opens.Nothing items labels program body holds = tt
 action_step (opens.Declare names v) items labels program body holds =
-    (received_told v).1 program body (both_hold ((received_ranges v).holds program body) (names_fit names (received_ranges v).count program body) holds).0
+    let counted = received_ranges v in
+    let parts = both_hold (counted.holds program body) (names_fit names counted.count program body) holds in
+    ((received_told v).1 program body parts.0, subst (λ k. NamesInRange (checked_tree program) (body_row_tree body) names k) (sym (received_told v).0) (names_told names counted.count program body parts.1))
 action_step (opens.Lowest locals xs) items labels program body holds = tt
 action_step (opens.Module ss) items labels program body holds =
     let parts = both_hold items (statements_hold true (map statement_in_range (map bare_statement ss)) labels program body) holds in
@@ -366,17 +378,17 @@ action_step (opens.Update l o e bounds) items labels program body holds =
     let last = both_hold (operands_fit o left.count right.count) (nat_eq left.count 1) more.1 in
     let first = subst (λ k. IsTrue (operands_fit o k right.count)) (sym (location_told l).0) last.0 in
     ((location_told l).1 program body all.0, (expr_told e.value).1 program body more.0, subst (λ k. IsTrue (operands_fit o (location_count (location_tree l)) k)) (sym (expr_told e.value).0) first, (location_told l).0 ∙ equal left.count 1 last.1)
-action_step (opens.Call c) items labels program body holds = call_told c.value program body holds
+action_step (opens.Call c) items labels program body holds = (call_told c.value program body).0 holds
 action_step (opens.Routine r e) items labels program body holds = number_told e.value program body holds
 action_step (opens.Evaluate e) items labels program body holds = (expr_told e.value).1 program body holds
 action_step (opens.PutInt e) items labels program body holds = number_told e.value program body holds
 action_step (opens.PutText e) items labels program body holds = (expr_told e.value).1 program body holds
 action_step opens.PutLine items labels program body holds = tt
 action_step (opens.Exit n) items labels program body holds = tt
-action_step (opens.Return v) items labels program body holds = some_result_told v program body holds
-action_step (opens.Result v) items labels program body holds = result_told v program body holds
+action_step (opens.Return v) items labels program body holds = some_given_told v program body holds
+action_step (opens.Result v) items labels program body holds = given_told v program body holds
 action_step (opens.Assert e) items labels program body holds = number_told e.value program body holds
-action_step (opens.Cause x) items labels program body holds = tt
+action_step (opens.Cause x) items labels program body holds = below x (7 + length program.exceptions) holds
 action_step opens.Stop items labels program body holds = tt
 action_step (opens.Start s) items labels program body holds = start_told s.value program body holds
 action_step (opens.Delay e priority) items labels program body holds = tt
