@@ -1,35 +1,33 @@
 -- What being in range says of expressions: one induction over all kinds of their nodes.
-use Rattle.std.proofs.Common.{◌≡◌, ℕ, ◌+◌, ◌-◌, ◌*◌, ◌≤◌, ◌<◌, List, [], ◌∷◌, map, Option, Some, None, refl, ap, sym, ◌∙◌, subst, arith, IsTrue}
-use Rattle.std.specs.Prelude.{Bool, true, false, ◌&&◌, nat_eq, nat_le, nat_lt, slice_get, option_map, length}
+use Rattle.std.proofs.Common.{◌≡◌, ℕ, ◌+◌, ◌-◌, ◌*◌, ◌≤◌, List, [], ◌∷◌, map, Option, Some, None, refl, ap, sym, ◌∙◌, subst, IsTrue}
+use Rattle.std.specs.Prelude.{true, ◌&&◌, nat_eq, nat_le, nat_lt, slice_get, length}
 use Rattle.std.specs.declared.alloc.Global.{Global}
 use Rattle.std.specs.declared.boxed.Box.{Box}
-use Rattle.modes.specs.declared.mode.Bounds.{Bounds}
 use Rattle.modes.specs.Bounds.{count_between}
 use Rattle.checked_program.specs.declared.program.Checked.{Checked}
 use Rattle.checked_program.specs.declared.program.Body.{Body}
 use Rattle.checked_program.specs.declared.expr.Argument.TheOpen as opens
-use Rattle.checked_program.specs.declared.expr.Argument.{Argument, Argument-F, map-Argument, roll-Argument, fold-Argument, fold-roll-Argument, ind-Argument}
-use Rattle.checked_program.specs.declared.expr.Operation.{Operation, Operation-F, map-Operation, roll-Operation, fold-Operation, fold-roll-Operation, ind-Operation}
-use Rattle.checked_program.specs.declared.expr.Part.{Part, Part-F, map-Part, roll-Part, fold-Part, fold-roll-Part, ind-Part}
-use Rattle.checked_program.specs.declared.expr.Call.{Call, Call-F, map-Call, roll-Call, fold-Call, fold-roll-Call, ind-Call}
-use Rattle.checked_program.specs.declared.expr.Expr.{Expr, Expr-F, map-Expr, roll-Expr, fold-Expr, fold-roll-Expr, ind-Expr}
-use Rattle.checked_program.specs.declared.expr.Location.{Location, Location-F, map-Location, roll-Location, fold-Location, fold-roll-Location, ind-Location}
-use Rattle.checked_program.specs.declared.expr.Range.{Range, Range-F, map-Range, roll-Range, fold-Range, fold-roll-Range, ind-Range}
-use Rattle.checked_program.specs.declared.expr.Received.{Received, Received-F, map-Received, roll-Received, fold-Received, fold-roll-Received, ind-Received}
-use Rattle.checked_program.specs.declared.expr.Start.{Start, Start-F, map-Start, roll-Start, fold-Start, fold-roll-Start, ind-Start}
+use Rattle.checked_program.specs.declared.expr.Argument.{Argument, Argument-F, map-Argument, roll-Argument, fold-roll-Argument}
+use Rattle.checked_program.specs.declared.expr.Operation.{Operation, Operation-F, map-Operation, roll-Operation, fold-roll-Operation}
+use Rattle.checked_program.specs.declared.expr.Part.{Part, Part-F, map-Part, roll-Part, fold-roll-Part}
+use Rattle.checked_program.specs.declared.expr.Call.{Call, Call-F, map-Call, roll-Call, fold-roll-Call, ind-Call}
+use Rattle.checked_program.specs.declared.expr.Expr.{Expr, Expr-F, map-Expr, roll-Expr, fold-roll-Expr, ind-Expr}
+use Rattle.checked_program.specs.declared.expr.Location.{Location, Location-F, map-Location, roll-Location, fold-roll-Location, ind-Location}
+use Rattle.checked_program.specs.declared.expr.Range.{Range, Range-F, map-Range, roll-Range, fold-roll-Range}
+use Rattle.checked_program.specs.declared.expr.Received.{Received, Received-F, map-Received, roll-Received, fold-roll-Received, ind-Received}
+use Rattle.checked_program.specs.declared.expr.Start.{Start, Start-F, map-Start, roll-Start, fold-roll-Start, ind-Start}
 use Rattle.checked_program.specs.declared.program.Passing.TheVariants as passings
 use Rattle.program_ranges.specs.Around.{is_count, base_count, bounds_fit, are_ints, are_members, is_procedure, is_process, is_passed}
 use Rattle.program_ranges.specs.ExprRanges as tests
 use Rattle.program_ranges.specs.ExprRanges.{Test, Counted, Cut, Called, ArgumentTest, OperationTest, argument_in_range, operation_in_range, part_ranges, call_ranges, expr_ranges, location_ranges, range_in_range, received_ranges, start_in_range, all_hold, parts_lead, values_fill, values_fit, arguments_fit, is_number, lies_in, result_count, call_fits, start_fits, operands_fit}
 use Rattle.program_trees.specs.ExprTree as trees
 use Rattle.program_trees.specs.ExprTree.{ArgumentTree, OperationTree, PartTree, CallTree, ExprTree, LocationTree, RangeTree, ReceivedTree, StartTree, ReceivedNodes, PartNodes, RangeNodes, ArgumentNodes, one_field, one_element, alone, between, taken, given, both, received_nodes, part_nodes, range_nodes, argument_nodes, count_of, received_count, location_count, argument_tree, operation_tree, part_tree, call_tree, expr_tree, location_tree, range_tree, received_tree, start_tree}
-use Rattle.range_laws.specs.ExprInRange.{ExprInRange, OperationInRange, ReceivedInRange, AllInRange, ValuesInRange, PartsInRange, RangesInRange, LocationInRange, StartInRange, CallInRange, ArgumentsInRange, NumberInRange, IsPassed, CallGives}
+use Rattle.range_laws.specs.ExprInRange.{ExprInRange, OperationInRange, ReceivedInRange, AllInRange, ValuesInRange, PartsInRange, RangesInRange, LocationInRange, StartInRange, CallInRange, ArgumentsInRange, NumberInRange, PassedInRange, CallGives}
 use Rattle.std.proofs.lemmas.Option.{slice_get_within}
 use Rattle.checked_program.specs.declared.program.Passing.TheVariants.{In, Out, InOut}
 use Rattle.program_trees.specs.ProgramTree.{BodyRowTree, CheckedTree, body_row_tree, checked_tree}
 use Rattle.range_laws.proofs.Tests.{both_hold, equal, at_most, below}
 use Rattle.range_laws.proofs.Rows.{base_told, passed_told, result_told, body_there}
-
 
 -- ---- what is to be known of each kind
 
@@ -42,10 +40,10 @@ RangeKnown p body (alone e) = NumberInRange p body e
 RangeKnown p body (between e f) = NumberInRange p body e × NumberInRange p body f
 
 abbrev ArgumentKnown : CheckedTree → BodyRowTree → BodyRowTree → ℕ → ArgumentTree → Type 0
-ArgumentKnown p body callee k (taken r) = ReceivedInRange p body r × IsPassed callee k In (received_count r)
-ArgumentKnown p body callee k (given l bounds) = LocationInRange p body l × IsPassed callee k Out (location_count l) × IsTrue (bounds_fit bounds (location_count l))
+ArgumentKnown p body callee k (taken r) = ReceivedInRange p body r × PassedInRange callee k In (received_count r)
+ArgumentKnown p body callee k (given l bounds) = LocationInRange p body l × PassedInRange callee k Out (location_count l) × IsTrue (bounds_fit bounds (location_count l))
 ArgumentKnown p body callee k (both l taken_by bounds) =
-    LocationInRange p body l × IsPassed callee k InOut (location_count l) × IsTrue (bounds_fit taken_by (location_count l)) × IsTrue (bounds_fit bounds (location_count l))
+    LocationInRange p body l × PassedInRange callee k InOut (location_count l) × IsTrue (bounds_fit taken_by (location_count l)) × IsTrue (bounds_fit bounds (location_count l))
 
 abbrev TellsArgument : ArgumentTest → ArgumentTree → Type 0
 TellsArgument test t = (callee : Body) (number : ℕ) (program : Checked) (body : Body) → IsTrue (test callee number program body) → ArgumentKnown (checked_tree program) (body_row_tree body) (body_row_tree callee) number t
@@ -219,28 +217,28 @@ parts_known [] of n program body holds = equal of n holds
 parts_known (p ∷ ps) of n program body holds =
     let parts = both_hold ((part_ranges p.0).fits of program body) (parts_lead (part_ranges p.0).count (map part_ranges (map bare_part ps)) n program body) holds in
     with_part (part_tree p.0) of n (part_ranges p.0).count (part_nodes (map part_tree (map bare_part ps))) (p.1 of program body parts.0) (parts_known ps (part_ranges p.0).count n program body parts.1) where
-  with_part : (p : PartTree) (of n count : ℕ) (ps : PartNodes) → PartKnown (checked_tree program) (body_row_tree body) of count p → PartsInRange (checked_tree program) (body_row_tree body) count ps n → PartsInRange (checked_tree program) (body_row_tree body) of (trees.with_part p ps) n
-  with_part (one_field first m) of n count ps known rest = (known.1, subst (λ k. PartsInRange (checked_tree program) (body_row_tree body) k ps n) (sym known.0) rest)
-  with_part (one_element e b m) of n count ps known rest = (known.1, subst (λ k. PartsInRange (checked_tree program) (body_row_tree body) k ps n) (sym known.0) rest)
+      with_part : (p : PartTree) (of n count : ℕ) (ps : PartNodes) → PartKnown (checked_tree program) (body_row_tree body) of count p → PartsInRange (checked_tree program) (body_row_tree body) count ps n → PartsInRange (checked_tree program) (body_row_tree body) of (trees.with_part p ps) n
+      with_part (one_field first m) of n count ps known rest = (known.1, subst (λ k. PartsInRange (checked_tree program) (body_row_tree body) k ps n) (sym known.0) rest)
+      with_part (one_element e b m) of n count ps known rest = (known.1, subst (λ k. PartsInRange (checked_tree program) (body_row_tree body) k ps n) (sym known.0) rest)
 
 ranges_known : (rs : List KnownRange) (program : Checked) (body : Body) → IsTrue (all_hold (map range_in_range (map bare_range rs)) program body) → RangesInRange (checked_tree program) (body_row_tree body) (range_nodes (map range_tree (map bare_range rs)))
 ranges_known [] program body holds = tt
 ranges_known (r ∷ rs) program body holds =
     let parts = both_hold (range_in_range r.0 program body) (all_hold (map range_in_range (map bare_range rs)) program body) holds in
     with_range (range_tree r.0) (range_nodes (map range_tree (map bare_range rs))) (r.1 program body parts.0) (ranges_known rs program body parts.1) where
-  with_range : (r : RangeTree) (rs : RangeNodes) → RangeKnown (checked_tree program) (body_row_tree body) r → RangesInRange (checked_tree program) (body_row_tree body) rs → RangesInRange (checked_tree program) (body_row_tree body) (trees.with_range r rs)
-  with_range (alone e) rs known rest = (known, rest)
-  with_range (between e f) rs known rest = (known, rest)
+      with_range : (r : RangeTree) (rs : RangeNodes) → RangeKnown (checked_tree program) (body_row_tree body) r → RangesInRange (checked_tree program) (body_row_tree body) rs → RangesInRange (checked_tree program) (body_row_tree body) (trees.with_range r rs)
+      with_range (alone e) rs known rest = (known, rest)
+      with_range (between e f) rs known rest = (known, rest)
 
 arguments_known : (as' : List KnownArgument) (callee : Body) (number : ℕ) (program : Checked) (body : Body) → IsTrue (arguments_fit callee number (map argument_in_range (map bare_argument as')) program body) → ArgumentsInRange (checked_tree program) (body_row_tree body) (body_row_tree callee) number (argument_nodes (map argument_tree (map bare_argument as')))
 arguments_known [] callee number program body holds = equal number (length callee.parameters) holds
 arguments_known (a ∷ as') callee number program body holds =
     let parts = both_hold (argument_in_range a.0 callee number program body) (arguments_fit callee (number + 1) (map argument_in_range (map bare_argument as')) program body) holds in
     with_argument (argument_tree a.0) (argument_nodes (map argument_tree (map bare_argument as'))) (a.1 callee number program body parts.0) (arguments_known as' callee (number + 1) program body parts.1) where
-  with_argument : (a : ArgumentTree) (as' : ArgumentNodes) → ArgumentKnown (checked_tree program) (body_row_tree body) (body_row_tree callee) number a → ArgumentsInRange (checked_tree program) (body_row_tree body) (body_row_tree callee) (number + 1) as' → ArgumentsInRange (checked_tree program) (body_row_tree body) (body_row_tree callee) number (trees.with_argument a as')
-  with_argument (taken r) as' known rest = (known, rest)
-  with_argument (given l bounds) as' known rest = (known, rest)
-  with_argument (both l taken_by bounds) as' known rest = (known, rest)
+      with_argument : (a : ArgumentTree) (as' : ArgumentNodes) → ArgumentKnown (checked_tree program) (body_row_tree body) (body_row_tree callee) number a → ArgumentsInRange (checked_tree program) (body_row_tree body) (body_row_tree callee) (number + 1) as' → ArgumentsInRange (checked_tree program) (body_row_tree body) (body_row_tree callee) number (trees.with_argument a as')
+      with_argument (taken r) as' known rest = (known, rest)
+      with_argument (given l bounds) as' known rest = (known, rest)
+      with_argument (both l taken_by bounds) as' known rest = (known, rest)
 
 values_known : (vs : List KnownReceived) (n : ℕ) (program : Checked) (body : Body) → IsTrue (values_fill (map received_ranges (map bare_received vs)) n program body) → ValuesInRange (checked_tree program) (body_row_tree body) (received_nodes (map received_tree (map bare_received vs))) n
 values_known [] n program body holds = equal n 0 holds
@@ -299,11 +297,13 @@ range_step y program body holds = to_last y.first y.last program body holds wher
       (number_known first.value program body parts.0, number_known last.value program body parts.1)
 
 received_step : (y : Received-F KnownArgument KnownOperation KnownPart KnownCall KnownExpr KnownLocation KnownRange KnownReceived KnownStart) → TellsReceived (tests.received_layer (tested_received y)) (trees.received_layer (treed_received y))
-received_step y =
-    (y.value.value.1.0, λ program body holds.
-        let counted = expr_ranges y.value.value.0 in
-        let parts = both_hold (counted.holds program body) (bounds_fit y.bounds counted.count) holds in
-        (y.value.value.1.1 program body parts.0, subst (λ k. IsTrue (bounds_fit y.bounds k)) (sym y.value.value.1.0) parts.1))
+received_step y = (
+  y.value.value.1.0,
+  λ program body holds.
+      let counted = expr_ranges y.value.value.0 in
+      let parts = both_hold (counted.holds program body) (bounds_fit y.bounds counted.count) holds in
+      (y.value.value.1.1 program body parts.0, subst (λ k. IsTrue (bounds_fit y.bounds k)) (sym y.value.value.1.0) parts.1),
+)
 
 location_step : (y : Location-F KnownArgument KnownOperation KnownPart KnownCall KnownExpr KnownLocation KnownRange KnownReceived KnownStart) → TellsLocation (tests.location_layer (tested_location y)) (trees.location_layer (treed_location y))
 location_step y = (refl, λ program body holds. led (base_count y.base program body) program body refl holds) where
@@ -322,10 +322,12 @@ call_step : (y : Call-F KnownArgument KnownOperation KnownPart KnownCall KnownEx
 call_step y program body = (λ holds. entered (slice_get program.bodies y.body) refl holds, λ n holds. gives (slice_get program.bodies y.body) n refl holds) where
   nodes : ArgumentNodes
   nodes = argument_nodes (map argument_tree (map bare_argument y.arguments))
+
   entered : (callee : Option Body) → slice_get program.bodies y.body ≡ callee → IsTrue (call_fits callee (map argument_in_range (map bare_argument y.arguments)) program body) → CallInRange (checked_tree program) (body_row_tree body) (trees.called y.body nodes)
   entered None is holds = absurd (let no : ⊥ = cc in no)
   entered (Some callee) is holds =
       (body_row_tree callee, body_there program y.body callee is, arguments_known y.arguments callee 0 program body (both_hold (is_procedure callee.sort) (arguments_fit callee 0 (map argument_in_range (map bare_argument y.arguments)) program body) holds).1)
+
   gives : (callee : Option Body) (n : ℕ) → slice_get program.bodies y.body ≡ callee → IsTrue (is_count (result_count callee) n) → CallGives (checked_tree program) (trees.called y.body nodes) n
   gives None n is holds = absurd (let no : ⊥ = cc in no)
   gives (Some callee) n is holds = (body_row_tree callee, body_there program y.body callee is, result_told callee.result n holds)

@@ -1,5 +1,5 @@
 -- What being in range says of statements: one induction over all kinds of their nodes.
-use Rattle.std.proofs.Common.{◌≡◌, ℕ, ◌+◌, List, [], ◌∷◌, map, Option, Some, None, refl, ap, sym, ◌∙◌, subst, IsTrue}
+use Rattle.std.proofs.Common.{◌≡◌, ℕ, ◌+◌, List, [], ◌∷◌, map, Option, Some, None, refl, sym, ◌∙◌, subst, IsTrue}
 use Rattle.std.specs.Prelude.{Bool, true, false, ◌&&◌, nat_eq, nat_lt, slice_get, option_map, length}
 use Rattle.std.specs.declared.alloc.Global.{Global}
 use Rattle.std.specs.declared.boxed.Box.{Box}
@@ -13,29 +13,30 @@ use Rattle.checked_program.specs.declared.statement.Sent.{Sent}
 use Rattle.checked_program.specs.declared.statement.Sent.TheVariants.{ToBuffer, Signal}
 use Rattle.checked_program.specs.declared.statement.Control.{Control}
 use Rattle.checked_program.specs.declared.statement.Control.TheVariants.{While, Forever, Members, Steps}
-use Rattle.checked_program.specs.declared.statement.Action.{Action, Action-F, map-Action, roll-Action, fold-Action, fold-roll-Action, ind-Action}
-use Rattle.checked_program.specs.declared.statement.CaseAlternative.{CaseAlternative, CaseAlternative-F, map-CaseAlternative, roll-CaseAlternative, fold-CaseAlternative, fold-roll-CaseAlternative, ind-CaseAlternative}
-use Rattle.checked_program.specs.declared.statement.Choice.{Choice, Choice-F, map-Choice, roll-Choice, fold-Choice, fold-roll-Choice, ind-Choice}
-use Rattle.checked_program.specs.declared.statement.DelayAlternative.{DelayAlternative, DelayAlternative-F, map-DelayAlternative, roll-DelayAlternative, fold-DelayAlternative, fold-roll-DelayAlternative, ind-DelayAlternative}
-use Rattle.checked_program.specs.declared.statement.Handler.{Handler, Handler-F, map-Handler, roll-Handler, fold-Handler, fold-roll-Handler, ind-Handler}
-use Rattle.checked_program.specs.declared.statement.HandlerAlternative.{HandlerAlternative, HandlerAlternative-F, map-HandlerAlternative, roll-HandlerAlternative, fold-HandlerAlternative, fold-roll-HandlerAlternative, ind-HandlerAlternative}
-use Rattle.checked_program.specs.declared.statement.ReceiveAlternative.{ReceiveAlternative, ReceiveAlternative-F, map-ReceiveAlternative, roll-ReceiveAlternative, fold-ReceiveAlternative, fold-roll-ReceiveAlternative, ind-ReceiveAlternative}
-use Rattle.checked_program.specs.declared.statement.Statement.{Statement, Statement-F, map-Statement, roll-Statement, fold-Statement, fold-roll-Statement, ind-Statement}
-use Rattle.program_ranges.specs.Around.{is_count, base_count, mode_count, buffer_count}
-use Rattle.program_ranges.specs.ExprRanges.{Counted, is_number, some_number, operands_fit, expr_ranges, received_ranges, location_ranges, start_in_range, call_ranges}
-use Rattle.program_ranges.specs.Messages.{signal_part, is_part, parts_sent, parts_received, locals_follow, sent_in_range}
+use Rattle.checked_program.specs.declared.statement.Action.{Action, Action-F, map-Action, roll-Action, fold-roll-Action}
+use Rattle.checked_program.specs.declared.statement.CaseAlternative.{CaseAlternative, CaseAlternative-F, map-CaseAlternative, roll-CaseAlternative, fold-CaseAlternative, fold-roll-CaseAlternative}
+use Rattle.checked_program.specs.declared.statement.Choice.{Choice, Choice-F, map-Choice, roll-Choice, fold-Choice, fold-roll-Choice}
+use Rattle.checked_program.specs.declared.statement.DelayAlternative.{DelayAlternative, DelayAlternative-F, map-DelayAlternative, roll-DelayAlternative, fold-DelayAlternative, fold-roll-DelayAlternative}
+use Rattle.checked_program.specs.declared.statement.Handler.{Handler, Handler-F, map-Handler, roll-Handler, fold-roll-Handler, ind-Handler}
+use Rattle.checked_program.specs.declared.statement.HandlerAlternative.{HandlerAlternative, HandlerAlternative-F, map-HandlerAlternative, roll-HandlerAlternative, fold-HandlerAlternative, fold-roll-HandlerAlternative}
+use Rattle.checked_program.specs.declared.statement.ReceiveAlternative.{ReceiveAlternative, ReceiveAlternative-F, map-ReceiveAlternative, roll-ReceiveAlternative, fold-ReceiveAlternative, fold-roll-ReceiveAlternative}
+use Rattle.checked_program.specs.declared.statement.Statement.{Statement, Statement-F, map-Statement, roll-Statement, fold-roll-Statement, ind-Statement}
+use Rattle.program_ranges.specs.Around.{is_count, base_count, local_count, mode_count, buffer_count, is_exception}
+use Rattle.program_ranges.specs.ExprRanges.{is_number, some_number, operands_fit, expr_ranges, received_ranges, location_ranges}
+use Rattle.program_ranges.specs.Messages.{signal_part, part_count, same_count, begins_at, behind, is_part, parts_sent, parts_received, locals_follow, sent_in_range}
 use Rattle.program_ranges.specs.ActionRanges.{names_fit, is_local, all_below, all_exceptions, is_result, some_result, control_in_range}
 use Rattle.program_ranges.specs.StatementRanges as tests
 use Rattle.program_ranges.specs.StatementRanges.{Acting, LabelTest, ReceiveTest, StatementTest, statements_hold, some_statements, all_within, some_within, all_receive, is_set, labels_inside, action_ranges, case_in_range, choice_in_range, delay_in_range, handler_in_range, handled_in_range, receive_in_range, statement_in_range}
-use Rattle.program_trees.specs.ExprTree.{ExprTree, received_nodes, count_of, received_count, location_count, expr_tree, received_tree, location_tree, boxed_expr}
+use Rattle.program_trees.specs.ExprTree.{received_nodes, location_count, expr_tree, received_tree, location_tree, boxed_expr}
 use Rattle.program_trees.specs.StatementTree as trees
 use Rattle.program_trees.specs.StatementTree.{ActionTree, CaseTree, ChoiceTree, NumbersTree, ReceiveTree, HandlerNode, StatementTree, statement_nodes, choice_nodes, case_nodes, delay_nodes, receive_nodes, handled_nodes, otherwise_node, sent_tree, control_tree, set_tree, action_tree, handler_tree, statement_tree}
-use Rattle.range_laws.specs.ExprInRange.{ResultInRange, NumberInRange, ReceivedInRange, AllInRange}
-use Rattle.range_laws.specs.StatementInRange.{SomeNumberInRange, GivenInRange, SomeGivenInRange, NamesInRange, SetInRange, SentInRange, ControlInRange, StatementsInRange, StatementInRange, HandlerInRange, HandledInRange, OtherwiseInRange, ActionInRange, ChoicesInRange, CasesInRange, DelaysInRange, ReceivesInRange}
+use Rattle.range_laws.specs.ExprInRange.{ResultInRange, NumberInRange, AllInRange}
+use Rattle.range_laws.specs.StatementInRange.{SomeNumberInRange, GivenInRange, SomeGivenInRange, NamesInRange, BeginsAt, LocalsFollow, ExceptionsInRange, SetInRange, SentInRange, ControlInRange, StatementsInRange, StatementInRange, HandlerInRange, HandledInRange, ActionInRange, ChoicesInRange, CasesInRange, DelaysInRange, ReceivesInRange}
 use Rattle.range_laws.proofs.Tests.{both_hold, equal, below, truly}
-use Rattle.range_laws.proofs.Rows.{base_told, counted, local_told, result_told}
+use Rattle.range_laws.proofs.Rows.{base_told, local_there, counted, local_told, result_told}
 use Rattle.checked_program.specs.declared.expr.Base.{Base}
-use Rattle.program_trees.specs.ProgramTree.{body_row_tree, checked_tree, shared_mode}
+use Rattle.program_trees.specs.ProgramTree.{body_row_tree, checked_tree, local_row_tree, shared_mode}
+use Rattle.checked_program.specs.declared.program.LocalRow.{LocalRow}
 use Rattle.range_laws.proofs.Expressions.{expr_told, location_told, received_told, start_told, call_told}
 
 -- ---- expressions of actions
@@ -108,6 +109,29 @@ control_told (Steps counter first step end down condition) program body holds =
     let c = both_hold third last b.1 in
     (local_told counter 1 body all.0, number_told first.value program body a.0, some_number_told step program body b.0, number_told end.value program body c.0, some_number_told condition program body c.1)
 
+-- ---- exceptions, and locals that get what comes
+
+pub exceptions_told : (xs : List ℕ) (program : Checked) → IsTrue (all_exceptions xs program) → ExceptionsInRange (checked_tree program) xs
+exceptions_told [] program holds = tt
+exceptions_told (x ∷ xs) program holds =
+    let parts = both_hold (is_exception x program) (all_exceptions xs program) holds in
+    (below x (7 + length program.exceptions) parts.0, exceptions_told xs program parts.1)
+
+follow_told : (ks : List ℕ) (source : _) (n i : ℕ) (told : Option ℕ) (program : Checked) (body : Body) → IsTrue (parts_received source n i ks program body) → IsTrue (locals_follow told ks body) → LocalsFollow (body_row_tree body) told ks
+follow_told [] source n i told program body there follow = tt
+follow_told (k ∷ ks) source n i told program body there follow =
+    let row = slice_get body.locals k in
+    let parts = both_hold (same_count (local_count row) (part_count source n i program)) (parts_received source n (i + 1) ks program body) there in
+    let lie = both_hold (begins_at told row) (locals_follow (behind row) ks body) follow in
+    one row refl parts.0 lie.0 (λ first is. follow_told ks source n (i + 1) first program body parts.1 (subst (λ f. IsTrue (locals_follow f ks body)) is lie.1)) where
+      begun : (o : Option ℕ) (row : LocalRow) → IsTrue (begins_at o (Some row)) → BeginsAt o row.first
+      begun None row begins = tt
+      begun (Some first) row begins = equal row.first first begins
+
+      one : (row : Option LocalRow) → slice_get body.locals k ≡ row → IsTrue (same_count (local_count row) (part_count source n i program)) → IsTrue (begins_at told row) → ((first : Option ℕ) → behind row ≡ first → LocalsFollow (body_row_tree body) first ks) → LocalsFollow (body_row_tree body) told (k ∷ ks)
+      one None is counted begins rest = absurd (let no : ⊥ = cc in no)
+      one (Some row) is counted begins rest = (local_row_tree row, local_there k body row is, begun told row begins, rest (Some (row.first + row.count)) refl)
+
 -- ---- what is to be known of each kind
 
 abbrev TellsAction : Acting → ActionTree → Type 0
@@ -126,10 +150,10 @@ abbrev TellsHandler : LabelTest → HandlerNode → Type 0
 TellsHandler test t = (labels : ℕ) (program : Checked) (body : Body) → IsTrue (test labels program body) → HandlerInRange (checked_tree program) (body_row_tree body) t
 
 abbrev TellsHandlerAlternative : LabelTest → NumbersTree → Type 0
-TellsHandlerAlternative test t = (labels : ℕ) (program : Checked) (body : Body) → IsTrue (test labels program body) → StatementsInRange (checked_tree program) (body_row_tree body) false t.actions
+TellsHandlerAlternative test t = (labels : ℕ) (program : Checked) (body : Body) → IsTrue (test labels program body) → ExceptionsInRange (checked_tree program) t.numbers × StatementsInRange (checked_tree program) (body_row_tree body) false t.actions
 
 abbrev TellsReceiveAlternative : ReceiveTest → ReceiveTree → Type 0
-TellsReceiveAlternative test t = (source : _) (labels : ℕ) (program : Checked) (body : Body) → IsTrue (test source labels program body) → StatementsInRange (checked_tree program) (body_row_tree body) false t.actions
+TellsReceiveAlternative test t = (source : _) (labels : ℕ) (program : Checked) (body : Body) → IsTrue (test source labels program body) → LocalsFollow (body_row_tree body) None t.received × StatementsInRange (checked_tree program) (body_row_tree body) false t.actions
 
 abbrev TellsStatement : StatementTest → StatementTree → Type 0
 TellsStatement test t = (items : Bool) (labels : ℕ) (program : Checked) (body : Body) → IsTrue (test items labels program body) → StatementInRange (checked_tree program) (body_row_tree body) items t
@@ -325,12 +349,14 @@ delay_step y labels program body holds =
 
 handled_step : (y : HandlerAlternative-F KnownAction KnownCaseAlternative KnownChoice KnownDelayAlternative KnownHandler KnownHandlerAlternative KnownReceiveAlternative KnownStatement) → TellsHandlerAlternative (tests.handled_layer (tested_handled y)) (trees.handled_layer (treed_handled y))
 handled_step y labels program body holds =
-    statements_known y.actions false labels program body (both_hold (all_exceptions y.exceptions program) (statements_hold false (map statement_in_range (map bare_statement y.actions)) labels program body) holds).1
+    let parts = both_hold (all_exceptions y.exceptions program) (statements_hold false (map statement_in_range (map bare_statement y.actions)) labels program body) holds in
+    (exceptions_told y.exceptions program parts.0, statements_known y.actions false labels program body parts.1)
 
 receive_step : (y : ReceiveAlternative-F KnownAction KnownCaseAlternative KnownChoice KnownDelayAlternative KnownHandler KnownHandlerAlternative KnownReceiveAlternative KnownStatement) → TellsReceiveAlternative (tests.receive_layer (tested_receive y)) (trees.receive_layer (treed_receive y))
 receive_step y source labels program body holds =
     let all = both_hold (parts_received source y.source 0 y.received program body) (locals_follow None y.received body && statements_hold false (map statement_in_range (map bare_statement y.actions)) labels program body) holds in
-    statements_known y.actions false labels program body (both_hold (locals_follow None y.received body) (statements_hold false (map statement_in_range (map bare_statement y.actions)) labels program body) all.1).1
+    let parts = both_hold (locals_follow None y.received body) (statements_hold false (map statement_in_range (map bare_statement y.actions)) labels program body) all.1 in
+    (follow_told y.received source y.source 0 None program body all.0 parts.0, statements_known y.actions false labels program body parts.1)
 
 handler_step : (y : Handler-F KnownAction KnownCaseAlternative KnownChoice KnownDelayAlternative KnownHandler KnownHandlerAlternative KnownReceiveAlternative KnownStatement) → TellsHandler (tests.handler_layer (tested_handler y)) (trees.handler_layer (treed_handler y))
 handler_step y labels program body holds = to_else y.alternatives y.otherwise labels program body holds where
@@ -344,6 +370,7 @@ statement_step : (y : Statement-F KnownAction KnownCaseAlternative KnownChoice K
 statement_step y items labels program body holds = to_handler y.action y.handler items holds where
   inside : Box KnownAction Global → ℕ
   inside a = labels_inside (action_ranges a.value.0).is_modulion y.labelled labels
+
   to_handler : (a : Box KnownAction Global) (h : Option (Box KnownHandler Global)) (items : Bool) → IsTrue (tests.statement_layer (tested_statement (record { labelled = y.labelled; action = a; handler = h })) items labels program body) → StatementInRange (checked_tree program) (body_row_tree body) items (trees.statement_layer (treed_statement (record { labelled = y.labelled; action = a; handler = h })))
   to_handler a None items holds = (a.value.1 items (inside a) program body (both_hold ((action_ranges a.value.0).holds items (inside a) program body) true holds).0, tt)
   to_handler a (Some h) items holds =

@@ -27,8 +27,8 @@ BaseInRange p body (Shared l) n = (row : LocationRowTree) × (slice_get p.locati
 BaseInRange p body (Local k) n = LocalInRange body k n
 
 -- the parameter of this number passes so many scalars this way
-abbrev pub IsPassed : BodyRowTree → ℕ → Passing → ℕ → Type 0
-IsPassed callee k how n = (slice_get callee.parameters k ≡ Some (record { passing = how })) × LocalInRange callee k n
+abbrev pub PassedInRange : BodyRowTree → ℕ → Passing → ℕ → Type 0
+PassedInRange callee k how n = (slice_get callee.parameters k ≡ Some (record { passing = how })) × LocalInRange callee k n
 
 -- there is a result of so many scalars
 abbrev pub ResultInRange : Option ModeTree → ℕ → Type 0
@@ -94,11 +94,11 @@ abbrev mutual
   -- arguments for the parameters from this number on
   pub ArgumentsInRange : CheckedTree → BodyRowTree → BodyRowTree → ℕ → ArgumentNodes → Type 0
   ArgumentsInRange p body callee k no_arguments = k ≡ length callee.parameters
-  ArgumentsInRange p body callee k (in_argument r as') = (ReceivedInRange p body r × IsPassed callee k In (received_count r)) × ArgumentsInRange p body callee (k + 1) as'
+  ArgumentsInRange p body callee k (in_argument r as') = (ReceivedInRange p body r × PassedInRange callee k In (received_count r)) × ArgumentsInRange p body callee (k + 1) as'
   ArgumentsInRange p body callee k (out_argument l bounds as') =
-      (LocationInRange p body l × IsPassed callee k Out (location_count l) × IsTrue (bounds_fit bounds (location_count l))) × ArgumentsInRange p body callee (k + 1) as'
+      (LocationInRange p body l × PassedInRange callee k Out (location_count l) × IsTrue (bounds_fit bounds (location_count l))) × ArgumentsInRange p body callee (k + 1) as'
   ArgumentsInRange p body callee k (inout_argument l taken bounds as') =
-      (LocationInRange p body l × IsPassed callee k InOut (location_count l) × IsTrue (bounds_fit taken (location_count l)) × IsTrue (bounds_fit bounds (location_count l))) × ArgumentsInRange p body callee (k + 1) as'
+      (LocationInRange p body l × PassedInRange callee k InOut (location_count l) × IsTrue (bounds_fit taken (location_count l)) × IsTrue (bounds_fit bounds (location_count l))) × ArgumentsInRange p body callee (k + 1) as'
 
 -- a value of one scalar
 abbrev pub NumberInRange : CheckedTree → BodyRowTree → ExprTree → Type 0

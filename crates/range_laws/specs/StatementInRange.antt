@@ -5,7 +5,7 @@ use Rattle.checked_program.specs.declared.expr.Base.{Base}
 use Rattle.program_ranges.specs.ExprRanges.{operands_fit}
 use Rattle.program_trees.specs.ExprTree.{ExprTree, ReceivedTree, LocationTree, count_of, received_count, location_count}
 use Rattle.program_trees.specs.StatementTree.{SentTree, to_buffer, signal, ControlTree, while_true, for_ever, for_members, for_steps, StatementTree, statement, ActionTree, do_nothing, declare, set_lowest, module_at, region_at, assign, update, perform, drop_routine, evaluate, put_int, put_text, put_line, exit_from, return_with, set_result, assert_that, cause, stop, start_of, delay, continue_at, send, if_then, case_of, do_loop, begin_end, delay_case, receive_buffers, receive_signals, StatementNodes, no_statements, more_statements, ChoiceNodes, no_choices, more_choices, CaseNodes, no_cases, more_cases, DelayNodes, no_delays, more_delays, ReceiveNodes, no_receives, more_receives, OtherwiseNode, no_otherwise, otherwise, HandledNodes, no_handled, more_handled, HandlerNode, no_handler, handler}
-use Rattle.program_trees.specs.ProgramTree.{BodyRowTree, CheckedTree}
+use Rattle.program_trees.specs.ProgramTree.{LocalRowTree, BodyRowTree, CheckedTree}
 use Rattle.range_laws.specs.ExprInRange.{LocalInRange, BaseInRange, ResultInRange, ExprInRange, NumberInRange, ReceivedInRange, AllInRange, LocationInRange, StartInRange, CallInRange}
 
 -- ---- parts of actions
@@ -42,6 +42,21 @@ ControlInRange p body for_ever = Unit {0}
 ControlInRange p body (for_members counter e low condition) = LocalInRange body counter 1 × NumberInRange p body e × SomeNumberInRange p body condition
 ControlInRange p body (for_steps counter e step f down condition) = LocalInRange body counter 1 × NumberInRange p body e × SomeNumberInRange p body step × NumberInRange p body f × SomeNumberInRange p body condition
 
+-- a local begins with this scalar, where one is told
+abbrev pub BeginsAt : Option ℕ → ℕ → Type 0
+BeginsAt None first = Unit {0}
+BeginsAt (Some told) first = first ≡ told
+
+-- the locals follow each other, and the first of them this scalar where one is told
+abbrev pub LocalsFollow : BodyRowTree → Option ℕ → List ℕ → Type 0
+LocalsFollow body told [] = Unit {0}
+LocalsFollow body told (k ∷ ks) = (row : LocalRowTree) × (slice_get body.locals k ≡ Some row) × BeginsAt told row.first × LocalsFollow body (Some (row.first + row.count)) ks
+
+-- there are exceptions of these numbers
+abbrev pub ExceptionsInRange : CheckedTree → List ℕ → Type 0
+ExceptionsInRange p [] = Unit {0}
+ExceptionsInRange p (x ∷ xs) = (x < 7 + length p.exceptions) × ExceptionsInRange p xs
+
 -- ---- statements, which may be items
 
 abbrev mutual
@@ -58,7 +73,7 @@ abbrev mutual
 
   pub HandledInRange : CheckedTree → BodyRowTree → HandledNodes → Type 0
   HandledInRange p body no_handled = Unit {0}
-  HandledInRange p body (more_handled names ss hs) = StatementsInRange p body false ss × HandledInRange p body hs
+  HandledInRange p body (more_handled names ss hs) = (ExceptionsInRange p names × StatementsInRange p body false ss) × HandledInRange p body hs
 
   pub OtherwiseInRange : CheckedTree → BodyRowTree → OtherwiseNode → Type 0
   OtherwiseInRange p body no_otherwise = Unit {0}
@@ -111,10 +126,11 @@ abbrev mutual
 
   pub ReceivesInRange : CheckedTree → BodyRowTree → ReceiveNodes → Type 0
   ReceivesInRange p body no_receives = Unit {0}
-  ReceivesInRange p body (more_receives source ks ss rs) = StatementsInRange p body false ss × ReceivesInRange p body rs
+  ReceivesInRange p body (more_receives source ks ss rs) = (LocalsFollow body None ks × StatementsInRange p body false ss) × ReceivesInRange p body rs
 
 -- a body: its statements are items
 pub record BodyInRange (p : CheckedTree) (body : BodyRowTree) : Type 0 where
+  pub listed : ExceptionsInRange p body.listed
   pub items : StatementsInRange p body true body.statements
   pub handled : HandlerInRange p body body.handler
 

@@ -1,13 +1,13 @@
 -- How many scalars modes have: those that a text can give have few, and a lowest value as many.
-use Rattle.std.proofs.Common.{◌≡◌, ◌+◌, ◌*◌, ◌≤◌, ℕ, zero, suc, List, [], ◌∷◌, length, length-append, refl, ap, sym, ◌∙◌, subst, arith, Some, None, IsTrue, rules}
-use Rattle.std.specs.Prelude.{ℤ, pos, Bool, true, false, ◌&&◌, nat_le, max, slice_get}
+use Rattle.std.proofs.Common.{◌≡◌, ◌+◌, ◌*◌, ◌≤◌, ℕ, zero, suc, List, [], ◌∷◌, length, length-append, refl, ap, ◌∙◌, subst, arith, Some, IsTrue, rules}
+use Rattle.std.specs.Prelude.{ℤ, pos, Bool, true, false, ◌&&◌, nat_le, slice_get}
 use Rattle.std.proofs.lemmas.List.{length-replicate}
 use Rattle.std.proofs.Math.Nat.{mul-le-mul}
 use Rattle.modes.specs.ModeTree.{ModeTree, int, boolean, char, instance, set_of, range, powerset, chars, array, structure, event, buffer, read, named, FieldNodes, no_fields, more_fields}
 use Rattle.modes.specs.Form.{form_of}
 use Rattle.modes.specs.Bounds.{values_of, bounds_of}
 use Rattle.modes.specs.Scalars.{numbers_of, scalars_of, leaves_of, scalars_in_fields, repeated, lowest_of, lowest_of_fields}
-use Rattle.modes.specs.Language.{IsOfLanguage, parts_fit, fields_fit, is_filled, is_from_to, lie_in}
+use Rattle.modes.specs.Language.{IsOfLanguage, parts_fit, is_from_to, lie_in}
 use Rattle.program_trees.specs.ProgramTree.{LocalRowTree}
 use Rattle.source_meaning.specs.Typed.{AreLaidFrom}
 use Rattle.source_meaning.specs.TypedValues.{IsArray}

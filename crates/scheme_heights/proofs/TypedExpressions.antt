@@ -1,10 +1,10 @@
 -- The numbers of scalars in expressions of a typed program in range fit each other.
-use Rattle.std.proofs.Common.{◌≡◌, ◌⊎◌, ◌+◌, ◌-◌, ◌*◌, ◌≤◌, ◌<◌, ℕ, zero, suc, List, [], ◌∷◌, length, take, inl, inr, refl, ap, sym, ◌∙◌, subst, arith, Option, Some, None, IsTrue, rules}
-use Rattle.std.specs.Prelude.{Bool, true, false, ◌&&◌, min, nat_eq, slice_get, if◌then◌else◌}
+use Rattle.std.proofs.Common.{◌≡◌, ◌+◌, ◌-◌, ◌≤◌, ℕ, suc, List, [], ◌∷◌, length, take, inl, inr, refl, ap, sym, ◌∙◌, subst, arith, Option, Some, None, IsTrue, rules}
+use Rattle.std.specs.Prelude.{Bool, true, false, ◌&&◌, nat_eq, slice_get, if◌then◌else◌}
 use Rattle.std.proofs.lemmas.Option.{slice_get_past}
 use Rattle.modes.specs.declared.mode.Bounds.{Bounds}
 use Rattle.modes.specs.ModeTree.{ModeTree, FieldNodes}
-use Rattle.modes.specs.Scalars.{scalars_of, lowest_of}
+use Rattle.modes.specs.Scalars.{scalars_of}
 use Rattle.modes.specs.Bounds.{values_of}
 use Rattle.modes.specs.Language.{IsOfLanguage}
 use Rattle.checked_program.specs.declared.expr.Binary.{Binary}
@@ -18,14 +18,13 @@ use Rattle.program_trees.specs.ExprTree.{ExprTree, expr, OperationTree, constant
 use Rattle.program_trees.specs.ProgramTree.{LocalRowTree, BodyRowTree, CheckedTree}
 use Rattle.code_scheme.specs.Pieces.{has_index, first_of_parts, lowest_in_row}
 use Rattle.code_scheme.specs.ExprCode.{counts_of}
-use Rattle.code_scheme.specs.StatementSite.{scalars_in, is_given_back, back_scalars, parameter_scalars, scalars_of_result, call_results}
+use Rattle.code_scheme.specs.StatementSite.{scalars_in, is_given_back, back_scalars, parameter_scalars, scalars_of_result}
 use Rattle.source_meaning.specs.Typed.{AreLaidFrom}
 use Rattle.source_meaning.specs.TypedValues as meaning
 use Rattle.source_meaning.specs.TypedValues.{Context, HasMode, OperationHas, IsTakenBy, ElementsHave, FieldsHave, AllHave, PartsLead, RangesHave, LocationHas, IsTypedStart, AllTaken, IsTypedCall}
-use Rattle.range_laws.specs.ExprInRange.{ExprInRange, OperationInRange, ReceivedInRange, AllInRange, ValuesInRange, PartsInRange, RangesInRange, LocationInRange, StartInRange, CallInRange, ArgumentsInRange, IsPassed, ResultInRange, CallGives}
+use Rattle.range_laws.specs.ExprInRange.{ExprInRange, OperationInRange, ReceivedInRange, AllInRange, ValuesInRange, PartsInRange, RangesInRange, LocationInRange, StartInRange, CallInRange, ArgumentsInRange, PassedInRange, ResultInRange, CallGives}
 use Rattle.scheme_heights.specs.Counts.{TakesCounts, TestsOne, LiesIn, argument_scalars, copied_scalars, CountsFit, OperationFits, ReceivedFits, AllFit, PartsFit, PlaceFits, RangesFit, StartFits, CallFits, ArgumentsFit}
 use Rattle.scheme_heights.proofs.ModeCounts.{both_hold, lowest_counted, scalars_few, elements_few, row_told}
-use Rattle.scheme_heights.proofs.Located.{item_below}
 
 -- the locals of each body have as many scalars as their modes
 abbrev pub AreAllLaid : CheckedTree → Type 0
@@ -73,18 +72,18 @@ values_counted p body (more_received r rs) n known =
 
 -- ---- calls
 
-abbrev Follows : {A : Type 0} → List A → ℕ → List A → Type 0
-Follows xs k ys = (i : ℕ) → slice_get xs (k + i) ≡ slice_get ys i
+abbrev AreFrom : {A : Type 0} → List A → ℕ → List A → Type 0
+AreFrom xs k ys = (i : ℕ) → slice_get xs (k + i) ≡ slice_get ys i
 
-follows_next : {A : Type 0} (xs : List A) (k : ℕ) (y : A) (ys : List A) → Follows xs k (y ∷ ys) → Follows xs (k + 1) ys
-follows_next xs k y ys follows i = subst (λ (j : ℕ). slice_get xs j ≡ slice_get ys i) (omega arith) (follows (suc i))
+from_next : {A : Type 0} (xs : List A) (k : ℕ) (y : A) (ys : List A) → AreFrom xs k (y ∷ ys) → AreFrom xs (k + 1) ys
+from_next xs k y ys from i = subst (λ (j : ℕ). slice_get xs j ≡ slice_get ys i) (omega arith) (from (suc i))
 
-follows_first : {A : Type 0} (xs : List A) (k : ℕ) (ys : List A) (x : A) → Follows xs k ys → slice_get xs k ≡ Some x → slice_get ys 0 ≡ Some x
-follows_first xs k ys x follows is = sym (follows 0) ∙ (subst (λ (j : ℕ). slice_get xs j ≡ Some x) (omega arith) is)
+from_first : {A : Type 0} (xs : List A) (k : ℕ) (ys : List A) (x : A) → AreFrom xs k ys → slice_get xs k ≡ Some x → slice_get ys 0 ≡ Some x
+from_first xs k ys x from is = sym (from 0) ∙ (subst (λ (j : ℕ). slice_get xs j ≡ Some x) (omega arith) is)
 
 -- the parameters and the locals behind those of some arguments have so many scalars, and give back so many
 abbrev SumUp : BodyRowTree → ℕ → ℕ → ℕ → Type 0
-SumUp callee k a c = (qs : List Parameter) (rows : List LocalRowTree) → Follows callee.parameters k qs → Follows callee.locals k rows
+SumUp callee k a c = (qs : List Parameter) (rows : List LocalRowTree) → AreFrom callee.parameters k qs → AreFrom callee.locals k rows
     → (scalars_in (take (length qs) rows) ≡ a) × (back_scalars qs rows ≡ c)
 
 sum_none : (callee : BodyRowTree) (k : ℕ) → k ≡ length callee.parameters → SumUp callee k 0 0
@@ -94,17 +93,17 @@ sum_none callee k ends (q ∷ qs) rows first second =
     let is : slice_get callee.parameters (k + 0) ≡ Some q = first 0 in
     absurd (let no : ⊥ = cc in no)
 
-sum_more : (callee : BodyRowTree) (k n : ℕ) (how : Passing) (a c : ℕ) → IsPassed callee k how n → SumUp callee (k + 1) a c → SumUp callee k (n + a) ((if is_given_back how then n else 0) + c)
+sum_more : (callee : BodyRowTree) (k n : ℕ) (how : Passing) (a c : ℕ) → PassedInRange callee k how n → SumUp callee (k + 1) a c → SumUp callee k (n + a) ((if is_given_back how then n else 0) + c)
 sum_more callee k n how a c passed rest [] rows first second =
-    let is = follows_first callee.parameters k [] (record { passing = how }) first passed.0 in
+    let is = from_first callee.parameters k [] (record { passing = how }) first passed.0 in
     absurd (let no : ⊥ = cc in no)
 sum_more callee k n how a c passed rest (q ∷ qs) [] first second =
-    let is = follows_first callee.locals k [] passed.1.0 second passed.1.1 in
+    let is = from_first callee.locals k [] passed.1.0 second passed.1.1 in
     absurd (let no : ⊥ = cc in no)
 sum_more callee k n how a c passed rest (q ∷ qs) (row ∷ rows) first second =
-    let is = follows_first callee.parameters k (q ∷ qs) (record { passing = how }) first passed.0 in
-    let there = follows_first callee.locals k (row ∷ rows) passed.1.0 second passed.1.1 in
-    let more = rest qs rows (follows_next callee.parameters k q qs first) (follows_next callee.locals k row rows second) in
+    let is = from_first callee.parameters k (q ∷ qs) (record { passing = how }) first passed.0 in
+    let there = from_first callee.locals k (row ∷ rows) passed.1.0 second passed.1.1 in
+    let more = rest qs rows (from_next callee.parameters k q qs first) (from_next callee.locals k row rows second) in
     let way : q.passing ≡ how = cc in
     let same : row ≡ passed.1.0 = cc in
     let count : row.count ≡ n = ap (λ (r : LocalRowTree). r.count) same ∙ passed.1.2 in
@@ -123,7 +122,7 @@ sums p body callee (inout_argument l t b as') k known = sum_more callee k (locat
 arguments_summed : (p : CheckedTree) (body callee : BodyRowTree) (as' : ArgumentNodes) → ArgumentsInRange p body callee 0 as' → (parameter_scalars callee ≡ argument_scalars as') × (back_scalars callee.parameters callee.locals ≡ copied_scalars as')
 arguments_summed p body callee as' known = sums p body callee as' 0 known callee.parameters callee.locals (λ i. ap (slice_get callee.parameters) (omega arith)) (λ i. ap (slice_get callee.locals) (omega arith))
 
-lowest_there : (callee : BodyRowTree) (k n : ℕ) (how : Passing) → AreLaidFrom 0 callee.locals → IsPassed callee k how n → length (lowest_in_row (slice_get callee.locals k)) ≡ n
+lowest_there : (callee : BodyRowTree) (k n : ℕ) (how : Passing) → AreLaidFrom 0 callee.locals → PassedInRange callee k how n → length (lowest_in_row (slice_get callee.locals k)) ≡ n
 lowest_there callee k n how laid passed =
     let row = passed.1.0 in
     let told = row_told callee.locals 0 k row laid passed.1.1 in
@@ -146,7 +145,7 @@ call_results_are p body (called k as') n known gives = λ callee is.
 -- ---- the induction: in a place of the program a typed part in range fits
 
 -- where a part stands
-pub record Place (p : CheckedTree) (c : Context) : Type 0 where
+pub record StandsIn (p : CheckedTree) (c : Context) : Type 0 where
   pub laid : AreAllLaid p
   pub same : c.program ≡ p
 
@@ -161,10 +160,10 @@ constant_few : (n : ℕ) (m : ModeTree) → IsOfLanguage m → n ≡ scalars_of 
 constant_few n m told count = let few = scalars_few m told in omega (arith, few, count)
 
 mutual
-  pub expr_fits : (p : CheckedTree) (c : Context) (body : BodyRowTree) → Place p c → (e : ExprTree) (m : ModeTree) → HasMode c e m → ExprInRange p body e → CountsFit p e
+  pub expr_fits : (p : CheckedTree) (c : Context) (body : BodyRowTree) → StandsIn p c → (e : ExprTree) (m : ModeTree) → HasMode c e m → ExprInRange p body e → CountsFit p e
   expr_fits p c body at (expr n own o) m typed known = operation_fits p c body at o n m typed.0 typed.1 typed.3 known
 
-  operation_fits : (p : CheckedTree) (c : Context) (body : BodyRowTree) → Place p c → (o : OperationTree) (n : ℕ) (m : ModeTree) → IsOfLanguage m → n ≡ scalars_of m → OperationHas c o m → OperationInRange p body n o → OperationFits p n o
+  operation_fits : (p : CheckedTree) (c : Context) (body : BodyRowTree) → StandsIn p c → (o : OperationTree) (n : ℕ) (m : ModeTree) → IsOfLanguage m → n ≡ scalars_of m → OperationHas c o m → OperationInRange p body n o → OperationFits p n o
   operation_fits p c body at (constant xs) n m told count typed known = (sym known, constant_few n m told count)
   operation_fits p c body at own_instance n m told count typed known = known
   operation_fits p c body at (contents l) n m told count typed known = (location_fits p c body at l m typed known.0, sym known.1)
@@ -188,47 +187,47 @@ mutual
   operation_fits p c body at (binary o a b) n m told count typed known =
       (expr_fits p c body at a typed.0 typed.2 known.0, expr_fits p c body at b typed.1 typed.3 known.1, takes_counts o (count_of a) (count_of b) known.2, known.3)
 
-  pub received_fits : (p : CheckedTree) (c : Context) (body : BodyRowTree) → Place p c → (r : ReceivedTree) (m : ModeTree) → IsTakenBy c r m → ReceivedInRange p body r → ReceivedFits p r
+  pub received_fits : (p : CheckedTree) (c : Context) (body : BodyRowTree) → StandsIn p c → (r : ReceivedTree) (m : ModeTree) → IsTakenBy c r m → ReceivedInRange p body r → ReceivedFits p r
   received_fits p c body at (received e bounds) m typed known = (expr_fits p c body at e typed.0.0 typed.0.1 known.0, tests_one bounds (count_of e) known.1)
 
-  elements_fit : (p : CheckedTree) (c : Context) (body : BodyRowTree) → Place p c → (rs : ReceivedNodes) (k : ℕ) (m : ModeTree) (n : ℕ) → ElementsHave c rs k m → ValuesInRange p body rs n → AllFit p rs
+  elements_fit : (p : CheckedTree) (c : Context) (body : BodyRowTree) → StandsIn p c → (rs : ReceivedNodes) (k : ℕ) (m : ModeTree) (n : ℕ) → ElementsHave c rs k m → ValuesInRange p body rs n → AllFit p rs
   elements_fit p c body at no_received k m n typed known = tt
   elements_fit p c body at (more_received r rs) k m n typed known =
       (received_fits p c body at r m typed.2 known.0, elements_fit p c body at rs typed.0 m (n - received_count r) typed.3 known.2)
 
-  fields_fit : (p : CheckedTree) (c : Context) (body : BodyRowTree) → Place p c → (rs : ReceivedNodes) (fs : FieldNodes) (n : ℕ) → FieldsHave c rs fs → ValuesInRange p body rs n → AllFit p rs
+  fields_fit : (p : CheckedTree) (c : Context) (body : BodyRowTree) → StandsIn p c → (rs : ReceivedNodes) (fs : FieldNodes) (n : ℕ) → FieldsHave c rs fs → ValuesInRange p body rs n → AllFit p rs
   fields_fit p c body at no_received fs n typed known = tt
   fields_fit p c body at (more_received r rs) fs n typed known =
       (received_fits p c body at r typed.0 typed.3 known.0, fields_fit p c body at rs typed.1 (n - received_count r) typed.4 known.2)
 
-  pub all_fit : (p : CheckedTree) (c : Context) (body : BodyRowTree) → Place p c → (rs : ReceivedNodes) (ms : List ModeTree) → AllHave c rs ms → AllInRange p body rs → AllFit p rs
+  pub all_fit : (p : CheckedTree) (c : Context) (body : BodyRowTree) → StandsIn p c → (rs : ReceivedNodes) (ms : List ModeTree) → AllHave c rs ms → AllInRange p body rs → AllFit p rs
   all_fit p c body at no_received ms typed known = tt
   all_fit p c body at (more_received r rs) ms typed known = (received_fits p c body at r typed.0 typed.3 known.0, all_fit p c body at rs typed.1 typed.4 known.1)
 
-  parts_fit : (p : CheckedTree) (c : Context) (body : BodyRowTree) → Place p c → (ps : PartNodes) (of m : ModeTree) (k n : ℕ) → PartsLead c ps of m → PartsInRange p body k ps n → PartsFit p ps
+  parts_fit : (p : CheckedTree) (c : Context) (body : BodyRowTree) → StandsIn p c → (ps : PartNodes) (of m : ModeTree) (k n : ℕ) → PartsLead c ps of m → PartsInRange p body k ps n → PartsFit p ps
   parts_fit p c body at no_parts of m k n typed known = tt
   parts_fit p c body at (field first count ps) of m k n typed known = parts_fit p c body at ps typed.1 m count n typed.5 known.1
   parts_fit p c body at (element e b count ps) of m k n typed known =
       (expr_fits p c body at e typed.3.0 typed.3.1 known.0.1.0, known.0.1.1, parts_fit p c body at ps typed.1 m count n typed.5 known.1)
 
-  pub location_fits : (p : CheckedTree) (c : Context) (body : BodyRowTree) → Place p c → (l : LocationTree) (m : ModeTree) → LocationHas c l m → LocationInRange p body l → PlaceFits p l
+  pub location_fits : (p : CheckedTree) (c : Context) (body : BodyRowTree) → StandsIn p c → (l : LocationTree) (m : ModeTree) → LocationHas c l m → LocationInRange p body l → PlaceFits p l
   location_fits p c body at (location b ps n) m typed known = parts_fit p c body at ps typed.0 m known.0 n typed.2 known.2
 
-  ranges_fit : (p : CheckedTree) (c : Context) (body : BodyRowTree) → Place p c → (rs : RangeNodes) (m : ModeTree) → RangesHave c rs m → RangesInRange p body rs → RangesFit p rs
+  ranges_fit : (p : CheckedTree) (c : Context) (body : BodyRowTree) → StandsIn p c → (rs : RangeNodes) (m : ModeTree) → RangesHave c rs m → RangesInRange p body rs → RangesFit p rs
   ranges_fit p c body at no_ranges m typed known = tt
   ranges_fit p c body at (one_member e rs) m typed known = (expr_fits p c body at e typed.0.0 typed.0.1 known.0.0, known.0.1, ranges_fit p c body at rs m typed.1 known.1)
   ranges_fit p c body at (members e f rs) m typed known =
       (expr_fits p c body at e typed.0.0 typed.0.1 known.0.0.0, known.0.0.1, expr_fits p c body at f typed.1.0 typed.1.1 known.0.1.0, known.0.1.1, ranges_fit p c body at rs m typed.2 known.1)
 
-  pub start_fits : (p : CheckedTree) (c : Context) (body : BodyRowTree) → Place p c → (t : StartTree) → IsTypedStart c t → StartInRange p body t → StartFits p t
+  pub start_fits : (p : CheckedTree) (c : Context) (body : BodyRowTree) → StandsIn p c → (t : StartTree) → IsTypedStart c t → StartInRange p body t → StartFits p t
   start_fits p c body at (started k rs) typed known = (known.0, taken_fit p c body at rs typed.0 0 typed.3 known.1)
 
-  taken_fit : (p : CheckedTree) (c : Context) (body : BodyRowTree) → Place p c → (rs : ReceivedNodes) (b : BodyRowTree) (k : ℕ) → AllTaken c rs b k → AllInRange p body rs → AllFit p rs
+  taken_fit : (p : CheckedTree) (c : Context) (body : BodyRowTree) → StandsIn p c → (rs : ReceivedNodes) (b : BodyRowTree) (k : ℕ) → AllTaken c rs b k → AllInRange p body rs → AllFit p rs
   taken_fit p c body at no_received b k typed known = tt
   taken_fit p c body at (more_received r rs) b k typed known = (received_fits p c body at r typed.0 typed.2 known.0, taken_fit p c body at rs b (suc k) typed.3 known.1)
 
   -- a call of which the result has so many scalars
-  pub call_fits : (p : CheckedTree) (c : Context) (body : BodyRowTree) → Place p c → (t : CallTree) (result : Option ModeTree) (n : ℕ) → IsTypedCall c t result → CallInRange p body t → CallReturns p t n → CallFits p n t
+  pub call_fits : (p : CheckedTree) (c : Context) (body : BodyRowTree) → StandsIn p c → (t : CallTree) (result : Option ModeTree) (n : ℕ) → IsTypedCall c t result → CallInRange p body t → CallReturns p t n → CallFits p n t
   call_fits p c body at (called k as') result n typed known returns =
       let callee = known.0 in
       let same = body_same p c k typed.0 callee at.same typed.1 known.1 in
@@ -239,7 +238,7 @@ mutual
       (callee, known.1, arguments_fit p c body at as' callee 0 0 refl (at.laid k callee known.1) args known.2, sum.0, omega (arith, back, gives))
 
   -- the meaning and the code count arguments alike
-  arguments_fit : (p : CheckedTree) (c : Context) (body : BodyRowTree) → Place p c → (as' : ArgumentNodes) (callee : BodyRowTree) (j k : ℕ) → j ≡ k → AreLaidFrom 0 callee.locals → meaning.ArgumentsFit c as' callee j → ArgumentsInRange p body callee k as' → ArgumentsFit p callee.locals k as'
+  arguments_fit : (p : CheckedTree) (c : Context) (body : BodyRowTree) → StandsIn p c → (as' : ArgumentNodes) (callee : BodyRowTree) (j k : ℕ) → j ≡ k → AreLaidFrom 0 callee.locals → meaning.ArgumentsFit c as' callee j → ArgumentsInRange p body callee k as' → ArgumentsFit p callee.locals k as'
   arguments_fit p c body at no_arguments callee j k same laid typed known = tt
   arguments_fit p c body at (in_argument r as') callee j k same laid typed known =
       (received_fits p c body at r typed.0 typed.2 known.0.0, arguments_fit p c body at as' callee (suc j) (k + 1) (omega (arith, same)) laid typed.3 known.1)

@@ -1,11 +1,8 @@
 -- What a typed program's heads and modes say of its code: lowest values are short, and processes give nothing back.
-use Rattle.std.proofs.Common.{◌≡◌, ◌+◌, ◌*◌, ◌≤◌, ℕ, zero, suc, List, [], ◌∷◌, length, length-append, refl, ap, arith, Option, Some, None, slice_get, All}
-use Rattle.std.specs.Prelude.{if◌then◌else◌, IfSome, ℤ, pos}
-use Rattle.std.proofs.lemmas.List.{length-replicate}
-use Rattle.std.proofs.Math.Nat.{mul-le-mul}
-use Rattle.modes.specs.ModeTree.{ModeTree, int, boolean, char, instance, set_of, range, powerset, chars, array, structure, event, buffer, read, named, FieldNodes, no_fields, more_fields}
-use Rattle.modes.specs.Bounds.{values_of}
-use Rattle.modes.specs.Scalars.{numbers_of, scalars_in_fields, leaves_of, repeated, lowest_of, lowest_of_fields}
+use Rattle.std.proofs.Common.{◌≡◌, ◌+◌, ◌≤◌, ℕ, suc, List, [], ◌∷◌, length, refl, ap, arith, Option, Some, None, slice_get, All}
+use Rattle.std.specs.Prelude.{if◌then◌else◌, IfSome}
+use Rattle.modes.specs.ModeTree.{ModeTree}
+use Rattle.modes.specs.Scalars.{lowest_of}
 use Rattle.modes.specs.Language.{IsOfLanguage}
 use Rattle.checked_program.specs.declared.program.Parameter.{Parameter}
 use Rattle.checked_program.specs.declared.program.Passing.{Passing}

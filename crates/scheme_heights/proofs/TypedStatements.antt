@@ -1,29 +1,29 @@
 -- The numbers of scalars in statements of a typed program in range fit each other.
-use Rattle.std.proofs.Common.{◌≡◌, ◌+◌, ◌≤◌, ◌<◌, min, ℕ, zero, suc, Bool, true, false, List, [], ◌∷◌, length, refl, ap, sym, ◌∙◌, subst, arith, Option, Some, None, All}
-use Rattle.std.specs.Prelude.{ℤ, IfSome, slice_get}
+use Rattle.std.proofs.Common.{◌≡◌, ◌<◌, ℕ, suc, Bool, true, false, List, [], ◌∷◌, length, ap, sym, ◌∙◌, subst, arith, Option, Some, None, All}
+use Rattle.std.specs.Prelude.{ℤ, slice_get}
 use Rattle.modes.specs.ModeTree.{ModeTree}
 use Rattle.modes.specs.Form.{form_of}
-use Rattle.modes.specs.Scalars.{scalars_of, lowest_of}
+use Rattle.modes.specs.Scalars.{lowest_of}
 use Rattle.modes.specs.Language.{IsOfLanguage}
 use Rattle.program_trees.specs.ExprTree.{ExprTree, ReceivedTree, LocationTree, CallTree, called, count_of, received_count, location_count}
 use Rattle.program_trees.specs.StatementTree.{SentTree, to_buffer, signal, ControlTree, while_true, for_ever, for_members, for_steps, StatementTree, statement, ActionTree, do_nothing, declare, set_lowest, module_at, region_at, assign, update, perform, drop_routine, evaluate, put_int, put_text, put_line, exit_from, return_with, set_result, assert_that, cause, stop, start_of, delay, continue_at, send, if_then, case_of, do_loop, begin_end, delay_case, receive_buffers, receive_signals, StatementNodes, no_statements, more_statements, ChoiceNodes, no_choices, more_choices, CaseNodes, no_cases, more_cases, DelayNodes, no_delays, more_delays, ReceiveNodes, no_receives, more_receives, OtherwiseNode, no_otherwise, otherwise, HandledNodes, no_handled, more_handled, HandlerNode, no_handler, handler}
 use Rattle.program_trees.specs.ProgramTree.{LocalRowTree, BodyRowTree, CheckedTree}
-use Rattle.code_scheme.specs.StatementSite.{Site, result_scalars, scalars_of_result}
+use Rattle.code_scheme.specs.StatementSite.{Site}
 use Rattle.code_scheme.specs.StatementPlain.{dropped_by, dropped_scalars}
 use Rattle.source_meaning.specs.Typed.{AreLaidFrom}
-use Rattle.source_meaning.specs.TypedValues.{Context, HasMode, IsTakenBy, IsTypedCall}
-use Rattle.source_meaning.specs.TypedStatements.{Around, IsCondition, IsSomeCondition, IsReceiver, TakesInstance, LocalHas, IsStepped, IsTypedSend, IsTypedControl, IsTypedReturn, AnyResult, Brings, BufferBrings, SignalHas, labelled_around, in_region_around, around_in, around_action, around_handler, HasPlace, IsTypedStatement, AreTyped, IsTypedHandler, AreTypedAlternatives, IsTypedOtherwise, IsTypedAction, AreTypedChoices, AreTypedCases, AreTypedDelays, AreTypedReceives}
-use Rattle.range_laws.specs.ExprInRange.{ResultInRange, NumberInRange, CallInRange}
+use Rattle.source_meaning.specs.TypedValues.{Context, HasMode, IsTakenBy}
+use Rattle.source_meaning.specs.TypedStatements.{Around, IsSomeCondition, IsReceiver, TakesInstance, LocalHas, IsStepped, IsTypedSend, IsTypedControl, IsTypedReturn, AnyResult, Brings, BufferBrings, SignalHas, labelled_around, in_region_around, around_action, around_handler, IsTypedStatement, AreTyped, IsTypedHandler, AreTypedAlternatives, IsTypedOtherwise, IsTypedAction, AreTypedChoices, AreTypedCases, AreTypedDelays, AreTypedReceives}
+use Rattle.range_laws.specs.ExprInRange.{NumberInRange, CallInRange}
 use Rattle.range_laws.specs.StatementInRange.{SomeNumberInRange, GivenInRange, SomeGivenInRange, SetInRange, SentInRange, ControlInRange, StatementsInRange, StatementInRange, HandlerInRange, HandledInRange, OtherwiseInRange, ActionInRange, ChoicesInRange, CasesInRange, DelaysInRange, ReceivesInRange}
 use Rattle.scheme_heights.specs.Counts.{CallFits}
 use Rattle.scheme_heights.specs.StatementCounts.{LowestFits, NumberFits, SomeNumberFits, SetPlaceFits, SentFits, GivenFits, ReturnFits, ControlFits, labels_within, StatementsFit, StatementFits, HandlerFits, HandledFit, OtherwiseFits, ActionFits, ChoicesFit, CasesFit, DelaysFit, ReceivesFit, ItemsFit, ItemFits, ItemActionFits}
 use Rattle.scheme_heights.proofs.ModeCounts.{lowest_counted, scalars_few, row_told}
-use Rattle.scheme_heights.proofs.TypedExpressions.{Place, AreAllLaid, CallReturns, takes_counts, result_given, expr_fits, received_fits, all_fit, location_fits, start_fits, call_fits}
+use Rattle.scheme_heights.proofs.TypedExpressions.{StandsIn, CallReturns, takes_counts, result_given, expr_fits, received_fits, all_fit, location_fits, start_fits, call_fits}
 use Rattle.scheme_heights.proofs.Items.{IsPlain}
 
 -- where statements stand: in a body of the program, with so many labelled statements around them
 pub record Stands (site : Site) (n : ℕ) (at : Around) : Type 0 where
-  pub place : Place site.program at.context
+  pub place : StandsIn site.program at.context
   pub rows : at.context.rows ≡ site.body.locals
   pub own : AreLaidFrom 0 site.body.locals
   pub labels : at.labels ≡ n
@@ -129,9 +129,10 @@ mutual
 
   pub statement_fits : (site : Site) (s : StatementTree) (n : ℕ) (at : Around) → Stands site n at → IsTypedStatement at s → StatementInRange site.program site.body false s → StatementFits site n s
   statement_fits site (statement labelled a h) n at stands typed known =
-      let plain = plain_inside site.program site.body a known.0 in
-      (action_fits site a (labels_within labelled n) (around_action labelled a at) (action_stands site n at labelled a plain stands) typed.1 known.0,
-      handler_fits site h (labels_within labelled n) (around_handler typed.2.0 labelled a at) (handler_stands site n at typed.2.0 labelled a plain stands) typed.2.1 known.1)
+      let plain = plain_inside site.program site.body a known.0 in (
+        action_fits site a (labels_within labelled n) (around_action labelled a at) (action_stands site n at labelled a plain stands) typed.1 known.0,
+        handler_fits site h (labels_within labelled n) (around_handler typed.2.0 labelled a at) (handler_stands site n at typed.2.0 labelled a plain stands) typed.2.1 known.1,
+      )
 
   pub handler_fits : (site : Site) (h : HandlerNode) (n : ℕ) (at : Around) → Stands site n at → IsTypedHandler at h → HandlerInRange site.program site.body h → HandlerFits site n h
   handler_fits site no_handler n at stands typed known = tt
@@ -139,7 +140,7 @@ mutual
 
   handled_fit : (site : Site) (hs : HandledNodes) (n : ℕ) (at : Around) → Stands site n at → AreTypedAlternatives at hs → HandledInRange site.program site.body hs → HandledFit site n hs
   handled_fit site no_handled n at stands typed known = tt
-  handled_fit site (more_handled names ss hs) n at stands typed known = (statements_fit site ss n at stands typed.0 known.0, handled_fit site hs n at stands typed.1 known.1)
+  handled_fit site (more_handled names ss hs) n at stands typed known = (statements_fit site ss n at stands typed.0 known.0.1, handled_fit site hs n at stands typed.1 known.1)
 
   otherwise_fits : (site : Site) (o : OtherwiseNode) (n : ℕ) (at : Around) → Stands site n at → IsTypedOtherwise at o → OtherwiseInRange site.program site.body o → OtherwiseFits site n o
   otherwise_fits site no_otherwise n at stands typed known = tt
@@ -197,7 +198,7 @@ mutual
 
   receives_fit : (site : Site) (rs : ReceiveNodes) (n : ℕ) (at : Around) (buffers : Bool) → Stands site n at → AreTypedReceives at (brought buffers at.context) rs → ReceivesInRange site.program site.body rs → ReceivesFit site n rs
   receives_fit site no_receives n at buffers stands typed known = tt
-  receives_fit site (more_receives thing ks ss rs) n at buffers stands typed known = (statements_fit site ss n at stands typed.1 known.0, receives_fit site rs n at buffers stands typed.2 known.1)
+  receives_fit site (more_receives thing ks ss rs) n at buffers stands typed known = (statements_fit site ss n at stands typed.1 known.0.1, receives_fit site rs n at buffers stands typed.2 known.1)
 
 -- ---- items
 

@@ -8,5 +8,6 @@
 mod laws;
 
 pub use laws::{
-    condition_heights_law, expression_heights_law, in_range_agrees_law, program_agrees_law, things_law, typed_agrees_law,
+    condition_heights_law, expression_heights_law, in_range_agrees_law, program_agrees_law,
+    things_law, typed_agrees_law,
 };
