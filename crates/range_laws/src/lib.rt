@@ -1,4 +1,4 @@
-//! Laws of programs that are in range: what that says of their trees, beyond what their modes say.
+//! Laws of programs that are in range: what that says of their trees.
 //!
 //! The crate has definitions and one law. It stands on `program_ranges`, whose tests it reads, and on `program_trees`.
 #![tactic(auto)]
