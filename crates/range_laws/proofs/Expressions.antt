@@ -156,105 +156,156 @@ bare_received x = x.0
 abbrev bare_start : KnownStart → Start
 bare_start x = x.0
 
+abbrev plain_argument : Argument-F KnownArgument KnownOperation KnownPart KnownCall KnownExpr KnownLocation KnownRange KnownReceived KnownStart → Argument-F Argument Operation Part Call Expr Location Range Received Start
+plain_argument y = map-Argument KnownArgument KnownOperation KnownPart KnownCall KnownExpr KnownLocation KnownRange KnownReceived KnownStart Argument Operation Part Call Expr Location Range Received Start bare_argument bare_operation bare_part bare_call bare_expr bare_location bare_range bare_received bare_start y
+
+abbrev plain_operation : Operation-F KnownArgument KnownOperation KnownPart KnownCall KnownExpr KnownLocation KnownRange KnownReceived KnownStart → Operation-F Argument Operation Part Call Expr Location Range Received Start
+plain_operation y = map-Operation KnownArgument KnownOperation KnownPart KnownCall KnownExpr KnownLocation KnownRange KnownReceived KnownStart Argument Operation Part Call Expr Location Range Received Start bare_argument bare_operation bare_part bare_call bare_expr bare_location bare_range bare_received bare_start y
+
+abbrev plain_part : Part-F KnownArgument KnownOperation KnownPart KnownCall KnownExpr KnownLocation KnownRange KnownReceived KnownStart → Part-F Argument Operation Part Call Expr Location Range Received Start
+plain_part y = map-Part KnownArgument KnownOperation KnownPart KnownCall KnownExpr KnownLocation KnownRange KnownReceived KnownStart Argument Operation Part Call Expr Location Range Received Start bare_argument bare_operation bare_part bare_call bare_expr bare_location bare_range bare_received bare_start y
+
+abbrev plain_call : Call-F KnownArgument KnownOperation KnownPart KnownCall KnownExpr KnownLocation KnownRange KnownReceived KnownStart → Call-F Argument Operation Part Call Expr Location Range Received Start
+plain_call y = map-Call KnownArgument KnownOperation KnownPart KnownCall KnownExpr KnownLocation KnownRange KnownReceived KnownStart Argument Operation Part Call Expr Location Range Received Start bare_argument bare_operation bare_part bare_call bare_expr bare_location bare_range bare_received bare_start y
+
+abbrev plain_expr : Expr-F KnownArgument KnownOperation KnownPart KnownCall KnownExpr KnownLocation KnownRange KnownReceived KnownStart → Expr-F Argument Operation Part Call Expr Location Range Received Start
+plain_expr y = map-Expr KnownArgument KnownOperation KnownPart KnownCall KnownExpr KnownLocation KnownRange KnownReceived KnownStart Argument Operation Part Call Expr Location Range Received Start bare_argument bare_operation bare_part bare_call bare_expr bare_location bare_range bare_received bare_start y
+
+abbrev plain_location : Location-F KnownArgument KnownOperation KnownPart KnownCall KnownExpr KnownLocation KnownRange KnownReceived KnownStart → Location-F Argument Operation Part Call Expr Location Range Received Start
+plain_location y = map-Location KnownArgument KnownOperation KnownPart KnownCall KnownExpr KnownLocation KnownRange KnownReceived KnownStart Argument Operation Part Call Expr Location Range Received Start bare_argument bare_operation bare_part bare_call bare_expr bare_location bare_range bare_received bare_start y
+
+abbrev plain_range : Range-F KnownArgument KnownOperation KnownPart KnownCall KnownExpr KnownLocation KnownRange KnownReceived KnownStart → Range-F Argument Operation Part Call Expr Location Range Received Start
+plain_range y = map-Range KnownArgument KnownOperation KnownPart KnownCall KnownExpr KnownLocation KnownRange KnownReceived KnownStart Argument Operation Part Call Expr Location Range Received Start bare_argument bare_operation bare_part bare_call bare_expr bare_location bare_range bare_received bare_start y
+
+abbrev plain_received : Received-F KnownArgument KnownOperation KnownPart KnownCall KnownExpr KnownLocation KnownRange KnownReceived KnownStart → Received-F Argument Operation Part Call Expr Location Range Received Start
+plain_received y = map-Received KnownArgument KnownOperation KnownPart KnownCall KnownExpr KnownLocation KnownRange KnownReceived KnownStart Argument Operation Part Call Expr Location Range Received Start bare_argument bare_operation bare_part bare_call bare_expr bare_location bare_range bare_received bare_start y
+
+abbrev plain_start : Start-F KnownArgument KnownOperation KnownPart KnownCall KnownExpr KnownLocation KnownRange KnownReceived KnownStart → Start-F Argument Operation Part Call Expr Location Range Received Start
+plain_start y = map-Start KnownArgument KnownOperation KnownPart KnownCall KnownExpr KnownLocation KnownRange KnownReceived KnownStart Argument Operation Part Call Expr Location Range Received Start bare_argument bare_operation bare_part bare_call bare_expr bare_location bare_range bare_received bare_start y
+
+abbrev tests_of_argument : List KnownArgument → List ArgumentTest
+tests_of_argument xs = map argument_in_range (map bare_argument xs)
+
+abbrev trees_of_argument : List KnownArgument → List ArgumentTree
+trees_of_argument xs = map argument_tree (map bare_argument xs)
+
+abbrev tests_of_part : List KnownPart → List Cut
+tests_of_part xs = map part_ranges (map bare_part xs)
+
+abbrev trees_of_part : List KnownPart → List PartTree
+trees_of_part xs = map part_tree (map bare_part xs)
+
+abbrev tests_of_range : List KnownRange → List Test
+tests_of_range xs = map range_in_range (map bare_range xs)
+
+abbrev trees_of_range : List KnownRange → List RangeTree
+trees_of_range xs = map range_tree (map bare_range xs)
+
+abbrev tests_of_received : List KnownReceived → List Counted
+tests_of_received xs = map received_ranges (map bare_received xs)
+
+abbrev trees_of_received : List KnownReceived → List ReceivedTree
+trees_of_received xs = map received_tree (map bare_received xs)
+
 abbrev tested_argument : Argument-F KnownArgument KnownOperation KnownPart KnownCall KnownExpr KnownLocation KnownRange KnownReceived KnownStart → Argument-F ArgumentTest OperationTest Cut Called Counted Counted Test Counted Test
-tested_argument y = map-Argument Argument Operation Part Call Expr Location Range Received Start ArgumentTest OperationTest Cut Called Counted Counted Test Counted Test argument_in_range operation_in_range part_ranges call_ranges expr_ranges location_ranges range_in_range received_ranges start_in_range (map-Argument KnownArgument KnownOperation KnownPart KnownCall KnownExpr KnownLocation KnownRange KnownReceived KnownStart Argument Operation Part Call Expr Location Range Received Start bare_argument bare_operation bare_part bare_call bare_expr bare_location bare_range bare_received bare_start y)
+tested_argument y = map-Argument Argument Operation Part Call Expr Location Range Received Start ArgumentTest OperationTest Cut Called Counted Counted Test Counted Test argument_in_range operation_in_range part_ranges call_ranges expr_ranges location_ranges range_in_range received_ranges start_in_range (plain_argument y)
 
 abbrev treed_argument : Argument-F KnownArgument KnownOperation KnownPart KnownCall KnownExpr KnownLocation KnownRange KnownReceived KnownStart → Argument-F ArgumentTree OperationTree PartTree CallTree ExprTree LocationTree RangeTree ReceivedTree StartTree
-treed_argument y = map-Argument Argument Operation Part Call Expr Location Range Received Start ArgumentTree OperationTree PartTree CallTree ExprTree LocationTree RangeTree ReceivedTree StartTree argument_tree operation_tree part_tree call_tree expr_tree location_tree range_tree received_tree start_tree (map-Argument KnownArgument KnownOperation KnownPart KnownCall KnownExpr KnownLocation KnownRange KnownReceived KnownStart Argument Operation Part Call Expr Location Range Received Start bare_argument bare_operation bare_part bare_call bare_expr bare_location bare_range bare_received bare_start y)
+treed_argument y = map-Argument Argument Operation Part Call Expr Location Range Received Start ArgumentTree OperationTree PartTree CallTree ExprTree LocationTree RangeTree ReceivedTree StartTree argument_tree operation_tree part_tree call_tree expr_tree location_tree range_tree received_tree start_tree (plain_argument y)
 
 abbrev tested_operation : Operation-F KnownArgument KnownOperation KnownPart KnownCall KnownExpr KnownLocation KnownRange KnownReceived KnownStart → Operation-F ArgumentTest OperationTest Cut Called Counted Counted Test Counted Test
-tested_operation y = map-Operation Argument Operation Part Call Expr Location Range Received Start ArgumentTest OperationTest Cut Called Counted Counted Test Counted Test argument_in_range operation_in_range part_ranges call_ranges expr_ranges location_ranges range_in_range received_ranges start_in_range (map-Operation KnownArgument KnownOperation KnownPart KnownCall KnownExpr KnownLocation KnownRange KnownReceived KnownStart Argument Operation Part Call Expr Location Range Received Start bare_argument bare_operation bare_part bare_call bare_expr bare_location bare_range bare_received bare_start y)
+tested_operation y = map-Operation Argument Operation Part Call Expr Location Range Received Start ArgumentTest OperationTest Cut Called Counted Counted Test Counted Test argument_in_range operation_in_range part_ranges call_ranges expr_ranges location_ranges range_in_range received_ranges start_in_range (plain_operation y)
 
 abbrev treed_operation : Operation-F KnownArgument KnownOperation KnownPart KnownCall KnownExpr KnownLocation KnownRange KnownReceived KnownStart → Operation-F ArgumentTree OperationTree PartTree CallTree ExprTree LocationTree RangeTree ReceivedTree StartTree
-treed_operation y = map-Operation Argument Operation Part Call Expr Location Range Received Start ArgumentTree OperationTree PartTree CallTree ExprTree LocationTree RangeTree ReceivedTree StartTree argument_tree operation_tree part_tree call_tree expr_tree location_tree range_tree received_tree start_tree (map-Operation KnownArgument KnownOperation KnownPart KnownCall KnownExpr KnownLocation KnownRange KnownReceived KnownStart Argument Operation Part Call Expr Location Range Received Start bare_argument bare_operation bare_part bare_call bare_expr bare_location bare_range bare_received bare_start y)
+treed_operation y = map-Operation Argument Operation Part Call Expr Location Range Received Start ArgumentTree OperationTree PartTree CallTree ExprTree LocationTree RangeTree ReceivedTree StartTree argument_tree operation_tree part_tree call_tree expr_tree location_tree range_tree received_tree start_tree (plain_operation y)
 
 abbrev tested_part : Part-F KnownArgument KnownOperation KnownPart KnownCall KnownExpr KnownLocation KnownRange KnownReceived KnownStart → Part-F ArgumentTest OperationTest Cut Called Counted Counted Test Counted Test
-tested_part y = map-Part Argument Operation Part Call Expr Location Range Received Start ArgumentTest OperationTest Cut Called Counted Counted Test Counted Test argument_in_range operation_in_range part_ranges call_ranges expr_ranges location_ranges range_in_range received_ranges start_in_range (map-Part KnownArgument KnownOperation KnownPart KnownCall KnownExpr KnownLocation KnownRange KnownReceived KnownStart Argument Operation Part Call Expr Location Range Received Start bare_argument bare_operation bare_part bare_call bare_expr bare_location bare_range bare_received bare_start y)
+tested_part y = map-Part Argument Operation Part Call Expr Location Range Received Start ArgumentTest OperationTest Cut Called Counted Counted Test Counted Test argument_in_range operation_in_range part_ranges call_ranges expr_ranges location_ranges range_in_range received_ranges start_in_range (plain_part y)
 
 abbrev treed_part : Part-F KnownArgument KnownOperation KnownPart KnownCall KnownExpr KnownLocation KnownRange KnownReceived KnownStart → Part-F ArgumentTree OperationTree PartTree CallTree ExprTree LocationTree RangeTree ReceivedTree StartTree
-treed_part y = map-Part Argument Operation Part Call Expr Location Range Received Start ArgumentTree OperationTree PartTree CallTree ExprTree LocationTree RangeTree ReceivedTree StartTree argument_tree operation_tree part_tree call_tree expr_tree location_tree range_tree received_tree start_tree (map-Part KnownArgument KnownOperation KnownPart KnownCall KnownExpr KnownLocation KnownRange KnownReceived KnownStart Argument Operation Part Call Expr Location Range Received Start bare_argument bare_operation bare_part bare_call bare_expr bare_location bare_range bare_received bare_start y)
+treed_part y = map-Part Argument Operation Part Call Expr Location Range Received Start ArgumentTree OperationTree PartTree CallTree ExprTree LocationTree RangeTree ReceivedTree StartTree argument_tree operation_tree part_tree call_tree expr_tree location_tree range_tree received_tree start_tree (plain_part y)
 
 abbrev tested_call : Call-F KnownArgument KnownOperation KnownPart KnownCall KnownExpr KnownLocation KnownRange KnownReceived KnownStart → Call-F ArgumentTest OperationTest Cut Called Counted Counted Test Counted Test
-tested_call y = map-Call Argument Operation Part Call Expr Location Range Received Start ArgumentTest OperationTest Cut Called Counted Counted Test Counted Test argument_in_range operation_in_range part_ranges call_ranges expr_ranges location_ranges range_in_range received_ranges start_in_range (map-Call KnownArgument KnownOperation KnownPart KnownCall KnownExpr KnownLocation KnownRange KnownReceived KnownStart Argument Operation Part Call Expr Location Range Received Start bare_argument bare_operation bare_part bare_call bare_expr bare_location bare_range bare_received bare_start y)
+tested_call y = map-Call Argument Operation Part Call Expr Location Range Received Start ArgumentTest OperationTest Cut Called Counted Counted Test Counted Test argument_in_range operation_in_range part_ranges call_ranges expr_ranges location_ranges range_in_range received_ranges start_in_range (plain_call y)
 
 abbrev treed_call : Call-F KnownArgument KnownOperation KnownPart KnownCall KnownExpr KnownLocation KnownRange KnownReceived KnownStart → Call-F ArgumentTree OperationTree PartTree CallTree ExprTree LocationTree RangeTree ReceivedTree StartTree
-treed_call y = map-Call Argument Operation Part Call Expr Location Range Received Start ArgumentTree OperationTree PartTree CallTree ExprTree LocationTree RangeTree ReceivedTree StartTree argument_tree operation_tree part_tree call_tree expr_tree location_tree range_tree received_tree start_tree (map-Call KnownArgument KnownOperation KnownPart KnownCall KnownExpr KnownLocation KnownRange KnownReceived KnownStart Argument Operation Part Call Expr Location Range Received Start bare_argument bare_operation bare_part bare_call bare_expr bare_location bare_range bare_received bare_start y)
+treed_call y = map-Call Argument Operation Part Call Expr Location Range Received Start ArgumentTree OperationTree PartTree CallTree ExprTree LocationTree RangeTree ReceivedTree StartTree argument_tree operation_tree part_tree call_tree expr_tree location_tree range_tree received_tree start_tree (plain_call y)
 
 abbrev tested_expr : Expr-F KnownArgument KnownOperation KnownPart KnownCall KnownExpr KnownLocation KnownRange KnownReceived KnownStart → Expr-F ArgumentTest OperationTest Cut Called Counted Counted Test Counted Test
-tested_expr y = map-Expr Argument Operation Part Call Expr Location Range Received Start ArgumentTest OperationTest Cut Called Counted Counted Test Counted Test argument_in_range operation_in_range part_ranges call_ranges expr_ranges location_ranges range_in_range received_ranges start_in_range (map-Expr KnownArgument KnownOperation KnownPart KnownCall KnownExpr KnownLocation KnownRange KnownReceived KnownStart Argument Operation Part Call Expr Location Range Received Start bare_argument bare_operation bare_part bare_call bare_expr bare_location bare_range bare_received bare_start y)
+tested_expr y = map-Expr Argument Operation Part Call Expr Location Range Received Start ArgumentTest OperationTest Cut Called Counted Counted Test Counted Test argument_in_range operation_in_range part_ranges call_ranges expr_ranges location_ranges range_in_range received_ranges start_in_range (plain_expr y)
 
 abbrev treed_expr : Expr-F KnownArgument KnownOperation KnownPart KnownCall KnownExpr KnownLocation KnownRange KnownReceived KnownStart → Expr-F ArgumentTree OperationTree PartTree CallTree ExprTree LocationTree RangeTree ReceivedTree StartTree
-treed_expr y = map-Expr Argument Operation Part Call Expr Location Range Received Start ArgumentTree OperationTree PartTree CallTree ExprTree LocationTree RangeTree ReceivedTree StartTree argument_tree operation_tree part_tree call_tree expr_tree location_tree range_tree received_tree start_tree (map-Expr KnownArgument KnownOperation KnownPart KnownCall KnownExpr KnownLocation KnownRange KnownReceived KnownStart Argument Operation Part Call Expr Location Range Received Start bare_argument bare_operation bare_part bare_call bare_expr bare_location bare_range bare_received bare_start y)
+treed_expr y = map-Expr Argument Operation Part Call Expr Location Range Received Start ArgumentTree OperationTree PartTree CallTree ExprTree LocationTree RangeTree ReceivedTree StartTree argument_tree operation_tree part_tree call_tree expr_tree location_tree range_tree received_tree start_tree (plain_expr y)
 
 abbrev tested_location : Location-F KnownArgument KnownOperation KnownPart KnownCall KnownExpr KnownLocation KnownRange KnownReceived KnownStart → Location-F ArgumentTest OperationTest Cut Called Counted Counted Test Counted Test
-tested_location y = map-Location Argument Operation Part Call Expr Location Range Received Start ArgumentTest OperationTest Cut Called Counted Counted Test Counted Test argument_in_range operation_in_range part_ranges call_ranges expr_ranges location_ranges range_in_range received_ranges start_in_range (map-Location KnownArgument KnownOperation KnownPart KnownCall KnownExpr KnownLocation KnownRange KnownReceived KnownStart Argument Operation Part Call Expr Location Range Received Start bare_argument bare_operation bare_part bare_call bare_expr bare_location bare_range bare_received bare_start y)
+tested_location y = map-Location Argument Operation Part Call Expr Location Range Received Start ArgumentTest OperationTest Cut Called Counted Counted Test Counted Test argument_in_range operation_in_range part_ranges call_ranges expr_ranges location_ranges range_in_range received_ranges start_in_range (plain_location y)
 
 abbrev treed_location : Location-F KnownArgument KnownOperation KnownPart KnownCall KnownExpr KnownLocation KnownRange KnownReceived KnownStart → Location-F ArgumentTree OperationTree PartTree CallTree ExprTree LocationTree RangeTree ReceivedTree StartTree
-treed_location y = map-Location Argument Operation Part Call Expr Location Range Received Start ArgumentTree OperationTree PartTree CallTree ExprTree LocationTree RangeTree ReceivedTree StartTree argument_tree operation_tree part_tree call_tree expr_tree location_tree range_tree received_tree start_tree (map-Location KnownArgument KnownOperation KnownPart KnownCall KnownExpr KnownLocation KnownRange KnownReceived KnownStart Argument Operation Part Call Expr Location Range Received Start bare_argument bare_operation bare_part bare_call bare_expr bare_location bare_range bare_received bare_start y)
+treed_location y = map-Location Argument Operation Part Call Expr Location Range Received Start ArgumentTree OperationTree PartTree CallTree ExprTree LocationTree RangeTree ReceivedTree StartTree argument_tree operation_tree part_tree call_tree expr_tree location_tree range_tree received_tree start_tree (plain_location y)
 
 abbrev tested_range : Range-F KnownArgument KnownOperation KnownPart KnownCall KnownExpr KnownLocation KnownRange KnownReceived KnownStart → Range-F ArgumentTest OperationTest Cut Called Counted Counted Test Counted Test
-tested_range y = map-Range Argument Operation Part Call Expr Location Range Received Start ArgumentTest OperationTest Cut Called Counted Counted Test Counted Test argument_in_range operation_in_range part_ranges call_ranges expr_ranges location_ranges range_in_range received_ranges start_in_range (map-Range KnownArgument KnownOperation KnownPart KnownCall KnownExpr KnownLocation KnownRange KnownReceived KnownStart Argument Operation Part Call Expr Location Range Received Start bare_argument bare_operation bare_part bare_call bare_expr bare_location bare_range bare_received bare_start y)
+tested_range y = map-Range Argument Operation Part Call Expr Location Range Received Start ArgumentTest OperationTest Cut Called Counted Counted Test Counted Test argument_in_range operation_in_range part_ranges call_ranges expr_ranges location_ranges range_in_range received_ranges start_in_range (plain_range y)
 
 abbrev treed_range : Range-F KnownArgument KnownOperation KnownPart KnownCall KnownExpr KnownLocation KnownRange KnownReceived KnownStart → Range-F ArgumentTree OperationTree PartTree CallTree ExprTree LocationTree RangeTree ReceivedTree StartTree
-treed_range y = map-Range Argument Operation Part Call Expr Location Range Received Start ArgumentTree OperationTree PartTree CallTree ExprTree LocationTree RangeTree ReceivedTree StartTree argument_tree operation_tree part_tree call_tree expr_tree location_tree range_tree received_tree start_tree (map-Range KnownArgument KnownOperation KnownPart KnownCall KnownExpr KnownLocation KnownRange KnownReceived KnownStart Argument Operation Part Call Expr Location Range Received Start bare_argument bare_operation bare_part bare_call bare_expr bare_location bare_range bare_received bare_start y)
+treed_range y = map-Range Argument Operation Part Call Expr Location Range Received Start ArgumentTree OperationTree PartTree CallTree ExprTree LocationTree RangeTree ReceivedTree StartTree argument_tree operation_tree part_tree call_tree expr_tree location_tree range_tree received_tree start_tree (plain_range y)
 
 abbrev tested_received : Received-F KnownArgument KnownOperation KnownPart KnownCall KnownExpr KnownLocation KnownRange KnownReceived KnownStart → Received-F ArgumentTest OperationTest Cut Called Counted Counted Test Counted Test
-tested_received y = map-Received Argument Operation Part Call Expr Location Range Received Start ArgumentTest OperationTest Cut Called Counted Counted Test Counted Test argument_in_range operation_in_range part_ranges call_ranges expr_ranges location_ranges range_in_range received_ranges start_in_range (map-Received KnownArgument KnownOperation KnownPart KnownCall KnownExpr KnownLocation KnownRange KnownReceived KnownStart Argument Operation Part Call Expr Location Range Received Start bare_argument bare_operation bare_part bare_call bare_expr bare_location bare_range bare_received bare_start y)
+tested_received y = map-Received Argument Operation Part Call Expr Location Range Received Start ArgumentTest OperationTest Cut Called Counted Counted Test Counted Test argument_in_range operation_in_range part_ranges call_ranges expr_ranges location_ranges range_in_range received_ranges start_in_range (plain_received y)
 
 abbrev treed_received : Received-F KnownArgument KnownOperation KnownPart KnownCall KnownExpr KnownLocation KnownRange KnownReceived KnownStart → Received-F ArgumentTree OperationTree PartTree CallTree ExprTree LocationTree RangeTree ReceivedTree StartTree
-treed_received y = map-Received Argument Operation Part Call Expr Location Range Received Start ArgumentTree OperationTree PartTree CallTree ExprTree LocationTree RangeTree ReceivedTree StartTree argument_tree operation_tree part_tree call_tree expr_tree location_tree range_tree received_tree start_tree (map-Received KnownArgument KnownOperation KnownPart KnownCall KnownExpr KnownLocation KnownRange KnownReceived KnownStart Argument Operation Part Call Expr Location Range Received Start bare_argument bare_operation bare_part bare_call bare_expr bare_location bare_range bare_received bare_start y)
+treed_received y = map-Received Argument Operation Part Call Expr Location Range Received Start ArgumentTree OperationTree PartTree CallTree ExprTree LocationTree RangeTree ReceivedTree StartTree argument_tree operation_tree part_tree call_tree expr_tree location_tree range_tree received_tree start_tree (plain_received y)
 
 abbrev tested_start : Start-F KnownArgument KnownOperation KnownPart KnownCall KnownExpr KnownLocation KnownRange KnownReceived KnownStart → Start-F ArgumentTest OperationTest Cut Called Counted Counted Test Counted Test
-tested_start y = map-Start Argument Operation Part Call Expr Location Range Received Start ArgumentTest OperationTest Cut Called Counted Counted Test Counted Test argument_in_range operation_in_range part_ranges call_ranges expr_ranges location_ranges range_in_range received_ranges start_in_range (map-Start KnownArgument KnownOperation KnownPart KnownCall KnownExpr KnownLocation KnownRange KnownReceived KnownStart Argument Operation Part Call Expr Location Range Received Start bare_argument bare_operation bare_part bare_call bare_expr bare_location bare_range bare_received bare_start y)
+tested_start y = map-Start Argument Operation Part Call Expr Location Range Received Start ArgumentTest OperationTest Cut Called Counted Counted Test Counted Test argument_in_range operation_in_range part_ranges call_ranges expr_ranges location_ranges range_in_range received_ranges start_in_range (plain_start y)
 
 abbrev treed_start : Start-F KnownArgument KnownOperation KnownPart KnownCall KnownExpr KnownLocation KnownRange KnownReceived KnownStart → Start-F ArgumentTree OperationTree PartTree CallTree ExprTree LocationTree RangeTree ReceivedTree StartTree
-treed_start y = map-Start Argument Operation Part Call Expr Location Range Received Start ArgumentTree OperationTree PartTree CallTree ExprTree LocationTree RangeTree ReceivedTree StartTree argument_tree operation_tree part_tree call_tree expr_tree location_tree range_tree received_tree start_tree (map-Start KnownArgument KnownOperation KnownPart KnownCall KnownExpr KnownLocation KnownRange KnownReceived KnownStart Argument Operation Part Call Expr Location Range Received Start bare_argument bare_operation bare_part bare_call bare_expr bare_location bare_range bare_received bare_start y)
+treed_start y = map-Start Argument Operation Part Call Expr Location Range Received Start ArgumentTree OperationTree PartTree CallTree ExprTree LocationTree RangeTree ReceivedTree StartTree argument_tree operation_tree part_tree call_tree expr_tree location_tree range_tree received_tree start_tree (plain_start y)
 
 -- ---- lists of nodes
 
-parts_known : (ps : List KnownPart) (of n : ℕ) (program : Checked) (body : Body) → IsTrue (parts_lead of (map part_ranges (map bare_part ps)) n program body) → PartsInRange (checked_tree program) (body_row_tree body) of (part_nodes (map part_tree (map bare_part ps))) n
+parts_known : (ps : List KnownPart) (of n : ℕ) (program : Checked) (body : Body) → IsTrue (parts_lead of (tests_of_part ps) n program body) → PartsInRange (checked_tree program) (body_row_tree body) of (part_nodes (trees_of_part ps)) n
 parts_known [] of n program body holds = equal of n holds
 parts_known (p ∷ ps) of n program body holds =
-    let parts = both_hold ((part_ranges p.0).fits of program body) (parts_lead (part_ranges p.0).count (map part_ranges (map bare_part ps)) n program body) holds in
-    with_part (part_tree p.0) of n (part_ranges p.0).count (part_nodes (map part_tree (map bare_part ps))) (p.1 of program body parts.0) (parts_known ps (part_ranges p.0).count n program body parts.1) where
+    let parts = both_hold ((part_ranges p.0).fits of program body) (parts_lead (part_ranges p.0).count (tests_of_part ps) n program body) holds in
+    with_part (part_tree p.0) of n (part_ranges p.0).count (part_nodes (trees_of_part ps)) (p.1 of program body parts.0) (parts_known ps (part_ranges p.0).count n program body parts.1) where
       with_part : (p : PartTree) (of n count : ℕ) (ps : PartNodes) → PartKnown (checked_tree program) (body_row_tree body) of count p → PartsInRange (checked_tree program) (body_row_tree body) count ps n → PartsInRange (checked_tree program) (body_row_tree body) of (trees.with_part p ps) n
       with_part (one_field first m) of n count ps known rest = (known.1, subst (λ k. PartsInRange (checked_tree program) (body_row_tree body) k ps n) (sym known.0) rest)
       with_part (one_element e b m) of n count ps known rest = (known.1, subst (λ k. PartsInRange (checked_tree program) (body_row_tree body) k ps n) (sym known.0) rest)
 
-ranges_known : (rs : List KnownRange) (program : Checked) (body : Body) → IsTrue (all_hold (map range_in_range (map bare_range rs)) program body) → RangesInRange (checked_tree program) (body_row_tree body) (range_nodes (map range_tree (map bare_range rs)))
+ranges_known : (rs : List KnownRange) (program : Checked) (body : Body) → IsTrue (all_hold (tests_of_range rs) program body) → RangesInRange (checked_tree program) (body_row_tree body) (range_nodes (trees_of_range rs))
 ranges_known [] program body holds = tt
 ranges_known (r ∷ rs) program body holds =
-    let parts = both_hold (range_in_range r.0 program body) (all_hold (map range_in_range (map bare_range rs)) program body) holds in
-    with_range (range_tree r.0) (range_nodes (map range_tree (map bare_range rs))) (r.1 program body parts.0) (ranges_known rs program body parts.1) where
+    let parts = both_hold (range_in_range r.0 program body) (all_hold (tests_of_range rs) program body) holds in
+    with_range (range_tree r.0) (range_nodes (trees_of_range rs)) (r.1 program body parts.0) (ranges_known rs program body parts.1) where
       with_range : (r : RangeTree) (rs : RangeNodes) → RangeKnown (checked_tree program) (body_row_tree body) r → RangesInRange (checked_tree program) (body_row_tree body) rs → RangesInRange (checked_tree program) (body_row_tree body) (trees.with_range r rs)
       with_range (alone e) rs known rest = (known, rest)
       with_range (between e f) rs known rest = (known, rest)
 
-arguments_known : (as' : List KnownArgument) (callee : Body) (number : ℕ) (program : Checked) (body : Body) → IsTrue (arguments_fit callee number (map argument_in_range (map bare_argument as')) program body) → ArgumentsInRange (checked_tree program) (body_row_tree body) (body_row_tree callee) number (argument_nodes (map argument_tree (map bare_argument as')))
+arguments_known : (as' : List KnownArgument) (callee : Body) (number : ℕ) (program : Checked) (body : Body) → IsTrue (arguments_fit callee number (tests_of_argument as') program body) → ArgumentsInRange (checked_tree program) (body_row_tree body) (body_row_tree callee) number (argument_nodes (trees_of_argument as'))
 arguments_known [] callee number program body holds = equal number (length callee.parameters) holds
 arguments_known (a ∷ as') callee number program body holds =
-    let parts = both_hold (argument_in_range a.0 callee number program body) (arguments_fit callee (number + 1) (map argument_in_range (map bare_argument as')) program body) holds in
-    with_argument (argument_tree a.0) (argument_nodes (map argument_tree (map bare_argument as'))) (a.1 callee number program body parts.0) (arguments_known as' callee (number + 1) program body parts.1) where
+    let parts = both_hold (argument_in_range a.0 callee number program body) (arguments_fit callee (number + 1) (tests_of_argument as') program body) holds in
+    with_argument (argument_tree a.0) (argument_nodes (trees_of_argument as')) (a.1 callee number program body parts.0) (arguments_known as' callee (number + 1) program body parts.1) where
       with_argument : (a : ArgumentTree) (as' : ArgumentNodes) → ArgumentKnown (checked_tree program) (body_row_tree body) (body_row_tree callee) number a → ArgumentsInRange (checked_tree program) (body_row_tree body) (body_row_tree callee) (number + 1) as' → ArgumentsInRange (checked_tree program) (body_row_tree body) (body_row_tree callee) number (trees.with_argument a as')
       with_argument (taken r) as' known rest = (known, rest)
       with_argument (given l bounds) as' known rest = (known, rest)
       with_argument (both l taken_by bounds) as' known rest = (known, rest)
 
-values_known : (vs : List KnownReceived) (n : ℕ) (program : Checked) (body : Body) → IsTrue (values_fill (map received_ranges (map bare_received vs)) n program body) → ValuesInRange (checked_tree program) (body_row_tree body) (received_nodes (map received_tree (map bare_received vs))) n
+values_known : (vs : List KnownReceived) (n : ℕ) (program : Checked) (body : Body) → IsTrue (values_fill (tests_of_received vs) n program body) → ValuesInRange (checked_tree program) (body_row_tree body) (received_nodes (trees_of_received vs)) n
 values_known [] n program body holds = equal n 0 holds
 values_known (v ∷ vs) n program body holds =
     let counted = received_ranges v.0 in
-    let parts = both_hold (counted.holds program body) (nat_le counted.count n && values_fill (map received_ranges (map bare_received vs)) (n - counted.count) program body) holds in
-    let more = both_hold (nat_le counted.count n) (values_fill (map received_ranges (map bare_received vs)) (n - counted.count) program body) parts.1 in
+    let parts = both_hold (counted.holds program body) (nat_le counted.count n && values_fill (tests_of_received vs) (n - counted.count) program body) holds in
+    let more = both_hold (nat_le counted.count n) (values_fill (tests_of_received vs) (n - counted.count) program body) parts.1 in
     let rest = values_known vs (n - counted.count) program body more.1 in
-    let both = subst (λ k. (k ≤ n) × ValuesInRange (checked_tree program) (body_row_tree body) (received_nodes (map received_tree (map bare_received vs))) (n - k)) (sym v.1.0) (at_most counted.count n more.0, rest) in
+    let both = subst (λ k. (k ≤ n) × ValuesInRange (checked_tree program) (body_row_tree body) (received_nodes (trees_of_received vs)) (n - k)) (sym v.1.0) (at_most counted.count n more.0, rest) in
     (v.1.1 program body parts.0, both.0, both.1)
 
-taken_known : (vs : List KnownReceived) (callee : Body) (number : ℕ) (program : Checked) (body : Body) → IsTrue (values_fit callee number (map received_ranges (map bare_received vs)) program body) → AllInRange (checked_tree program) (body_row_tree body) (received_nodes (map received_tree (map bare_received vs)))
+taken_known : (vs : List KnownReceived) (callee : Body) (number : ℕ) (program : Checked) (body : Body) → IsTrue (values_fit callee number (tests_of_received vs) program body) → AllInRange (checked_tree program) (body_row_tree body) (received_nodes (trees_of_received vs))
 taken_known [] callee number program body holds = tt
 taken_known (v ∷ vs) callee number program body holds =
     let counted = received_ranges v.0 in
-    let parts = both_hold (tests.is_taken callee number counted program body) (values_fit callee (number + 1) (map received_ranges (map bare_received vs)) program body) holds in
+    let parts = both_hold (tests.is_taken callee number counted program body) (values_fit callee (number + 1) (tests_of_received vs) program body) holds in
     let one = both_hold (counted.holds program body) (is_passed callee number passings.In counted.count) parts.0 in
     (v.1.1 program body one.0, taken_known vs callee (number + 1) program body parts.1)
 
@@ -307,26 +358,26 @@ received_step y = (
 
 location_step : (y : Location-F KnownArgument KnownOperation KnownPart KnownCall KnownExpr KnownLocation KnownRange KnownReceived KnownStart) → TellsLocation (tests.location_layer (tested_location y)) (trees.location_layer (treed_location y))
 location_step y = (refl, λ program body holds. led (base_count y.base program body) program body refl holds) where
-  led : (of : Option ℕ) (program : Checked) (body : Body) → base_count y.base program body ≡ of → IsTrue (lies_in of (map part_ranges (map bare_part y.parts)) y.count program body) → LocationInRange (checked_tree program) (body_row_tree body) (trees.location y.base (part_nodes (map part_tree (map bare_part y.parts))) y.count)
+  led : (of : Option ℕ) (program : Checked) (body : Body) → base_count y.base program body ≡ of → IsTrue (lies_in of (tests_of_part y.parts) y.count program body) → LocationInRange (checked_tree program) (body_row_tree body) (trees.location y.base (part_nodes (trees_of_part y.parts)) y.count)
   led None program body is holds = absurd (let no : ⊥ = cc in no)
   led (Some of) program body is holds = (of, base_told y.base of program body is, parts_known y.parts of y.count program body holds)
 
 start_step : (y : Start-F KnownArgument KnownOperation KnownPart KnownCall KnownExpr KnownLocation KnownRange KnownReceived KnownStart) → TellsStart (tests.start_layer (tested_start y)) (trees.start_layer (treed_start y))
 start_step y program body holds = begun (slice_get program.bodies y.process) refl holds where
-  begun : (callee : Option Body) → slice_get program.bodies y.process ≡ callee → IsTrue (start_fits callee (map received_ranges (map bare_received y.arguments)) program body) → StartInRange (checked_tree program) (body_row_tree body) (trees.started y.process (received_nodes (map received_tree (map bare_received y.arguments))))
+  begun : (callee : Option Body) → slice_get program.bodies y.process ≡ callee → IsTrue (start_fits callee (tests_of_received y.arguments) program body) → StartInRange (checked_tree program) (body_row_tree body) (trees.started y.process (received_nodes (trees_of_received y.arguments)))
   begun None is holds = absurd (let no : ⊥ = cc in no)
   begun (Some callee) is holds =
-      (slice_get_within (checked_tree program).bodies y.process (body_row_tree callee) (body_there program y.process callee is), taken_known y.arguments callee 0 program body (both_hold (is_process callee.sort) (values_fit callee 0 (map received_ranges (map bare_received y.arguments)) program body) holds).1)
+      (slice_get_within (checked_tree program).bodies y.process (body_row_tree callee) (body_there program y.process callee is), taken_known y.arguments callee 0 program body (both_hold (is_process callee.sort) (values_fit callee 0 (tests_of_received y.arguments) program body) holds).1)
 
 call_step : (y : Call-F KnownArgument KnownOperation KnownPart KnownCall KnownExpr KnownLocation KnownRange KnownReceived KnownStart) → TellsCall (tests.call_layer (tested_call y)) (trees.call_layer (treed_call y))
 call_step y program body = (λ holds. entered (slice_get program.bodies y.body) refl holds, λ n holds. gives (slice_get program.bodies y.body) n refl holds) where
   nodes : ArgumentNodes
-  nodes = argument_nodes (map argument_tree (map bare_argument y.arguments))
+  nodes = argument_nodes (trees_of_argument y.arguments)
 
-  entered : (callee : Option Body) → slice_get program.bodies y.body ≡ callee → IsTrue (call_fits callee (map argument_in_range (map bare_argument y.arguments)) program body) → CallInRange (checked_tree program) (body_row_tree body) (trees.called y.body nodes)
+  entered : (callee : Option Body) → slice_get program.bodies y.body ≡ callee → IsTrue (call_fits callee (tests_of_argument y.arguments) program body) → CallInRange (checked_tree program) (body_row_tree body) (trees.called y.body nodes)
   entered None is holds = absurd (let no : ⊥ = cc in no)
   entered (Some callee) is holds =
-      (body_row_tree callee, body_there program y.body callee is, arguments_known y.arguments callee 0 program body (both_hold (is_procedure callee.sort) (arguments_fit callee 0 (map argument_in_range (map bare_argument y.arguments)) program body) holds).1)
+      (body_row_tree callee, body_there program y.body callee is, arguments_known y.arguments callee 0 program body (both_hold (is_procedure callee.sort) (arguments_fit callee 0 (tests_of_argument y.arguments) program body) holds).1)
 
   gives : (callee : Option Body) (n : ℕ) → slice_get program.bodies y.body ≡ callee → IsTrue (is_count (result_count callee) n) → CallGives (checked_tree program) (trees.called y.body nodes) n
   gives None n is holds = absurd (let no : ⊥ = cc in no)
@@ -341,8 +392,8 @@ operation_step (opens.Contents l) n program body holds =
     (l.value.1.1 program body parts.0, equal n counted.count parts.1 ∙ sym l.value.1.0)
 operation_step (opens.PartOf of ps) n program body holds =
     let counted = expr_ranges of.value.0 in
-    let parts = both_hold (counted.holds program body) (parts_lead counted.count (map part_ranges (map bare_part ps)) n program body) holds in
-    (of.value.1.1 program body parts.0, subst (λ k. PartsInRange (checked_tree program) (body_row_tree body) k (part_nodes (map part_tree (map bare_part ps))) n) (sym of.value.1.0) (parts_known ps counted.count n program body parts.1))
+    let parts = both_hold (counted.holds program body) (parts_lead counted.count (tests_of_part ps) n program body) holds in
+    (of.value.1.1 program body parts.0, subst (λ k. PartsInRange (checked_tree program) (body_row_tree body) k (part_nodes (trees_of_part ps)) n) (sym of.value.1.0) (parts_known ps counted.count n program body parts.1))
 operation_step (opens.Receive b) n program body holds = tt
 operation_step (opens.Start s) n program body holds =
     let parts = both_hold (start_in_range s.value.0 program body) (nat_eq n 1) holds in
@@ -352,8 +403,8 @@ operation_step (opens.Call c) n program body holds =
     let known = c.value.1 program body in
     (known.0 parts.0, known.1 n parts.1)
 operation_step (opens.Powerset bounds rs) n program body holds =
-    let parts = both_hold (are_members bounds) (all_hold (map range_in_range (map bare_range rs)) program body && nat_eq n 1) holds in
-    let more = both_hold (all_hold (map range_in_range (map bare_range rs)) program body) (nat_eq n 1) parts.1 in
+    let parts = both_hold (are_members bounds) (all_hold (tests_of_range rs) program body && nat_eq n 1) holds in
+    let more = both_hold (all_hold (tests_of_range rs) program body) (nat_eq n 1) parts.1 in
     (parts.0, ranges_known rs program body more.0, equal n 1 more.1)
 operation_step (opens.Parts vs) n program body holds = values_known vs n program body holds
 operation_step (opens.Uniform m v) n program body holds =
@@ -382,76 +433,76 @@ expr_step y = (refl, λ program body holds. y.operation.1 y.count program body h
 
 -- ---- the induction
 
-argument_rolled : (x : Argument-F Argument Operation Part Call Expr Location Range Received Start) (y : Argument-F KnownArgument KnownOperation KnownPart KnownCall KnownExpr KnownLocation KnownRange KnownReceived KnownStart) → map-Argument KnownArgument KnownOperation KnownPart KnownCall KnownExpr KnownLocation KnownRange KnownReceived KnownStart Argument Operation Part Call Expr Location Range Received Start bare_argument bare_operation bare_part bare_call bare_expr bare_location bare_range bare_received bare_start y ≡ x → ToldArgument (roll-Argument x)
+argument_rolled : (x : Argument-F Argument Operation Part Call Expr Location Range Received Start) (y : Argument-F KnownArgument KnownOperation KnownPart KnownCall KnownExpr KnownLocation KnownRange KnownReceived KnownStart) → plain_argument y ≡ x → ToldArgument (roll-Argument x)
 unfolding argument_in_range operation_in_range part_ranges call_ranges expr_ranges location_ranges range_in_range received_ranges start_in_range argument_tree operation_tree part_tree call_tree expr_tree location_tree range_tree received_tree start_tree
 argument_rolled x y is =
     subst (λ z. ToldArgument (roll-Argument z)) is
-    (subst (λ t. TellsArgument (argument_in_range (roll-Argument (map-Argument KnownArgument KnownOperation KnownPart KnownCall KnownExpr KnownLocation KnownRange KnownReceived KnownStart Argument Operation Part Call Expr Location Range Received Start bare_argument bare_operation bare_part bare_call bare_expr bare_location bare_range bare_received bare_start y))) t) (sym (fold-roll-Argument ArgumentTree OperationTree PartTree CallTree ExprTree LocationTree RangeTree ReceivedTree StartTree trees.argument_layer trees.operation_layer trees.part_layer trees.call_layer trees.expr_layer trees.location_layer trees.range_layer trees.received_layer trees.start_layer (map-Argument KnownArgument KnownOperation KnownPart KnownCall KnownExpr KnownLocation KnownRange KnownReceived KnownStart Argument Operation Part Call Expr Location Range Received Start bare_argument bare_operation bare_part bare_call bare_expr bare_location bare_range bare_received bare_start y)))
-    (subst (λ t. TellsArgument t (trees.argument_layer (treed_argument y))) (sym (fold-roll-Argument ArgumentTest OperationTest Cut Called Counted Counted Test Counted Test tests.argument_layer tests.operation_layer tests.part_layer tests.call_layer tests.expr_layer tests.location_layer tests.range_layer tests.received_layer tests.start_layer (map-Argument KnownArgument KnownOperation KnownPart KnownCall KnownExpr KnownLocation KnownRange KnownReceived KnownStart Argument Operation Part Call Expr Location Range Received Start bare_argument bare_operation bare_part bare_call bare_expr bare_location bare_range bare_received bare_start y)))
+    (subst (λ t. TellsArgument (argument_in_range (roll-Argument (plain_argument y))) t) (sym (fold-roll-Argument ArgumentTree OperationTree PartTree CallTree ExprTree LocationTree RangeTree ReceivedTree StartTree trees.argument_layer trees.operation_layer trees.part_layer trees.call_layer trees.expr_layer trees.location_layer trees.range_layer trees.received_layer trees.start_layer (plain_argument y)))
+    (subst (λ t. TellsArgument t (trees.argument_layer (treed_argument y))) (sym (fold-roll-Argument ArgumentTest OperationTest Cut Called Counted Counted Test Counted Test tests.argument_layer tests.operation_layer tests.part_layer tests.call_layer tests.expr_layer tests.location_layer tests.range_layer tests.received_layer tests.start_layer (plain_argument y)))
     (argument_step y)))
 
-operation_rolled : (x : Operation-F Argument Operation Part Call Expr Location Range Received Start) (y : Operation-F KnownArgument KnownOperation KnownPart KnownCall KnownExpr KnownLocation KnownRange KnownReceived KnownStart) → map-Operation KnownArgument KnownOperation KnownPart KnownCall KnownExpr KnownLocation KnownRange KnownReceived KnownStart Argument Operation Part Call Expr Location Range Received Start bare_argument bare_operation bare_part bare_call bare_expr bare_location bare_range bare_received bare_start y ≡ x → ToldOperation (roll-Operation x)
+operation_rolled : (x : Operation-F Argument Operation Part Call Expr Location Range Received Start) (y : Operation-F KnownArgument KnownOperation KnownPart KnownCall KnownExpr KnownLocation KnownRange KnownReceived KnownStart) → plain_operation y ≡ x → ToldOperation (roll-Operation x)
 unfolding argument_in_range operation_in_range part_ranges call_ranges expr_ranges location_ranges range_in_range received_ranges start_in_range argument_tree operation_tree part_tree call_tree expr_tree location_tree range_tree received_tree start_tree
 operation_rolled x y is =
     subst (λ z. ToldOperation (roll-Operation z)) is
-    (subst (λ t. TellsOperation (operation_in_range (roll-Operation (map-Operation KnownArgument KnownOperation KnownPart KnownCall KnownExpr KnownLocation KnownRange KnownReceived KnownStart Argument Operation Part Call Expr Location Range Received Start bare_argument bare_operation bare_part bare_call bare_expr bare_location bare_range bare_received bare_start y))) t) (sym (fold-roll-Operation ArgumentTree OperationTree PartTree CallTree ExprTree LocationTree RangeTree ReceivedTree StartTree trees.argument_layer trees.operation_layer trees.part_layer trees.call_layer trees.expr_layer trees.location_layer trees.range_layer trees.received_layer trees.start_layer (map-Operation KnownArgument KnownOperation KnownPart KnownCall KnownExpr KnownLocation KnownRange KnownReceived KnownStart Argument Operation Part Call Expr Location Range Received Start bare_argument bare_operation bare_part bare_call bare_expr bare_location bare_range bare_received bare_start y)))
-    (subst (λ t. TellsOperation t (trees.operation_layer (treed_operation y))) (sym (fold-roll-Operation ArgumentTest OperationTest Cut Called Counted Counted Test Counted Test tests.argument_layer tests.operation_layer tests.part_layer tests.call_layer tests.expr_layer tests.location_layer tests.range_layer tests.received_layer tests.start_layer (map-Operation KnownArgument KnownOperation KnownPart KnownCall KnownExpr KnownLocation KnownRange KnownReceived KnownStart Argument Operation Part Call Expr Location Range Received Start bare_argument bare_operation bare_part bare_call bare_expr bare_location bare_range bare_received bare_start y)))
+    (subst (λ t. TellsOperation (operation_in_range (roll-Operation (plain_operation y))) t) (sym (fold-roll-Operation ArgumentTree OperationTree PartTree CallTree ExprTree LocationTree RangeTree ReceivedTree StartTree trees.argument_layer trees.operation_layer trees.part_layer trees.call_layer trees.expr_layer trees.location_layer trees.range_layer trees.received_layer trees.start_layer (plain_operation y)))
+    (subst (λ t. TellsOperation t (trees.operation_layer (treed_operation y))) (sym (fold-roll-Operation ArgumentTest OperationTest Cut Called Counted Counted Test Counted Test tests.argument_layer tests.operation_layer tests.part_layer tests.call_layer tests.expr_layer tests.location_layer tests.range_layer tests.received_layer tests.start_layer (plain_operation y)))
     (operation_step y)))
 
-part_rolled : (x : Part-F Argument Operation Part Call Expr Location Range Received Start) (y : Part-F KnownArgument KnownOperation KnownPart KnownCall KnownExpr KnownLocation KnownRange KnownReceived KnownStart) → map-Part KnownArgument KnownOperation KnownPart KnownCall KnownExpr KnownLocation KnownRange KnownReceived KnownStart Argument Operation Part Call Expr Location Range Received Start bare_argument bare_operation bare_part bare_call bare_expr bare_location bare_range bare_received bare_start y ≡ x → ToldPart (roll-Part x)
+part_rolled : (x : Part-F Argument Operation Part Call Expr Location Range Received Start) (y : Part-F KnownArgument KnownOperation KnownPart KnownCall KnownExpr KnownLocation KnownRange KnownReceived KnownStart) → plain_part y ≡ x → ToldPart (roll-Part x)
 unfolding argument_in_range operation_in_range part_ranges call_ranges expr_ranges location_ranges range_in_range received_ranges start_in_range argument_tree operation_tree part_tree call_tree expr_tree location_tree range_tree received_tree start_tree
 part_rolled x y is =
     subst (λ z. ToldPart (roll-Part z)) is
-    (subst (λ t. TellsPart (part_ranges (roll-Part (map-Part KnownArgument KnownOperation KnownPart KnownCall KnownExpr KnownLocation KnownRange KnownReceived KnownStart Argument Operation Part Call Expr Location Range Received Start bare_argument bare_operation bare_part bare_call bare_expr bare_location bare_range bare_received bare_start y))) t) (sym (fold-roll-Part ArgumentTree OperationTree PartTree CallTree ExprTree LocationTree RangeTree ReceivedTree StartTree trees.argument_layer trees.operation_layer trees.part_layer trees.call_layer trees.expr_layer trees.location_layer trees.range_layer trees.received_layer trees.start_layer (map-Part KnownArgument KnownOperation KnownPart KnownCall KnownExpr KnownLocation KnownRange KnownReceived KnownStart Argument Operation Part Call Expr Location Range Received Start bare_argument bare_operation bare_part bare_call bare_expr bare_location bare_range bare_received bare_start y)))
-    (subst (λ t. TellsPart t (trees.part_layer (treed_part y))) (sym (fold-roll-Part ArgumentTest OperationTest Cut Called Counted Counted Test Counted Test tests.argument_layer tests.operation_layer tests.part_layer tests.call_layer tests.expr_layer tests.location_layer tests.range_layer tests.received_layer tests.start_layer (map-Part KnownArgument KnownOperation KnownPart KnownCall KnownExpr KnownLocation KnownRange KnownReceived KnownStart Argument Operation Part Call Expr Location Range Received Start bare_argument bare_operation bare_part bare_call bare_expr bare_location bare_range bare_received bare_start y)))
+    (subst (λ t. TellsPart (part_ranges (roll-Part (plain_part y))) t) (sym (fold-roll-Part ArgumentTree OperationTree PartTree CallTree ExprTree LocationTree RangeTree ReceivedTree StartTree trees.argument_layer trees.operation_layer trees.part_layer trees.call_layer trees.expr_layer trees.location_layer trees.range_layer trees.received_layer trees.start_layer (plain_part y)))
+    (subst (λ t. TellsPart t (trees.part_layer (treed_part y))) (sym (fold-roll-Part ArgumentTest OperationTest Cut Called Counted Counted Test Counted Test tests.argument_layer tests.operation_layer tests.part_layer tests.call_layer tests.expr_layer tests.location_layer tests.range_layer tests.received_layer tests.start_layer (plain_part y)))
     (part_step y)))
 
-call_rolled : (x : Call-F Argument Operation Part Call Expr Location Range Received Start) (y : Call-F KnownArgument KnownOperation KnownPart KnownCall KnownExpr KnownLocation KnownRange KnownReceived KnownStart) → map-Call KnownArgument KnownOperation KnownPart KnownCall KnownExpr KnownLocation KnownRange KnownReceived KnownStart Argument Operation Part Call Expr Location Range Received Start bare_argument bare_operation bare_part bare_call bare_expr bare_location bare_range bare_received bare_start y ≡ x → ToldCall (roll-Call x)
+call_rolled : (x : Call-F Argument Operation Part Call Expr Location Range Received Start) (y : Call-F KnownArgument KnownOperation KnownPart KnownCall KnownExpr KnownLocation KnownRange KnownReceived KnownStart) → plain_call y ≡ x → ToldCall (roll-Call x)
 unfolding argument_in_range operation_in_range part_ranges call_ranges expr_ranges location_ranges range_in_range received_ranges start_in_range argument_tree operation_tree part_tree call_tree expr_tree location_tree range_tree received_tree start_tree
 call_rolled x y is =
     subst (λ z. ToldCall (roll-Call z)) is
-    (subst (λ t. TellsCall (call_ranges (roll-Call (map-Call KnownArgument KnownOperation KnownPart KnownCall KnownExpr KnownLocation KnownRange KnownReceived KnownStart Argument Operation Part Call Expr Location Range Received Start bare_argument bare_operation bare_part bare_call bare_expr bare_location bare_range bare_received bare_start y))) t) (sym (fold-roll-Call ArgumentTree OperationTree PartTree CallTree ExprTree LocationTree RangeTree ReceivedTree StartTree trees.argument_layer trees.operation_layer trees.part_layer trees.call_layer trees.expr_layer trees.location_layer trees.range_layer trees.received_layer trees.start_layer (map-Call KnownArgument KnownOperation KnownPart KnownCall KnownExpr KnownLocation KnownRange KnownReceived KnownStart Argument Operation Part Call Expr Location Range Received Start bare_argument bare_operation bare_part bare_call bare_expr bare_location bare_range bare_received bare_start y)))
-    (subst (λ t. TellsCall t (trees.call_layer (treed_call y))) (sym (fold-roll-Call ArgumentTest OperationTest Cut Called Counted Counted Test Counted Test tests.argument_layer tests.operation_layer tests.part_layer tests.call_layer tests.expr_layer tests.location_layer tests.range_layer tests.received_layer tests.start_layer (map-Call KnownArgument KnownOperation KnownPart KnownCall KnownExpr KnownLocation KnownRange KnownReceived KnownStart Argument Operation Part Call Expr Location Range Received Start bare_argument bare_operation bare_part bare_call bare_expr bare_location bare_range bare_received bare_start y)))
+    (subst (λ t. TellsCall (call_ranges (roll-Call (plain_call y))) t) (sym (fold-roll-Call ArgumentTree OperationTree PartTree CallTree ExprTree LocationTree RangeTree ReceivedTree StartTree trees.argument_layer trees.operation_layer trees.part_layer trees.call_layer trees.expr_layer trees.location_layer trees.range_layer trees.received_layer trees.start_layer (plain_call y)))
+    (subst (λ t. TellsCall t (trees.call_layer (treed_call y))) (sym (fold-roll-Call ArgumentTest OperationTest Cut Called Counted Counted Test Counted Test tests.argument_layer tests.operation_layer tests.part_layer tests.call_layer tests.expr_layer tests.location_layer tests.range_layer tests.received_layer tests.start_layer (plain_call y)))
     (call_step y)))
 
-expr_rolled : (x : Expr-F Argument Operation Part Call Expr Location Range Received Start) (y : Expr-F KnownArgument KnownOperation KnownPart KnownCall KnownExpr KnownLocation KnownRange KnownReceived KnownStart) → map-Expr KnownArgument KnownOperation KnownPart KnownCall KnownExpr KnownLocation KnownRange KnownReceived KnownStart Argument Operation Part Call Expr Location Range Received Start bare_argument bare_operation bare_part bare_call bare_expr bare_location bare_range bare_received bare_start y ≡ x → ToldExpr (roll-Expr x)
+expr_rolled : (x : Expr-F Argument Operation Part Call Expr Location Range Received Start) (y : Expr-F KnownArgument KnownOperation KnownPart KnownCall KnownExpr KnownLocation KnownRange KnownReceived KnownStart) → plain_expr y ≡ x → ToldExpr (roll-Expr x)
 unfolding argument_in_range operation_in_range part_ranges call_ranges expr_ranges location_ranges range_in_range received_ranges start_in_range argument_tree operation_tree part_tree call_tree expr_tree location_tree range_tree received_tree start_tree
 expr_rolled x y is =
     subst (λ z. ToldExpr (roll-Expr z)) is
-    (subst (λ t. TellsExpr (expr_ranges (roll-Expr (map-Expr KnownArgument KnownOperation KnownPart KnownCall KnownExpr KnownLocation KnownRange KnownReceived KnownStart Argument Operation Part Call Expr Location Range Received Start bare_argument bare_operation bare_part bare_call bare_expr bare_location bare_range bare_received bare_start y))) t) (sym (fold-roll-Expr ArgumentTree OperationTree PartTree CallTree ExprTree LocationTree RangeTree ReceivedTree StartTree trees.argument_layer trees.operation_layer trees.part_layer trees.call_layer trees.expr_layer trees.location_layer trees.range_layer trees.received_layer trees.start_layer (map-Expr KnownArgument KnownOperation KnownPart KnownCall KnownExpr KnownLocation KnownRange KnownReceived KnownStart Argument Operation Part Call Expr Location Range Received Start bare_argument bare_operation bare_part bare_call bare_expr bare_location bare_range bare_received bare_start y)))
-    (subst (λ t. TellsExpr t (trees.expr_layer (treed_expr y))) (sym (fold-roll-Expr ArgumentTest OperationTest Cut Called Counted Counted Test Counted Test tests.argument_layer tests.operation_layer tests.part_layer tests.call_layer tests.expr_layer tests.location_layer tests.range_layer tests.received_layer tests.start_layer (map-Expr KnownArgument KnownOperation KnownPart KnownCall KnownExpr KnownLocation KnownRange KnownReceived KnownStart Argument Operation Part Call Expr Location Range Received Start bare_argument bare_operation bare_part bare_call bare_expr bare_location bare_range bare_received bare_start y)))
+    (subst (λ t. TellsExpr (expr_ranges (roll-Expr (plain_expr y))) t) (sym (fold-roll-Expr ArgumentTree OperationTree PartTree CallTree ExprTree LocationTree RangeTree ReceivedTree StartTree trees.argument_layer trees.operation_layer trees.part_layer trees.call_layer trees.expr_layer trees.location_layer trees.range_layer trees.received_layer trees.start_layer (plain_expr y)))
+    (subst (λ t. TellsExpr t (trees.expr_layer (treed_expr y))) (sym (fold-roll-Expr ArgumentTest OperationTest Cut Called Counted Counted Test Counted Test tests.argument_layer tests.operation_layer tests.part_layer tests.call_layer tests.expr_layer tests.location_layer tests.range_layer tests.received_layer tests.start_layer (plain_expr y)))
     (expr_step y)))
 
-location_rolled : (x : Location-F Argument Operation Part Call Expr Location Range Received Start) (y : Location-F KnownArgument KnownOperation KnownPart KnownCall KnownExpr KnownLocation KnownRange KnownReceived KnownStart) → map-Location KnownArgument KnownOperation KnownPart KnownCall KnownExpr KnownLocation KnownRange KnownReceived KnownStart Argument Operation Part Call Expr Location Range Received Start bare_argument bare_operation bare_part bare_call bare_expr bare_location bare_range bare_received bare_start y ≡ x → ToldLocation (roll-Location x)
+location_rolled : (x : Location-F Argument Operation Part Call Expr Location Range Received Start) (y : Location-F KnownArgument KnownOperation KnownPart KnownCall KnownExpr KnownLocation KnownRange KnownReceived KnownStart) → plain_location y ≡ x → ToldLocation (roll-Location x)
 unfolding argument_in_range operation_in_range part_ranges call_ranges expr_ranges location_ranges range_in_range received_ranges start_in_range argument_tree operation_tree part_tree call_tree expr_tree location_tree range_tree received_tree start_tree
 location_rolled x y is =
     subst (λ z. ToldLocation (roll-Location z)) is
-    (subst (λ t. TellsLocation (location_ranges (roll-Location (map-Location KnownArgument KnownOperation KnownPart KnownCall KnownExpr KnownLocation KnownRange KnownReceived KnownStart Argument Operation Part Call Expr Location Range Received Start bare_argument bare_operation bare_part bare_call bare_expr bare_location bare_range bare_received bare_start y))) t) (sym (fold-roll-Location ArgumentTree OperationTree PartTree CallTree ExprTree LocationTree RangeTree ReceivedTree StartTree trees.argument_layer trees.operation_layer trees.part_layer trees.call_layer trees.expr_layer trees.location_layer trees.range_layer trees.received_layer trees.start_layer (map-Location KnownArgument KnownOperation KnownPart KnownCall KnownExpr KnownLocation KnownRange KnownReceived KnownStart Argument Operation Part Call Expr Location Range Received Start bare_argument bare_operation bare_part bare_call bare_expr bare_location bare_range bare_received bare_start y)))
-    (subst (λ t. TellsLocation t (trees.location_layer (treed_location y))) (sym (fold-roll-Location ArgumentTest OperationTest Cut Called Counted Counted Test Counted Test tests.argument_layer tests.operation_layer tests.part_layer tests.call_layer tests.expr_layer tests.location_layer tests.range_layer tests.received_layer tests.start_layer (map-Location KnownArgument KnownOperation KnownPart KnownCall KnownExpr KnownLocation KnownRange KnownReceived KnownStart Argument Operation Part Call Expr Location Range Received Start bare_argument bare_operation bare_part bare_call bare_expr bare_location bare_range bare_received bare_start y)))
+    (subst (λ t. TellsLocation (location_ranges (roll-Location (plain_location y))) t) (sym (fold-roll-Location ArgumentTree OperationTree PartTree CallTree ExprTree LocationTree RangeTree ReceivedTree StartTree trees.argument_layer trees.operation_layer trees.part_layer trees.call_layer trees.expr_layer trees.location_layer trees.range_layer trees.received_layer trees.start_layer (plain_location y)))
+    (subst (λ t. TellsLocation t (trees.location_layer (treed_location y))) (sym (fold-roll-Location ArgumentTest OperationTest Cut Called Counted Counted Test Counted Test tests.argument_layer tests.operation_layer tests.part_layer tests.call_layer tests.expr_layer tests.location_layer tests.range_layer tests.received_layer tests.start_layer (plain_location y)))
     (location_step y)))
 
-range_rolled : (x : Range-F Argument Operation Part Call Expr Location Range Received Start) (y : Range-F KnownArgument KnownOperation KnownPart KnownCall KnownExpr KnownLocation KnownRange KnownReceived KnownStart) → map-Range KnownArgument KnownOperation KnownPart KnownCall KnownExpr KnownLocation KnownRange KnownReceived KnownStart Argument Operation Part Call Expr Location Range Received Start bare_argument bare_operation bare_part bare_call bare_expr bare_location bare_range bare_received bare_start y ≡ x → ToldRange (roll-Range x)
+range_rolled : (x : Range-F Argument Operation Part Call Expr Location Range Received Start) (y : Range-F KnownArgument KnownOperation KnownPart KnownCall KnownExpr KnownLocation KnownRange KnownReceived KnownStart) → plain_range y ≡ x → ToldRange (roll-Range x)
 unfolding argument_in_range operation_in_range part_ranges call_ranges expr_ranges location_ranges range_in_range received_ranges start_in_range argument_tree operation_tree part_tree call_tree expr_tree location_tree range_tree received_tree start_tree
 range_rolled x y is =
     subst (λ z. ToldRange (roll-Range z)) is
-    (subst (λ t. TellsRange (range_in_range (roll-Range (map-Range KnownArgument KnownOperation KnownPart KnownCall KnownExpr KnownLocation KnownRange KnownReceived KnownStart Argument Operation Part Call Expr Location Range Received Start bare_argument bare_operation bare_part bare_call bare_expr bare_location bare_range bare_received bare_start y))) t) (sym (fold-roll-Range ArgumentTree OperationTree PartTree CallTree ExprTree LocationTree RangeTree ReceivedTree StartTree trees.argument_layer trees.operation_layer trees.part_layer trees.call_layer trees.expr_layer trees.location_layer trees.range_layer trees.received_layer trees.start_layer (map-Range KnownArgument KnownOperation KnownPart KnownCall KnownExpr KnownLocation KnownRange KnownReceived KnownStart Argument Operation Part Call Expr Location Range Received Start bare_argument bare_operation bare_part bare_call bare_expr bare_location bare_range bare_received bare_start y)))
-    (subst (λ t. TellsRange t (trees.range_layer (treed_range y))) (sym (fold-roll-Range ArgumentTest OperationTest Cut Called Counted Counted Test Counted Test tests.argument_layer tests.operation_layer tests.part_layer tests.call_layer tests.expr_layer tests.location_layer tests.range_layer tests.received_layer tests.start_layer (map-Range KnownArgument KnownOperation KnownPart KnownCall KnownExpr KnownLocation KnownRange KnownReceived KnownStart Argument Operation Part Call Expr Location Range Received Start bare_argument bare_operation bare_part bare_call bare_expr bare_location bare_range bare_received bare_start y)))
+    (subst (λ t. TellsRange (range_in_range (roll-Range (plain_range y))) t) (sym (fold-roll-Range ArgumentTree OperationTree PartTree CallTree ExprTree LocationTree RangeTree ReceivedTree StartTree trees.argument_layer trees.operation_layer trees.part_layer trees.call_layer trees.expr_layer trees.location_layer trees.range_layer trees.received_layer trees.start_layer (plain_range y)))
+    (subst (λ t. TellsRange t (trees.range_layer (treed_range y))) (sym (fold-roll-Range ArgumentTest OperationTest Cut Called Counted Counted Test Counted Test tests.argument_layer tests.operation_layer tests.part_layer tests.call_layer tests.expr_layer tests.location_layer tests.range_layer tests.received_layer tests.start_layer (plain_range y)))
     (range_step y)))
 
-received_rolled : (x : Received-F Argument Operation Part Call Expr Location Range Received Start) (y : Received-F KnownArgument KnownOperation KnownPart KnownCall KnownExpr KnownLocation KnownRange KnownReceived KnownStart) → map-Received KnownArgument KnownOperation KnownPart KnownCall KnownExpr KnownLocation KnownRange KnownReceived KnownStart Argument Operation Part Call Expr Location Range Received Start bare_argument bare_operation bare_part bare_call bare_expr bare_location bare_range bare_received bare_start y ≡ x → ToldReceived (roll-Received x)
+received_rolled : (x : Received-F Argument Operation Part Call Expr Location Range Received Start) (y : Received-F KnownArgument KnownOperation KnownPart KnownCall KnownExpr KnownLocation KnownRange KnownReceived KnownStart) → plain_received y ≡ x → ToldReceived (roll-Received x)
 unfolding argument_in_range operation_in_range part_ranges call_ranges expr_ranges location_ranges range_in_range received_ranges start_in_range argument_tree operation_tree part_tree call_tree expr_tree location_tree range_tree received_tree start_tree
 received_rolled x y is =
     subst (λ z. ToldReceived (roll-Received z)) is
-    (subst (λ t. TellsReceived (received_ranges (roll-Received (map-Received KnownArgument KnownOperation KnownPart KnownCall KnownExpr KnownLocation KnownRange KnownReceived KnownStart Argument Operation Part Call Expr Location Range Received Start bare_argument bare_operation bare_part bare_call bare_expr bare_location bare_range bare_received bare_start y))) t) (sym (fold-roll-Received ArgumentTree OperationTree PartTree CallTree ExprTree LocationTree RangeTree ReceivedTree StartTree trees.argument_layer trees.operation_layer trees.part_layer trees.call_layer trees.expr_layer trees.location_layer trees.range_layer trees.received_layer trees.start_layer (map-Received KnownArgument KnownOperation KnownPart KnownCall KnownExpr KnownLocation KnownRange KnownReceived KnownStart Argument Operation Part Call Expr Location Range Received Start bare_argument bare_operation bare_part bare_call bare_expr bare_location bare_range bare_received bare_start y)))
-    (subst (λ t. TellsReceived t (trees.received_layer (treed_received y))) (sym (fold-roll-Received ArgumentTest OperationTest Cut Called Counted Counted Test Counted Test tests.argument_layer tests.operation_layer tests.part_layer tests.call_layer tests.expr_layer tests.location_layer tests.range_layer tests.received_layer tests.start_layer (map-Received KnownArgument KnownOperation KnownPart KnownCall KnownExpr KnownLocation KnownRange KnownReceived KnownStart Argument Operation Part Call Expr Location Range Received Start bare_argument bare_operation bare_part bare_call bare_expr bare_location bare_range bare_received bare_start y)))
+    (subst (λ t. TellsReceived (received_ranges (roll-Received (plain_received y))) t) (sym (fold-roll-Received ArgumentTree OperationTree PartTree CallTree ExprTree LocationTree RangeTree ReceivedTree StartTree trees.argument_layer trees.operation_layer trees.part_layer trees.call_layer trees.expr_layer trees.location_layer trees.range_layer trees.received_layer trees.start_layer (plain_received y)))
+    (subst (λ t. TellsReceived t (trees.received_layer (treed_received y))) (sym (fold-roll-Received ArgumentTest OperationTest Cut Called Counted Counted Test Counted Test tests.argument_layer tests.operation_layer tests.part_layer tests.call_layer tests.expr_layer tests.location_layer tests.range_layer tests.received_layer tests.start_layer (plain_received y)))
     (received_step y)))
 
-start_rolled : (x : Start-F Argument Operation Part Call Expr Location Range Received Start) (y : Start-F KnownArgument KnownOperation KnownPart KnownCall KnownExpr KnownLocation KnownRange KnownReceived KnownStart) → map-Start KnownArgument KnownOperation KnownPart KnownCall KnownExpr KnownLocation KnownRange KnownReceived KnownStart Argument Operation Part Call Expr Location Range Received Start bare_argument bare_operation bare_part bare_call bare_expr bare_location bare_range bare_received bare_start y ≡ x → ToldStart (roll-Start x)
+start_rolled : (x : Start-F Argument Operation Part Call Expr Location Range Received Start) (y : Start-F KnownArgument KnownOperation KnownPart KnownCall KnownExpr KnownLocation KnownRange KnownReceived KnownStart) → plain_start y ≡ x → ToldStart (roll-Start x)
 unfolding argument_in_range operation_in_range part_ranges call_ranges expr_ranges location_ranges range_in_range received_ranges start_in_range argument_tree operation_tree part_tree call_tree expr_tree location_tree range_tree received_tree start_tree
 start_rolled x y is =
     subst (λ z. ToldStart (roll-Start z)) is
-    (subst (λ t. TellsStart (start_in_range (roll-Start (map-Start KnownArgument KnownOperation KnownPart KnownCall KnownExpr KnownLocation KnownRange KnownReceived KnownStart Argument Operation Part Call Expr Location Range Received Start bare_argument bare_operation bare_part bare_call bare_expr bare_location bare_range bare_received bare_start y))) t) (sym (fold-roll-Start ArgumentTree OperationTree PartTree CallTree ExprTree LocationTree RangeTree ReceivedTree StartTree trees.argument_layer trees.operation_layer trees.part_layer trees.call_layer trees.expr_layer trees.location_layer trees.range_layer trees.received_layer trees.start_layer (map-Start KnownArgument KnownOperation KnownPart KnownCall KnownExpr KnownLocation KnownRange KnownReceived KnownStart Argument Operation Part Call Expr Location Range Received Start bare_argument bare_operation bare_part bare_call bare_expr bare_location bare_range bare_received bare_start y)))
-    (subst (λ t. TellsStart t (trees.start_layer (treed_start y))) (sym (fold-roll-Start ArgumentTest OperationTest Cut Called Counted Counted Test Counted Test tests.argument_layer tests.operation_layer tests.part_layer tests.call_layer tests.expr_layer tests.location_layer tests.range_layer tests.received_layer tests.start_layer (map-Start KnownArgument KnownOperation KnownPart KnownCall KnownExpr KnownLocation KnownRange KnownReceived KnownStart Argument Operation Part Call Expr Location Range Received Start bare_argument bare_operation bare_part bare_call bare_expr bare_location bare_range bare_received bare_start y)))
+    (subst (λ t. TellsStart (start_in_range (roll-Start (plain_start y))) t) (sym (fold-roll-Start ArgumentTree OperationTree PartTree CallTree ExprTree LocationTree RangeTree ReceivedTree StartTree trees.argument_layer trees.operation_layer trees.part_layer trees.call_layer trees.expr_layer trees.location_layer trees.range_layer trees.received_layer trees.start_layer (plain_start y)))
+    (subst (λ t. TellsStart t (trees.start_layer (treed_start y))) (sym (fold-roll-Start ArgumentTest OperationTest Cut Called Counted Counted Test Counted Test tests.argument_layer tests.operation_layer tests.part_layer tests.call_layer tests.expr_layer tests.location_layer tests.range_layer tests.received_layer tests.start_layer (plain_start y)))
     (start_step y)))
 
 -- what being in range says of each expression, value, location, start and call

@@ -247,90 +247,150 @@ bare_receive x = x.0
 abbrev bare_statement : KnownStatement → Statement
 bare_statement x = x.0
 
+abbrev plain_action : Action-F KnownAction KnownCaseAlternative KnownChoice KnownDelayAlternative KnownHandler KnownHandlerAlternative KnownReceiveAlternative KnownStatement → Action-F Action CaseAlternative Choice DelayAlternative Handler HandlerAlternative ReceiveAlternative Statement
+plain_action y = map-Action KnownAction KnownCaseAlternative KnownChoice KnownDelayAlternative KnownHandler KnownHandlerAlternative KnownReceiveAlternative KnownStatement Action CaseAlternative Choice DelayAlternative Handler HandlerAlternative ReceiveAlternative Statement bare_action bare_case bare_choice bare_delay bare_handler bare_handled bare_receive bare_statement y
+
+abbrev plain_case : CaseAlternative-F KnownAction KnownCaseAlternative KnownChoice KnownDelayAlternative KnownHandler KnownHandlerAlternative KnownReceiveAlternative KnownStatement → CaseAlternative-F Action CaseAlternative Choice DelayAlternative Handler HandlerAlternative ReceiveAlternative Statement
+plain_case y = map-CaseAlternative KnownAction KnownCaseAlternative KnownChoice KnownDelayAlternative KnownHandler KnownHandlerAlternative KnownReceiveAlternative KnownStatement Action CaseAlternative Choice DelayAlternative Handler HandlerAlternative ReceiveAlternative Statement bare_action bare_case bare_choice bare_delay bare_handler bare_handled bare_receive bare_statement y
+
+abbrev plain_choice : Choice-F KnownAction KnownCaseAlternative KnownChoice KnownDelayAlternative KnownHandler KnownHandlerAlternative KnownReceiveAlternative KnownStatement → Choice-F Action CaseAlternative Choice DelayAlternative Handler HandlerAlternative ReceiveAlternative Statement
+plain_choice y = map-Choice KnownAction KnownCaseAlternative KnownChoice KnownDelayAlternative KnownHandler KnownHandlerAlternative KnownReceiveAlternative KnownStatement Action CaseAlternative Choice DelayAlternative Handler HandlerAlternative ReceiveAlternative Statement bare_action bare_case bare_choice bare_delay bare_handler bare_handled bare_receive bare_statement y
+
+abbrev plain_delay : DelayAlternative-F KnownAction KnownCaseAlternative KnownChoice KnownDelayAlternative KnownHandler KnownHandlerAlternative KnownReceiveAlternative KnownStatement → DelayAlternative-F Action CaseAlternative Choice DelayAlternative Handler HandlerAlternative ReceiveAlternative Statement
+plain_delay y = map-DelayAlternative KnownAction KnownCaseAlternative KnownChoice KnownDelayAlternative KnownHandler KnownHandlerAlternative KnownReceiveAlternative KnownStatement Action CaseAlternative Choice DelayAlternative Handler HandlerAlternative ReceiveAlternative Statement bare_action bare_case bare_choice bare_delay bare_handler bare_handled bare_receive bare_statement y
+
+abbrev plain_handler : Handler-F KnownAction KnownCaseAlternative KnownChoice KnownDelayAlternative KnownHandler KnownHandlerAlternative KnownReceiveAlternative KnownStatement → Handler-F Action CaseAlternative Choice DelayAlternative Handler HandlerAlternative ReceiveAlternative Statement
+plain_handler y = map-Handler KnownAction KnownCaseAlternative KnownChoice KnownDelayAlternative KnownHandler KnownHandlerAlternative KnownReceiveAlternative KnownStatement Action CaseAlternative Choice DelayAlternative Handler HandlerAlternative ReceiveAlternative Statement bare_action bare_case bare_choice bare_delay bare_handler bare_handled bare_receive bare_statement y
+
+abbrev plain_handled : HandlerAlternative-F KnownAction KnownCaseAlternative KnownChoice KnownDelayAlternative KnownHandler KnownHandlerAlternative KnownReceiveAlternative KnownStatement → HandlerAlternative-F Action CaseAlternative Choice DelayAlternative Handler HandlerAlternative ReceiveAlternative Statement
+plain_handled y = map-HandlerAlternative KnownAction KnownCaseAlternative KnownChoice KnownDelayAlternative KnownHandler KnownHandlerAlternative KnownReceiveAlternative KnownStatement Action CaseAlternative Choice DelayAlternative Handler HandlerAlternative ReceiveAlternative Statement bare_action bare_case bare_choice bare_delay bare_handler bare_handled bare_receive bare_statement y
+
+abbrev plain_receive : ReceiveAlternative-F KnownAction KnownCaseAlternative KnownChoice KnownDelayAlternative KnownHandler KnownHandlerAlternative KnownReceiveAlternative KnownStatement → ReceiveAlternative-F Action CaseAlternative Choice DelayAlternative Handler HandlerAlternative ReceiveAlternative Statement
+plain_receive y = map-ReceiveAlternative KnownAction KnownCaseAlternative KnownChoice KnownDelayAlternative KnownHandler KnownHandlerAlternative KnownReceiveAlternative KnownStatement Action CaseAlternative Choice DelayAlternative Handler HandlerAlternative ReceiveAlternative Statement bare_action bare_case bare_choice bare_delay bare_handler bare_handled bare_receive bare_statement y
+
+abbrev plain_statement : Statement-F KnownAction KnownCaseAlternative KnownChoice KnownDelayAlternative KnownHandler KnownHandlerAlternative KnownReceiveAlternative KnownStatement → Statement-F Action CaseAlternative Choice DelayAlternative Handler HandlerAlternative ReceiveAlternative Statement
+plain_statement y = map-Statement KnownAction KnownCaseAlternative KnownChoice KnownDelayAlternative KnownHandler KnownHandlerAlternative KnownReceiveAlternative KnownStatement Action CaseAlternative Choice DelayAlternative Handler HandlerAlternative ReceiveAlternative Statement bare_action bare_case bare_choice bare_delay bare_handler bare_handled bare_receive bare_statement y
+
+abbrev tests_of_case : List KnownCaseAlternative → List LabelTest
+tests_of_case xs = map case_in_range (map bare_case xs)
+
+abbrev trees_of_case : List KnownCaseAlternative → List CaseTree
+trees_of_case xs = map case_tree (map bare_case xs)
+
+abbrev tests_of_choice : List KnownChoice → List LabelTest
+tests_of_choice xs = map choice_in_range (map bare_choice xs)
+
+abbrev trees_of_choice : List KnownChoice → List ChoiceTree
+trees_of_choice xs = map choice_tree (map bare_choice xs)
+
+abbrev tests_of_delay : List KnownDelayAlternative → List LabelTest
+tests_of_delay xs = map delay_in_range (map bare_delay xs)
+
+abbrev trees_of_delay : List KnownDelayAlternative → List NumbersTree
+trees_of_delay xs = map delay_tree (map bare_delay xs)
+
+abbrev tests_of_handled : List KnownHandlerAlternative → List LabelTest
+tests_of_handled xs = map handled_in_range (map bare_handled xs)
+
+abbrev trees_of_handled : List KnownHandlerAlternative → List NumbersTree
+trees_of_handled xs = map handled_tree (map bare_handled xs)
+
+abbrev tests_of_receive : List KnownReceiveAlternative → List ReceiveTest
+tests_of_receive xs = map receive_in_range (map bare_receive xs)
+
+abbrev trees_of_receive : List KnownReceiveAlternative → List ReceiveTree
+trees_of_receive xs = map receive_tree (map bare_receive xs)
+
+abbrev tests_of_statement : List KnownStatement → List StatementTest
+tests_of_statement xs = map statement_in_range (map bare_statement xs)
+
+abbrev trees_of_statement : List KnownStatement → List StatementTree
+trees_of_statement xs = map statement_tree (map bare_statement xs)
+
 abbrev tested_action : Action-F KnownAction KnownCaseAlternative KnownChoice KnownDelayAlternative KnownHandler KnownHandlerAlternative KnownReceiveAlternative KnownStatement → Action-F Acting LabelTest LabelTest LabelTest LabelTest LabelTest ReceiveTest StatementTest
-tested_action y = map-Action Action CaseAlternative Choice DelayAlternative Handler HandlerAlternative ReceiveAlternative Statement Acting LabelTest LabelTest LabelTest LabelTest LabelTest ReceiveTest StatementTest action_ranges case_in_range choice_in_range delay_in_range handler_in_range handled_in_range receive_in_range statement_in_range (map-Action KnownAction KnownCaseAlternative KnownChoice KnownDelayAlternative KnownHandler KnownHandlerAlternative KnownReceiveAlternative KnownStatement Action CaseAlternative Choice DelayAlternative Handler HandlerAlternative ReceiveAlternative Statement bare_action bare_case bare_choice bare_delay bare_handler bare_handled bare_receive bare_statement y)
+tested_action y = map-Action Action CaseAlternative Choice DelayAlternative Handler HandlerAlternative ReceiveAlternative Statement Acting LabelTest LabelTest LabelTest LabelTest LabelTest ReceiveTest StatementTest action_ranges case_in_range choice_in_range delay_in_range handler_in_range handled_in_range receive_in_range statement_in_range (plain_action y)
 
 abbrev treed_action : Action-F KnownAction KnownCaseAlternative KnownChoice KnownDelayAlternative KnownHandler KnownHandlerAlternative KnownReceiveAlternative KnownStatement → Action-F ActionTree CaseTree ChoiceTree NumbersTree HandlerNode NumbersTree ReceiveTree StatementTree
-treed_action y = map-Action Action CaseAlternative Choice DelayAlternative Handler HandlerAlternative ReceiveAlternative Statement ActionTree CaseTree ChoiceTree NumbersTree HandlerNode NumbersTree ReceiveTree StatementTree action_tree case_tree choice_tree delay_tree handler_tree handled_tree receive_tree statement_tree (map-Action KnownAction KnownCaseAlternative KnownChoice KnownDelayAlternative KnownHandler KnownHandlerAlternative KnownReceiveAlternative KnownStatement Action CaseAlternative Choice DelayAlternative Handler HandlerAlternative ReceiveAlternative Statement bare_action bare_case bare_choice bare_delay bare_handler bare_handled bare_receive bare_statement y)
+treed_action y = map-Action Action CaseAlternative Choice DelayAlternative Handler HandlerAlternative ReceiveAlternative Statement ActionTree CaseTree ChoiceTree NumbersTree HandlerNode NumbersTree ReceiveTree StatementTree action_tree case_tree choice_tree delay_tree handler_tree handled_tree receive_tree statement_tree (plain_action y)
 
 abbrev tested_case : CaseAlternative-F KnownAction KnownCaseAlternative KnownChoice KnownDelayAlternative KnownHandler KnownHandlerAlternative KnownReceiveAlternative KnownStatement → CaseAlternative-F Acting LabelTest LabelTest LabelTest LabelTest LabelTest ReceiveTest StatementTest
-tested_case y = map-CaseAlternative Action CaseAlternative Choice DelayAlternative Handler HandlerAlternative ReceiveAlternative Statement Acting LabelTest LabelTest LabelTest LabelTest LabelTest ReceiveTest StatementTest action_ranges case_in_range choice_in_range delay_in_range handler_in_range handled_in_range receive_in_range statement_in_range (map-CaseAlternative KnownAction KnownCaseAlternative KnownChoice KnownDelayAlternative KnownHandler KnownHandlerAlternative KnownReceiveAlternative KnownStatement Action CaseAlternative Choice DelayAlternative Handler HandlerAlternative ReceiveAlternative Statement bare_action bare_case bare_choice bare_delay bare_handler bare_handled bare_receive bare_statement y)
+tested_case y = map-CaseAlternative Action CaseAlternative Choice DelayAlternative Handler HandlerAlternative ReceiveAlternative Statement Acting LabelTest LabelTest LabelTest LabelTest LabelTest ReceiveTest StatementTest action_ranges case_in_range choice_in_range delay_in_range handler_in_range handled_in_range receive_in_range statement_in_range (plain_case y)
 
 abbrev treed_case : CaseAlternative-F KnownAction KnownCaseAlternative KnownChoice KnownDelayAlternative KnownHandler KnownHandlerAlternative KnownReceiveAlternative KnownStatement → CaseAlternative-F ActionTree CaseTree ChoiceTree NumbersTree HandlerNode NumbersTree ReceiveTree StatementTree
-treed_case y = map-CaseAlternative Action CaseAlternative Choice DelayAlternative Handler HandlerAlternative ReceiveAlternative Statement ActionTree CaseTree ChoiceTree NumbersTree HandlerNode NumbersTree ReceiveTree StatementTree action_tree case_tree choice_tree delay_tree handler_tree handled_tree receive_tree statement_tree (map-CaseAlternative KnownAction KnownCaseAlternative KnownChoice KnownDelayAlternative KnownHandler KnownHandlerAlternative KnownReceiveAlternative KnownStatement Action CaseAlternative Choice DelayAlternative Handler HandlerAlternative ReceiveAlternative Statement bare_action bare_case bare_choice bare_delay bare_handler bare_handled bare_receive bare_statement y)
+treed_case y = map-CaseAlternative Action CaseAlternative Choice DelayAlternative Handler HandlerAlternative ReceiveAlternative Statement ActionTree CaseTree ChoiceTree NumbersTree HandlerNode NumbersTree ReceiveTree StatementTree action_tree case_tree choice_tree delay_tree handler_tree handled_tree receive_tree statement_tree (plain_case y)
 
 abbrev tested_choice : Choice-F KnownAction KnownCaseAlternative KnownChoice KnownDelayAlternative KnownHandler KnownHandlerAlternative KnownReceiveAlternative KnownStatement → Choice-F Acting LabelTest LabelTest LabelTest LabelTest LabelTest ReceiveTest StatementTest
-tested_choice y = map-Choice Action CaseAlternative Choice DelayAlternative Handler HandlerAlternative ReceiveAlternative Statement Acting LabelTest LabelTest LabelTest LabelTest LabelTest ReceiveTest StatementTest action_ranges case_in_range choice_in_range delay_in_range handler_in_range handled_in_range receive_in_range statement_in_range (map-Choice KnownAction KnownCaseAlternative KnownChoice KnownDelayAlternative KnownHandler KnownHandlerAlternative KnownReceiveAlternative KnownStatement Action CaseAlternative Choice DelayAlternative Handler HandlerAlternative ReceiveAlternative Statement bare_action bare_case bare_choice bare_delay bare_handler bare_handled bare_receive bare_statement y)
+tested_choice y = map-Choice Action CaseAlternative Choice DelayAlternative Handler HandlerAlternative ReceiveAlternative Statement Acting LabelTest LabelTest LabelTest LabelTest LabelTest ReceiveTest StatementTest action_ranges case_in_range choice_in_range delay_in_range handler_in_range handled_in_range receive_in_range statement_in_range (plain_choice y)
 
 abbrev treed_choice : Choice-F KnownAction KnownCaseAlternative KnownChoice KnownDelayAlternative KnownHandler KnownHandlerAlternative KnownReceiveAlternative KnownStatement → Choice-F ActionTree CaseTree ChoiceTree NumbersTree HandlerNode NumbersTree ReceiveTree StatementTree
-treed_choice y = map-Choice Action CaseAlternative Choice DelayAlternative Handler HandlerAlternative ReceiveAlternative Statement ActionTree CaseTree ChoiceTree NumbersTree HandlerNode NumbersTree ReceiveTree StatementTree action_tree case_tree choice_tree delay_tree handler_tree handled_tree receive_tree statement_tree (map-Choice KnownAction KnownCaseAlternative KnownChoice KnownDelayAlternative KnownHandler KnownHandlerAlternative KnownReceiveAlternative KnownStatement Action CaseAlternative Choice DelayAlternative Handler HandlerAlternative ReceiveAlternative Statement bare_action bare_case bare_choice bare_delay bare_handler bare_handled bare_receive bare_statement y)
+treed_choice y = map-Choice Action CaseAlternative Choice DelayAlternative Handler HandlerAlternative ReceiveAlternative Statement ActionTree CaseTree ChoiceTree NumbersTree HandlerNode NumbersTree ReceiveTree StatementTree action_tree case_tree choice_tree delay_tree handler_tree handled_tree receive_tree statement_tree (plain_choice y)
 
 abbrev tested_delay : DelayAlternative-F KnownAction KnownCaseAlternative KnownChoice KnownDelayAlternative KnownHandler KnownHandlerAlternative KnownReceiveAlternative KnownStatement → DelayAlternative-F Acting LabelTest LabelTest LabelTest LabelTest LabelTest ReceiveTest StatementTest
-tested_delay y = map-DelayAlternative Action CaseAlternative Choice DelayAlternative Handler HandlerAlternative ReceiveAlternative Statement Acting LabelTest LabelTest LabelTest LabelTest LabelTest ReceiveTest StatementTest action_ranges case_in_range choice_in_range delay_in_range handler_in_range handled_in_range receive_in_range statement_in_range (map-DelayAlternative KnownAction KnownCaseAlternative KnownChoice KnownDelayAlternative KnownHandler KnownHandlerAlternative KnownReceiveAlternative KnownStatement Action CaseAlternative Choice DelayAlternative Handler HandlerAlternative ReceiveAlternative Statement bare_action bare_case bare_choice bare_delay bare_handler bare_handled bare_receive bare_statement y)
+tested_delay y = map-DelayAlternative Action CaseAlternative Choice DelayAlternative Handler HandlerAlternative ReceiveAlternative Statement Acting LabelTest LabelTest LabelTest LabelTest LabelTest ReceiveTest StatementTest action_ranges case_in_range choice_in_range delay_in_range handler_in_range handled_in_range receive_in_range statement_in_range (plain_delay y)
 
 abbrev treed_delay : DelayAlternative-F KnownAction KnownCaseAlternative KnownChoice KnownDelayAlternative KnownHandler KnownHandlerAlternative KnownReceiveAlternative KnownStatement → DelayAlternative-F ActionTree CaseTree ChoiceTree NumbersTree HandlerNode NumbersTree ReceiveTree StatementTree
-treed_delay y = map-DelayAlternative Action CaseAlternative Choice DelayAlternative Handler HandlerAlternative ReceiveAlternative Statement ActionTree CaseTree ChoiceTree NumbersTree HandlerNode NumbersTree ReceiveTree StatementTree action_tree case_tree choice_tree delay_tree handler_tree handled_tree receive_tree statement_tree (map-DelayAlternative KnownAction KnownCaseAlternative KnownChoice KnownDelayAlternative KnownHandler KnownHandlerAlternative KnownReceiveAlternative KnownStatement Action CaseAlternative Choice DelayAlternative Handler HandlerAlternative ReceiveAlternative Statement bare_action bare_case bare_choice bare_delay bare_handler bare_handled bare_receive bare_statement y)
+treed_delay y = map-DelayAlternative Action CaseAlternative Choice DelayAlternative Handler HandlerAlternative ReceiveAlternative Statement ActionTree CaseTree ChoiceTree NumbersTree HandlerNode NumbersTree ReceiveTree StatementTree action_tree case_tree choice_tree delay_tree handler_tree handled_tree receive_tree statement_tree (plain_delay y)
 
 abbrev tested_handler : Handler-F KnownAction KnownCaseAlternative KnownChoice KnownDelayAlternative KnownHandler KnownHandlerAlternative KnownReceiveAlternative KnownStatement → Handler-F Acting LabelTest LabelTest LabelTest LabelTest LabelTest ReceiveTest StatementTest
-tested_handler y = map-Handler Action CaseAlternative Choice DelayAlternative Handler HandlerAlternative ReceiveAlternative Statement Acting LabelTest LabelTest LabelTest LabelTest LabelTest ReceiveTest StatementTest action_ranges case_in_range choice_in_range delay_in_range handler_in_range handled_in_range receive_in_range statement_in_range (map-Handler KnownAction KnownCaseAlternative KnownChoice KnownDelayAlternative KnownHandler KnownHandlerAlternative KnownReceiveAlternative KnownStatement Action CaseAlternative Choice DelayAlternative Handler HandlerAlternative ReceiveAlternative Statement bare_action bare_case bare_choice bare_delay bare_handler bare_handled bare_receive bare_statement y)
+tested_handler y = map-Handler Action CaseAlternative Choice DelayAlternative Handler HandlerAlternative ReceiveAlternative Statement Acting LabelTest LabelTest LabelTest LabelTest LabelTest ReceiveTest StatementTest action_ranges case_in_range choice_in_range delay_in_range handler_in_range handled_in_range receive_in_range statement_in_range (plain_handler y)
 
 abbrev treed_handler : Handler-F KnownAction KnownCaseAlternative KnownChoice KnownDelayAlternative KnownHandler KnownHandlerAlternative KnownReceiveAlternative KnownStatement → Handler-F ActionTree CaseTree ChoiceTree NumbersTree HandlerNode NumbersTree ReceiveTree StatementTree
-treed_handler y = map-Handler Action CaseAlternative Choice DelayAlternative Handler HandlerAlternative ReceiveAlternative Statement ActionTree CaseTree ChoiceTree NumbersTree HandlerNode NumbersTree ReceiveTree StatementTree action_tree case_tree choice_tree delay_tree handler_tree handled_tree receive_tree statement_tree (map-Handler KnownAction KnownCaseAlternative KnownChoice KnownDelayAlternative KnownHandler KnownHandlerAlternative KnownReceiveAlternative KnownStatement Action CaseAlternative Choice DelayAlternative Handler HandlerAlternative ReceiveAlternative Statement bare_action bare_case bare_choice bare_delay bare_handler bare_handled bare_receive bare_statement y)
+treed_handler y = map-Handler Action CaseAlternative Choice DelayAlternative Handler HandlerAlternative ReceiveAlternative Statement ActionTree CaseTree ChoiceTree NumbersTree HandlerNode NumbersTree ReceiveTree StatementTree action_tree case_tree choice_tree delay_tree handler_tree handled_tree receive_tree statement_tree (plain_handler y)
 
 abbrev tested_handled : HandlerAlternative-F KnownAction KnownCaseAlternative KnownChoice KnownDelayAlternative KnownHandler KnownHandlerAlternative KnownReceiveAlternative KnownStatement → HandlerAlternative-F Acting LabelTest LabelTest LabelTest LabelTest LabelTest ReceiveTest StatementTest
-tested_handled y = map-HandlerAlternative Action CaseAlternative Choice DelayAlternative Handler HandlerAlternative ReceiveAlternative Statement Acting LabelTest LabelTest LabelTest LabelTest LabelTest ReceiveTest StatementTest action_ranges case_in_range choice_in_range delay_in_range handler_in_range handled_in_range receive_in_range statement_in_range (map-HandlerAlternative KnownAction KnownCaseAlternative KnownChoice KnownDelayAlternative KnownHandler KnownHandlerAlternative KnownReceiveAlternative KnownStatement Action CaseAlternative Choice DelayAlternative Handler HandlerAlternative ReceiveAlternative Statement bare_action bare_case bare_choice bare_delay bare_handler bare_handled bare_receive bare_statement y)
+tested_handled y = map-HandlerAlternative Action CaseAlternative Choice DelayAlternative Handler HandlerAlternative ReceiveAlternative Statement Acting LabelTest LabelTest LabelTest LabelTest LabelTest ReceiveTest StatementTest action_ranges case_in_range choice_in_range delay_in_range handler_in_range handled_in_range receive_in_range statement_in_range (plain_handled y)
 
 abbrev treed_handled : HandlerAlternative-F KnownAction KnownCaseAlternative KnownChoice KnownDelayAlternative KnownHandler KnownHandlerAlternative KnownReceiveAlternative KnownStatement → HandlerAlternative-F ActionTree CaseTree ChoiceTree NumbersTree HandlerNode NumbersTree ReceiveTree StatementTree
-treed_handled y = map-HandlerAlternative Action CaseAlternative Choice DelayAlternative Handler HandlerAlternative ReceiveAlternative Statement ActionTree CaseTree ChoiceTree NumbersTree HandlerNode NumbersTree ReceiveTree StatementTree action_tree case_tree choice_tree delay_tree handler_tree handled_tree receive_tree statement_tree (map-HandlerAlternative KnownAction KnownCaseAlternative KnownChoice KnownDelayAlternative KnownHandler KnownHandlerAlternative KnownReceiveAlternative KnownStatement Action CaseAlternative Choice DelayAlternative Handler HandlerAlternative ReceiveAlternative Statement bare_action bare_case bare_choice bare_delay bare_handler bare_handled bare_receive bare_statement y)
+treed_handled y = map-HandlerAlternative Action CaseAlternative Choice DelayAlternative Handler HandlerAlternative ReceiveAlternative Statement ActionTree CaseTree ChoiceTree NumbersTree HandlerNode NumbersTree ReceiveTree StatementTree action_tree case_tree choice_tree delay_tree handler_tree handled_tree receive_tree statement_tree (plain_handled y)
 
 abbrev tested_receive : ReceiveAlternative-F KnownAction KnownCaseAlternative KnownChoice KnownDelayAlternative KnownHandler KnownHandlerAlternative KnownReceiveAlternative KnownStatement → ReceiveAlternative-F Acting LabelTest LabelTest LabelTest LabelTest LabelTest ReceiveTest StatementTest
-tested_receive y = map-ReceiveAlternative Action CaseAlternative Choice DelayAlternative Handler HandlerAlternative ReceiveAlternative Statement Acting LabelTest LabelTest LabelTest LabelTest LabelTest ReceiveTest StatementTest action_ranges case_in_range choice_in_range delay_in_range handler_in_range handled_in_range receive_in_range statement_in_range (map-ReceiveAlternative KnownAction KnownCaseAlternative KnownChoice KnownDelayAlternative KnownHandler KnownHandlerAlternative KnownReceiveAlternative KnownStatement Action CaseAlternative Choice DelayAlternative Handler HandlerAlternative ReceiveAlternative Statement bare_action bare_case bare_choice bare_delay bare_handler bare_handled bare_receive bare_statement y)
+tested_receive y = map-ReceiveAlternative Action CaseAlternative Choice DelayAlternative Handler HandlerAlternative ReceiveAlternative Statement Acting LabelTest LabelTest LabelTest LabelTest LabelTest ReceiveTest StatementTest action_ranges case_in_range choice_in_range delay_in_range handler_in_range handled_in_range receive_in_range statement_in_range (plain_receive y)
 
 abbrev treed_receive : ReceiveAlternative-F KnownAction KnownCaseAlternative KnownChoice KnownDelayAlternative KnownHandler KnownHandlerAlternative KnownReceiveAlternative KnownStatement → ReceiveAlternative-F ActionTree CaseTree ChoiceTree NumbersTree HandlerNode NumbersTree ReceiveTree StatementTree
-treed_receive y = map-ReceiveAlternative Action CaseAlternative Choice DelayAlternative Handler HandlerAlternative ReceiveAlternative Statement ActionTree CaseTree ChoiceTree NumbersTree HandlerNode NumbersTree ReceiveTree StatementTree action_tree case_tree choice_tree delay_tree handler_tree handled_tree receive_tree statement_tree (map-ReceiveAlternative KnownAction KnownCaseAlternative KnownChoice KnownDelayAlternative KnownHandler KnownHandlerAlternative KnownReceiveAlternative KnownStatement Action CaseAlternative Choice DelayAlternative Handler HandlerAlternative ReceiveAlternative Statement bare_action bare_case bare_choice bare_delay bare_handler bare_handled bare_receive bare_statement y)
+treed_receive y = map-ReceiveAlternative Action CaseAlternative Choice DelayAlternative Handler HandlerAlternative ReceiveAlternative Statement ActionTree CaseTree ChoiceTree NumbersTree HandlerNode NumbersTree ReceiveTree StatementTree action_tree case_tree choice_tree delay_tree handler_tree handled_tree receive_tree statement_tree (plain_receive y)
 
 abbrev tested_statement : Statement-F KnownAction KnownCaseAlternative KnownChoice KnownDelayAlternative KnownHandler KnownHandlerAlternative KnownReceiveAlternative KnownStatement → Statement-F Acting LabelTest LabelTest LabelTest LabelTest LabelTest ReceiveTest StatementTest
-tested_statement y = map-Statement Action CaseAlternative Choice DelayAlternative Handler HandlerAlternative ReceiveAlternative Statement Acting LabelTest LabelTest LabelTest LabelTest LabelTest ReceiveTest StatementTest action_ranges case_in_range choice_in_range delay_in_range handler_in_range handled_in_range receive_in_range statement_in_range (map-Statement KnownAction KnownCaseAlternative KnownChoice KnownDelayAlternative KnownHandler KnownHandlerAlternative KnownReceiveAlternative KnownStatement Action CaseAlternative Choice DelayAlternative Handler HandlerAlternative ReceiveAlternative Statement bare_action bare_case bare_choice bare_delay bare_handler bare_handled bare_receive bare_statement y)
+tested_statement y = map-Statement Action CaseAlternative Choice DelayAlternative Handler HandlerAlternative ReceiveAlternative Statement Acting LabelTest LabelTest LabelTest LabelTest LabelTest ReceiveTest StatementTest action_ranges case_in_range choice_in_range delay_in_range handler_in_range handled_in_range receive_in_range statement_in_range (plain_statement y)
 
 abbrev treed_statement : Statement-F KnownAction KnownCaseAlternative KnownChoice KnownDelayAlternative KnownHandler KnownHandlerAlternative KnownReceiveAlternative KnownStatement → Statement-F ActionTree CaseTree ChoiceTree NumbersTree HandlerNode NumbersTree ReceiveTree StatementTree
-treed_statement y = map-Statement Action CaseAlternative Choice DelayAlternative Handler HandlerAlternative ReceiveAlternative Statement ActionTree CaseTree ChoiceTree NumbersTree HandlerNode NumbersTree ReceiveTree StatementTree action_tree case_tree choice_tree delay_tree handler_tree handled_tree receive_tree statement_tree (map-Statement KnownAction KnownCaseAlternative KnownChoice KnownDelayAlternative KnownHandler KnownHandlerAlternative KnownReceiveAlternative KnownStatement Action CaseAlternative Choice DelayAlternative Handler HandlerAlternative ReceiveAlternative Statement bare_action bare_case bare_choice bare_delay bare_handler bare_handled bare_receive bare_statement y)
+treed_statement y = map-Statement Action CaseAlternative Choice DelayAlternative Handler HandlerAlternative ReceiveAlternative Statement ActionTree CaseTree ChoiceTree NumbersTree HandlerNode NumbersTree ReceiveTree StatementTree action_tree case_tree choice_tree delay_tree handler_tree handled_tree receive_tree statement_tree (plain_statement y)
 
 -- ---- lists of nodes
 
-statements_known : (ss : List KnownStatement) (items : Bool) (labels : ℕ) (program : Checked) (body : Body) → IsTrue (statements_hold items (map statement_in_range (map bare_statement ss)) labels program body) → StatementsInRange (checked_tree program) (body_row_tree body) items (statement_nodes (map statement_tree (map bare_statement ss)))
+statements_known : (ss : List KnownStatement) (items : Bool) (labels : ℕ) (program : Checked) (body : Body) → IsTrue (statements_hold items (tests_of_statement ss) labels program body) → StatementsInRange (checked_tree program) (body_row_tree body) items (statement_nodes (trees_of_statement ss))
 statements_known [] items labels program body holds = tt
 statements_known (s ∷ ss) items labels program body holds =
-    let parts = both_hold (statement_in_range s.0 items labels program body) (statements_hold items (map statement_in_range (map bare_statement ss)) labels program body) holds in
+    let parts = both_hold (statement_in_range s.0 items labels program body) (statements_hold items (tests_of_statement ss) labels program body) holds in
     (s.1 items labels program body parts.0, statements_known ss items labels program body parts.1)
 
-cases_known : (as' : List KnownCaseAlternative) (labels : ℕ) (program : Checked) (body : Body) → IsTrue (all_within (map case_in_range (map bare_case as')) labels program body) → CasesInRange (checked_tree program) (body_row_tree body) (case_nodes (map case_tree (map bare_case as')))
+cases_known : (as' : List KnownCaseAlternative) (labels : ℕ) (program : Checked) (body : Body) → IsTrue (all_within (tests_of_case as') labels program body) → CasesInRange (checked_tree program) (body_row_tree body) (case_nodes (trees_of_case as'))
 cases_known [] labels program body holds = tt
 cases_known (a ∷ as') labels program body holds =
-    let parts = both_hold (case_in_range a.0 labels program body) (all_within (map case_in_range (map bare_case as')) labels program body) holds in
+    let parts = both_hold (case_in_range a.0 labels program body) (all_within (tests_of_case as') labels program body) holds in
     (a.1 labels program body parts.0, cases_known as' labels program body parts.1)
 
-choices_known : (as' : List KnownChoice) (labels : ℕ) (program : Checked) (body : Body) → IsTrue (all_within (map choice_in_range (map bare_choice as')) labels program body) → ChoicesInRange (checked_tree program) (body_row_tree body) (choice_nodes (map choice_tree (map bare_choice as')))
+choices_known : (as' : List KnownChoice) (labels : ℕ) (program : Checked) (body : Body) → IsTrue (all_within (tests_of_choice as') labels program body) → ChoicesInRange (checked_tree program) (body_row_tree body) (choice_nodes (trees_of_choice as'))
 choices_known [] labels program body holds = tt
 choices_known (a ∷ as') labels program body holds =
-    let parts = both_hold (choice_in_range a.0 labels program body) (all_within (map choice_in_range (map bare_choice as')) labels program body) holds in
+    let parts = both_hold (choice_in_range a.0 labels program body) (all_within (tests_of_choice as') labels program body) holds in
     (a.1 labels program body parts.0, choices_known as' labels program body parts.1)
 
-delays_known : (as' : List KnownDelayAlternative) (labels : ℕ) (program : Checked) (body : Body) → IsTrue (all_within (map delay_in_range (map bare_delay as')) labels program body) → DelaysInRange (checked_tree program) (body_row_tree body) (delay_nodes (map delay_tree (map bare_delay as')))
+delays_known : (as' : List KnownDelayAlternative) (labels : ℕ) (program : Checked) (body : Body) → IsTrue (all_within (tests_of_delay as') labels program body) → DelaysInRange (checked_tree program) (body_row_tree body) (delay_nodes (trees_of_delay as'))
 delays_known [] labels program body holds = tt
 delays_known (a ∷ as') labels program body holds =
-    let parts = both_hold (delay_in_range a.0 labels program body) (all_within (map delay_in_range (map bare_delay as')) labels program body) holds in
+    let parts = both_hold (delay_in_range a.0 labels program body) (all_within (tests_of_delay as') labels program body) holds in
     (a.1 labels program body parts.0, delays_known as' labels program body parts.1)
 
-all_handled_known : (as' : List KnownHandlerAlternative) (labels : ℕ) (program : Checked) (body : Body) → IsTrue (all_within (map handled_in_range (map bare_handled as')) labels program body) → HandledInRange (checked_tree program) (body_row_tree body) (handled_nodes (map handled_tree (map bare_handled as')))
+all_handled_known : (as' : List KnownHandlerAlternative) (labels : ℕ) (program : Checked) (body : Body) → IsTrue (all_within (tests_of_handled as') labels program body) → HandledInRange (checked_tree program) (body_row_tree body) (handled_nodes (trees_of_handled as'))
 all_handled_known [] labels program body holds = tt
 all_handled_known (a ∷ as') labels program body holds =
-    let parts = both_hold (handled_in_range a.0 labels program body) (all_within (map handled_in_range (map bare_handled as')) labels program body) holds in
+    let parts = both_hold (handled_in_range a.0 labels program body) (all_within (tests_of_handled as') labels program body) holds in
     (a.1 labels program body parts.0, all_handled_known as' labels program body parts.1)
 
-receives_known : (source : _) (as' : List KnownReceiveAlternative) (labels : ℕ) (program : Checked) (body : Body) → IsTrue (all_receive source (map receive_in_range (map bare_receive as')) labels program body) → ReceivesInRange (checked_tree program) (body_row_tree body) (receive_nodes (map receive_tree (map bare_receive as')))
+receives_known : (source : _) (as' : List KnownReceiveAlternative) (labels : ℕ) (program : Checked) (body : Body) → IsTrue (all_receive source (tests_of_receive as') labels program body) → ReceivesInRange (checked_tree program) (body_row_tree body) (receive_nodes (trees_of_receive as'))
 receives_known source [] labels program body holds = tt
 receives_known source (a ∷ as') labels program body holds =
-    let parts = both_hold (receive_in_range a.0 source labels program body) (all_receive source (map receive_in_range (map bare_receive as')) labels program body) holds in
+    let parts = both_hold (receive_in_range a.0 source labels program body) (all_receive source (tests_of_receive as') labels program body) holds in
     (a.1 source labels program body parts.0, receives_known source as' labels program body parts.1)
 
 -- ---- each kind
@@ -340,30 +400,30 @@ case_step y labels program body holds = statements_known y.actions false labels 
 
 choice_step : (y : Choice-F KnownAction KnownCaseAlternative KnownChoice KnownDelayAlternative KnownHandler KnownHandlerAlternative KnownReceiveAlternative KnownStatement) → TellsChoice (tests.choice_layer (tested_choice y)) (trees.choice_layer (treed_choice y))
 choice_step y labels program body holds =
-    let parts = both_hold (is_number (expr_ranges y.condition.value) program body) (statements_hold false (map statement_in_range (map bare_statement y.actions)) labels program body) holds in
+    let parts = both_hold (is_number (expr_ranges y.condition.value) program body) (statements_hold false (tests_of_statement y.actions) labels program body) holds in
     (number_told y.condition.value program body parts.0, statements_known y.actions false labels program body parts.1)
 
 delay_step : (y : DelayAlternative-F KnownAction KnownCaseAlternative KnownChoice KnownDelayAlternative KnownHandler KnownHandlerAlternative KnownReceiveAlternative KnownStatement) → TellsDelayAlternative (tests.delay_layer (tested_delay y)) (trees.delay_layer (treed_delay y))
 delay_step y labels program body holds =
-    statements_known y.actions false labels program body (both_hold (all_below (length program.events) y.events) (statements_hold false (map statement_in_range (map bare_statement y.actions)) labels program body) holds).1
+    statements_known y.actions false labels program body (both_hold (all_below (length program.events) y.events) (statements_hold false (tests_of_statement y.actions) labels program body) holds).1
 
 handled_step : (y : HandlerAlternative-F KnownAction KnownCaseAlternative KnownChoice KnownDelayAlternative KnownHandler KnownHandlerAlternative KnownReceiveAlternative KnownStatement) → TellsHandlerAlternative (tests.handled_layer (tested_handled y)) (trees.handled_layer (treed_handled y))
 handled_step y labels program body holds =
-    let parts = both_hold (all_exceptions y.exceptions program) (statements_hold false (map statement_in_range (map bare_statement y.actions)) labels program body) holds in
+    let parts = both_hold (all_exceptions y.exceptions program) (statements_hold false (tests_of_statement y.actions) labels program body) holds in
     (exceptions_told y.exceptions program parts.0, statements_known y.actions false labels program body parts.1)
 
 receive_step : (y : ReceiveAlternative-F KnownAction KnownCaseAlternative KnownChoice KnownDelayAlternative KnownHandler KnownHandlerAlternative KnownReceiveAlternative KnownStatement) → TellsReceiveAlternative (tests.receive_layer (tested_receive y)) (trees.receive_layer (treed_receive y))
 receive_step y source labels program body holds =
-    let all = both_hold (parts_received source y.source 0 y.received program body) (locals_follow None y.received body && statements_hold false (map statement_in_range (map bare_statement y.actions)) labels program body) holds in
-    let parts = both_hold (locals_follow None y.received body) (statements_hold false (map statement_in_range (map bare_statement y.actions)) labels program body) all.1 in
+    let all = both_hold (parts_received source y.source 0 y.received program body) (locals_follow None y.received body && statements_hold false (tests_of_statement y.actions) labels program body) holds in
+    let parts = both_hold (locals_follow None y.received body) (statements_hold false (tests_of_statement y.actions) labels program body) all.1 in
     (follow_told y.received source y.source 0 None program body all.0 parts.0, statements_known y.actions false labels program body parts.1)
 
 handler_step : (y : Handler-F KnownAction KnownCaseAlternative KnownChoice KnownDelayAlternative KnownHandler KnownHandlerAlternative KnownReceiveAlternative KnownStatement) → TellsHandler (tests.handler_layer (tested_handler y)) (trees.handler_layer (treed_handler y))
 handler_step y labels program body holds = to_else y.alternatives y.otherwise labels program body holds where
   to_else : (as' : List KnownHandlerAlternative) (o : Option (List KnownStatement)) → TellsHandler (tests.handler_layer (tested_handler (record { alternatives = as'; otherwise = o }))) (trees.handler_layer (treed_handler (record { alternatives = as'; otherwise = o })))
-  to_else as' None labels program body holds = (all_handled_known as' labels program body (both_hold (all_within (map handled_in_range (map bare_handled as')) labels program body) true holds).0, tt)
+  to_else as' None labels program body holds = (all_handled_known as' labels program body (both_hold (all_within (tests_of_handled as') labels program body) true holds).0, tt)
   to_else as' (Some ss) labels program body holds =
-      let parts = both_hold (all_within (map handled_in_range (map bare_handled as')) labels program body) (statements_hold false (map statement_in_range (map bare_statement ss)) labels program body) holds in
+      let parts = both_hold (all_within (tests_of_handled as') labels program body) (statements_hold false (tests_of_statement ss) labels program body) holds in
       (all_handled_known as' labels program body parts.0, statements_known ss false labels program body parts.1)
 
 statement_step : (y : Statement-F KnownAction KnownCaseAlternative KnownChoice KnownDelayAlternative KnownHandler KnownHandlerAlternative KnownReceiveAlternative KnownStatement) → TellsStatement (tests.statement_layer (tested_statement y)) (trees.statement_layer (treed_statement y))
@@ -385,11 +445,11 @@ action_step (opens.Declare names v) items labels program body holds =
     ((received_told v).1 program body parts.0, subst (λ k. NamesInRange (checked_tree program) (body_row_tree body) names k) (sym (received_told v).0) (names_told names counted.count program body parts.1))
 action_step (opens.Lowest locals xs) items labels program body holds = tt
 action_step (opens.Module ss) items labels program body holds =
-    let parts = both_hold items (statements_hold true (map statement_in_range (map bare_statement ss)) labels program body) holds in
+    let parts = both_hold items (statements_hold true (tests_of_statement ss) labels program body) holds in
     (truly items parts.0, statements_known ss true labels program body parts.1)
 action_step (opens.Region r ss) items labels program body holds =
-    let all = both_hold items (nat_lt r program.regions && statements_hold false (map statement_in_range (map bare_statement ss)) labels program body) holds in
-    let parts = both_hold (nat_lt r program.regions) (statements_hold false (map statement_in_range (map bare_statement ss)) labels program body) all.1 in
+    let all = both_hold items (nat_lt r program.regions && statements_hold false (tests_of_statement ss) labels program body) holds in
+    let parts = both_hold (nat_lt r program.regions) (statements_hold false (tests_of_statement ss) labels program body) all.1 in
     (truly items all.0, statements_known ss false labels program body parts.1)
 action_step (opens.Assign l v) items labels program body holds =
     let left = location_ranges l in
@@ -422,101 +482,101 @@ action_step (opens.Delay e priority) items labels program body holds = tt
 action_step (opens.Continue e) items labels program body holds = tt
 action_step (opens.Send s priority) items labels program body holds = sent_told s.value program body holds
 action_step (opens.If cs ss) items labels program body holds =
-    let parts = both_hold (all_within (map choice_in_range (map bare_choice cs)) labels program body) (statements_hold false (map statement_in_range (map bare_statement ss)) labels program body) holds in
+    let parts = both_hold (all_within (tests_of_choice cs) labels program body) (statements_hold false (tests_of_statement ss) labels program body) holds in
     (choices_known cs labels program body parts.0, statements_known ss false labels program body parts.1)
 action_step (opens.Case e as' None) items labels program body holds =
-    let all = both_hold (is_number (expr_ranges e.value) program body) (all_within (map case_in_range (map bare_case as')) labels program body && true) holds in
-    (number_told e.value program body all.0, cases_known as' labels program body (both_hold (all_within (map case_in_range (map bare_case as')) labels program body) true all.1).0, tt)
+    let all = both_hold (is_number (expr_ranges e.value) program body) (all_within (tests_of_case as') labels program body && true) holds in
+    (number_told e.value program body all.0, cases_known as' labels program body (both_hold (all_within (tests_of_case as') labels program body) true all.1).0, tt)
 action_step (opens.Case e as' (Some ss)) items labels program body holds =
-    let all = both_hold (is_number (expr_ranges e.value) program body) (all_within (map case_in_range (map bare_case as')) labels program body && statements_hold false (map statement_in_range (map bare_statement ss)) labels program body) holds in
-    let parts = both_hold (all_within (map case_in_range (map bare_case as')) labels program body) (statements_hold false (map statement_in_range (map bare_statement ss)) labels program body) all.1 in
+    let all = both_hold (is_number (expr_ranges e.value) program body) (all_within (tests_of_case as') labels program body && statements_hold false (tests_of_statement ss) labels program body) holds in
+    let parts = both_hold (all_within (tests_of_case as') labels program body) (statements_hold false (tests_of_statement ss) labels program body) all.1 in
     (number_told e.value program body all.0, cases_known as' labels program body parts.0, statements_known ss false labels program body parts.1)
 action_step (opens.Do c ss) items labels program body holds =
-    let parts = both_hold (control_in_range c.value program body) (statements_hold false (map statement_in_range (map bare_statement ss)) labels program body) holds in
+    let parts = both_hold (control_in_range c.value program body) (statements_hold false (tests_of_statement ss) labels program body) holds in
     (control_told c.value program body parts.0, statements_known ss false labels program body parts.1)
 action_step (opens.Begin ss) items labels program body holds = statements_known ss false labels program body holds
 action_step (opens.DelayCase set priority as') items labels program body holds =
-    let parts = both_hold (is_set set program body) (all_within (map delay_in_range (map bare_delay as')) labels program body) holds in
+    let parts = both_hold (is_set set program body) (all_within (tests_of_delay as') labels program body) holds in
     (set_told set program body parts.0, delays_known as' labels program body parts.1)
 action_step (opens.ReceiveBuffers set as' None) items labels program body holds =
-    let all = both_hold (is_set set program body) (all_receive _ (map receive_in_range (map bare_receive as')) labels program body && true) holds in
-    (set_told set program body all.0, receives_known _ as' labels program body (both_hold (all_receive _ (map receive_in_range (map bare_receive as')) labels program body) true all.1).0, tt)
+    let all = both_hold (is_set set program body) (all_receive _ (tests_of_receive as') labels program body && true) holds in
+    (set_told set program body all.0, receives_known _ as' labels program body (both_hold (all_receive _ (tests_of_receive as') labels program body) true all.1).0, tt)
 action_step (opens.ReceiveBuffers set as' (Some ss)) items labels program body holds =
-    let all = both_hold (is_set set program body) (all_receive _ (map receive_in_range (map bare_receive as')) labels program body && statements_hold false (map statement_in_range (map bare_statement ss)) labels program body) holds in
-    let parts = both_hold (all_receive _ (map receive_in_range (map bare_receive as')) labels program body) (statements_hold false (map statement_in_range (map bare_statement ss)) labels program body) all.1 in
+    let all = both_hold (is_set set program body) (all_receive _ (tests_of_receive as') labels program body && statements_hold false (tests_of_statement ss) labels program body) holds in
+    let parts = both_hold (all_receive _ (tests_of_receive as') labels program body) (statements_hold false (tests_of_statement ss) labels program body) all.1 in
     (set_told set program body all.0, receives_known _ as' labels program body parts.0, statements_known ss false labels program body parts.1)
 action_step (opens.ReceiveSignals set as' None) items labels program body holds =
-    let all = both_hold (is_set set program body) (all_receive _ (map receive_in_range (map bare_receive as')) labels program body && true) holds in
-    (set_told set program body all.0, receives_known _ as' labels program body (both_hold (all_receive _ (map receive_in_range (map bare_receive as')) labels program body) true all.1).0, tt)
+    let all = both_hold (is_set set program body) (all_receive _ (tests_of_receive as') labels program body && true) holds in
+    (set_told set program body all.0, receives_known _ as' labels program body (both_hold (all_receive _ (tests_of_receive as') labels program body) true all.1).0, tt)
 action_step (opens.ReceiveSignals set as' (Some ss)) items labels program body holds =
-    let all = both_hold (is_set set program body) (all_receive _ (map receive_in_range (map bare_receive as')) labels program body && statements_hold false (map statement_in_range (map bare_statement ss)) labels program body) holds in
-    let parts = both_hold (all_receive _ (map receive_in_range (map bare_receive as')) labels program body) (statements_hold false (map statement_in_range (map bare_statement ss)) labels program body) all.1 in
+    let all = both_hold (is_set set program body) (all_receive _ (tests_of_receive as') labels program body && statements_hold false (tests_of_statement ss) labels program body) holds in
+    let parts = both_hold (all_receive _ (tests_of_receive as') labels program body) (statements_hold false (tests_of_statement ss) labels program body) all.1 in
     (set_told set program body all.0, receives_known _ as' labels program body parts.0, statements_known ss false labels program body parts.1)
 
 -- ---- the induction
 
-action_rolled : (x : Action-F Action CaseAlternative Choice DelayAlternative Handler HandlerAlternative ReceiveAlternative Statement) (y : Action-F KnownAction KnownCaseAlternative KnownChoice KnownDelayAlternative KnownHandler KnownHandlerAlternative KnownReceiveAlternative KnownStatement) → map-Action KnownAction KnownCaseAlternative KnownChoice KnownDelayAlternative KnownHandler KnownHandlerAlternative KnownReceiveAlternative KnownStatement Action CaseAlternative Choice DelayAlternative Handler HandlerAlternative ReceiveAlternative Statement bare_action bare_case bare_choice bare_delay bare_handler bare_handled bare_receive bare_statement y ≡ x → ToldAction (roll-Action x)
+action_rolled : (x : Action-F Action CaseAlternative Choice DelayAlternative Handler HandlerAlternative ReceiveAlternative Statement) (y : Action-F KnownAction KnownCaseAlternative KnownChoice KnownDelayAlternative KnownHandler KnownHandlerAlternative KnownReceiveAlternative KnownStatement) → plain_action y ≡ x → ToldAction (roll-Action x)
 unfolding action_ranges case_in_range choice_in_range delay_in_range handler_in_range handled_in_range receive_in_range statement_in_range action_tree case_tree choice_tree delay_tree handler_tree handled_tree receive_tree statement_tree
 action_rolled x y is =
     subst (λ z. ToldAction (roll-Action z)) is
-    (subst (λ t. TellsAction (action_ranges (roll-Action (map-Action KnownAction KnownCaseAlternative KnownChoice KnownDelayAlternative KnownHandler KnownHandlerAlternative KnownReceiveAlternative KnownStatement Action CaseAlternative Choice DelayAlternative Handler HandlerAlternative ReceiveAlternative Statement bare_action bare_case bare_choice bare_delay bare_handler bare_handled bare_receive bare_statement y))) t) (sym (fold-roll-Action ActionTree CaseTree ChoiceTree NumbersTree HandlerNode NumbersTree ReceiveTree StatementTree trees.action_layer trees.case_layer trees.choice_layer trees.delay_layer trees.handler_layer trees.handled_layer trees.receive_layer trees.statement_layer (map-Action KnownAction KnownCaseAlternative KnownChoice KnownDelayAlternative KnownHandler KnownHandlerAlternative KnownReceiveAlternative KnownStatement Action CaseAlternative Choice DelayAlternative Handler HandlerAlternative ReceiveAlternative Statement bare_action bare_case bare_choice bare_delay bare_handler bare_handled bare_receive bare_statement y)))
-    (subst (λ t. TellsAction t (trees.action_layer (treed_action y))) (sym (fold-roll-Action Acting LabelTest LabelTest LabelTest LabelTest LabelTest ReceiveTest StatementTest tests.action_layer tests.case_layer tests.choice_layer tests.delay_layer tests.handler_layer tests.handled_layer tests.receive_layer tests.statement_layer (map-Action KnownAction KnownCaseAlternative KnownChoice KnownDelayAlternative KnownHandler KnownHandlerAlternative KnownReceiveAlternative KnownStatement Action CaseAlternative Choice DelayAlternative Handler HandlerAlternative ReceiveAlternative Statement bare_action bare_case bare_choice bare_delay bare_handler bare_handled bare_receive bare_statement y)))
+    (subst (λ t. TellsAction (action_ranges (roll-Action (plain_action y))) t) (sym (fold-roll-Action ActionTree CaseTree ChoiceTree NumbersTree HandlerNode NumbersTree ReceiveTree StatementTree trees.action_layer trees.case_layer trees.choice_layer trees.delay_layer trees.handler_layer trees.handled_layer trees.receive_layer trees.statement_layer (plain_action y)))
+    (subst (λ t. TellsAction t (trees.action_layer (treed_action y))) (sym (fold-roll-Action Acting LabelTest LabelTest LabelTest LabelTest LabelTest ReceiveTest StatementTest tests.action_layer tests.case_layer tests.choice_layer tests.delay_layer tests.handler_layer tests.handled_layer tests.receive_layer tests.statement_layer (plain_action y)))
     (action_step y)))
 
-case_rolled : (x : CaseAlternative-F Action CaseAlternative Choice DelayAlternative Handler HandlerAlternative ReceiveAlternative Statement) (y : CaseAlternative-F KnownAction KnownCaseAlternative KnownChoice KnownDelayAlternative KnownHandler KnownHandlerAlternative KnownReceiveAlternative KnownStatement) → map-CaseAlternative KnownAction KnownCaseAlternative KnownChoice KnownDelayAlternative KnownHandler KnownHandlerAlternative KnownReceiveAlternative KnownStatement Action CaseAlternative Choice DelayAlternative Handler HandlerAlternative ReceiveAlternative Statement bare_action bare_case bare_choice bare_delay bare_handler bare_handled bare_receive bare_statement y ≡ x → ToldCaseAlternative (roll-CaseAlternative x)
+case_rolled : (x : CaseAlternative-F Action CaseAlternative Choice DelayAlternative Handler HandlerAlternative ReceiveAlternative Statement) (y : CaseAlternative-F KnownAction KnownCaseAlternative KnownChoice KnownDelayAlternative KnownHandler KnownHandlerAlternative KnownReceiveAlternative KnownStatement) → plain_case y ≡ x → ToldCaseAlternative (roll-CaseAlternative x)
 unfolding action_ranges case_in_range choice_in_range delay_in_range handler_in_range handled_in_range receive_in_range statement_in_range action_tree case_tree choice_tree delay_tree handler_tree handled_tree receive_tree statement_tree
 case_rolled x y is =
     subst (λ z. ToldCaseAlternative (roll-CaseAlternative z)) is
-    (subst (λ t. TellsCaseAlternative (case_in_range (roll-CaseAlternative (map-CaseAlternative KnownAction KnownCaseAlternative KnownChoice KnownDelayAlternative KnownHandler KnownHandlerAlternative KnownReceiveAlternative KnownStatement Action CaseAlternative Choice DelayAlternative Handler HandlerAlternative ReceiveAlternative Statement bare_action bare_case bare_choice bare_delay bare_handler bare_handled bare_receive bare_statement y))) t) (sym (fold-roll-CaseAlternative ActionTree CaseTree ChoiceTree NumbersTree HandlerNode NumbersTree ReceiveTree StatementTree trees.action_layer trees.case_layer trees.choice_layer trees.delay_layer trees.handler_layer trees.handled_layer trees.receive_layer trees.statement_layer (map-CaseAlternative KnownAction KnownCaseAlternative KnownChoice KnownDelayAlternative KnownHandler KnownHandlerAlternative KnownReceiveAlternative KnownStatement Action CaseAlternative Choice DelayAlternative Handler HandlerAlternative ReceiveAlternative Statement bare_action bare_case bare_choice bare_delay bare_handler bare_handled bare_receive bare_statement y)))
-    (subst (λ t. TellsCaseAlternative t (trees.case_layer (treed_case y))) (sym (fold-roll-CaseAlternative Acting LabelTest LabelTest LabelTest LabelTest LabelTest ReceiveTest StatementTest tests.action_layer tests.case_layer tests.choice_layer tests.delay_layer tests.handler_layer tests.handled_layer tests.receive_layer tests.statement_layer (map-CaseAlternative KnownAction KnownCaseAlternative KnownChoice KnownDelayAlternative KnownHandler KnownHandlerAlternative KnownReceiveAlternative KnownStatement Action CaseAlternative Choice DelayAlternative Handler HandlerAlternative ReceiveAlternative Statement bare_action bare_case bare_choice bare_delay bare_handler bare_handled bare_receive bare_statement y)))
+    (subst (λ t. TellsCaseAlternative (case_in_range (roll-CaseAlternative (plain_case y))) t) (sym (fold-roll-CaseAlternative ActionTree CaseTree ChoiceTree NumbersTree HandlerNode NumbersTree ReceiveTree StatementTree trees.action_layer trees.case_layer trees.choice_layer trees.delay_layer trees.handler_layer trees.handled_layer trees.receive_layer trees.statement_layer (plain_case y)))
+    (subst (λ t. TellsCaseAlternative t (trees.case_layer (treed_case y))) (sym (fold-roll-CaseAlternative Acting LabelTest LabelTest LabelTest LabelTest LabelTest ReceiveTest StatementTest tests.action_layer tests.case_layer tests.choice_layer tests.delay_layer tests.handler_layer tests.handled_layer tests.receive_layer tests.statement_layer (plain_case y)))
     (case_step y)))
 
-choice_rolled : (x : Choice-F Action CaseAlternative Choice DelayAlternative Handler HandlerAlternative ReceiveAlternative Statement) (y : Choice-F KnownAction KnownCaseAlternative KnownChoice KnownDelayAlternative KnownHandler KnownHandlerAlternative KnownReceiveAlternative KnownStatement) → map-Choice KnownAction KnownCaseAlternative KnownChoice KnownDelayAlternative KnownHandler KnownHandlerAlternative KnownReceiveAlternative KnownStatement Action CaseAlternative Choice DelayAlternative Handler HandlerAlternative ReceiveAlternative Statement bare_action bare_case bare_choice bare_delay bare_handler bare_handled bare_receive bare_statement y ≡ x → ToldChoice (roll-Choice x)
+choice_rolled : (x : Choice-F Action CaseAlternative Choice DelayAlternative Handler HandlerAlternative ReceiveAlternative Statement) (y : Choice-F KnownAction KnownCaseAlternative KnownChoice KnownDelayAlternative KnownHandler KnownHandlerAlternative KnownReceiveAlternative KnownStatement) → plain_choice y ≡ x → ToldChoice (roll-Choice x)
 unfolding action_ranges case_in_range choice_in_range delay_in_range handler_in_range handled_in_range receive_in_range statement_in_range action_tree case_tree choice_tree delay_tree handler_tree handled_tree receive_tree statement_tree
 choice_rolled x y is =
     subst (λ z. ToldChoice (roll-Choice z)) is
-    (subst (λ t. TellsChoice (choice_in_range (roll-Choice (map-Choice KnownAction KnownCaseAlternative KnownChoice KnownDelayAlternative KnownHandler KnownHandlerAlternative KnownReceiveAlternative KnownStatement Action CaseAlternative Choice DelayAlternative Handler HandlerAlternative ReceiveAlternative Statement bare_action bare_case bare_choice bare_delay bare_handler bare_handled bare_receive bare_statement y))) t) (sym (fold-roll-Choice ActionTree CaseTree ChoiceTree NumbersTree HandlerNode NumbersTree ReceiveTree StatementTree trees.action_layer trees.case_layer trees.choice_layer trees.delay_layer trees.handler_layer trees.handled_layer trees.receive_layer trees.statement_layer (map-Choice KnownAction KnownCaseAlternative KnownChoice KnownDelayAlternative KnownHandler KnownHandlerAlternative KnownReceiveAlternative KnownStatement Action CaseAlternative Choice DelayAlternative Handler HandlerAlternative ReceiveAlternative Statement bare_action bare_case bare_choice bare_delay bare_handler bare_handled bare_receive bare_statement y)))
-    (subst (λ t. TellsChoice t (trees.choice_layer (treed_choice y))) (sym (fold-roll-Choice Acting LabelTest LabelTest LabelTest LabelTest LabelTest ReceiveTest StatementTest tests.action_layer tests.case_layer tests.choice_layer tests.delay_layer tests.handler_layer tests.handled_layer tests.receive_layer tests.statement_layer (map-Choice KnownAction KnownCaseAlternative KnownChoice KnownDelayAlternative KnownHandler KnownHandlerAlternative KnownReceiveAlternative KnownStatement Action CaseAlternative Choice DelayAlternative Handler HandlerAlternative ReceiveAlternative Statement bare_action bare_case bare_choice bare_delay bare_handler bare_handled bare_receive bare_statement y)))
+    (subst (λ t. TellsChoice (choice_in_range (roll-Choice (plain_choice y))) t) (sym (fold-roll-Choice ActionTree CaseTree ChoiceTree NumbersTree HandlerNode NumbersTree ReceiveTree StatementTree trees.action_layer trees.case_layer trees.choice_layer trees.delay_layer trees.handler_layer trees.handled_layer trees.receive_layer trees.statement_layer (plain_choice y)))
+    (subst (λ t. TellsChoice t (trees.choice_layer (treed_choice y))) (sym (fold-roll-Choice Acting LabelTest LabelTest LabelTest LabelTest LabelTest ReceiveTest StatementTest tests.action_layer tests.case_layer tests.choice_layer tests.delay_layer tests.handler_layer tests.handled_layer tests.receive_layer tests.statement_layer (plain_choice y)))
     (choice_step y)))
 
-delay_rolled : (x : DelayAlternative-F Action CaseAlternative Choice DelayAlternative Handler HandlerAlternative ReceiveAlternative Statement) (y : DelayAlternative-F KnownAction KnownCaseAlternative KnownChoice KnownDelayAlternative KnownHandler KnownHandlerAlternative KnownReceiveAlternative KnownStatement) → map-DelayAlternative KnownAction KnownCaseAlternative KnownChoice KnownDelayAlternative KnownHandler KnownHandlerAlternative KnownReceiveAlternative KnownStatement Action CaseAlternative Choice DelayAlternative Handler HandlerAlternative ReceiveAlternative Statement bare_action bare_case bare_choice bare_delay bare_handler bare_handled bare_receive bare_statement y ≡ x → ToldDelayAlternative (roll-DelayAlternative x)
+delay_rolled : (x : DelayAlternative-F Action CaseAlternative Choice DelayAlternative Handler HandlerAlternative ReceiveAlternative Statement) (y : DelayAlternative-F KnownAction KnownCaseAlternative KnownChoice KnownDelayAlternative KnownHandler KnownHandlerAlternative KnownReceiveAlternative KnownStatement) → plain_delay y ≡ x → ToldDelayAlternative (roll-DelayAlternative x)
 unfolding action_ranges case_in_range choice_in_range delay_in_range handler_in_range handled_in_range receive_in_range statement_in_range action_tree case_tree choice_tree delay_tree handler_tree handled_tree receive_tree statement_tree
 delay_rolled x y is =
     subst (λ z. ToldDelayAlternative (roll-DelayAlternative z)) is
-    (subst (λ t. TellsDelayAlternative (delay_in_range (roll-DelayAlternative (map-DelayAlternative KnownAction KnownCaseAlternative KnownChoice KnownDelayAlternative KnownHandler KnownHandlerAlternative KnownReceiveAlternative KnownStatement Action CaseAlternative Choice DelayAlternative Handler HandlerAlternative ReceiveAlternative Statement bare_action bare_case bare_choice bare_delay bare_handler bare_handled bare_receive bare_statement y))) t) (sym (fold-roll-DelayAlternative ActionTree CaseTree ChoiceTree NumbersTree HandlerNode NumbersTree ReceiveTree StatementTree trees.action_layer trees.case_layer trees.choice_layer trees.delay_layer trees.handler_layer trees.handled_layer trees.receive_layer trees.statement_layer (map-DelayAlternative KnownAction KnownCaseAlternative KnownChoice KnownDelayAlternative KnownHandler KnownHandlerAlternative KnownReceiveAlternative KnownStatement Action CaseAlternative Choice DelayAlternative Handler HandlerAlternative ReceiveAlternative Statement bare_action bare_case bare_choice bare_delay bare_handler bare_handled bare_receive bare_statement y)))
-    (subst (λ t. TellsDelayAlternative t (trees.delay_layer (treed_delay y))) (sym (fold-roll-DelayAlternative Acting LabelTest LabelTest LabelTest LabelTest LabelTest ReceiveTest StatementTest tests.action_layer tests.case_layer tests.choice_layer tests.delay_layer tests.handler_layer tests.handled_layer tests.receive_layer tests.statement_layer (map-DelayAlternative KnownAction KnownCaseAlternative KnownChoice KnownDelayAlternative KnownHandler KnownHandlerAlternative KnownReceiveAlternative KnownStatement Action CaseAlternative Choice DelayAlternative Handler HandlerAlternative ReceiveAlternative Statement bare_action bare_case bare_choice bare_delay bare_handler bare_handled bare_receive bare_statement y)))
+    (subst (λ t. TellsDelayAlternative (delay_in_range (roll-DelayAlternative (plain_delay y))) t) (sym (fold-roll-DelayAlternative ActionTree CaseTree ChoiceTree NumbersTree HandlerNode NumbersTree ReceiveTree StatementTree trees.action_layer trees.case_layer trees.choice_layer trees.delay_layer trees.handler_layer trees.handled_layer trees.receive_layer trees.statement_layer (plain_delay y)))
+    (subst (λ t. TellsDelayAlternative t (trees.delay_layer (treed_delay y))) (sym (fold-roll-DelayAlternative Acting LabelTest LabelTest LabelTest LabelTest LabelTest ReceiveTest StatementTest tests.action_layer tests.case_layer tests.choice_layer tests.delay_layer tests.handler_layer tests.handled_layer tests.receive_layer tests.statement_layer (plain_delay y)))
     (delay_step y)))
 
-handler_rolled : (x : Handler-F Action CaseAlternative Choice DelayAlternative Handler HandlerAlternative ReceiveAlternative Statement) (y : Handler-F KnownAction KnownCaseAlternative KnownChoice KnownDelayAlternative KnownHandler KnownHandlerAlternative KnownReceiveAlternative KnownStatement) → map-Handler KnownAction KnownCaseAlternative KnownChoice KnownDelayAlternative KnownHandler KnownHandlerAlternative KnownReceiveAlternative KnownStatement Action CaseAlternative Choice DelayAlternative Handler HandlerAlternative ReceiveAlternative Statement bare_action bare_case bare_choice bare_delay bare_handler bare_handled bare_receive bare_statement y ≡ x → ToldHandler (roll-Handler x)
+handler_rolled : (x : Handler-F Action CaseAlternative Choice DelayAlternative Handler HandlerAlternative ReceiveAlternative Statement) (y : Handler-F KnownAction KnownCaseAlternative KnownChoice KnownDelayAlternative KnownHandler KnownHandlerAlternative KnownReceiveAlternative KnownStatement) → plain_handler y ≡ x → ToldHandler (roll-Handler x)
 unfolding action_ranges case_in_range choice_in_range delay_in_range handler_in_range handled_in_range receive_in_range statement_in_range action_tree case_tree choice_tree delay_tree handler_tree handled_tree receive_tree statement_tree
 handler_rolled x y is =
     subst (λ z. ToldHandler (roll-Handler z)) is
-    (subst (λ t. TellsHandler (handler_in_range (roll-Handler (map-Handler KnownAction KnownCaseAlternative KnownChoice KnownDelayAlternative KnownHandler KnownHandlerAlternative KnownReceiveAlternative KnownStatement Action CaseAlternative Choice DelayAlternative Handler HandlerAlternative ReceiveAlternative Statement bare_action bare_case bare_choice bare_delay bare_handler bare_handled bare_receive bare_statement y))) t) (sym (fold-roll-Handler ActionTree CaseTree ChoiceTree NumbersTree HandlerNode NumbersTree ReceiveTree StatementTree trees.action_layer trees.case_layer trees.choice_layer trees.delay_layer trees.handler_layer trees.handled_layer trees.receive_layer trees.statement_layer (map-Handler KnownAction KnownCaseAlternative KnownChoice KnownDelayAlternative KnownHandler KnownHandlerAlternative KnownReceiveAlternative KnownStatement Action CaseAlternative Choice DelayAlternative Handler HandlerAlternative ReceiveAlternative Statement bare_action bare_case bare_choice bare_delay bare_handler bare_handled bare_receive bare_statement y)))
-    (subst (λ t. TellsHandler t (trees.handler_layer (treed_handler y))) (sym (fold-roll-Handler Acting LabelTest LabelTest LabelTest LabelTest LabelTest ReceiveTest StatementTest tests.action_layer tests.case_layer tests.choice_layer tests.delay_layer tests.handler_layer tests.handled_layer tests.receive_layer tests.statement_layer (map-Handler KnownAction KnownCaseAlternative KnownChoice KnownDelayAlternative KnownHandler KnownHandlerAlternative KnownReceiveAlternative KnownStatement Action CaseAlternative Choice DelayAlternative Handler HandlerAlternative ReceiveAlternative Statement bare_action bare_case bare_choice bare_delay bare_handler bare_handled bare_receive bare_statement y)))
+    (subst (λ t. TellsHandler (handler_in_range (roll-Handler (plain_handler y))) t) (sym (fold-roll-Handler ActionTree CaseTree ChoiceTree NumbersTree HandlerNode NumbersTree ReceiveTree StatementTree trees.action_layer trees.case_layer trees.choice_layer trees.delay_layer trees.handler_layer trees.handled_layer trees.receive_layer trees.statement_layer (plain_handler y)))
+    (subst (λ t. TellsHandler t (trees.handler_layer (treed_handler y))) (sym (fold-roll-Handler Acting LabelTest LabelTest LabelTest LabelTest LabelTest ReceiveTest StatementTest tests.action_layer tests.case_layer tests.choice_layer tests.delay_layer tests.handler_layer tests.handled_layer tests.receive_layer tests.statement_layer (plain_handler y)))
     (handler_step y)))
 
-handled_rolled : (x : HandlerAlternative-F Action CaseAlternative Choice DelayAlternative Handler HandlerAlternative ReceiveAlternative Statement) (y : HandlerAlternative-F KnownAction KnownCaseAlternative KnownChoice KnownDelayAlternative KnownHandler KnownHandlerAlternative KnownReceiveAlternative KnownStatement) → map-HandlerAlternative KnownAction KnownCaseAlternative KnownChoice KnownDelayAlternative KnownHandler KnownHandlerAlternative KnownReceiveAlternative KnownStatement Action CaseAlternative Choice DelayAlternative Handler HandlerAlternative ReceiveAlternative Statement bare_action bare_case bare_choice bare_delay bare_handler bare_handled bare_receive bare_statement y ≡ x → ToldHandlerAlternative (roll-HandlerAlternative x)
+handled_rolled : (x : HandlerAlternative-F Action CaseAlternative Choice DelayAlternative Handler HandlerAlternative ReceiveAlternative Statement) (y : HandlerAlternative-F KnownAction KnownCaseAlternative KnownChoice KnownDelayAlternative KnownHandler KnownHandlerAlternative KnownReceiveAlternative KnownStatement) → plain_handled y ≡ x → ToldHandlerAlternative (roll-HandlerAlternative x)
 unfolding action_ranges case_in_range choice_in_range delay_in_range handler_in_range handled_in_range receive_in_range statement_in_range action_tree case_tree choice_tree delay_tree handler_tree handled_tree receive_tree statement_tree
 handled_rolled x y is =
     subst (λ z. ToldHandlerAlternative (roll-HandlerAlternative z)) is
-    (subst (λ t. TellsHandlerAlternative (handled_in_range (roll-HandlerAlternative (map-HandlerAlternative KnownAction KnownCaseAlternative KnownChoice KnownDelayAlternative KnownHandler KnownHandlerAlternative KnownReceiveAlternative KnownStatement Action CaseAlternative Choice DelayAlternative Handler HandlerAlternative ReceiveAlternative Statement bare_action bare_case bare_choice bare_delay bare_handler bare_handled bare_receive bare_statement y))) t) (sym (fold-roll-HandlerAlternative ActionTree CaseTree ChoiceTree NumbersTree HandlerNode NumbersTree ReceiveTree StatementTree trees.action_layer trees.case_layer trees.choice_layer trees.delay_layer trees.handler_layer trees.handled_layer trees.receive_layer trees.statement_layer (map-HandlerAlternative KnownAction KnownCaseAlternative KnownChoice KnownDelayAlternative KnownHandler KnownHandlerAlternative KnownReceiveAlternative KnownStatement Action CaseAlternative Choice DelayAlternative Handler HandlerAlternative ReceiveAlternative Statement bare_action bare_case bare_choice bare_delay bare_handler bare_handled bare_receive bare_statement y)))
-    (subst (λ t. TellsHandlerAlternative t (trees.handled_layer (treed_handled y))) (sym (fold-roll-HandlerAlternative Acting LabelTest LabelTest LabelTest LabelTest LabelTest ReceiveTest StatementTest tests.action_layer tests.case_layer tests.choice_layer tests.delay_layer tests.handler_layer tests.handled_layer tests.receive_layer tests.statement_layer (map-HandlerAlternative KnownAction KnownCaseAlternative KnownChoice KnownDelayAlternative KnownHandler KnownHandlerAlternative KnownReceiveAlternative KnownStatement Action CaseAlternative Choice DelayAlternative Handler HandlerAlternative ReceiveAlternative Statement bare_action bare_case bare_choice bare_delay bare_handler bare_handled bare_receive bare_statement y)))
+    (subst (λ t. TellsHandlerAlternative (handled_in_range (roll-HandlerAlternative (plain_handled y))) t) (sym (fold-roll-HandlerAlternative ActionTree CaseTree ChoiceTree NumbersTree HandlerNode NumbersTree ReceiveTree StatementTree trees.action_layer trees.case_layer trees.choice_layer trees.delay_layer trees.handler_layer trees.handled_layer trees.receive_layer trees.statement_layer (plain_handled y)))
+    (subst (λ t. TellsHandlerAlternative t (trees.handled_layer (treed_handled y))) (sym (fold-roll-HandlerAlternative Acting LabelTest LabelTest LabelTest LabelTest LabelTest ReceiveTest StatementTest tests.action_layer tests.case_layer tests.choice_layer tests.delay_layer tests.handler_layer tests.handled_layer tests.receive_layer tests.statement_layer (plain_handled y)))
     (handled_step y)))
 
-receive_rolled : (x : ReceiveAlternative-F Action CaseAlternative Choice DelayAlternative Handler HandlerAlternative ReceiveAlternative Statement) (y : ReceiveAlternative-F KnownAction KnownCaseAlternative KnownChoice KnownDelayAlternative KnownHandler KnownHandlerAlternative KnownReceiveAlternative KnownStatement) → map-ReceiveAlternative KnownAction KnownCaseAlternative KnownChoice KnownDelayAlternative KnownHandler KnownHandlerAlternative KnownReceiveAlternative KnownStatement Action CaseAlternative Choice DelayAlternative Handler HandlerAlternative ReceiveAlternative Statement bare_action bare_case bare_choice bare_delay bare_handler bare_handled bare_receive bare_statement y ≡ x → ToldReceiveAlternative (roll-ReceiveAlternative x)
+receive_rolled : (x : ReceiveAlternative-F Action CaseAlternative Choice DelayAlternative Handler HandlerAlternative ReceiveAlternative Statement) (y : ReceiveAlternative-F KnownAction KnownCaseAlternative KnownChoice KnownDelayAlternative KnownHandler KnownHandlerAlternative KnownReceiveAlternative KnownStatement) → plain_receive y ≡ x → ToldReceiveAlternative (roll-ReceiveAlternative x)
 unfolding action_ranges case_in_range choice_in_range delay_in_range handler_in_range handled_in_range receive_in_range statement_in_range action_tree case_tree choice_tree delay_tree handler_tree handled_tree receive_tree statement_tree
 receive_rolled x y is =
     subst (λ z. ToldReceiveAlternative (roll-ReceiveAlternative z)) is
-    (subst (λ t. TellsReceiveAlternative (receive_in_range (roll-ReceiveAlternative (map-ReceiveAlternative KnownAction KnownCaseAlternative KnownChoice KnownDelayAlternative KnownHandler KnownHandlerAlternative KnownReceiveAlternative KnownStatement Action CaseAlternative Choice DelayAlternative Handler HandlerAlternative ReceiveAlternative Statement bare_action bare_case bare_choice bare_delay bare_handler bare_handled bare_receive bare_statement y))) t) (sym (fold-roll-ReceiveAlternative ActionTree CaseTree ChoiceTree NumbersTree HandlerNode NumbersTree ReceiveTree StatementTree trees.action_layer trees.case_layer trees.choice_layer trees.delay_layer trees.handler_layer trees.handled_layer trees.receive_layer trees.statement_layer (map-ReceiveAlternative KnownAction KnownCaseAlternative KnownChoice KnownDelayAlternative KnownHandler KnownHandlerAlternative KnownReceiveAlternative KnownStatement Action CaseAlternative Choice DelayAlternative Handler HandlerAlternative ReceiveAlternative Statement bare_action bare_case bare_choice bare_delay bare_handler bare_handled bare_receive bare_statement y)))
-    (subst (λ t. TellsReceiveAlternative t (trees.receive_layer (treed_receive y))) (sym (fold-roll-ReceiveAlternative Acting LabelTest LabelTest LabelTest LabelTest LabelTest ReceiveTest StatementTest tests.action_layer tests.case_layer tests.choice_layer tests.delay_layer tests.handler_layer tests.handled_layer tests.receive_layer tests.statement_layer (map-ReceiveAlternative KnownAction KnownCaseAlternative KnownChoice KnownDelayAlternative KnownHandler KnownHandlerAlternative KnownReceiveAlternative KnownStatement Action CaseAlternative Choice DelayAlternative Handler HandlerAlternative ReceiveAlternative Statement bare_action bare_case bare_choice bare_delay bare_handler bare_handled bare_receive bare_statement y)))
+    (subst (λ t. TellsReceiveAlternative (receive_in_range (roll-ReceiveAlternative (plain_receive y))) t) (sym (fold-roll-ReceiveAlternative ActionTree CaseTree ChoiceTree NumbersTree HandlerNode NumbersTree ReceiveTree StatementTree trees.action_layer trees.case_layer trees.choice_layer trees.delay_layer trees.handler_layer trees.handled_layer trees.receive_layer trees.statement_layer (plain_receive y)))
+    (subst (λ t. TellsReceiveAlternative t (trees.receive_layer (treed_receive y))) (sym (fold-roll-ReceiveAlternative Acting LabelTest LabelTest LabelTest LabelTest LabelTest ReceiveTest StatementTest tests.action_layer tests.case_layer tests.choice_layer tests.delay_layer tests.handler_layer tests.handled_layer tests.receive_layer tests.statement_layer (plain_receive y)))
     (receive_step y)))
 
-statement_rolled : (x : Statement-F Action CaseAlternative Choice DelayAlternative Handler HandlerAlternative ReceiveAlternative Statement) (y : Statement-F KnownAction KnownCaseAlternative KnownChoice KnownDelayAlternative KnownHandler KnownHandlerAlternative KnownReceiveAlternative KnownStatement) → map-Statement KnownAction KnownCaseAlternative KnownChoice KnownDelayAlternative KnownHandler KnownHandlerAlternative KnownReceiveAlternative KnownStatement Action CaseAlternative Choice DelayAlternative Handler HandlerAlternative ReceiveAlternative Statement bare_action bare_case bare_choice bare_delay bare_handler bare_handled bare_receive bare_statement y ≡ x → ToldStatement (roll-Statement x)
+statement_rolled : (x : Statement-F Action CaseAlternative Choice DelayAlternative Handler HandlerAlternative ReceiveAlternative Statement) (y : Statement-F KnownAction KnownCaseAlternative KnownChoice KnownDelayAlternative KnownHandler KnownHandlerAlternative KnownReceiveAlternative KnownStatement) → plain_statement y ≡ x → ToldStatement (roll-Statement x)
 unfolding action_ranges case_in_range choice_in_range delay_in_range handler_in_range handled_in_range receive_in_range statement_in_range action_tree case_tree choice_tree delay_tree handler_tree handled_tree receive_tree statement_tree
 statement_rolled x y is =
     subst (λ z. ToldStatement (roll-Statement z)) is
-    (subst (λ t. TellsStatement (statement_in_range (roll-Statement (map-Statement KnownAction KnownCaseAlternative KnownChoice KnownDelayAlternative KnownHandler KnownHandlerAlternative KnownReceiveAlternative KnownStatement Action CaseAlternative Choice DelayAlternative Handler HandlerAlternative ReceiveAlternative Statement bare_action bare_case bare_choice bare_delay bare_handler bare_handled bare_receive bare_statement y))) t) (sym (fold-roll-Statement ActionTree CaseTree ChoiceTree NumbersTree HandlerNode NumbersTree ReceiveTree StatementTree trees.action_layer trees.case_layer trees.choice_layer trees.delay_layer trees.handler_layer trees.handled_layer trees.receive_layer trees.statement_layer (map-Statement KnownAction KnownCaseAlternative KnownChoice KnownDelayAlternative KnownHandler KnownHandlerAlternative KnownReceiveAlternative KnownStatement Action CaseAlternative Choice DelayAlternative Handler HandlerAlternative ReceiveAlternative Statement bare_action bare_case bare_choice bare_delay bare_handler bare_handled bare_receive bare_statement y)))
-    (subst (λ t. TellsStatement t (trees.statement_layer (treed_statement y))) (sym (fold-roll-Statement Acting LabelTest LabelTest LabelTest LabelTest LabelTest ReceiveTest StatementTest tests.action_layer tests.case_layer tests.choice_layer tests.delay_layer tests.handler_layer tests.handled_layer tests.receive_layer tests.statement_layer (map-Statement KnownAction KnownCaseAlternative KnownChoice KnownDelayAlternative KnownHandler KnownHandlerAlternative KnownReceiveAlternative KnownStatement Action CaseAlternative Choice DelayAlternative Handler HandlerAlternative ReceiveAlternative Statement bare_action bare_case bare_choice bare_delay bare_handler bare_handled bare_receive bare_statement y)))
+    (subst (λ t. TellsStatement (statement_in_range (roll-Statement (plain_statement y))) t) (sym (fold-roll-Statement ActionTree CaseTree ChoiceTree NumbersTree HandlerNode NumbersTree ReceiveTree StatementTree trees.action_layer trees.case_layer trees.choice_layer trees.delay_layer trees.handler_layer trees.handled_layer trees.receive_layer trees.statement_layer (plain_statement y)))
+    (subst (λ t. TellsStatement t (trees.statement_layer (treed_statement y))) (sym (fold-roll-Statement Acting LabelTest LabelTest LabelTest LabelTest LabelTest ReceiveTest StatementTest tests.action_layer tests.case_layer tests.choice_layer tests.delay_layer tests.handler_layer tests.handled_layer tests.receive_layer tests.statement_layer (plain_statement y)))
     (statement_step y)))
 
 -- what being in range says of each statement and handler
