@@ -24,4 +24,7 @@ pub mod Programs
 pub mod Things
 pub mod GivenActions
 pub mod GivenStatements
+pub mod ModeCounts
+pub mod TypedExpressions
+pub mod TypedStatements
 pub mod TypedPrograms

@@ -20,7 +20,7 @@ use Rattle.code_scheme.specs.StatementPlain.{offset_of_name, name_code, names_co
 use Rattle.code_scheme.specs.BodyCode.{heads_of}
 use Rattle.scheme_heights.specs.Stretches.{no_outlets, IsStretch}
 use Rattle.scheme_heights.specs.Counts.{TakesCounts, CountsFit, ReceivedFits, PlaceFits, StartFits, CallFits}
-use Rattle.scheme_heights.specs.StatementCounts.{NumberFits, SomeNumberFits, SentFits, GivenFits}
+use Rattle.scheme_heights.specs.StatementCounts.{LowestFits, NumberFits, SomeNumberFits, SentFits, GivenFits}
 use Rattle.scheme_heights.proofs.Joining.{join}
 use Rattle.scheme_heights.proofs.Parts.{Stretch, sized, end, cons, scalars_stretch, routine_stretch}
 use Rattle.scheme_heights.proofs.Operators.{ends, operand_stretch}
@@ -77,7 +77,7 @@ declare_stretch w body at height (b ∷ []) r fits =
     (name_stretch heads body (p + received_size r) height (layout w.site) b (received_count r)))
 declare_stretch w body at height (b ∷ c ∷ bs) r fits = keeping_stretch w body at height (b ∷ c ∷ bs) r fits
 
-pub lowest_stretch : (heads : Code) (body at height : ℕ) (lay : Layout) (ks : List ℕ) (xs : List ℤ) → length xs ≤ 4294967295 → IsStretch heads body no_outlets at height (set_lowest_code lay ks xs) (set_lowest_size ks xs) height
+lowest_stretch : (heads : Code) (body at height : ℕ) (lay : Layout) (ks : List ℕ) (xs : List ℤ) → length xs ≤ 4294967295 → IsStretch heads body no_outlets at height (set_lowest_code lay ks xs) (set_lowest_size ks xs) height
 lowest_stretch heads body at height lay [] xs few = sized 0 refl (end refl)
 lowest_stretch heads body at height lay (k ∷ ks) xs few =
     let n = length (scalars_code xs) in
@@ -85,6 +85,10 @@ lowest_stretch heads body at height lay (k ∷ ks) xs few =
     let rest = lowest_stretch heads body (p + 1) height lay ks xs few in
     let all : Stretch heads body p (height + length xs) (i.SetLocal (first_in (slice_get lay.rows k)) (length xs) ∷ set_lowest_code lay ks xs) height = cons (omega arith) tt tt refl refl (moved refl (omega arith) rest) in
     join heads body at height (scalars_code xs) _ n (1 + set_lowest_size ks xs) (height + length xs) height p _ refl (omega arith) (sized n refl (scalars_stretch heads body at height xs few)) (sized (1 + set_lowest_size ks xs) (let c = rest.count in omega (arith, c)) all)
+
+pub lowest_given_stretch : (heads : Code) (body at height : ℕ) (lay : Layout) (ks : List ℕ) (xs : List ℤ) → LowestFits ks xs → IsStretch heads body no_outlets at height (set_lowest_code lay ks xs) (set_lowest_size ks xs) height
+lowest_given_stretch heads body at height lay [] xs fits = sized 0 refl (end refl)
+lowest_given_stretch heads body at height lay (k ∷ ks) xs few = lowest_stretch heads body at height lay (k ∷ ks) xs few
 
 -- ---- assignments
 

@@ -11,7 +11,7 @@ use Rattle.program_trees.specs.StatementTree.{SentTree, do_nothing, declare, set
 use Rattle.code_scheme.specs.StatementSite.{layout}
 use Rattle.code_scheme.specs.BodyCode.{heads_of}
 use Rattle.scheme_heights.proofs.Parts.{sized, end, cons}
-use Rattle.scheme_heights.proofs.PlainActions.{declare_stretch, lowest_stretch, assign_stretch, update_stretch, perform_stretch, taken_stretch, routine_dropped_stretch, start_of_stretch, delay_stretch, send_stretch, result_stretch}
+use Rattle.scheme_heights.proofs.PlainActions.{declare_stretch, lowest_given_stretch, assign_stretch, update_stretch, perform_stretch, taken_stretch, routine_dropped_stretch, start_of_stretch, delay_stretch, send_stretch, result_stretch}
 use Rattle.scheme_heights.proofs.Blocks.{plain_block, last_block, exit_block}
 use Rattle.scheme_heights.proofs.WayOut.{return_block}
 use Rattle.scheme_heights.proofs.Choosing.{assert_block, exit_behind, exit_in}
@@ -35,7 +35,7 @@ pub lowest_holds : (locals : List ℕ) (xs : List ℤ) → ActionHolds (set_lowe
 lowest_holds locals xs = record {
   holds =
       λ w body at bound stands low fits.
-      plain_block w.exits (lowest_stretch (heads_of w.site.program) body at 0 (layout w.site) locals xs fits);
+      plain_block w.exits (lowest_given_stretch (heads_of w.site.program) body at 0 (layout w.site) locals xs fits);
 }
 
 pub module_holds : (ss : StatementNodes) → ActionHolds (module_at ss)

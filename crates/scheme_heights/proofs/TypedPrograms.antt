@@ -1,11 +1,8 @@
 -- What a typed program's heads and modes say of its code: lowest values are short, and processes give nothing back.
-use Rattle.std.proofs.Common.{◌≡◌, ◌+◌, ◌*◌, ◌≤◌, ℕ, zero, suc, List, [], ◌∷◌, length, length-append, refl, ap, arith, Option, Some, None, All}
-use Rattle.std.specs.Prelude.{if◌then◌else◌, IfSome, ℤ, pos}
-use Rattle.std.proofs.lemmas.List.{length-replicate}
-use Rattle.std.proofs.Math.Nat.{mul-le-mul}
-use Rattle.modes.specs.ModeTree.{ModeTree, int, boolean, char, instance, set_of, range, powerset, chars, array, structure, event, buffer, read, named, FieldNodes, no_fields, more_fields}
-use Rattle.modes.specs.Bounds.{values_of}
-use Rattle.modes.specs.Scalars.{numbers_of, scalars_in_fields, leaves_of, repeated, lowest_of, lowest_of_fields}
+use Rattle.std.proofs.Common.{◌≡◌, ◌+◌, ◌≤◌, ℕ, suc, List, [], ◌∷◌, length, refl, ap, arith, Option, Some, None, slice_get, All}
+use Rattle.std.specs.Prelude.{if◌then◌else◌, IfSome}
+use Rattle.modes.specs.ModeTree.{ModeTree}
+use Rattle.modes.specs.Scalars.{lowest_of}
 use Rattle.modes.specs.Language.{IsOfLanguage}
 use Rattle.checked_program.specs.declared.program.Parameter.{Parameter}
 use Rattle.checked_program.specs.declared.program.Passing.{Passing}
@@ -13,55 +10,24 @@ use Rattle.checked_program.specs.declared.program.Passing.TheVariants.{In}
 use Rattle.checked_program.specs.declared.program.Sort.{Sort}
 use Rattle.checked_program.specs.declared.program.Sort.TheVariants.{Outermost, Process, Procedure}
 use Rattle.code_types.specs.Agreement.{Agrees}
-use Rattle.program_trees.specs.ProgramTree.{LocalRowTree, BodyRowTree, CheckedTree}
+use Rattle.checked_program.specs.declared.program.Checked.{Checked}
+use Rattle.program_ranges.specs.ProgramRanges.{AreInRange}
+use Rattle.program_trees.specs.ProgramTree.{LocalRowTree, BodyRowTree, CheckedTree, checked_tree}
+use Rattle.range_laws.specs.StatementInRange.{BodiesInRange}
+use Rattle.range_laws.specs.Laws.{BodiesInRangeLaw}
 use Rattle.code_scheme.specs.StatementSite.{scalars_of_result, is_given_back, back_scalars, call_results}
-use Rattle.code_scheme.specs.BodyCode.{results_by, code_of}
-use Rattle.source_meaning.specs.Typed.{AreLaidFrom, HasProcessHead, HasHead, IsTyped}
+use Rattle.code_scheme.specs.BodyCode.{results_by, site_in, code_of}
+use Rattle.source_meaning.specs.Typed.{AreLaidFrom, HasProcessHead, HasHead, around_body, IsTyped}
 use Rattle.scheme_heights.specs.StatementCounts.{AreFew, IsFew, TextFits}
 use Rattle.scheme_heights.proofs.Located.{item_below}
+use Rattle.scheme_heights.proofs.ModeCounts.{lowest_counted, scalars_few}
 use Rattle.scheme_heights.proofs.Programs.{program_agrees}
+use Rattle.scheme_heights.proofs.TypedStatements.{Stands, items_fit, handler_fits}
 
 -- ---- lowest values
 
-many_lists : (n : ℕ) (xs : List ℤ) → length (repeated n xs) ≡ n * length xs
-many_lists zero xs = omega arith
-many_lists (suc n) xs =
-    let l = length-append xs (repeated n xs) in
-    let rest = many_lists n xs in
-    let e : suc n * length xs ≡ length xs + n * length xs = grind arith in
-    omega (arith, l, rest, e)
-
-mutual
-  lowest_short : (m : ModeTree) → length (lowest_of m) ≤ leaves_of m
-  lowest_short int = omega arith
-  lowest_short boolean = omega arith
-  lowest_short char = omega arith
-  lowest_short instance = omega arith
-  lowest_short (set_of d n) = omega arith
-  lowest_short (range p l h) = omega arith
-  lowest_short (powerset m) = let n = length-replicate (numbers_of (values_of m)) (pos 0) in omega (arith, n)
-  lowest_short (chars n) = let k = length-replicate n (pos 32) in omega (arith, k)
-  lowest_short (array i e how) =
-      let k = many_lists (values_of i) (lowest_of e) in
-      let less = lowest_short e in
-      let all : values_of i * length (lowest_of e) ≤ values_of i * leaves_of e = mul-le-mul (let r : values_of i ≤ values_of i = omega arith in r) less in
-      omega (arith, k, all)
-  lowest_short (structure fs p) = lowest_fields_short fs
-  lowest_short (event l) = omega arith
-  lowest_short (buffer l e) = omega arith
-  lowest_short (read m) = lowest_short m
-  lowest_short (named d n m) = lowest_short m
-
-  lowest_fields_short : (fs : FieldNodes) → length (lowest_of_fields fs) ≤ scalars_in_fields 1 fs
-  lowest_fields_short no_fields = omega arith
-  lowest_fields_short (more_fields name m at fs) =
-      let l = length-append (lowest_of m) (lowest_of_fields fs) in
-      let a = lowest_short m in
-      let b = lowest_fields_short fs in
-      omega (arith, l, a, b)
-
 lowest_few : (m : ModeTree) → IsOfLanguage m → length (lowest_of m) ≤ 4294967295
-lowest_few m told = let a = lowest_short m in let b = told.size in omega (arith, a, b)
+lowest_few m told = let a = lowest_counted m in let b = scalars_few m told in omega (arith, a, b)
 
 locals_few : (first : ℕ) (rows : List LocalRowTree) → AreLaidFrom first rows → AreFew rows
 locals_few first [] laid = tt
@@ -101,3 +67,23 @@ typed_agrees p typed fits = program_agrees p (record {
       let parts = fits k b is in
       record { items = parts.0; handled = parts.1; results = results_known p k b b.sort body.head; locals = locals_few 0 b.locals body.locals; result = result_few b.result body.result };
 })
+
+-- ---- typed and in range
+
+stands_in_body : (p : CheckedTree) → IsTyped p → (k : ℕ) (b : BodyRowTree) → slice_get p.bodies k ≡ Some b → Stands (site_in p b) 0 (around_body p b)
+stands_in_body p typed k b is = record {
+  place = record { laid = λ j callee there. (typed.bodies j callee there).locals; same = refl };
+  rows = refl;
+  own = (typed.bodies k b is).locals;
+  labels = refl;
+}
+
+text_fits : (p : CheckedTree) → IsTyped p → BodiesInRange p → TextFits p
+text_fits p typed known k b is =
+    let stands = stands_in_body p typed k b is in
+    let told = typed.bodies k b is in
+    let body = known k b is in
+    (items_fit (site_in p b) b.statements (around_body p b) stands told.statements body.items, handler_fits (site_in p b) b.handler 0 (around_body p b) stands told.handler body.handled)
+
+pub in_range_agrees : BodiesInRangeLaw → (p : Checked) → IsTyped (checked_tree p) → AreInRange p → Agrees (code_of (checked_tree p))
+in_range_agrees law p typed in_range = typed_agrees (checked_tree p) typed (text_fits (checked_tree p) typed (law p in_range))

@@ -1,7 +1,9 @@
 -- The laws of the heights in compiled code.
 use Rattle.std.specs.Prelude.{◌≡◌, ℕ, ◌+◌, ◌≤◌, Bool, []}
 use Rattle.code_types.specs.Agreement.{Agrees}
-use Rattle.program_trees.specs.ProgramTree.{CheckedTree}
+use Rattle.checked_program.specs.declared.program.Checked.{Checked}
+use Rattle.program_ranges.specs.ProgramRanges.{AreInRange}
+use Rattle.program_trees.specs.ProgramTree.{CheckedTree, checked_tree}
 use Rattle.program_trees.specs.ExprTree.{ExprTree, count_of}
 use Rattle.code_scheme.specs.Pieces.{Layout}
 use Rattle.code_scheme.specs.ExprSizes.{expr_size, condition_size}
@@ -45,3 +47,7 @@ ThingsLaw = (p : CheckedTree) → let code = code_of p in AreGiven [] code.instr
 -- The code of a typed program agrees where the numbers of scalars in its statements fit each other.
 abbrev pub TypedAgreesLaw : Type 0
 TypedAgreesLaw = (p : CheckedTree) → IsTyped p → TextFits p → Agrees (code_of p)
+
+-- The code of a typed program whose numbers are in range agrees.
+abbrev pub InRangeAgreesLaw : Type 0
+InRangeAgreesLaw = (p : Checked) → IsTyped (checked_tree p) → AreInRange p → Agrees (code_of (checked_tree p))

@@ -1,6 +1,6 @@
 -- The numbers of scalars in statements and bodies fit each other: what an assignment takes, what tests a condition, what a RETURN
 -- gives; and modules and regions stand among the items of a body alone.
-use Rattle.std.specs.Prelude.{◌≡◌, ℕ, suc, ◌≤◌, ◌<◌, Bool, true, false, List, [], ◌∷◌, length, Option, Some, None, slice_get}
+use Rattle.std.specs.Prelude.{◌≡◌, ℕ, suc, ◌≤◌, ◌<◌, Bool, true, false, List, [], ◌∷◌, length, ℤ, Option, Some, None, slice_get}
 use Rattle.modes.specs.ModeTree.{ModeTree}
 use Rattle.modes.specs.Scalars.{lowest_of}
 use Rattle.program_trees.specs.ExprTree.{ExprTree, ReceivedTree, LocationTree, count_of, received_count, location_count}
@@ -29,6 +29,11 @@ SetPlaceFits p (Some l) = PlaceFits p l × (location_count l ≡ 1)
 abbrev pub SentFits : CheckedTree → SentTree → Type 0
 SentFits p (to_buffer b r) = ReceivedFits p r
 SentFits p (signal n rs to) = AllFit p rs × SomeNumberFits p to
+
+-- a lowest value that some local gets
+abbrev pub LowestFits : List ℕ → List ℤ → Type 0
+LowestFits [] xs = Unit {0}
+LowestFits (k ∷ ks) xs = length xs ≤ 4294967295
 
 -- a value with as many scalars as the result of the body
 abbrev pub GivenFits : Site → ReceivedTree → Type 0
@@ -74,7 +79,7 @@ abbrev mutual
   pub ActionFits : Site → ℕ → ActionTree → Type 0
   ActionFits site labels do_nothing = Unit {0}
   ActionFits site labels (declare names r) = ReceivedFits site.program r
-  ActionFits site labels (set_lowest locals xs) = length xs ≤ 4294967295
+  ActionFits site labels (set_lowest locals xs) = LowestFits locals xs
   ActionFits site labels (module_at ss) = ⊥
   ActionFits site labels (region_at r ss) = ⊥
   ActionFits site labels (assign l r) = PlaceFits site.program l × ReceivedFits site.program r × (received_count r ≡ location_count l)

@@ -1,5 +1,7 @@
 // Laws of the scheme's code. Each is a fact about the definitions, which a caller learns by calling the function.
-ghost use Rattle.scheme_heights.specs.Laws.{ConditionHeightsLaw, ExpressionHeightsLaw, ProgramAgreesLaw, ThingsLaw, TypedAgreesLaw};
+ghost use Rattle.scheme_heights.specs.Laws.{ConditionHeightsLaw, ExpressionHeightsLaw, InRangeAgreesLaw, ProgramAgreesLaw, ThingsLaw, TypedAgreesLaw};
+
+use range_laws::bodies_in_range_law;
 
 /// The code of an expression finds its operands, jumps within itself, and leaves the value's scalars above what it found.
 pub fn expression_heights_law()
@@ -25,3 +27,10 @@ pub fn things_law()
 pub fn typed_agrees_law()
     ensures { TypedAgreesLaw }
 {}
+
+/// The code of a typed program whose numbers are in range agrees, in all that a guard asks.
+pub fn in_range_agrees_law()
+    ensures { InRangeAgreesLaw }
+{
+    bodies_in_range_law();
+}

@@ -1,0 +1,3 @@
+pub mod ExprInRange
+pub mod StatementInRange
+pub mod Laws
