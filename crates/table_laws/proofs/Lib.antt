@@ -1,0 +1,2 @@
+pub mod ExprFrames
+pub mod ConstantFrames

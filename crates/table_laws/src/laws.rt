@@ -1,0 +1,11 @@
+// Laws of the table of definitions. Each is a fact about the definitions, which a caller learns by calling the function.
+ghost use Rattle.table_laws.specs.Frames.{ClassFrame, FormFrame, ConstantFrame, ToldConstantFrame};
+
+/// The class and the value of an expression, whether it has the form of a constant, and what is told of the constants in it, are
+/// the same where the same is known of the names in it.
+pub fn constants_frame()
+    ensures class { ClassFrame }
+    ensures form { FormFrame }
+    ensures value { ConstantFrame }
+    ensures told { ToldConstantFrame }
+{}
