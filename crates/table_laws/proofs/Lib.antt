@@ -1,2 +1,3 @@
 pub mod ExprFrames
 pub mod ConstantFrames
+pub mod ModeFrames

@@ -1,5 +1,5 @@
 // Laws of the table of definitions. Each is a fact about the definitions, which a caller learns by calling the function.
-ghost use Rattle.table_laws.specs.Frames.{ClassFrame, FormFrame, ConstantFrame, ToldConstantFrame};
+ghost use Rattle.table_laws.specs.Frames.{ClassFrame, FormFrame, ConstantFrame, ToldConstantFrame, ModeFrame, ToldModeFrame};
 
 /// The class and the value of an expression, whether it has the form of a constant, and what is told of the constants in it, are
 /// the same where the same is known of the names in it.
@@ -8,4 +8,10 @@ pub fn constants_frame()
     ensures form { FormFrame }
     ensures value { ConstantFrame }
     ensures told { ToldConstantFrame }
+{}
+
+/// The mode that is written and what is told of it are the same where the same is known of the names in it.
+pub fn modes_frame()
+    ensures mode { ModeFrame }
+    ensures told { ToldModeFrame }
 {}
