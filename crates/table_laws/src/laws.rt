@@ -1,5 +1,5 @@
 // Laws of the table of definitions. Each is a fact about the definitions, which a caller learns by calling the function.
-ghost use Rattle.table_laws.specs.Frames.{ClassFrame, FormFrame, ConstantFrame, ToldConstantFrame, ModeFrame, ToldModeFrame};
+ghost use Rattle.table_laws.specs.Frames.{ClassFrame, FormFrame, ConstantFrame, ToldConstantFrame, ModeFrame, ToldModeFrame, EntryFrame};
 
 /// The class and the value of an expression, whether it has the form of a constant, and what is told of the constants in it, are
 /// the same where the same is known of the names in it.
@@ -14,4 +14,9 @@ pub fn constants_frame()
 pub fn modes_frame()
     ensures mode { ModeFrame }
     ensures told { ToldModeFrame }
+{}
+
+/// What is known of a definition by the table is the same where the same is known of the names that it depends on.
+pub fn entries_frame()
+    ensures { EntryFrame }
 {}
