@@ -2,3 +2,4 @@ pub mod ExprFrames
 pub mod ConstantFrames
 pub mod ModeFrames
 pub mod EntryFrames
+pub mod ToldFrames

@@ -1,5 +1,5 @@
 // Laws of the table of definitions. Each is a fact about the definitions, which a caller learns by calling the function.
-ghost use Rattle.table_laws.specs.Frames.{ClassFrame, FormFrame, ConstantFrame, ToldConstantFrame, ModeFrame, ToldModeFrame, EntryFrame};
+ghost use Rattle.table_laws.specs.Frames.{ClassFrame, FormFrame, ConstantFrame, ToldConstantFrame, ModeFrame, ToldModeFrame, EntryFrame, ToldFrame};
 
 /// The class and the value of an expression, whether it has the form of a constant, and what is told of the constants in it, are
 /// the same where the same is known of the names in it.
@@ -19,4 +19,10 @@ pub fn modes_frame()
 /// What is known of a definition by the table is the same where the same is known of the names that it depends on.
 pub fn entries_frame()
     ensures { EntryFrame }
+{}
+
+/// What is told of an expression in a statement is the same where the same is known of the names in it, and of the parameters
+/// of what these call or start.
+pub fn told_frame()
+    ensures { ToldFrame }
 {}
