@@ -3,3 +3,4 @@ pub mod ConstantFrames
 pub mod ModeFrames
 pub mod EntryFrames
 pub mod ToldFrames
+pub mod OneTable

@@ -1,5 +1,6 @@
 // Laws of the table of definitions. Each is a fact about the definitions, which a caller learns by calling the function.
 ghost use Rattle.table_laws.specs.Frames.{ClassFrame, FormFrame, ConstantFrame, ToldConstantFrame, ModeFrame, ToldModeFrame, EntryFrame, ToldFrame};
+ghost use Rattle.table_laws.specs.OneTable.{OneTableLaw, FilledLaw};
 
 /// The class and the value of an expression, whether it has the form of a constant, and what is told of the constants in it, are
 /// the same where the same is known of the names in it.
@@ -25,4 +26,11 @@ pub fn entries_frame()
 /// of what these call or start.
 pub fn told_frame()
     ensures { ToldFrame }
+{}
+
+/// Where there is an order of the definitions in which each stands behind those that it needs, two tables of them are one; and a
+/// table that is filled in that order is theirs.
+pub fn one_table_law()
+    ensures one { OneTableLaw }
+    ensures filled { FilledLaw }
 {}
