@@ -4,3 +4,4 @@ pub mod ModeFrames
 pub mod EntryFrames
 pub mod ToldFrames
 pub mod OneTable
+pub mod Bits

@@ -1,6 +1,7 @@
 // Laws of the table of definitions. Each is a fact about the definitions, which a caller learns by calling the function.
 ghost use Rattle.table_laws.specs.Frames.{ClassFrame, FormFrame, ConstantFrame, ToldConstantFrame, ModeFrame, ToldModeFrame, EntryFrame, ToldFrame};
 ghost use Rattle.table_laws.specs.OneTable.{OneTableLaw, FilledLaw};
+ghost use Rattle.table_laws.specs.Bits.{UnionLaw, IntersectionLaw, SymmetricDifferenceLaw, DifferenceLaw, ComplementLaw, MemberLaw};
 
 /// The class and the value of an expression, whether it has the form of a constant, and what is told of the constants in it, are
 /// the same where the same is known of the names in it.
@@ -33,4 +34,15 @@ pub fn told_frame()
 pub fn one_table_law()
     ensures one { OneTableLaw }
     ensures filled { FilledLaw }
+{}
+
+/// What an operator makes of the members of two powersets of one size has the scalars that it makes of their scalars, and so
+/// has the complement; a member is there exactly where the scalars tell it.
+pub fn members_law()
+    ensures union { UnionLaw }
+    ensures intersection { IntersectionLaw }
+    ensures symmetric_difference { SymmetricDifferenceLaw }
+    ensures difference { DifferenceLaw }
+    ensures complement { ComplementLaw }
+    ensures member { MemberLaw }
 {}
