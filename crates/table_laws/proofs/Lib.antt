@@ -1,3 +1,4 @@
+pub mod KnownFrames
 pub mod ExprFrames
 pub mod ConstantFrames
 pub mod ModeFrames

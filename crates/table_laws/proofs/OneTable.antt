@@ -7,12 +7,12 @@ use Rattle.std.proofs.lemmas.List.Elements.{Contains-append_cases, Contains-appe
 use Rattle.names_laws.proofs.Members.{none_in, here_in, later_in, in_cases}
 use Prim.{search}
 use Rattle.chill_tree.specs.declared.tree.name.Name.{Name}
-use Rattle.checks_model.specs.Ground.{Ground, Origin, Entry, number_at}
+use Rattle.checks_model.specs.Ground.{Ground, Origin, Entry, a_synonym, a_mode, an_element, a_location, a_parameter, a_counter, a_received, a_procedure, a_process, a_signal, a_modulion, a_predefined, origin_of, entry_of, number_at}
 use Rattle.checks_model.specs.Table.{entry_by}
 use Rattle.table_laws.specs.Names.{names_needed}
-use Rattle.table_laws.specs.Frames.{SameAt, SameAtEach}
-use Rattle.table_laws.specs.OneTable.{IsEvaluated, SameText, names_at, AllDone, NeedsEarlier, IsOrder, with_entries, entry_at, filled, EachOnce, OneTableLaw, FilledLaw}
-use Rattle.table_laws.proofs.ExprFrames.{of_two}
+use Rattle.table_laws.specs.Frames.{SameAt, SameKnown, SameKnownEach, SameNeeded}
+use Rattle.table_laws.specs.OneTable.{IsEvaluated, SameText, AllDone, NeedsDone, NeedsEarlier, IsOrder, with_entries, entry_at, filled, EachOnce, OneTableLaw, FilledLaw}
+use Rattle.table_laws.proofs.KnownFrames.{of_two}
 use Rattle.table_laws.proofs.EntryFrames.{entry_frame}
 
 -- ---- lists by their elements
@@ -28,33 +28,48 @@ same_lists (x ∷ xs) (y ∷ ys) long same = of_two (λ a b. a ∷ b) (same_Some
 abbrev SameDone : Ground → Ground → List ℕ → Type 0
 SameDone g h done = (d : ℕ) → Contains done d → slice_get g.entries d ≡ slice_get h.entries d
 
-names_same : (g h : Ground) (done : List ℕ) (ns : List Name) → SameText g h → SameDone g h done → AllDone g done ns → SameAtEach g h ns
-names_same g h done [] text same all = tt
-names_same g h done (n ∷ ns) text same all = (record { number = number; origin = origin; entry = entry }, names_same g h done ns text same all.1)
+number_same : (g h : Ground) (n : Name) → SameText g h → number_at g.uses n.at ≡ number_at h.uses n.at
+number_same g h n text = ap (λ us. number_at us n.at) text.uses
+
+origin_same : (g h : Ground) (n : Name) → SameText g h → origin_of g n ≡ origin_of h n
+origin_same g h n text = of_two (λ os d. option_and_then (slice_get os) d) text.origins (number_same g h n text)
+
+entry_same : (g h : Ground) (done : List ℕ) (n : Name) → SameText g h → SameDone g h done → IfSome (number_at g.uses n.at) (Contains done) → entry_of g n ≡ entry_of h n
+entry_same g h done n text same there = by_number (number_at g.uses n.at) there ∙ ap (option_and_then (slice_get h.entries)) (number_same g h n text)
   where
-    number : number_at g.uses n.at ≡ number_at h.uses n.at
-    number = ap (λ us. number_at us n.at) text.uses
-
-    origin : option_and_then (slice_get g.origins) (number_at g.uses n.at) ≡ option_and_then (slice_get h.origins) (number_at h.uses n.at)
-    origin = of_two (λ os d. option_and_then (slice_get os) d) text.origins number
-
     by_number : (d : Option ℕ) → IfSome d (Contains done) → option_and_then (slice_get g.entries) d ≡ option_and_then (slice_get h.entries) d
-    by_number None at = refl
-    by_number (Some d) at = same d at
+    by_number None there = refl
+    by_number (Some d) there = same d there
 
-    entry : option_and_then (slice_get g.entries) (number_at g.uses n.at) ≡ option_and_then (slice_get h.entries) (number_at h.uses n.at)
-    entry = by_number (number_at g.uses n.at) all.0 ∙ ap (option_and_then (slice_get h.entries)) number
+names_known : (g h : Ground) (done : List ℕ) (ns : List Name) → SameText g h → SameDone g h done → AllDone g done ns → SameKnownEach g h ns
+names_known g h done [] text same all = tt
+names_known g h done (n ∷ ns) text same all =
+    (record { number = number_same g h n text; origin = origin_same g h n text; entry = λ is. entry_same g h done n text same (all.0 is) }, names_known g h done ns text same all.1)
 
-by_origin : (g h : Ground) (done : List ℕ) (o : Option Origin) → SameText g h → SameDone g h done → AllDone g done (names_at o) → option_map (entry_by g) o ≡ option_map (entry_by h) o
+needed_same : (g h : Ground) (done : List ℕ) (o : Origin) → SameText g h → SameDone g h done → NeedsDone g done (Some o) → SameNeeded g h o
+needed_same g h done (a_received n count part) text same there = record { number = number_same g h n text; origin = origin_same g h n text; entry = entry_same g h done n text same there }
+needed_same g h done (a_synonym s) text same all = names_known g h done (names_needed (a_synonym s)) text same all
+needed_same g h done (a_mode novel m) text same all = names_known g h done (names_needed (a_mode novel m)) text same all
+needed_same g h done (an_element names part owner) text same all = names_known g h done (names_needed (an_element names part owner)) text same all
+needed_same g h done (a_location d) text same all = names_known g h done (names_needed (a_location d)) text same all
+needed_same g h done (a_parameter m) text same all = names_known g h done (names_needed (a_parameter m)) text same all
+needed_same g h done (a_counter c) text same all = names_known g h done (names_needed (a_counter c)) text same all
+needed_same g h done (a_procedure p) text same all = names_known g h done (names_needed (a_procedure p)) text same all
+needed_same g h done (a_process p) text same all = names_known g h done (names_needed (a_process p)) text same all
+needed_same g h done (a_signal s) text same all = names_known g h done (names_needed (a_signal s)) text same all
+needed_same g h done (a_modulion kind items) text same all = names_known g h done (names_needed (a_modulion kind items)) text same all
+needed_same g h done (a_predefined p) text same all = names_known g h done (names_needed (a_predefined p)) text same all
+
+by_origin : (g h : Ground) (done : List ℕ) (o : Option Origin) → SameText g h → SameDone g h done → NeedsDone g done o → option_map (entry_by g) o ≡ option_map (entry_by h) o
 by_origin g h done None text same all = refl
-by_origin g h done (Some o) text same all = ap Some (entry_frame g h o text.defined (names_same g h done (names_needed o) text same all))
+by_origin g h done (Some o) text same all = ap Some (entry_frame g h o text.defined (needed_same g h done o text same all))
 
 -- ---- one table
 
 evaluated_at : (g : Ground) (d : ℕ) → IsEvaluated g → slice_get g.entries d ≡ option_map (entry_by g) (slice_get g.origins d)
 evaluated_at g d evaluated = ap (λ es. slice_get es d) evaluated ∙ slice_get-map (entry_by g) g.origins d
 
-one_more : (g h : Ground) (done : List ℕ) (d : ℕ) → SameText g h → IsEvaluated g → IsEvaluated h → SameDone g h done → AllDone g done (names_at (slice_get g.origins d)) → SameDone g h (d ∷ done)
+one_more : (g h : Ground) (done : List ℕ) (d : ℕ) → SameText g h → IsEvaluated g → IsEvaluated h → SameDone g h done → NeedsDone g done (slice_get g.origins d) → SameDone g h (d ∷ done)
 one_more g h done d text at_g at_h same all e among = elim (in_cases d done e among) [
   | inl is ↦ subst (λ x. slice_get g.entries x ≡ slice_get h.entries x) is at_d
   | inr there ↦ same e there
@@ -97,18 +112,33 @@ set_elsewhere (y ∷ ys) (suc d) (suc e) x apart = set_elsewhere ys d e x (λ sa
 -- what is known of a definition that is done is so by the table, and it needs only what is done
 record IsFilled (g : Ground) (es : List Entry) (done : List ℕ) (d : ℕ) : Type 0 where
   entry : slice_get es d ≡ option_map (entry_by (with_entries g es)) (slice_get g.origins d)
-  needs : AllDone g done (names_at (slice_get g.origins d))
+  needs : NeedsDone g done (slice_get g.origins d)
 
 abbrev AllFilled : Ground → List Entry → List ℕ → Type 0
 AllFilled g es done = (d : ℕ) → Contains done d → IsFilled g es done d
 
+if_some_later : (done : List ℕ) (d : ℕ) (k : Option ℕ) → IfSome k (Contains done) → IfSome k (Contains (d ∷ done))
+if_some_later done d None there = there
+if_some_later done d (Some k) there = later_in d done k there
+
 all_done_later : (g : Ground) (done : List ℕ) (d : ℕ) (ns : List Name) → AllDone g done ns → AllDone g (d ∷ done) ns
 all_done_later g done d [] all = tt
-all_done_later g done d (n ∷ ns) all = (by_number (number_at g.uses n.at) all.0, all_done_later g done d ns all.1)
-  where
-    by_number : (k : Option ℕ) → IfSome k (Contains done) → IfSome k (Contains (d ∷ done))
-    by_number None at = at
-    by_number (Some k) at = later_in d done k at
+all_done_later g done d (n ∷ ns) all = ((λ is. if_some_later done d (number_at g.uses n.at) (all.0 is)), all_done_later g done d ns all.1)
+
+needs_later : (g : Ground) (done : List ℕ) (d : ℕ) (o : Option Origin) → NeedsDone g done o → NeedsDone g (d ∷ done) o
+needs_later g done d None all = tt
+needs_later g done d (Some (a_received n count part)) there = if_some_later done d (number_at g.uses n.at) there
+needs_later g done d (Some (a_synonym s)) all = all_done_later g done d (names_needed (a_synonym s)) all
+needs_later g done d (Some (a_mode novel m)) all = all_done_later g done d (names_needed (a_mode novel m)) all
+needs_later g done d (Some (an_element names part owner)) all = all_done_later g done d (names_needed (an_element names part owner)) all
+needs_later g done d (Some (a_location l)) all = all_done_later g done d (names_needed (a_location l)) all
+needs_later g done d (Some (a_parameter m)) all = all_done_later g done d (names_needed (a_parameter m)) all
+needs_later g done d (Some (a_counter c)) all = all_done_later g done d (names_needed (a_counter c)) all
+needs_later g done d (Some (a_procedure p)) all = all_done_later g done d (names_needed (a_procedure p)) all
+needs_later g done d (Some (a_process p)) all = all_done_later g done d (names_needed (a_process p)) all
+needs_later g done d (Some (a_signal s)) all = all_done_later g done d (names_needed (a_signal s)) all
+needs_later g done d (Some (a_modulion kind items)) all = all_done_later g done d (names_needed (a_modulion kind items)) all
+needs_later g done d (Some (a_predefined p)) all = all_done_later g done d (names_needed (a_predefined p)) all
 
 -- the same text whatever the table
 same_text : (g : Ground) (es ks : List Entry) → SameText (with_entries g es) (with_entries g ks)
@@ -125,7 +155,7 @@ filled_at g es (Some o) = refl
 abbrev with_one : Ground → List Entry → ℕ → List Entry
 with_one g es d = set es d (entry_at (with_entries g es) (slice_get g.origins d))
 
-one_filled : (g : Ground) (es : List Entry) (done : List ℕ) (d : ℕ) → length es ≡ length g.origins → ¬ Contains done d → AllDone g done (names_at (slice_get g.origins d))
+one_filled : (g : Ground) (es : List Entry) (done : List ℕ) (d : ℕ) → length es ≡ length g.origins → ¬ Contains done d → NeedsDone g done (slice_get g.origins d)
     → AllFilled g es done → AllFilled g (with_one g es d) (d ∷ done)
 one_filled g es done d long new needs kept e among = elim (in_cases d done e among) [
   | inl is ↦ subst (IsFilled g (with_one g es d) (d ∷ done)) is at_d
@@ -135,19 +165,19 @@ one_filled g es done d long new needs kept e among = elim (in_cases d done e amo
     same : SameDone (with_entries g es) (with_entries g (with_one g es d)) done
     same = set_done g es done d (entry_at (with_entries g es) (slice_get g.origins d)) new
 
-    moved : (o : Option Origin) → AllDone g done (names_at o) → option_map (entry_by (with_entries g es)) o ≡ option_map (entry_by (with_entries g (with_one g es d))) o
+    moved : (o : Option Origin) → NeedsDone g done o → option_map (entry_by (with_entries g es)) o ≡ option_map (entry_by (with_entries g (with_one g es d))) o
     moved o all = by_origin (with_entries g es) (with_entries g (with_one g es d)) done o (same_text g es (with_one g es d)) same all
 
     at_d : IsFilled g (with_one g es d) (d ∷ done) d
     at_d = record {
       entry = set_here es g.origins d (entry_at (with_entries g es) (slice_get g.origins d)) long ∙ filled_at g es (slice_get g.origins d) ∙ moved (slice_get g.origins d) needs;
-      needs = all_done_later g done d (names_at (slice_get g.origins d)) needs;
+      needs = needs_later g done d (slice_get g.origins d) needs;
     }
 
     at_other : Contains done e → IsFilled g (with_one g es d) (d ∷ done) e
     at_other there = record {
       entry = sym (same e there) ∙ (kept e there).entry ∙ moved (slice_get g.origins e) (kept e there).needs;
-      needs = all_done_later g done d (names_at (slice_get g.origins e)) (kept e there).needs;
+      needs = needs_later g done d (slice_get g.origins e) (kept e there).needs;
     }
 
 -- what a table is when the rest has been filled

@@ -17,7 +17,8 @@ use Rattle.checks_model.specs.Classes.{class_as, class_of, Callee, calls, routin
 use Rattle.checks_model.specs.ValueRules.{Located, place_by_origin, place_part, path_of, whole_access, located, place, Receiver, nothing_asked, of_mode, passed_back, condition, selector, bound, set_of_members, received_mode, does_not_go, does_not_fit_parameter, is_not_boolean, is_not_discrete, is_no_powerset, is_too_large, told_received, call_misfits, told_number, passed, receivers_of_param, receivers_of_formal, receivers_by, receivers_of, each_receiver, head_or_none, rest_of, returns_none, shape_misfits, bare, own_told, value_told, index_receiver, index_mode, receivers_behind, clean_class, told_behind, told_in, told_in_args, told_inside_each, told_in_range, told_in_parts}
 use Rattle.table_laws.specs.Names.{names_in, names_in_each, names_in_range, names_in_ranges, some_name}
 use Rattle.table_laws.specs.Frames.{SameAt, SameAtEach, SameDefined, SameParameters, parameters_of, ToldFrame}
-use Rattle.table_laws.proofs.ExprFrames.{first_of_each, later_of_each, of_two, of_three, of_four, tuple_mode_frame, callee_frame, measured_first_frame, class_frame, class_of_first_frame}
+use Rattle.table_laws.proofs.KnownFrames.{known_each, of_two, of_three, of_four, tuple_mode_frame, callee_frame, measured_first_frame}
+use Rattle.table_laws.proofs.ExprFrames.{first_of_each, later_of_each, class_frame, class_of_first_frame}
 
 -- ---- parameters
 
@@ -109,7 +110,7 @@ value_frame : (g h : Ground) (r : Receiver) (e : ExprTree) {a b : List Diagnosti
 value_frame g h r e same inside = of_two then_told (own_frame g h r e same inside) (received_frame g h r e same)
 
 misfits_frame : (g h : Ground) (p : Predefined) (es : ExprNodes) → SameAtEach g h (names_in_each es) → call_misfits g p es ≡ call_misfits h p es
-misfits_frame g h p es same = of_two (λ m c. if is_measuring p then measured_misfits p m c else holds_of (argument_misfits p) c) (measured_first_frame g h es same) (class_of_first_frame g h es same)
+misfits_frame g h p es same = of_two (λ m c. if is_measuring p then measured_misfits p m c else holds_of (argument_misfits p) c) (measured_first_frame g h es (known_each g h (names_in_each es) same)) (class_of_first_frame g h es same)
 
 -- ---- brackets
 
@@ -191,12 +192,12 @@ mutual
         (ap (λ rs. told_in_args g (each_receiver rs (count_exprs es)) es) receivers ∙ told_args_frame g h (each_receiver (receivers_of h n) (count_exprs es)) es same.1 params.1)
         (ap (λ rs. told_number n.at (count_exprs es) (length rs)) receivers)
   told_frame g h r (tuple at m b rs) same params =
-      let mode = tuple_mode_frame g h m (received_mode r) (first_of_each g h (some_name m) (names_in_ranges rs) same) in
+      let mode = tuple_mode_frame g h m (received_mode r) (known_each g h (some_name m) (first_of_each g h (some_name m) (names_in_ranges rs) same)) in
       of_two then_told
         (ap (λ m. told_in_parts g (shape_fits rs) 0 m rs) mode ∙ told_parts_frame g h (shape_fits rs) 0 (tuple_mode h m (received_mode r)) rs (later_of_each g h (some_name m) (names_in_ranges rs) same) (later_parameters g h (some_name m) (names_in_ranges rs) params))
         (ap (λ k. told_if (shape_misfits (shape_fits rs) m r k) (tell_at rules.S11 b)) mode)
   told_frame g h r (uniform at m b e) same params =
-      let mode = tuple_mode_frame g h m (received_mode r) (first_of_each g h (some_name m) (names_in e) same) in
+      let mode = tuple_mode_frame g h m (received_mode r) (known_each g h (some_name m) (first_of_each g h (some_name m) (names_in e) same)) in
       let part = later_of_each g h (some_name m) (names_in e) same in
       let receiver = of_mode (mode_of_part uniform_fits 0 (tuple_mode h m (received_mode r))) in
       of_two then_told
@@ -212,7 +213,7 @@ mutual
       let class = class_frame g h None e base in
       let in_base = told_frame g h nothing_asked e base base_params in
       let receivers = behind_receivers g h (callee_of h e) (count_exprs es) called (of_two clean_class in_base class) in
-      ap (λ c. told_behind g c (place_of e) (class_of g e) (told_in g nothing_asked e) (told_in_args g (receivers_behind g c (clean_class (told_in g nothing_asked e) (class_of g e)) (count_exprs es)) es) (told_inside_each g es) es) (callee_frame g h e base)
+      ap (λ c. told_behind g c (place_of e) (class_of g e) (told_in g nothing_asked e) (told_in_args g (receivers_behind g c (clean_class (told_in g nothing_asked e) (class_of g e)) (count_exprs es)) es) (told_inside_each g es) es) (callee_frame g h e (known_each g h (names_in e) base))
       ∙ behind_frame g h (callee_of h e) (place_of e) es called class
           (record {
             in_base = in_base;

@@ -1,11 +1,12 @@
 -- The law that there is one table, and that it is filled in any order in which each definition stands behind those that it
 -- needs.
-use Rattle.std.specs.Prelude.{◌≡◌, ◌<◌, ℕ, List, [], ◌∷◌, map, length, set, Option, Some, None, IfSome, slice_get}
+use Rattle.std.specs.Prelude.{◌≡◌, ◌<◌, ℕ, true, List, [], ◌∷◌, map, length, set, Option, Some, None, IfSome, slice_get}
 use Rattle.std.specs.List.{Contains}
 use Rattle.chill_tree.specs.declared.tree.name.Name.{Name}
-use Rattle.checks_model.specs.Ground.{Ground, Origin, Entry, number_at}
+use Rattle.checks_model.specs.Ground.{Ground, Origin, Entry, a_received, origin_of, number_at}
 use Rattle.checks_model.specs.Table.{no_entry, entry_by}
 use Rattle.table_laws.specs.Names.{names_needed}
+use Rattle.table_laws.specs.Frames.{is_read}
 
 -- the table of a ground is that of its definitions
 abbrev pub IsEvaluated : Ground → Type 0
@@ -19,20 +20,21 @@ pub record SameText (g h : Ground) : Type 0 where
 
 -- ---- orders
 
--- the names that the definition of a number needs
-abbrev pub names_at : Option Origin → List Name
-names_at None = []
-names_at (Some o) = names_needed o
-
--- what each name stands for, where it stands for anything, is done
+-- what each name stands for is done, where it stands for what constants and modes look up
 abbrev pub AllDone : Ground → List ℕ → List Name → Type 0
 AllDone g done [] = Unit {0}
-AllDone g done (n ∷ ns) = IfSome (number_at g.uses n.at) (Contains done) × AllDone g done ns
+AllDone g done (n ∷ ns) = (is_read (origin_of g n) ≡ true → IfSome (number_at g.uses n.at) (Contains done)) × AllDone g done ns
+
+-- what a definition needs is done; a received name needs what it is received from
+abbrev pub NeedsDone : Ground → List ℕ → Option Origin → Type 0
+NeedsDone g done None = Unit {0}
+NeedsDone g done (Some (a_received n count part)) = IfSome (number_at g.uses n.at) (Contains done)
+NeedsDone g done (Some o) = AllDone g done (names_needed o)
 
 -- each definition of the rest needs only what is done before it
 abbrev pub NeedsEarlier : Ground → List ℕ → List ℕ → Type 0
 NeedsEarlier g done [] = Unit {0}
-NeedsEarlier g done (d ∷ ds) = AllDone g done (names_at (slice_get g.origins d)) × NeedsEarlier g (d ∷ done) ds
+NeedsEarlier g done (d ∷ ds) = NeedsDone g done (slice_get g.origins d) × NeedsEarlier g (d ∷ done) ds
 
 -- all definitions of a ground, each behind those that it needs
 pub record IsOrder (g : Ground) (order : List ℕ) : Type 0 where
