@@ -1,5 +1,5 @@
 -- An expression in which nothing is told has its class, where what it names is known.
-use Rattle.std.proofs.Common.{◌≡◌, ℕ, Bool, true, false, List, [], ◌∷◌, ◌++◌, Option, Some, None, true≢false, arith, refl, sym, ap, ◌∙◌}
+use Rattle.std.proofs.Common.{◌≡◌, Bool, true, false, List, [], ◌∷◌, ◌++◌, Option, Some, None, true≢false, arith, refl, sym, ap, ◌∙◌}
 use Rattle.std.proofs.lemmas.Bool.{eqb-true}
 use Rattle.std.specs.Prelude.{IsSome, is_some, option_map, option_and_then, not, ◌==◌, ◌&&◌, if◌then◌else◌, length, replicate}
 use Rattle.chill_base.specs.declared.pos.Pos.{Pos}
@@ -7,16 +7,16 @@ use Rattle.chill_tree.specs.declared.tree.name.Name.{Name}
 use Rattle.chill_tree.specs.declared.tree.expr.Operator.{Operator}
 use Rattle.chill_tree.specs.declared.tree.expr.Prefix.{Prefix}
 use Rattle.chill_tree.specs.ExprTree.{ExprTree, ExprNodes, whole, character, text, this_instance, paren, receive, start, tuple, uniform, name, apply, field, prefixed, binary, no_exprs, more_exprs, place_of}
-use Rattle.modes.specs.ModeTree.{ModeTree, ClassTree, value, int}
+use Rattle.modes.specs.ModeTree.{ModeTree, ClassTree, value}
 use Rattle.modes.specs.Form.{FormTree, form_of}
 use Rattle.diagnostics.specs.declared.diagnostic.Diagnostic.{Diagnostic}
 use Rattle.diagnostics.specs.declared.rule.Rule.TheVariants as rules
 use Rattle.checks_model.specs.Told.{tell_at, told_if, is_none_told, then_told, holds_of, holds_of_both}
-use Rattle.checks_model.specs.Ground.{Ground, Origin, Predefined, of_mode as of_its_mode, truth, no_instance, num, succ, pred, abs, card, min, max, upper, lower, size, put_int, put_text, put_nl, get_int, a_synonym, a_mode, an_element, a_location, a_parameter, a_counter, a_received, a_procedure, a_process, a_signal, a_modulion, a_predefined, origin_of, entry_of, mode_of_entry, element_of}
-use Rattle.checks_model.specs.Operations.{class_of_binary, class_of_unary, class_of_routine, class_of_measure, part_of_class, element_of_form, field_of_form, is_measuring, is_routine, gives_no_value, arguments_of, operands_misfit, operand_misfits, argument_misfits, when}
-use Rattle.checks_model.specs.Classes.{class_as, class_of, class_of_first, class_behind, class_of_call, class_of_measured, both_classes, result_class, Callee, calls, routine, no_callee, callee_of, callee_by, Measured, a_mode_of, misfit, other, measured, measured_first, measured_misfits, tuple_mode, value_if, shape_fits, uniform_fits, mode_of_part, count_exprs}
-use Rattle.checks_model.specs.ValueRules.{Receiver, nothing_asked, of_mode, passed_back, condition, selector, bound, set_of_members, received_mode, told_received, own_told, value_told, call_misfits, told_number, receivers_of, receivers_behind, clean_class, head_or_none, returns_none, shape_misfits, told_behind, told_in, told_in_args, told_inside_each, told_in_parts, index_mode, is_too_large, bare}
-use Rattle.class_laws.specs.Known.{HasMode, MeasuredKnown, RoutineKnown, BracketsKnown, IsKnown, FirstKnown, is_unknown_place, CleanLaw}
+use Rattle.checks_model.specs.Ground.{Ground, Predefined, of_mode as of_its_mode, truth, no_instance, num, succ, pred, abs, card, min, max, upper, lower, size, put_int, put_text, put_nl, get_int, origin_of, entry_of, mode_of_entry, element_of}
+use Rattle.checks_model.specs.Operations.{class_of_binary, class_of_unary, class_of_routine, class_of_measure, part_of_class, element_of_form, field_of_form, is_measuring, gives_no_value, arguments_of, operands_misfit, operand_misfits, when}
+use Rattle.checks_model.specs.Classes.{class_as, class_of, class_of_first, class_behind, class_of_call, class_of_measured, both_classes, result_class, Callee, calls, routine, no_callee, callee_of, Measured, a_mode_of, misfit, other, measured_first, measured_misfits, tuple_mode, value_if, shape_fits, uniform_fits, mode_of_part, count_exprs}
+use Rattle.checks_model.specs.ValueRules.{Receiver, nothing_asked, of_mode, passed_back, condition, selector, bound, set_of_members, received_mode, told_received, own_told, value_told, call_misfits, told_number, receivers_of, receivers_behind, clean_class, returns_none, shape_misfits, told_behind, told_in, told_in_args, told_inside_each, told_in_parts, index_mode, is_too_large, bare}
+use Rattle.class_laws.specs.Known.{HasMode, MeasuredKnown, RoutineKnown, BracketsKnown, FirstKnown, is_unknown_place, CleanLaw}
 
 -- ---- lists in which nothing is told
 
@@ -165,12 +165,12 @@ behind_there g (routine p) at result base k inside es there known none =
     let count = not_true (count_exprs es == arguments_of p) (not_broken (not (count_exprs es == arguments_of p)) (tell_at rules.S5 at) (none_inside numbers misfit at_arguments)) in
     let clean = routine_inside g (is_measuring p) es (none_inside in_args (without ++ then_told numbers misfit) none) in
     call_there g p es (not_broken (gives_no_value p) (tell_at rules.S10 at) (none_first without (then_told numbers misfit) at_it))
-      (not_broken (call_misfits g p es) (tell_at rules.S1 at) (none_then numbers misfit at_arguments))
-      (λ one. routine_known (is_measuring p) (measured_first g es) (λ argument. there.of_argument argument clean (eqb-true (count_exprs es) (arguments_of p) count ∙ one)) known)
+    (not_broken (call_misfits g p es) (tell_at rules.S1 at) (none_then numbers misfit at_arguments))
+    (λ one. routine_known (is_measuring p) (measured_first g es) (λ argument. there.of_argument argument clean (eqb-true (count_exprs es) (arguments_of p) count ∙ one)) known)
 behind_there g no_callee at result base k inside es there known none =
     let in_args = told_in_args g (receivers_behind g no_callee k (count_exprs es)) es in
     mapped (part_of_class element_of_form) base
-      (there.of_base known (none_first inside in_args (none_inside (inside ++ in_args) (told_if (is_some (index_mode base) && not (count_exprs es == 1)) (tell_at rules.S5 at)) none)))
+    (there.of_base known (none_first inside in_args (none_inside (inside ++ in_args) (told_if (is_some (index_mode base) && not (count_exprs es == 1)) (tell_at rules.S5 at)) none)))
 
 -- ---- the law
 
@@ -193,24 +193,24 @@ mutual
   clean_there g r (name n) known place none = known
   clean_there g r (apply at e es) known place none =
       behind_there g (callee_of g e) (place_of e) (result_class g e) (class_of g e) (clean_class (told_in g nothing_asked e) (class_of g e)) (told_in g nothing_asked e) es
-        (record {
-          of_base = λ base clean. clean_there g nothing_asked e base refl clean;
-          of_argument = λ argument clean count. first_there g es argument clean count;
-        })
-        known none
+      (record {
+        of_base = λ base clean. clean_there g nothing_asked e base refl clean;
+        of_argument = λ argument clean count. first_there g es argument clean count;
+      })
+      known none
   clean_there g r (field at e n) known place none = mapped (part_of_class (field_of_form n.text)) (class_of g e) (clean_there g nothing_asked e known refl none)
   clean_there g r (prefixed at o e) known place none =
       let inside = own_told g nothing_asked e (told_in g nothing_asked e) in
       let misfits = holds_of (operand_misfits o) (class_of g e) in
       unary_there o (class_of g e) (clean_there g nothing_asked e known refl (own_inside g e (none_inside inside (told_if misfits (tell_at rules.S1 at)) none)))
-        (not_broken misfits (tell_at rules.S1 at) (none_then inside (told_if misfits (tell_at rules.S1 at)) none))
+      (not_broken misfits (tell_at rules.S1 at) (none_then inside (told_if misfits (tell_at rules.S1 at)) none))
   clean_there g r (binary at l o p k) known place none =
       let left = own_told g nothing_asked l (told_in g nothing_asked l) in
       let right = own_told g nothing_asked k (told_in g nothing_asked k) in
       let misfits = holds_of_both (operands_misfit o) (class_of g l) (class_of g k) in
       let inside = none_inside (left ++ right) (told_if misfits (tell_at rules.S1 p)) none in
       binary_there o (class_of g l) (class_of g k) (clean_there g nothing_asked l known.0 refl (own_inside g l (none_first left right inside))) (clean_there g nothing_asked k known.1 refl (own_inside g k (none_later left right inside)))
-        (not_broken misfits (tell_at rules.S1 p) (none_then (left ++ right) (told_if misfits (tell_at rules.S1 p)) none))
+      (not_broken misfits (tell_at rules.S1 p) (none_then (left ++ right) (told_if misfits (tell_at rules.S1 p)) none))
 
   first_there : (g : Ground) (es : ExprNodes) → FirstKnown g es → told_inside_each g es ≡ [] → count_exprs es ≡ 1 → IsSome (class_of_first g es)
   first_there g no_exprs known none count = absurd (omega (arith, count))

@@ -1,10 +1,10 @@
 -- What the class of an expression needs of the names in it; and the law that it is there where this is known and nothing is
 -- told.
-use Rattle.std.specs.Prelude.{◌≡◌, Bool, true, false, List, [], Option, Some, None, IsSome}
+use Rattle.std.specs.Prelude.{◌≡◌, Bool, true, false, [], Option, Some, None, IsSome}
 use Rattle.chill_tree.specs.declared.tree.name.Name.{Name}
 use Rattle.chill_tree.specs.ExprTree.{ExprTree, ExprNodes, whole, character, text, this_instance, paren, receive, start, tuple, uniform, name, apply, field, prefixed, binary, no_exprs, more_exprs}
-use Rattle.modes.specs.ModeTree.{ModeTree, ClassTree}
-use Rattle.checks_model.specs.Ground.{Ground, Predefined, origin_of, mode_of_name, buffer_element}
+use Rattle.modes.specs.ModeTree.{ClassTree}
+use Rattle.checks_model.specs.Ground.{Ground, origin_of, mode_of_name, buffer_element}
 use Rattle.checks_model.specs.Operations.{is_measuring}
 use Rattle.checks_model.specs.Classes.{class_as, class_of_name, Callee, calls, routine, no_callee, callee_of, result_class, Measured, a_mode_of, misfit, other, measured_first}
 use Rattle.checks_model.specs.ValueRules.{Receiver, of_mode, received_mode, returns_none, told_in}

@@ -1,7 +1,7 @@
 -- The value of an expression, its form, and what is told of constants in it depend on the ground only by the names in the
 -- expression.
 use Rattle.std.proofs.Common.{◌≡◌, ℕ, suc, Bool, true, false, List, [], ◌∷◌, ◌++◌, Option, Some, None, true≢false, subst, refl, sym, ap, ◌∙◌}
-use Rattle.std.specs.Prelude.{option_map, option_and_then, ◌==◌, ◌&&◌, ◌||◌, is_some, not, if◌then◌else◌}
+use Rattle.std.specs.Prelude.{option_and_then, ◌==◌, ◌&&◌, ◌||◌, is_some, not, if◌then◌else◌}
 use Rattle.chill_base.specs.declared.pos.Pos.{Pos}
 use Rattle.chill_tree.specs.declared.tree.name.Name.{Name}
 use Rattle.chill_tree.specs.declared.tree.expr.Operator.{Operator}
@@ -9,7 +9,7 @@ use Rattle.chill_tree.specs.declared.tree.expr.Prefix.{Prefix}
 use Rattle.chill_tree.specs.declared.tree.expr.Prefix.TheVariants as prefixes
 use Rattle.chill_tree.specs.ExprTree.{ExprTree, ExprNodes, RangeTree, RangeNodes, whole, character, text, this_instance, paren, receive, start, tuple, uniform, name, apply, field, prefixed, binary, no_exprs, more_exprs, alone, between, no_ranges, more_ranges, place_of}
 use Rattle.modes.specs.ModeTree.{ModeTree, ClassTree}
-use Rattle.modes.specs.Form.{FormTree, form_of}
+use Rattle.modes.specs.Form.{FormTree}
 use Rattle.modes.specs.Bounds.{bounds_of}
 use Rattle.diagnostics.specs.declared.diagnostic.Diagnostic.{Diagnostic}
 use Rattle.diagnostics.specs.declared.rule.Rule.TheVariants as rules
@@ -19,12 +19,12 @@ use Rattle.checks_model.specs.Ground.{Ground, Predefined, origin_of, entry_of}
 use Rattle.checks_model.specs.ValueTrees.{ValueTree}
 use Rattle.checks_model.specs.Operations.{is_measuring, operands_misfit, operand_misfits, argument_misfits}
 use Rattle.checks_model.specs.OperatorValues.{value_of_binary, value_of_unary, value_of_routine}
-use Rattle.checks_model.specs.Classes.{class_as, class_of, class_of_first, callee_of, Measured, a_mode_of, misfit, other, measured, measured_first, measured_misfits, tuple_mode, shape_fits, uniform_fits, mode_of_part, count_exprs}
-use Rattle.checks_model.specs.Constants.{has_form, have_form, range_has_form, are_arguments, is_constant_origin, is_measured, value_routine, both_ends, behind, tuple_value, uniform_value, applied, value_of_measured, value_of_call, value_of_name, value_before, constant_as, constant_of, value_of_first, values_of_ranges, value_of_range}
-use Rattle.checks_model.specs.ConstantRules.{Standing, by_itself, is_by_itself, is_in_synonym, is_constant_tuple, raises, told_unary, told_binary, told_call, told_literal, is_outside, class_misfits, value_misfits, told_part, told_part_range, told_parts, range_misfits, ranges_misfit, told_misfit, told_tuple, told_uniform, is_judged, standing_of_parts, told_if_constant, when_routine, told_before, told_as, told_in_each, told_in_ranges, told_in_range}
+use Rattle.checks_model.specs.Classes.{class_of, class_of_first, callee_of, Measured, a_mode_of, misfit, other, measured, measured_first, measured_misfits, tuple_mode, shape_fits, uniform_fits, mode_of_part, count_exprs}
+use Rattle.checks_model.specs.Constants.{has_form, have_form, range_has_form, are_arguments, is_measured, value_routine, both_ends, behind, tuple_value, uniform_value, applied, value_of_measured, value_of_call, value_of_name, value_before, constant_as, value_of_first, values_of_ranges, value_of_range}
+use Rattle.checks_model.specs.ConstantRules.{Standing, by_itself, is_by_itself, is_in_synonym, is_constant_tuple, raises, told_unary, told_binary, told_call, is_outside, class_misfits, value_misfits, told_part, told_part_range, told_parts, range_misfits, ranges_misfit, told_misfit, told_tuple, told_uniform, is_judged, standing_of_parts, told_if_constant, when_routine, told_before, told_as, told_in_each, told_in_ranges, told_in_range}
 use Rattle.table_laws.specs.Names.{names_in, names_in_each, names_in_range, names_in_ranges, some_name}
-use Rattle.table_laws.specs.Frames.{SameKnown, SameKnownEach, ConstantFrame, ToldConstantFrame}
-use Rattle.table_laws.proofs.KnownFrames.{first_known, later_known, of_two, of_three, of_four, tuple_mode_frame, callee_frame, measured_frame, measured_first_frame, value_known, form_frame, arguments_frame, ranges_form_frame, formed_class, first_formed, valued_class, first_valued, and_first, and_second}
+use Rattle.table_laws.specs.Frames.{SameKnownEach, ConstantFrame, ToldConstantFrame}
+use Rattle.table_laws.proofs.KnownFrames.{first_known, later_known, of_two, of_three, of_four, tuple_mode_frame, callee_frame, measured_first_frame, value_known, form_frame, arguments_frame, ranges_form_frame, formed_class, first_formed, valued_class, first_valued, and_first, and_second}
 
 -- ---- values
 
@@ -56,11 +56,11 @@ mutual
   constant_frame g h r (tuple at m b rs) same =
       let mode = tuple_mode_frame g h m r (first_known g h (some_name m) (names_in_ranges rs) same) in
       of_two (tuple_value (shape_fits rs)) mode
-        (ap (λ m. values_of_ranges g (shape_fits rs) 0 m rs) mode ∙ ranges_value_frame g h (shape_fits rs) 0 (tuple_mode h m r) rs (later_known g h (some_name m) (names_in_ranges rs) same))
+      (ap (λ m. values_of_ranges g (shape_fits rs) 0 m rs) mode ∙ ranges_value_frame g h (shape_fits rs) 0 (tuple_mode h m r) rs (later_known g h (some_name m) (names_in_ranges rs) same))
   constant_frame g h r (uniform at m b e) same =
       let mode = tuple_mode_frame g h m r (first_known g h (some_name m) (names_in e) same) in
       of_two uniform_value mode
-        (ap (λ m. constant_as g (mode_of_part uniform_fits 0 m) e) mode ∙ constant_frame g h (mode_of_part uniform_fits 0 (tuple_mode h m r)) e (later_known g h (some_name m) (names_in e) same))
+      (ap (λ m. constant_as g (mode_of_part uniform_fits 0 m) e) mode ∙ constant_frame g h (mode_of_part uniform_fits 0 (tuple_mode h m r)) e (later_known g h (some_name m) (names_in e) same))
   constant_frame g h r (name n) same = value_known (origin_of g n) (entry_of g n) (entry_of h n) same.0.entry ∙ ap (value_of_name (entry_of h n)) same.0.origin
   constant_frame g h r (apply at e es) same =
       let args = later_known g h (names_in e) (names_in_each es) same in
@@ -81,7 +81,7 @@ mutual
   ranges_value_frame g h fits k m no_ranges same = refl
   ranges_value_frame g h fits k m (more_ranges r rs) same =
       of_two behind (range_value_frame g h (mode_of_part fits k m) r (first_known g h (names_in_range r) (names_in_ranges rs) same))
-        (ranges_value_frame g h fits (suc k) m rs (later_known g h (names_in_range r) (names_in_ranges rs) same))
+      (ranges_value_frame g h fits (suc k) m rs (later_known g h (names_in_range r) (names_in_ranges rs) same))
 
   range_value_frame : (g h : Ground) (m : Option ModeTree) (r : RangeTree) → SameKnownEach g h (names_in_range r) → value_of_range g m r ≡ value_of_range h m r
   range_value_frame g h m (alone e) same = ap (λ v. both_ends v v) (constant_frame g h m e same)
@@ -104,8 +104,8 @@ unary_frame g h at o e same form =
 binary_frame : (g h : Ground) (at : Pos) (o : Operator) (l k : ExprTree) → SameKnownEach g h (names_in l) → SameKnownEach g h (names_in k) → (has_form g false l && has_form g false k) ≡ true → told_binary g at o l k ≡ told_binary h at o l k
 binary_frame g h at o l k left right form =
     of_four (λ a b v w. if holds_of_both (operands_misfit o) a b then tell_at rules.M10 at ∷ [] else told_if (is_some a && holds_of (λ c. holds_of_both (λ v w. raises (value_of_binary o c v) w) v w) b) (tell_at rules.M11 at))
-      (formed_class g h None false l left (and_first (has_form g false l) (has_form g false k) form)) (formed_class g h None false k right (and_second (has_form g false l) (has_form g false k) form))
-      (constant_frame g h None l left) (constant_frame g h None k right)
+    (formed_class g h None false l left (and_first (has_form g false l) (has_form g false k) form)) (formed_class g h None false k right (and_second (has_form g false l) (has_form g false k) form))
+    (constant_frame g h None l left) (constant_frame g h None k right)
 
 -- the class of what is measured is asked for only where it isn't measured
 measured_misfits_frame : (p : Predefined) (m : Measured) (c k : Option ClassTree) → (is_measured m ≡ false → c ≡ k) → measured_misfits p m c ≡ measured_misfits p m k
@@ -118,7 +118,7 @@ argument_formed : (g h : Ground) (es : ExprNodes) → SameKnownEach g h (names_i
 argument_formed g h no_exprs same form no_measure = refl
 argument_formed g h (more_exprs e es) same form no_measure =
     formed_class g h None false e (first_known g h (names_in e) (names_in_each es) same)
-      (subst (λ m. (m || has_form g false e) ≡ true) no_measure (and_first (is_measured (measured g e) || has_form g false e) (are_arguments g true es) form))
+    (subst (λ m. (m || has_form g false e) ≡ true) no_measure (and_first (is_measured (measured g e) || has_form g false e) (are_arguments g true es) form))
 
 misfitting_frame : (g h : Ground) (p : Predefined) (es : ExprNodes) → SameKnownEach g h (names_in_each es) → are_arguments g true es ≡ true → measured_misfits p (measured_first g es) (class_of_first g es) ≡ measured_misfits p (measured_first h es) (class_of_first h es)
 misfitting_frame g h p es same form =
@@ -152,25 +152,25 @@ part_range_frame : (g h : Ground) (m : Option ModeTree) (r : RangeTree) → Same
 part_range_frame g h m (alone e) same form = part_frame g h m e same form
 part_range_frame g h m (between l k) same form =
     of_two (λ a b. a ++ b) (part_frame g h m l (first_known g h (names_in l) (names_in k) same) (and_first (has_form g true l) (has_form g true k) form))
-      (part_frame g h m k (later_known g h (names_in l) (names_in k) same) (and_second (has_form g true l) (has_form g true k) form))
+    (part_frame g h m k (later_known g h (names_in l) (names_in k) same) (and_second (has_form g true l) (has_form g true k) form))
 
 parts_frame : (g h : Ground) (fits : FormTree → Bool) (k : ℕ) (m : Option ModeTree) (rs : RangeNodes) → SameKnownEach g h (names_in_ranges rs) → have_form g rs ≡ true → told_parts g fits k m rs ≡ told_parts h fits k m rs
 parts_frame g h fits k m no_ranges same form = refl
 parts_frame g h fits k m (more_ranges r rs) same form =
     of_two (λ a b. a ++ b) (part_range_frame g h (mode_of_part fits k m) r (first_known g h (names_in_range r) (names_in_ranges rs) same) (and_first (range_has_form g r) (have_form g rs) form))
-      (parts_frame g h fits (suc k) m rs (later_known g h (names_in_range r) (names_in_ranges rs) same) (and_second (range_has_form g r) (have_form g rs) form))
+    (parts_frame g h fits (suc k) m rs (later_known g h (names_in_range r) (names_in_ranges rs) same) (and_second (range_has_form g r) (have_form g rs) form))
 
 range_misfits_frame : (g h : Ground) (m : Option ModeTree) (r : RangeTree) → SameKnownEach g h (names_in_range r) → range_has_form g r ≡ true → range_misfits g m r ≡ range_misfits h m r
 range_misfits_frame g h m (alone e) same form = class_misfits_frame g h true m e same form
 range_misfits_frame g h m (between l k) same form =
     of_two (λ a b. a || b) (class_misfits_frame g h true m l (first_known g h (names_in l) (names_in k) same) (and_first (has_form g true l) (has_form g true k) form))
-      (class_misfits_frame g h true m k (later_known g h (names_in l) (names_in k) same) (and_second (has_form g true l) (has_form g true k) form))
+    (class_misfits_frame g h true m k (later_known g h (names_in l) (names_in k) same) (and_second (has_form g true l) (has_form g true k) form))
 
 ranges_misfit_frame : (g h : Ground) (fits : FormTree → Bool) (k : ℕ) (m : Option ModeTree) (rs : RangeNodes) → SameKnownEach g h (names_in_ranges rs) → have_form g rs ≡ true → ranges_misfit g fits k m rs ≡ ranges_misfit h fits k m rs
 ranges_misfit_frame g h fits k m no_ranges same form = refl
 ranges_misfit_frame g h fits k m (more_ranges r rs) same form =
     of_two (λ a b. a || b) (range_misfits_frame g h (mode_of_part fits k m) r (first_known g h (names_in_range r) (names_in_ranges rs) same) (and_first (range_has_form g r) (have_form g rs) form))
-      (ranges_misfit_frame g h fits (suc k) m rs (later_known g h (names_in_range r) (names_in_ranges rs) same) (and_second (range_has_form g r) (have_form g rs) form))
+    (ranges_misfit_frame g h fits (suc k) m rs (later_known g h (names_in_range r) (names_in_ranges rs) same) (and_second (range_has_form g r) (have_form g rs) form))
 
 tuple_frame : (g h : Ground) (m : Option ModeTree) (rs : RangeNodes) (at : Pos) → SameKnownEach g h (names_in_ranges rs) → have_form g rs ≡ true → told_tuple g m rs at ≡ told_tuple h m rs at
 tuple_frame g h m rs at same form =
@@ -227,28 +227,28 @@ mutual
       let mode = tuple_mode_frame g h n m (first_known g h (some_name n) (names_in_ranges rs) same) in
       let form = ranges_form_frame g h rs parts in
       of_two then_told
-        (of_two (λ f m. told_in_ranges g (standing_of_parts s n f) (shape_fits rs) 0 m rs) form mode ∙ told_ranges_frame g h (standing_of_parts s n (have_form h rs)) (shape_fits rs) 0 (tuple_mode h n m) rs parts)
-        (ap (λ m. told_if_constant (is_judged s n (have_form g rs)) (told_tuple g m rs b)) mode ∙ guarded (is_judged s n (have_form g rs)) (ap (is_judged s n) form) (λ is. tuple_frame g h (tuple_mode h n m) rs b parts (judged_form s n (have_form g rs) is)))
+      (of_two (λ f m. told_in_ranges g (standing_of_parts s n f) (shape_fits rs) 0 m rs) form mode ∙ told_ranges_frame g h (standing_of_parts s n (have_form h rs)) (shape_fits rs) 0 (tuple_mode h n m) rs parts)
+      (ap (λ m. told_if_constant (is_judged s n (have_form g rs)) (told_tuple g m rs b)) mode ∙ guarded (is_judged s n (have_form g rs)) (ap (is_judged s n) form) (λ is. tuple_frame g h (tuple_mode h n m) rs b parts (judged_form s n (have_form g rs) is)))
   told_constant_frame g h s m (uniform at n b e) same =
       let part = later_known g h (some_name n) (names_in e) same in
       let mode = tuple_mode_frame g h n m (first_known g h (some_name n) (names_in e) same) in
       let form = form_frame g h true e part in
       of_two then_told
-        (of_two (λ f m. told_as g (standing_of_parts s n f) (mode_of_part uniform_fits 0 m) e) form mode ∙ told_constant_frame g h (standing_of_parts s n (has_form h true e)) (mode_of_part uniform_fits 0 (tuple_mode h n m)) e part)
-        (ap (λ m. told_if_constant (is_judged s n (has_form g true e)) (told_uniform g m e b)) mode ∙ guarded (is_judged s n (has_form g true e)) (ap (is_judged s n) form) (λ is. uniform_frame g h (tuple_mode h n m) e b part (judged_form s n (has_form g true e) is)))
+      (of_two (λ f m. told_as g (standing_of_parts s n f) (mode_of_part uniform_fits 0 m) e) form mode ∙ told_constant_frame g h (standing_of_parts s n (has_form h true e)) (mode_of_part uniform_fits 0 (tuple_mode h n m)) e part)
+      (ap (λ m. told_if_constant (is_judged s n (has_form g true e)) (told_uniform g m e b)) mode ∙ guarded (is_judged s n (has_form g true e)) (ap (is_judged s n) form) (λ is. uniform_frame g h (tuple_mode h n m) e b part (judged_form s n (has_form g true e) is)))
   told_constant_frame g h s m (name n) same = refl
   told_constant_frame g h s m (apply at e es) same =
       let base = first_known g h (names_in e) (names_in_each es) same in
       let args = later_known g h (names_in e) (names_in_each es) same in
       of_three (λ a b c. a ++ then_told b c) (told_constant_frame g h by_itself None e base) (told_each_frame g h es args)
-        (ap (λ c. when_routine (value_routine c) (λ p. told_if_constant (are_arguments g (is_measuring p) es) (told_call g (place_of e) p es))) (callee_frame g h e base) ∙ routine_frame g h (place_of e) (value_routine (callee_of h e)) es args)
+      (ap (λ c. when_routine (value_routine c) (λ p. told_if_constant (are_arguments g (is_measuring p) es) (told_call g (place_of e) p es))) (callee_frame g h e base) ∙ routine_frame g h (place_of e) (value_routine (callee_of h e)) es args)
   told_constant_frame g h s m (field at e n) same = told_constant_frame g h by_itself None e same
   told_constant_frame g h s m (prefixed at o e) same = before_frame g h at o e same (told_constant_frame g h by_itself None e same)
   told_constant_frame g h s m (binary at l o p k) same =
       let left = first_known g h (names_in l) (names_in k) same in
       let right = later_known g h (names_in l) (names_in k) same in
       of_two then_told (of_two (λ a b. a ++ b) (told_constant_frame g h by_itself None l left) (told_constant_frame g h by_itself None k right))
-        (guarded (has_form g false l && has_form g false k) (of_two (λ a b. a && b) (form_frame g h false l left) (form_frame g h false k right)) (binary_frame g h p o l k left right))
+      (guarded (has_form g false l && has_form g false k) (of_two (λ a b. a && b) (form_frame g h false l left) (form_frame g h false k right)) (binary_frame g h p o l k left right))
 
   told_each_frame : (g h : Ground) (es : ExprNodes) → SameKnownEach g h (names_in_each es) → told_in_each g es ≡ told_in_each h es
   told_each_frame g h no_exprs same = refl
@@ -259,7 +259,7 @@ mutual
   told_ranges_frame g h s fits k m no_ranges same = refl
   told_ranges_frame g h s fits k m (more_ranges r rs) same =
       of_two (λ a b. a ++ b) (told_range_frame g h s (mode_of_part fits k m) r (first_known g h (names_in_range r) (names_in_ranges rs) same))
-        (told_ranges_frame g h s fits (suc k) m rs (later_known g h (names_in_range r) (names_in_ranges rs) same))
+      (told_ranges_frame g h s fits (suc k) m rs (later_known g h (names_in_range r) (names_in_ranges rs) same))
 
   told_range_frame : (g h : Ground) (s : Standing) (m : Option ModeTree) (r : RangeTree) → SameKnownEach g h (names_in_range r) → told_in_range g s m r ≡ told_in_range h s m r
   told_range_frame g h s m (alone e) same = told_constant_frame g h s m e same

@@ -1,24 +1,24 @@
 -- What is known of a definition depends on the ground only by the names in it.
-use Rattle.std.proofs.Common.{◌≡◌, ℕ, suc, Bool, true, false, List, [], ◌∷◌, ◌++◌, Option, Some, None, refl, sym, ap, ◌∙◌}
-use Rattle.std.specs.Prelude.{option_map, option_and_then, ◌&&◌, ◌||◌, is_some, not, map, flat_map, length, pos}
+use Rattle.std.proofs.Common.{◌≡◌, ℕ, suc, Bool, true, false, List, [], ◌∷◌, Option, Some, None, refl, ap, ◌∙◌}
+use Rattle.std.specs.Prelude.{option_map, option_and_then, ◌||◌, is_some, not, map, flat_map, length, pos}
 use Rattle.checks_model.specs.ValueTrees.{number}
 use Rattle.chill_tree.specs.declared.tree.name.Name.{Name}
 use Rattle.chill_tree.specs.ExprTree.{ExprTree, RangeTree, RangeNodes, whole, character, text, this_instance, paren, receive, start, tuple, uniform, name, apply, field, prefixed, binary, alone, between, no_ranges, more_ranges, place_of}
 use Rattle.chill_tree.specs.ModeTree as written
 use Rattle.chill_tree.specs.LocalTree.{SynonymTree}
-use Rattle.modes.specs.ModeTree.{ModeTree, ClassTree, value, derived, set_of}
+use Rattle.modes.specs.ModeTree.{ModeTree, value, derived, set_of}
 use Rattle.modes.specs.Form.{FormTree, form_of}
 use Rattle.diagnostics.specs.declared.rule.Rule.TheVariants as rules
 use Rattle.checks_model.specs.Told.{tell_at, is_none_told, told_if, then_told, holds_of}
-use Rattle.checks_model.specs.Ground.{Ground, Origin, Entry, message_of, message_parts, a_synonym, a_mode, an_element, a_location, a_parameter, a_counter, a_received, a_procedure, a_process, a_signal, a_modulion, a_predefined, number_at}
+use Rattle.checks_model.specs.Ground.{Ground, message_of, a_synonym, a_mode, an_element, a_location, a_parameter, a_counter, a_received, a_procedure, a_process, a_signal, a_modulion, a_predefined, number_at}
 use Rattle.checks_model.specs.Classes.{class_of, shape_fits, uniform_fits, mode_of_part}
 use Rattle.diagnostics.specs.declared.diagnostic.Diagnostic.{Diagnostic}
-use Rattle.checks_model.specs.Constants.{has_form, have_form, range_has_form, constant_as, constant_of}
+use Rattle.checks_model.specs.Constants.{has_form, have_form, range_has_form}
 use Rattle.checks_model.specs.ConstantRules.{told_as, standing_with, class_misfits, value_misfits, misfits_as, some_misfits, one_misfits, told_of_value, told_of_synonym_value}
 use Rattle.checks_model.specs.WrittenModes.{unless_told, mode_of, some_mode_of}
-use Rattle.checks_model.specs.Table.{under_name, of_mode_alone, of_constant, told_of_synonym, value_within, synonym_entry, received_mode, named_set, set_mode, parts_of_signal, entry_by}
-use Rattle.table_laws.specs.Names.{names_in, names_in_range, names_in_ranges, some_name, names_in_mode, names_in_some_mode, names_in_modes, names_needed}
-use Rattle.table_laws.specs.Frames.{SameAt, SameKnownEach, SameNeeded, EntryFrame}
+use Rattle.checks_model.specs.Table.{under_name, of_mode_alone, of_constant, told_of_synonym, value_within, synonym_entry, received_mode, named_set, set_mode, parts_of_signal}
+use Rattle.table_laws.specs.Names.{names_in, names_in_range, names_in_ranges, names_in_mode, names_in_some_mode, names_in_modes}
+use Rattle.table_laws.specs.Frames.{SameKnownEach, EntryFrame}
 use Rattle.table_laws.proofs.KnownFrames.{first_known, later_known, of_two, of_three, form_frame, formed_class, and_first, and_second}
 use Rattle.table_laws.proofs.ConstantFrames.{constant_frame, told_constant_frame, class_misfits_frame, value_misfits_frame, then_guarded, none_formed, none_told_first}
 use Rattle.table_laws.proofs.ModeFrames.{mode_frame}
@@ -54,13 +54,13 @@ mutual
   some_misfits_frame g h fits k m no_ranges same form = refl
   some_misfits_frame g h fits k m (more_ranges r rs) same form =
       of_two (λ a b. a || b) (one_misfits_frame g h (mode_of_part fits k m) r (first_known g h (names_in_range r) (names_in_ranges rs) same) (and_first (range_has_form g r) (have_form g rs) form))
-        (some_misfits_frame g h fits (suc k) m rs (later_known g h (names_in_range r) (names_in_ranges rs) same) (and_second (range_has_form g r) (have_form g rs) form))
+      (some_misfits_frame g h fits (suc k) m rs (later_known g h (names_in_range r) (names_in_ranges rs) same) (and_second (range_has_form g r) (have_form g rs) form))
 
   one_misfits_frame : (g h : Ground) (m : Option ModeTree) (r : RangeTree) → SameKnownEach g h (names_in_range r) → range_has_form g r ≡ true → one_misfits g m r ≡ one_misfits h m r
   one_misfits_frame g h m (alone e) same form = misfits_frame g h true m e same form
   one_misfits_frame g h m (between l k) same form =
       of_two (λ a b. a || b) (misfits_frame g h true m l (first_known g h (names_in l) (names_in k) same) (and_first (has_form g true l) (has_form g true k) form))
-        (misfits_frame g h true m k (later_known g h (names_in l) (names_in k) same) (and_second (has_form g true l) (has_form g true k) form))
+      (misfits_frame g h true m k (later_known g h (names_in l) (names_in k) same) (and_second (has_form g true l) (has_form g true k) form))
 
 -- ---- synonyms
 
@@ -75,7 +75,7 @@ told_value_frame g h has_mode m e same =
 told_synonym_value_frame : (g h : Ground) (has_mode : Bool) (m : Option ModeTree) (e : ExprTree) → SameKnownEach g h (names_in e) → told_of_synonym_value g has_mode m e ≡ told_of_synonym_value h has_mode m e
 told_synonym_value_frame g h has_mode m e same =
     then_guarded (told_of_value g has_mode m e) (told_value_frame g h has_mode m e same)
-      (λ none. ap (λ b. told_if b (tell_at rules.M12 (place_of e))) (misfits_frame g h has_mode m e same (none_formed (told_as g (standing_with has_mode) m e) (has_form g has_mode e) (tell_at rules.M1 (place_of e)) none)))
+    (λ none. ap (λ b. told_if b (tell_at rules.M12 (place_of e))) (misfits_frame g h has_mode m e same (none_formed (told_as g (standing_with has_mode) m e) (has_form g has_mode e) (tell_at rules.M1 (place_of e)) none)))
 
 pub told_synonym_frame : (g h : Ground) (s : SynonymTree) → g.defined ≡ h.defined → SameKnownEach g h (names_in_some_mode s.mode) → SameKnownEach g h (names_in s.value) → told_of_synonym g s ≡ told_of_synonym h s
 told_synonym_frame g h s defined in_mode in_value =
@@ -103,12 +103,12 @@ synonym_frame g h s None defined told in_mode in_value =
     class : is_none_told (told_of_synonym g s) ≡ true → class_of g s.value ≡ class_of h s.value
     class none =
         formed_class g h None (is_some s.mode) s.value in_value
-          (none_formed (told_as g (standing_with (is_some s.mode)) (some_mode_of g s.mode) s.value) (has_form g (is_some s.mode) s.value) (tell_at rules.M1 (place_of s.value))
-            (none_told_first (told_of_value g (is_some s.mode) (some_mode_of g s.mode) s.value) (told_if (misfits_as g (some_mode_of g s.mode) s.value) (tell_at rules.M12 (place_of s.value))) none))
+        (none_formed (told_as g (standing_with (is_some s.mode)) (some_mode_of g s.mode) s.value) (has_form g (is_some s.mode) s.value) (tell_at rules.M1 (place_of s.value))
+        (none_told_first (told_of_value g (is_some s.mode) (some_mode_of g s.mode) s.value) (told_if (misfits_as g (some_mode_of g s.mode) s.value) (tell_at rules.M12 (place_of s.value))) none))
 synonym_frame g h s (Some m) defined told in_mode in_value =
     let mode = mode_frame g h false m defined in_mode in
     of_three (λ t m v. record { mode = m; class = option_map value m; value = unless_told t v; parts = [] }) told mode
-      (ap (λ m. value_within g m s.value) mode ∙ within_frame g h (mode_of h false m) s.value in_value)
+    (ap (λ m. value_within g m s.value) mode ∙ within_frame g h (mode_of h false m) s.value in_value)
 
 -- ---- elements and signals
 

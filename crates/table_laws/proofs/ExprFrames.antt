@@ -1,15 +1,15 @@
 -- The class of an expression depends on the ground only by the names in the expression.
-use Rattle.std.proofs.Common.{◌≡◌, ℕ, List, [], ◌∷◌, ◌++◌, Option, Some, None, refl, sym, ap, ◌∙◌}
+use Rattle.std.proofs.Common.{◌≡◌, List, [], ◌∷◌, ◌++◌, Option, None, refl, ap, ◌∙◌}
 use Rattle.std.specs.Prelude.{option_map, option_and_then}
 use Rattle.chill_tree.specs.declared.tree.name.Name.{Name}
 use Rattle.chill_tree.specs.ExprTree.{ExprTree, ExprNodes, whole, character, text, this_instance, paren, receive, start, tuple, uniform, name, apply, field, prefixed, binary, no_exprs, more_exprs}
-use Rattle.modes.specs.ModeTree.{ModeTree, ClassTree, value}
-use Rattle.checks_model.specs.Ground.{Ground, Origin, Entry, origin_of, entry_of, number_at, mode_of_entry, mode_of_name, named_mode, element_of}
-use Rattle.checks_model.specs.Operations.{class_of_binary, class_of_unary, part_of_class, field_of_form, element_of_form}
-use Rattle.checks_model.specs.Classes.{class_as, class_of_first, class_behind, result_class, class_of_origin, class_of_name, Callee, no_callee, callee_of, callee_by, Measured, measured, measured_name, measured_first, measured_part, located, located_name, tuple_mode, value_if, shape_fits, uniform_fits, both_classes}
+use Rattle.modes.specs.ModeTree.{ClassTree, value}
+use Rattle.checks_model.specs.Ground.{Ground, mode_of_entry, element_of}
+use Rattle.checks_model.specs.Operations.{class_of_binary, class_of_unary, part_of_class, field_of_form}
+use Rattle.checks_model.specs.Classes.{class_of_first, class_behind, result_class, class_of_origin, class_of_name, Callee, Measured, value_if, shape_fits, uniform_fits, both_classes}
 use Rattle.table_laws.specs.Names.{names_in, names_in_each, names_in_ranges, some_name}
 use Rattle.table_laws.specs.Frames.{SameAt, SameAtEach, ClassFrame}
-use Rattle.table_laws.proofs.KnownFrames.{known_each, of_two, of_three, of_four, tuple_mode_frame, callee_frame, measured_first_frame}
+use Rattle.table_laws.proofs.KnownFrames.{known_each, of_two, of_four, tuple_mode_frame, callee_frame, measured_first_frame}
 
 pub first_of_each : (g h : Ground) (ms ns : List Name) → SameAtEach g h (ms ++ ns) → SameAtEach g h ms
 first_of_each g h [] ns same = tt

@@ -1,7 +1,7 @@
 -- What constants and modes look up depends on the ground only by the names in them, and of these only by what is known of
 -- synonyms and elements, of modes, and of what can be measured.
-use Rattle.std.proofs.Common.{◌≡◌, ℕ, suc, Bool, true, false, List, [], ◌∷◌, ◌++◌, Option, Some, None, true≢false, subst, ◌⊎◌, inl, inr, refl, sym, ap, ◌∙◌}
-use Rattle.std.specs.Prelude.{option_map, option_and_then, if◌then◌else◌, ◌&&◌, ◌||◌, is_some}
+use Rattle.std.proofs.Common.{◌≡◌, ℕ, Bool, true, false, List, [], ◌∷◌, ◌++◌, Option, Some, None, true≢false, subst, ◌⊎◌, inl, inr, refl, sym, ap, ◌∙◌}
+use Rattle.std.specs.Prelude.{option_and_then, if◌then◌else◌, ◌&&◌, ◌||◌, is_some}
 use Rattle.chill_tree.specs.declared.tree.name.Name.{Name}
 use Rattle.chill_tree.specs.declared.tree.expr.Prefix.{Prefix}
 use Rattle.chill_tree.specs.declared.tree.expr.Prefix.TheVariants as prefixes
@@ -10,7 +10,7 @@ use Rattle.modes.specs.ModeTree.{ModeTree, ClassTree}
 use Rattle.checks_model.specs.Told.{holds_of}
 use Rattle.checks_model.specs.Ground.{Ground, Origin, Entry, Predefined, of_mode, truth, no_instance, num, succ, pred, abs, card, min, max, upper, lower, size, put_int, put_text, put_nl, get_int, a_synonym, a_mode, an_element, a_location, a_parameter, a_counter, a_received, a_procedure, a_process, a_signal, a_modulion, a_predefined, origin_of, entry_of, number_at, mode_of_name, named_mode}
 use Rattle.checks_model.specs.Operations.{class_of_binary, class_of_unary, class_of_routine, field_of_form, element_of_form, is_measuring}
-use Rattle.checks_model.specs.Classes.{class_as, class_of, class_of_first, class_behind, class_of_call, class_of_measured, result_class, class_of_origin, both_classes, Callee, calls, routine, no_callee, callee_of, callee_by, Measured, a_mode_of, misfit, other, measured, measured_name, measured_first, measured_part, located, located_name, tuple_mode, value_if, shape_fits, uniform_fits}
+use Rattle.checks_model.specs.Classes.{class_as, class_of, class_of_first, class_behind, class_of_call, class_of_measured, result_class, class_of_origin, both_classes, Callee, calls, routine, no_callee, callee_of, callee_by, Measured, measured, measured_name, measured_first, measured_part, located, located_name, tuple_mode, value_if, shape_fits, uniform_fits}
 use Rattle.checks_model.specs.Constants.{has_form, have_form, range_has_form, are_arguments, is_constant_origin, is_measured, is_value_routine, value_routine, value_of_name, applied, value_of_measured, value_of_call, literal_in, negated, value_before, constant_as, value_of_first}
 use Rattle.checks_model.specs.ValueTrees.{ValueTree}
 use Rattle.checks_model.specs.OperatorValues.{value_of_binary, value_of_unary, value_of_routine}
@@ -274,7 +274,6 @@ pub measured_first_frame : (g h : Ground) (es : ExprNodes) → SameKnownEach g h
 measured_first_frame g h no_exprs same = refl
 measured_first_frame g h (more_exprs e es) same = measured_frame g h e (first_known g h (names_in e) (names_in_each es) same)
 
-
 -- ---- the form of a constant
 
 routine_form : (g h : Ground) (p : Option Predefined) (es : ExprNodes) → ((measures : Bool) → are_arguments g measures es ≡ are_arguments h measures es)
@@ -389,14 +388,14 @@ mutual
       let base = first_known g h (names_in e) (names_in_each es) same in
       let args = later_known g h (names_in e) (names_in_each es) same in
       behind_known (callee_of g e) (result_class g e) (result_class h e) (class_as g None e) (class_as h None e) (class_of_first g es) (class_of_first h es) (measured_first_frame g h es args)
-        (asked_of (callee_of g e) (arguments_asked g (callee_of g e) es is) (λ p formed measures. first_formed g h es args (subst (λ m. are_arguments g m es ≡ true) measures formed)))
+      (asked_of (callee_of g e) (arguments_asked g (callee_of g e) es is) (λ p formed measures. first_formed g h es args (subst (λ m. are_arguments g m es ≡ true) measures formed)))
       ∙ ap (λ c. class_behind c (result_class h e) (class_as h None e) (measured_first h es) (class_of_first h es)) (callee_frame g h e base)
   formed_class g h r b (field at e n) same is = absurd (true≢false (sym is))
   formed_class g h r b (prefixed at o e) same is = ap (option_and_then (class_of_unary o)) (formed_class g h None false e same is)
   formed_class g h r b (binary at l o p k) same is =
       of_two (both_classes (class_of_binary o))
-        (formed_class g h None false l (first_known g h (names_in l) (names_in k) same) (and_first (has_form g false l) (has_form g false k) is))
-        (formed_class g h None false k (later_known g h (names_in l) (names_in k) same) (and_second (has_form g false l) (has_form g false k) is))
+      (formed_class g h None false l (first_known g h (names_in l) (names_in k) same) (and_first (has_form g false l) (has_form g false k) is))
+      (formed_class g h None false k (later_known g h (names_in l) (names_in k) same) (and_second (has_form g false l) (has_form g false k) is))
 
   pub first_formed : (g h : Ground) (es : ExprNodes) → SameKnownEach g h (names_in_each es) → are_arguments g false es ≡ true → class_of_first g es ≡ class_of_first h es
   first_formed g h no_exprs same is = refl
@@ -500,7 +499,7 @@ mutual
   valued_class g h r q (apply at e es) same is =
       let args = later_known g h (names_in e) (names_in_each es) same in
       behind_known (callee_of g e) (result_class g e) (result_class h e) (class_as g None e) (class_as h None e) (class_of_first g es) (class_of_first h es) (measured_first_frame g h es args)
-        (asked_of (callee_of g e) (call_asked (callee_of g e) (measured_first g es) (class_of_first g es) (value_of_first g es) is) (λ p valued measures. first_valued g h es args (valued measures)))
+      (asked_of (callee_of g e) (call_asked (callee_of g e) (measured_first g es) (class_of_first g es) (value_of_first g es) is) (λ p valued measures. first_valued g h es args (valued measures)))
       ∙ ap (λ c. class_behind c (result_class h e) (class_as h None e) (measured_first h es) (class_of_first h es)) (callee_frame g h e (first_known g h (names_in e) (names_in_each es) same))
   valued_class g h r q (field at e n) same is = absurd (true≢false (sym is))
   valued_class g h r q (prefixed at o e) same is = elim (literal_or_not e) [
@@ -509,8 +508,8 @@ mutual
   ]
   valued_class g h r q (binary at l o p k) same is =
       of_two (both_classes (class_of_binary o))
-        (valued_class g h None None l (first_known g h (names_in l) (names_in k) same) (left_valued (λ c w v. value_of_binary o c v w) (constant_as g None l) (class_of g k) (constant_as g None k) is))
-        (valued_class g h None None k (later_known g h (names_in l) (names_in k) same) (applied_valued (λ c w. option_and_then (λ v. value_of_binary o c v w) (constant_as g None l)) (class_of g k) (constant_as g None k) is))
+      (valued_class g h None None l (first_known g h (names_in l) (names_in k) same) (left_valued (λ c w v. value_of_binary o c v w) (constant_as g None l) (class_of g k) (constant_as g None k) is))
+      (valued_class g h None None k (later_known g h (names_in l) (names_in k) same) (applied_valued (λ c w. option_and_then (λ v. value_of_binary o c v w) (constant_as g None l)) (class_of g k) (constant_as g None k) is))
 
   pub first_valued : (g h : Ground) (es : ExprNodes) → SameKnownEach g h (names_in_each es) → is_some (value_of_first g es) ≡ true → class_of_first g es ≡ class_of_first h es
   first_valued g h no_exprs same is = refl

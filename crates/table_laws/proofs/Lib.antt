@@ -5,4 +5,3 @@ pub mod ModeFrames
 pub mod EntryFrames
 pub mod ToldFrames
 pub mod OneTable
-pub mod Bits

@@ -1,30 +1,26 @@
 -- The mode that is written, and what is told of it, depend on the ground only by the names in the mode.
-use Rattle.std.proofs.Common.{◌≡◌, ℕ, suc, Bool, true, false, List, [], ◌∷◌, ◌++◌, Option, Some, None, refl, sym, ap, ◌∙◌, ℤ}
-use Rattle.std.specs.Prelude.{option_map, option_and_then, ◌&&◌, ◌||◌, is_some, not, if◌then◌else◌, map, flat_map, length, pos}
-use Rattle.std.specs.List.{list_any}
+use Rattle.std.proofs.Common.{◌≡◌, ℕ, Bool, true, false, List, [], ◌∷◌, ◌++◌, Option, Some, None, refl, ap, ◌∙◌}
+use Rattle.std.specs.Prelude.{option_map, option_and_then, ◌&&◌, ◌||◌, is_some, not, if◌then◌else◌, map, length}
 use Rattle.chill_base.specs.declared.pos.Pos.{Pos}
 use Rattle.chill_tree.specs.declared.tree.name.Name.{Name}
 use Rattle.chill_tree.specs.declared.tree.mode.Packing.{Packing}
 use Rattle.chill_tree.specs.declared.tree.mode.Packing.TheVariants as packings
 use Rattle.chill_tree.specs.ExprTree.{ExprTree, place_of}
 use Rattle.chill_tree.specs.ModeTree as written
-use Rattle.modes.specs.ModeTree.{ModeTree, ClassTree, int, set_of, powerset, chars, buffer, event, read, PlaceTree, SpreadTree, words, packed}
-use Rattle.modes.specs.Form.{form_of}
+use Rattle.modes.specs.ModeTree.{ModeTree, int, set_of, powerset, chars, event, read}
 use Rattle.modes.specs.Bounds.{bounds_of, natural_of}
-use Rattle.diagnostics.specs.declared.diagnostic.Diagnostic.{Diagnostic}
 use Rattle.diagnostics.specs.declared.rule.Rule.TheVariants as rules
 use Rattle.std.specs.Prelude.{codes}
 use Rattle.layout_map.specs.Place.{is_possible}
 use Rattle.names_model.specs.NameRules.{tell}
 use Rattle.checks_model.specs.Alike.{goes_with, is_meeting, of_form}
-use Rattle.checks_model.specs.ValueTrees.{ValueTree}
 use Rattle.checks_model.specs.Told.{tell_at, told_if, is_none_told, then_told, holds_of, holds_of_both}
-use Rattle.checks_model.specs.Ground.{Ground, number_at, mode_of_name}
+use Rattle.checks_model.specs.Ground.{Ground, number_at}
 use Rattle.checks_model.specs.Classes.{class_of}
-use Rattle.checks_model.specs.Constants.{has_form, constant_of}
+use Rattle.checks_model.specs.Constants.{has_form}
 use Rattle.checks_model.specs.ConstantRules.{by_itself, told_of_constants, told_needed, is_outside}
-use Rattle.checks_model.specs.WrittenModes.{unless_told, number_in, needed_number, is_no_int, from_to, told_length, told_some_length, length_of, some_length_of, bound_misfits, told_bound, is_above, told_bounds, told_range, range_from, range_of, is_meeting_name, told_name, named_mode_in, told_not_discrete, told_discrete_name, discrete_name, told_of_discrete, set_named, mode_of_discrete, first_place_of, is_large_powerset, told_of_powerset, has_index_values, told_of_index, mode_of_index, place_from, numbers_of_place, holds_of_three, is_impossible_spread, has_no_int, place_there, told_in_place, numbers_of_step, step_from, spread_there, step_misfits, told_spread, told_in_spread, told_large, array_from, told_at_array, FieldThere, place_has_no_int, is_misplaced, told_field, told_fields, have_places, has_place, is_twice, told_overlap, structure_from, told_at_structure, fields_named, told_in_some_place, mode_of_base, fields_there, told_of_base, told_in_fields, buffer_from, if_whole, mode_of, told_unless_whole, told_of_mode, told_of_some_mode, some_mode_of}
-use Rattle.table_laws.specs.Names.{names_in, names_in_some, names_in_discrete, names_in_index, names_in_place, names_in_some_place, names_in_spread, names_in_base, names_in_fields, names_in_mode, names_in_some_mode}
+use Rattle.checks_model.specs.WrittenModes.{unless_told, number_in, needed_number, is_no_int, from_to, told_length, told_some_length, length_of, some_length_of, bound_misfits, told_bound, is_above, told_range, range_from, range_of, told_name, named_mode_in, told_not_discrete, told_discrete_name, discrete_name, told_of_discrete, set_named, mode_of_discrete, first_place_of, is_large_powerset, told_of_powerset, has_index_values, told_of_index, mode_of_index, place_from, numbers_of_place, holds_of_three, is_impossible_spread, has_no_int, place_there, told_in_place, numbers_of_step, step_from, spread_there, step_misfits, told_in_spread, told_large, array_from, told_at_array, FieldThere, place_has_no_int, told_field, told_fields, have_places, has_place, is_twice, told_overlap, structure_from, told_at_structure, fields_named, told_in_some_place, mode_of_base, fields_there, told_of_base, told_in_fields, buffer_from, if_whole, told_unless_whole}
+use Rattle.table_laws.specs.Names.{names_in, names_in_some, names_in_discrete, names_in_index, names_in_place, names_in_some_place, names_in_spread, names_in_base, names_in_fields}
 use Rattle.table_laws.specs.Frames.{SameKnown, SameKnownEach, ModeFrame, ToldModeFrame}
 use Rattle.table_laws.proofs.KnownFrames.{first_known, later_known, of_two, of_three, of_four, mode_of_name_known, form_frame, formed_class}
 use Rattle.table_laws.proofs.ConstantFrames.{constant_frame, told_constant_frame, then_guarded, none_formed}
@@ -51,7 +47,7 @@ no_int_frame g h e same = by (is_none_told (told_needed g e)) (needed_class g h 
 told_length_frame : (g h : Ground) (low high : ℕ) (e : ExprTree) → SameKnownEach g h (names_in e) → told_length g low high e ≡ told_length h low high e
 told_length_frame g h low high e same =
     then_guarded (told_needed g e) (needed_frame g h e same)
-      (λ none. of_two (λ c v. told_if (holds_of (λ c. not (goes_with c int)) c || holds_of (is_outside (from_to low high)) v) (tell_at rules.M6 (place_of e))) (needed_class g h e same none) (constant_frame g h None e same))
+    (λ none. of_two (λ c v. told_if (holds_of (λ c. not (goes_with c int)) c || holds_of (is_outside (from_to low high)) v) (tell_at rules.M6 (place_of e))) (needed_class g h e same none) (constant_frame g h None e same))
 
 length_frame : (g h : Ground) (low high : ℕ) (e : ExprTree) → SameKnownEach g h (names_in e) → length_of g low high e ≡ length_of h low high e
 length_frame g h low high e same = of_two (λ t n. unless_told t (option_map natural_of n)) (told_length_frame g h low high e same) (number_frame g h e same)
@@ -130,7 +126,7 @@ index_frame : (g h : Ground) (i : written.IndexTree) → SameKnownEach g h (name
 index_frame g h (written.index_named n) same = of_two unless_told (told_index_frame g h (written.index_named n) same) (mode_of_name_known g h n same.0)
 index_frame g h (written.index_bounded l k) same =
     of_two unless_told (told_index_frame g h (written.index_bounded l k) same)
-      (range_frame g h (Some int) l k (first_known g h (names_in l) (names_in k) same) (later_known g h (names_in l) (names_in k) same))
+    (range_frame g h (Some int) l k (first_known g h (names_in l) (names_in k) same) (later_known g h (names_in l) (names_in k) same))
 
 -- ---- places
 
@@ -182,7 +178,7 @@ step_no_int_frame : (g h : Ground) (s : written.StepTree) → SameKnownEach g h 
 step_no_int_frame g h s same =
     let each = in_place g h s.place (first_known g h (names_in_place s.place) (names_in s.distance) same) in
     of_four (λ a b c d. a || (b || (c || (d || false)))) (no_int_frame g h s.place.word each.word) (no_int_frame g h s.place.start each.start) (no_int_frame g h s.place.bound each.bound)
-      (no_int_frame g h s.distance (later_known g h (names_in_place s.place) (names_in s.distance) same))
+    (no_int_frame g h s.distance (later_known g h (names_in_place s.place) (names_in s.distance) same))
 
 spread_frame : (g h : Ground) (s : Option written.SpreadTree) → SameKnownEach g h (names_in_spread s) → spread_there g s ≡ spread_there h s
 spread_frame g h None same = refl
@@ -190,7 +186,7 @@ spread_frame g h (Some (written.by_packing packings.NoPack)) same = refl
 spread_frame g h (Some (written.by_packing packings.Pack)) same = refl
 spread_frame g h (Some (written.by_step s)) same =
     of_three (λ bad p d. if bad then None else step_from p d) (step_no_int_frame g h s same)
-      (place_frame g h s.place (first_known g h (names_in_place s.place) (names_in s.distance) same)) (number_frame g h s.distance (later_known g h (names_in_place s.place) (names_in s.distance) same))
+    (place_frame g h s.place (first_known g h (names_in_place s.place) (names_in s.distance) same)) (number_frame g h s.distance (later_known g h (names_in_place s.place) (names_in s.distance) same))
 
 step_misfits_frame : (g h : Ground) (s : Option written.SpreadTree) → SameKnownEach g h (names_in_spread s) → step_misfits g s ≡ step_misfits h s
 step_misfits_frame g h None same = refl
@@ -203,12 +199,12 @@ told_in_spread_frame g h (Some (written.by_packing p)) same = refl
 told_in_spread_frame g h (Some (written.by_step s)) same =
     let each = in_place g h s.place (first_known g h (names_in_place s.place) (names_in s.distance) same) in
     of_four (λ a b c d. a ++ (b ++ (c ++ (d ++ [])))) (needed_frame g h s.place.word each.word) (needed_frame g h s.place.start each.start) (needed_frame g h s.place.bound each.bound)
-      (needed_frame g h s.distance (later_known g h (names_in_place s.place) (names_in s.distance) same))
+    (needed_frame g h s.distance (later_known g h (names_in_place s.place) (names_in s.distance) same))
 
 array_frame : (g h : Ground) (at : Pos) {i j e f : Option ModeTree} (s : Option written.SpreadTree) → i ≡ j → e ≡ f → SameKnownEach g h (names_in_spread s) → told_at_array g at i e s ≡ told_at_array h at j f s
 array_frame g h at s index element same =
     of_four (λ i e b how. then_told (told_if (b || holds_of_three is_impossible_spread i e how) (tell at rules.M14 (codes "element"))) (told_large (array_from i e how) at))
-      index element (step_misfits_frame g h s same) (spread_frame g h s same)
+    index element (step_misfits_frame g h s same) (spread_frame g h s same)
 
 -- ---- fields
 
@@ -258,17 +254,17 @@ mutual
   fields_frame g h (written.more_fields ns b p fs) defined same =
       let first = first_known g h (names_in_base b ++ names_in_some_place p) (names_in_fields fs) same in
       of_three (λ m at rest. map (λ n. record { name = n; mode = m; written = p; place = at }) ns ++ rest)
-        (base_frame g h false b defined (first_known g h (names_in_base b) (names_in_some_place p) first))
-        (some_place_frame g h p (later_known g h (names_in_base b) (names_in_some_place p) first))
-        (fields_frame g h fs defined (later_known g h (names_in_base b ++ names_in_some_place p) (names_in_fields fs) same))
+      (base_frame g h false b defined (first_known g h (names_in_base b) (names_in_some_place p) first))
+      (some_place_frame g h p (later_known g h (names_in_base b) (names_in_some_place p) first))
+      (fields_frame g h fs defined (later_known g h (names_in_base b ++ names_in_some_place p) (names_in_fields fs) same))
 
   fields_places : (g h k : Ground) (fs : written.FieldNodes) → SameKnownEach g h (names_in_fields fs) → SamePlaces g h (fields_there k fs)
   fields_places g h k written.no_fields same = tt
   fields_places g h k (written.more_fields ns b p fs) same =
       let first = first_known g h (names_in_base b ++ names_in_some_place p) (names_in_fields fs) same in
       places_append g h (fields_named k (mode_of_base k false b) p ns) (fields_there k fs)
-        (named_places g h k (mode_of_base k false b) p ns (some_place_no_int_frame g h p (later_known g h (names_in_base b) (names_in_some_place p) first)))
-        (fields_places g h k fs (later_known g h (names_in_base b ++ names_in_some_place p) (names_in_fields fs) same))
+      (named_places g h k (mode_of_base k false b) p ns (some_place_no_int_frame g h p (later_known g h (names_in_base b) (names_in_some_place p) first)))
+      (fields_places g h k fs (later_known g h (names_in_base b ++ names_in_some_place p) (names_in_fields fs) same))
 
 mutual
   told_base_frame : (g h : Ground) (whole : Bool) (b : written.BaseTree) → g.defined ≡ h.defined → SameKnownEach g h (names_in_base b) → told_of_base g whole b ≡ told_of_base h whole b
@@ -283,16 +279,16 @@ mutual
       let at_index = first_known g h (names_in_index i) (names_in_base b) first in
       let at_base = later_known g h (names_in_index i) (names_in_base b) first in
       of_four (λ a b c d. (a ++ b ++ c) ++ d) (told_index_frame g h i at_index) (told_base_frame g h false b defined at_base) (told_in_spread_frame g h s last)
-        (array_frame g h at s (index_frame g h i at_index) (base_frame g h false b defined at_base) last)
+      (array_frame g h at s (index_frame g h i at_index) (base_frame g h false b defined at_base) last)
 
   told_in_fields_frame : (g h : Ground) (fs : written.FieldNodes) → g.defined ≡ h.defined → SameKnownEach g h (names_in_fields fs) → told_in_fields g fs ≡ told_in_fields h fs
   told_in_fields_frame g h written.no_fields defined same = refl
   told_in_fields_frame g h (written.more_fields ns b p fs) defined same =
       let first = first_known g h (names_in_base b ++ names_in_some_place p) (names_in_fields fs) same in
       of_three (λ a b c. (a ++ b) ++ c)
-        (told_base_frame g h false b defined (first_known g h (names_in_base b) (names_in_some_place p) first))
-        (told_some_place_frame g h p (later_known g h (names_in_base b) (names_in_some_place p) first))
-        (told_in_fields_frame g h fs defined (later_known g h (names_in_base b ++ names_in_some_place p) (names_in_fields fs) same))
+      (told_base_frame g h false b defined (first_known g h (names_in_base b) (names_in_some_place p) first))
+      (told_some_place_frame g h p (later_known g h (names_in_base b) (names_in_some_place p) first))
+      (told_in_fields_frame g h fs defined (later_known g h (names_in_base b ++ names_in_some_place p) (names_in_fields fs) same))
 
 -- ---- modes
 
@@ -309,4 +305,4 @@ told_mode_frame g h whole (written.read_mode at b) defined same = told_base_fram
 told_mode_frame g h whole (written.event_mode at l) defined same = ap (λ t. told_unless_whole whole at ++ t) (told_some_length_frame g h 1 1000 l same)
 told_mode_frame g h whole (written.buffer_mode at l b) defined same =
     of_two (λ a b. told_unless_whole whole at ++ a ++ b) (told_some_length_frame g h 0 1000 l (first_known g h (names_in_some l) (names_in_base b) same))
-      (told_base_frame g h false b defined (later_known g h (names_in_some l) (names_in_base b) same))
+    (told_base_frame g h false b defined (later_known g h (names_in_some l) (names_in_base b) same))

@@ -1,17 +1,15 @@
 -- There is one table, and filling it in an order gives it.
-use Rattle.std.proofs.Common.{◌≡◌, ◌<◌, ◌≤◌, ℕ, zero, suc, List, [], ◌∷◌, Option, Some, None, length, refl, sym, ap, ◌∙◌, ◌⊎◌, inl, inr, subst, rules, arith, set, Contains, length-set}
+use Rattle.std.proofs.Common.{◌≡◌, ◌<◌, ℕ, zero, suc, List, [], ◌∷◌, Option, Some, None, length, refl, sym, ap, ◌∙◌, ◌⊎◌, inl, inr, subst, arith, set, Contains, length-set}
 use Rattle.std.specs.Prelude.{map, IfSome, slice_get, option_map, option_and_then}
 use Rattle.std.proofs.lemmas.Option.{slice_get-map, same_Some}
 use Rattle.std.proofs.lemmas.List.{length-map}
-use Rattle.std.proofs.lemmas.List.Elements.{Contains-append_cases, Contains-append_right}
 use Rattle.names_laws.proofs.Members.{none_in, here_in, later_in, in_cases}
-use Prim.{search}
 use Rattle.chill_tree.specs.declared.tree.name.Name.{Name}
 use Rattle.checks_model.specs.Ground.{Ground, Origin, Entry, a_synonym, a_mode, an_element, a_location, a_parameter, a_counter, a_received, a_procedure, a_process, a_signal, a_modulion, a_predefined, origin_of, entry_of, number_at}
 use Rattle.checks_model.specs.Table.{entry_by}
 use Rattle.table_laws.specs.Names.{names_needed}
-use Rattle.table_laws.specs.Frames.{SameAt, SameKnown, SameKnownEach, SameNeeded}
-use Rattle.table_laws.specs.OneTable.{IsEvaluated, SameText, AllDone, NeedsDone, NeedsEarlier, IsOrder, with_entries, entry_at, filled, EachOnce, OneTableLaw, FilledLaw}
+use Rattle.table_laws.specs.Frames.{SameKnownEach, SameNeeded}
+use Rattle.table_laws.specs.OneTable.{IsEvaluated, SameText, AllDone, NeedsDone, NeedsEarlier, with_entries, entry_at, filled, EachOnce, OneTableLaw, FilledLaw}
 use Rattle.table_laws.proofs.KnownFrames.{of_two}
 use Rattle.table_laws.proofs.EntryFrames.{entry_frame}
 
@@ -91,7 +89,7 @@ long_as_origins g evaluated = ap length evaluated ∙ length-map g.origins (entr
 pub one_table : OneTableLaw
 one_table g h order text order_of at_g at_h =
     same_lists g.entries h.entries (long_as_origins g at_g ∙ ap length text.origins ∙ sym (long_as_origins h at_h))
-      (λ k less. all_same g h [] order text at_g at_h (λ d c. absurd (none_in d c)) order_of.earlier k (order_of.all k (let long = long_as_origins g at_g in omega (arith, less, long))))
+    (λ k less. all_same g h [] order text at_g at_h (λ d c. absurd (none_in d c)) order_of.earlier k (order_of.all k (let long = long_as_origins g at_g in omega (arith, less, long))))
 
 -- ---- filling a table
 
@@ -203,10 +201,10 @@ all_filled g es done [] long earlier once kept = record { long = long; at_each =
     by_part d (inr there) = absurd (none_in d there)
 all_filled g es done (d ∷ order) long earlier once kept =
     whole_behind g (filled g (with_one g es d) order) done d order
-      (all_filled g (with_one g es d) (d ∷ done) order (length-set es d (entry_at (with_entries g es) (slice_get g.origins d)) ∙ long) earlier.1 once.1 (one_filled g es done d long once.0 earlier.0 kept))
+    (all_filled g (with_one g es d) (d ∷ done) order (length-set es d (entry_at (with_entries g es) (slice_get g.origins d)) ∙ long) earlier.1 once.1 (one_filled g es done d long once.0 earlier.0 kept))
 
 pub filling : FilledLaw
 filling g es order long order_of once =
     let whole = all_filled g es [] order long order_of.earlier once (λ d c. absurd (none_in d c)) in
     same_lists (filled g es order) (map (entry_by (with_entries g (filled g es order))) g.origins) (whole.long ∙ sym (length-map g.origins (entry_by (with_entries g (filled g es order)))))
-      (λ k less. whole.at_each k (inr (order_of.all k (let long = whole.long in omega (arith, less, long)))) ∙ sym (slice_get-map (entry_by (with_entries g (filled g es order))) g.origins k))
+    (λ k less. whole.at_each k (inr (order_of.all k (let long = whole.long in omega (arith, less, long)))) ∙ sym (slice_get-map (entry_by (with_entries g (filled g es order))) g.origins k))

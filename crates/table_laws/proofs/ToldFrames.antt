@@ -1,20 +1,19 @@
 -- What is told in an expression depends on the ground only by the names in it, and by the parameters of what these call.
-use Rattle.std.proofs.Common.{◌≡◌, ℕ, suc, Bool, true, false, List, [], ◌∷◌, ◌++◌, Option, Some, None, refl, sym, ap, ◌∙◌}
-use Rattle.std.specs.Prelude.{option_map, option_and_then, ◌==◌, ◌&&◌, is_some, not, if◌then◌else◌, map, flat_map, length, replicate}
+use Rattle.std.proofs.Common.{◌≡◌, ℕ, suc, Bool, true, false, List, [], ◌∷◌, ◌++◌, Option, Some, None, refl, ap, ◌∙◌}
+use Rattle.std.specs.Prelude.{◌==◌, ◌&&◌, is_some, not, if◌then◌else◌, map, flat_map, length}
 use Rattle.chill_base.specs.declared.pos.Pos.{Pos}
 use Rattle.chill_tree.specs.declared.tree.name.Name.{Name}
-use Rattle.chill_tree.specs.declared.tree.item.Passing.{Passing}
 use Rattle.chill_tree.specs.ExprTree.{ExprTree, ExprNodes, RangeTree, RangeNodes, whole, character, text, this_instance, paren, receive, start, tuple, uniform, name, apply, field, prefixed, binary, no_exprs, more_exprs, alone, between, no_ranges, more_ranges, place_of}
 use Rattle.chill_tree.specs.ItemTree.{ParamTree, FormalTree}
 use Rattle.modes.specs.ModeTree.{ModeTree, ClassTree}
-use Rattle.modes.specs.Form.{FormTree, form_of}
+use Rattle.modes.specs.Form.{FormTree}
 use Rattle.diagnostics.specs.declared.diagnostic.Diagnostic.{Diagnostic}
 use Rattle.diagnostics.specs.declared.rule.Rule.TheVariants as rules
 use Rattle.checks_model.specs.Told.{tell_at, told_if, then_told, holds_of, holds_of_both}
 use Rattle.checks_model.specs.Ground.{Ground, Origin, Predefined, a_synonym, a_mode, an_element, a_location, a_parameter, a_counter, a_received, a_procedure, a_process, a_signal, a_modulion, a_predefined, origin_of, entry_defined, mode_of_entry}
 use Rattle.checks_model.specs.Operations.{is_routine, field_of_form, element_of_form, is_measuring, gives_no_value, arguments_of, operands_misfit, operand_misfits, argument_misfits}
-use Rattle.checks_model.specs.Classes.{class_as, class_of, Callee, calls, routine, no_callee, callee_by, callee_of, measured_first, class_of_first, tuple_mode, shape_fits, uniform_fits, mode_of_part, count_exprs, measured_misfits}
-use Rattle.checks_model.specs.ValueRules.{Located, place_by_origin, place_part, path_of, whole_access, located, place, Receiver, nothing_asked, of_mode, passed_back, condition, selector, bound, set_of_members, received_mode, does_not_go, does_not_fit_parameter, is_not_boolean, is_not_discrete, is_no_powerset, is_too_large, told_received, call_misfits, told_number, passed, receivers_of_param, receivers_of_formal, receivers_by, receivers_of, each_receiver, head_or_none, rest_of, returns_none, shape_misfits, bare, own_told, value_told, index_receiver, index_mode, receivers_behind, clean_class, told_behind, told_in, told_in_args, told_inside_each, told_in_range, told_in_parts}
+use Rattle.checks_model.specs.Classes.{class_of, Callee, calls, routine, no_callee, callee_by, callee_of, tuple_mode, shape_fits, uniform_fits, mode_of_part, count_exprs, measured_misfits}
+use Rattle.checks_model.specs.ValueRules.{place_by_origin, place_part, path_of, whole_access, located, place, Receiver, nothing_asked, of_mode, passed_back, condition, selector, bound, set_of_members, received_mode, does_not_go, does_not_fit_parameter, is_not_boolean, is_not_discrete, is_no_powerset, is_too_large, told_received, call_misfits, told_number, passed, receivers_of_param, receivers_of_formal, receivers_by, receivers_of, each_receiver, head_or_none, rest_of, returns_none, shape_misfits, bare, own_told, value_told, index_receiver, index_mode, receivers_behind, clean_class, told_behind, told_in, told_in_args, told_inside_each, told_in_range, told_in_parts}
 use Rattle.table_laws.specs.Names.{names_in, names_in_each, names_in_range, names_in_ranges, some_name}
 use Rattle.table_laws.specs.Frames.{SameAt, SameAtEach, SameDefined, SameParameters, parameters_of, ToldFrame}
 use Rattle.table_laws.proofs.KnownFrames.{known_each, of_two, of_three, of_four, tuple_mode_frame, callee_frame, measured_first_frame}
@@ -137,7 +136,7 @@ behind_frame g h (calls n) at es called base inside same =
     of_three (λ a rs o. then_told a (told_number at (count_exprs es) (length rs) ++ told_if (returns_none o) (tell_at rules.S10 at))) inside.in_args called.0 called.1
 behind_frame g h (routine p) at es called base inside same =
     of_three (λ m a b. then_told (if is_measuring p then m else a) (told_if (gives_no_value p) (tell_at rules.S10 at) ++ then_told (told_number at (count_exprs es) (arguments_of p)) (told_if b (tell_at rules.S1 at))))
-      inside.in_measured inside.in_args (misfits_frame g h p es same)
+    inside.in_measured inside.in_args (misfits_frame g h p es same)
 behind_frame g h no_callee at es called base inside same =
     of_three (λ b a k. then_told (b ++ a) (told_if (is_some (index_mode k) && not (count_exprs es == 1)) (tell_at rules.S5 at))) inside.in_base inside.in_args base
 
@@ -189,20 +188,20 @@ mutual
   told_frame g h r (start at n es) same params =
       let receivers = receivers_frame g h n same.0 params.0 in
       of_two then_told
-        (ap (λ rs. told_in_args g (each_receiver rs (count_exprs es)) es) receivers ∙ told_args_frame g h (each_receiver (receivers_of h n) (count_exprs es)) es same.1 params.1)
-        (ap (λ rs. told_number n.at (count_exprs es) (length rs)) receivers)
+      (ap (λ rs. told_in_args g (each_receiver rs (count_exprs es)) es) receivers ∙ told_args_frame g h (each_receiver (receivers_of h n) (count_exprs es)) es same.1 params.1)
+      (ap (λ rs. told_number n.at (count_exprs es) (length rs)) receivers)
   told_frame g h r (tuple at m b rs) same params =
       let mode = tuple_mode_frame g h m (received_mode r) (known_each g h (some_name m) (first_of_each g h (some_name m) (names_in_ranges rs) same)) in
       of_two then_told
-        (ap (λ m. told_in_parts g (shape_fits rs) 0 m rs) mode ∙ told_parts_frame g h (shape_fits rs) 0 (tuple_mode h m (received_mode r)) rs (later_of_each g h (some_name m) (names_in_ranges rs) same) (later_parameters g h (some_name m) (names_in_ranges rs) params))
-        (ap (λ k. told_if (shape_misfits (shape_fits rs) m r k) (tell_at rules.S11 b)) mode)
+      (ap (λ m. told_in_parts g (shape_fits rs) 0 m rs) mode ∙ told_parts_frame g h (shape_fits rs) 0 (tuple_mode h m (received_mode r)) rs (later_of_each g h (some_name m) (names_in_ranges rs) same) (later_parameters g h (some_name m) (names_in_ranges rs) params))
+      (ap (λ k. told_if (shape_misfits (shape_fits rs) m r k) (tell_at rules.S11 b)) mode)
   told_frame g h r (uniform at m b e) same params =
       let mode = tuple_mode_frame g h m (received_mode r) (known_each g h (some_name m) (first_of_each g h (some_name m) (names_in e) same)) in
       let part = later_of_each g h (some_name m) (names_in e) same in
       let receiver = of_mode (mode_of_part uniform_fits 0 (tuple_mode h m (received_mode r))) in
       of_two then_told
-        (ap (λ k. value_told g (of_mode (mode_of_part uniform_fits 0 k)) e (told_in g (of_mode (mode_of_part uniform_fits 0 k)) e)) mode ∙ value_frame g h receiver e part (told_frame g h receiver e part (later_parameters g h (some_name m) (names_in e) params)))
-        (ap (λ k. told_if (shape_misfits uniform_fits m r k) (tell_at rules.S11 b)) mode)
+      (ap (λ k. value_told g (of_mode (mode_of_part uniform_fits 0 k)) e (told_in g (of_mode (mode_of_part uniform_fits 0 k)) e)) mode ∙ value_frame g h receiver e part (told_frame g h receiver e part (later_parameters g h (some_name m) (names_in e) params)))
+      (ap (λ k. told_if (shape_misfits uniform_fits m r k) (tell_at rules.S11 b)) mode)
   told_frame g h r (name n) same params = refl
   told_frame g h r (apply at e es) same params =
       let base = first_of_each g h (names_in e) (names_in_each es) same in
@@ -215,12 +214,12 @@ mutual
       let receivers = behind_receivers g h (callee_of h e) (count_exprs es) called (of_two clean_class in_base class) in
       ap (λ c. told_behind g c (place_of e) (class_of g e) (told_in g nothing_asked e) (told_in_args g (receivers_behind g c (clean_class (told_in g nothing_asked e) (class_of g e)) (count_exprs es)) es) (told_inside_each g es) es) (callee_frame g h e (known_each g h (names_in e) base))
       ∙ behind_frame g h (callee_of h e) (place_of e) es called class
-          (record {
-            in_base = in_base;
-            in_args = ap (λ rs. told_in_args g rs es) receivers ∙ told_args_frame g h (receivers_behind h (callee_of h e) (clean_class (told_in h nothing_asked e) (class_of h e)) (count_exprs es)) es args args_params;
-            in_measured = told_inside_frame g h es args args_params;
-          })
-          args
+      (record {
+        in_base = in_base;
+        in_args = ap (λ rs. told_in_args g rs es) receivers ∙ told_args_frame g h (receivers_behind h (callee_of h e) (clean_class (told_in h nothing_asked e) (class_of h e)) (count_exprs es)) es args args_params;
+        in_measured = told_inside_frame g h es args args_params;
+      })
+      args
   told_frame g h r (field at e n) same params = told_frame g h nothing_asked e same params
   told_frame g h r (prefixed at o e) same params =
       of_two then_told (own_frame g h nothing_asked e same (told_frame g h nothing_asked e same params)) (ap (λ c. told_if (holds_of (operand_misfits o) c) (tell_at rules.S1 at)) (class_frame g h None e same))
@@ -228,30 +227,30 @@ mutual
       let left = first_of_each g h (names_in l) (names_in k) same in
       let right = later_of_each g h (names_in l) (names_in k) same in
       of_four (λ a b c d. then_told (a ++ b) (told_if (holds_of_both (operands_misfit o) c d) (tell_at rules.S1 p)))
-        (own_frame g h nothing_asked l left (told_frame g h nothing_asked l left (first_parameters g h (names_in l) (names_in k) params)))
-        (own_frame g h nothing_asked k right (told_frame g h nothing_asked k right (later_parameters g h (names_in l) (names_in k) params)))
-        (class_frame g h None l left) (class_frame g h None k right)
+      (own_frame g h nothing_asked l left (told_frame g h nothing_asked l left (first_parameters g h (names_in l) (names_in k) params)))
+      (own_frame g h nothing_asked k right (told_frame g h nothing_asked k right (later_parameters g h (names_in l) (names_in k) params)))
+      (class_frame g h None l left) (class_frame g h None k right)
 
   told_args_frame : (g h : Ground) (rs : List Receiver) (es : ExprNodes) → SameAtEach g h (names_in_each es) → SameParameters g h (names_in_each es) → told_in_args g rs es ≡ told_in_args h rs es
   told_args_frame g h rs no_exprs same params = refl
   told_args_frame g h rs (more_exprs e es) same params =
       let first = first_of_each g h (names_in e) (names_in_each es) same in
       of_two (λ a b. a ++ b) (value_frame g h (head_or_none rs) e first (told_frame g h (head_or_none rs) e first (first_parameters g h (names_in e) (names_in_each es) params)))
-        (told_args_frame g h (rest_of rs) es (later_of_each g h (names_in e) (names_in_each es) same) (later_parameters g h (names_in e) (names_in_each es) params))
+      (told_args_frame g h (rest_of rs) es (later_of_each g h (names_in e) (names_in_each es) same) (later_parameters g h (names_in e) (names_in_each es) params))
 
   told_inside_frame : (g h : Ground) (es : ExprNodes) → SameAtEach g h (names_in_each es) → SameParameters g h (names_in_each es) → told_inside_each g es ≡ told_inside_each h es
   told_inside_frame g h no_exprs same params = refl
   told_inside_frame g h (more_exprs e es) same params =
       of_two (λ a b. a ++ b) (told_frame g h nothing_asked e (first_of_each g h (names_in e) (names_in_each es) same) (first_parameters g h (names_in e) (names_in_each es) params))
-        (told_inside_frame g h es (later_of_each g h (names_in e) (names_in_each es) same) (later_parameters g h (names_in e) (names_in_each es) params))
+      (told_inside_frame g h es (later_of_each g h (names_in e) (names_in_each es) same) (later_parameters g h (names_in e) (names_in_each es) params))
 
   told_parts_frame : (g h : Ground) (fits : FormTree → Bool) (k : ℕ) (m : Option ModeTree) (rs : RangeNodes) → SameAtEach g h (names_in_ranges rs) → SameParameters g h (names_in_ranges rs)
       → told_in_parts g fits k m rs ≡ told_in_parts h fits k m rs
   told_parts_frame g h fits k m no_ranges same params = refl
   told_parts_frame g h fits k m (more_ranges r rs) same params =
       of_two (λ a b. a ++ b)
-        (told_range_frame g h (mode_of_part fits k m) r (first_of_each g h (names_in_range r) (names_in_ranges rs) same) (first_parameters g h (names_in_range r) (names_in_ranges rs) params))
-        (told_parts_frame g h fits (suc k) m rs (later_of_each g h (names_in_range r) (names_in_ranges rs) same) (later_parameters g h (names_in_range r) (names_in_ranges rs) params))
+      (told_range_frame g h (mode_of_part fits k m) r (first_of_each g h (names_in_range r) (names_in_ranges rs) same) (first_parameters g h (names_in_range r) (names_in_ranges rs) params))
+      (told_parts_frame g h fits (suc k) m rs (later_of_each g h (names_in_range r) (names_in_ranges rs) same) (later_parameters g h (names_in_range r) (names_in_ranges rs) params))
 
   told_range_frame : (g h : Ground) (m : Option ModeTree) (r : RangeTree) → SameAtEach g h (names_in_range r) → SameParameters g h (names_in_range r) → told_in_range g m r ≡ told_in_range h m r
   told_range_frame g h m (alone e) same params = value_frame g h (of_mode m) e same (told_frame g h (of_mode m) e same params)
@@ -259,4 +258,4 @@ mutual
       let left = first_of_each g h (names_in l) (names_in k) same in
       let right = later_of_each g h (names_in l) (names_in k) same in
       of_two (λ a b. a ++ b) (value_frame g h (of_mode m) l left (told_frame g h (of_mode m) l left (first_parameters g h (names_in l) (names_in k) params)))
-        (value_frame g h (of_mode m) k right (told_frame g h (of_mode m) k right (later_parameters g h (names_in l) (names_in k) params)))
+      (value_frame g h (of_mode m) k right (told_frame g h (of_mode m) k right (later_parameters g h (names_in l) (names_in k) params)))

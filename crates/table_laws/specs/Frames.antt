@@ -1,11 +1,11 @@
 -- The laws of frames: the class, the value and what is told of an expression, and the mode that is written, depend on the
 -- ground only by the names that are used in it.
-use Rattle.std.specs.Prelude.{◌≡◌, ℕ, Bool, true, false, List, [], ◌∷◌, Option, Some, None, flat_map}
+use Rattle.std.specs.Prelude.{◌≡◌, Bool, true, false, List, [], ◌∷◌, Option, Some, flat_map}
 use Rattle.chill_tree.specs.declared.tree.name.Name.{Name}
 use Rattle.chill_tree.specs.ExprTree.{ExprTree}
 use Rattle.chill_tree.specs.ModeTree as written
 use Rattle.modes.specs.ModeTree.{ModeTree}
-use Rattle.checks_model.specs.Ground.{Ground, Origin, Entry, a_synonym, a_mode, an_element, a_location, a_parameter, a_received, a_procedure, a_process, number_at, origin_of, entry_of, entry_defined}
+use Rattle.checks_model.specs.Ground.{Ground, Origin, a_synonym, a_mode, an_element, a_location, a_parameter, a_received, a_procedure, a_process, number_at, origin_of, entry_of, entry_defined}
 use Rattle.checks_model.specs.Classes.{class_as}
 use Rattle.checks_model.specs.Constants.{constant_as, has_form}
 use Rattle.checks_model.specs.ConstantRules.{Standing, told_as}

@@ -1,10 +1,10 @@
 // Laws of the table of definitions. Each is a fact about the definitions, which a caller learns by calling the function.
 ghost use Rattle.table_laws.specs.Frames.{ClassFrame, FormFrame, ConstantFrame, ToldConstantFrame, ModeFrame, ToldModeFrame, EntryFrame, ToldFrame};
 ghost use Rattle.table_laws.specs.OneTable.{OneTableLaw, FilledLaw};
-ghost use Rattle.table_laws.specs.Bits.{UnionLaw, IntersectionLaw, SymmetricDifferenceLaw, DifferenceLaw, ComplementLaw, MemberLaw};
 
-/// The class and the value of an expression, whether it has the form of a constant, and what is told of the constants in it, are
-/// the same where the same is known of the names in it.
+/// The class of an expression is the same where the same is known of the names in it. Its value, whether it has the form of a
+/// constant, and what is told of the constants in it are so already where the same is known of those names that a constant
+/// looks up: of synonyms, elements and modes, and of what can be measured (Z.200, chapter on values).
 pub fn constants_frame()
     ensures class { ClassFrame }
     ensures form { FormFrame }
@@ -12,13 +12,14 @@ pub fn constants_frame()
     ensures told { ToldConstantFrame }
 {}
 
-/// The mode that is written and what is told of it are the same where the same is known of the names in it.
+/// The mode that is written and what is told of it are the same where the same is known of the names in it that a constant or a
+/// mode looks up.
 pub fn modes_frame()
     ensures mode { ModeFrame }
     ensures told { ToldModeFrame }
 {}
 
-/// What is known of a definition by the table is the same where the same is known of the names that it depends on.
+/// What the table has of a definition is the same where the same is known of what the definition needs.
 pub fn entries_frame()
     ensures { EntryFrame }
 {}
@@ -34,15 +35,4 @@ pub fn told_frame()
 pub fn one_table_law()
     ensures one { OneTableLaw }
     ensures filled { FilledLaw }
-{}
-
-/// What an operator makes of the members of two powersets of one size has the scalars that it makes of their scalars, and so
-/// has the complement; a member is there exactly where the scalars tell it.
-pub fn members_law()
-    ensures union { UnionLaw }
-    ensures intersection { IntersectionLaw }
-    ensures symmetric_difference { SymmetricDifferenceLaw }
-    ensures difference { DifferenceLaw }
-    ensures complement { ComplementLaw }
-    ensures member { MemberLaw }
 {}

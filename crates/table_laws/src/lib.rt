@@ -6,4 +6,4 @@
 
 mod laws;
 
-pub use laws::{constants_frame, entries_frame, members_law, modes_frame, one_table_law, told_frame};
+pub use laws::{constants_frame, entries_frame, modes_frame, one_table_law, told_frame};

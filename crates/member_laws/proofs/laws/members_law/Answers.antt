@@ -1,5 +1,5 @@
-use Rattle.table_laws.proofs.laws.members_law.Goals as goal
-use Rattle.table_laws.proofs.Bits as bits
+use Rattle.member_laws.proofs.laws.members_law.Goals as goal
+use Rattle.member_laws.proofs.Bits as bits
 
 pub returns : goal.returns
 returns c = record {

@@ -1,21 +1,24 @@
 -- An operation on the members of powersets is the operation on the numbers that tell of them.
-use Rattle.std.proofs.Common.{◌≡◌, ℕ, zero, suc, ◌+◌, ◌-◌, ◌*◌, ◌/◌, ◌%◌, ◌^◌, ◌<◌, ◌≤◌, Bool, true, false, List, [], ◌∷◌, ℤ, pos, length, take, drop, ◌⊎◌, inl, inr, refl, ap, sym, ◌∙◌, arith}
+use Rattle.std.proofs.Common.{◌≡◌, ℕ, zero, suc, ◌+◌, ◌-◌, ◌*◌, ◌/◌, ◌%◌, ◌^◌, ◌<◌, ◌≤◌, Bool, true, false, List, [], ◌∷◌, ℤ, pos, length, take, drop, inl, inr, refl, ap, sym, ◌∙◌, arith}
 use Rattle.std.specs.Prelude.{◌==◌, ◌&&◌, ◌||◌, not, nat_lt, sum_by, map, if◌then◌else◌}
 use Rattle.std.specs.Int.{bit_at}
 use Rattle.std.proofs.Math.Nat.{pow-suc}
 use Rattle.std.proofs.lemmas.Nat.{pow_pos}
 use Rattle.std.proofs.lemmas.Bool.{cases_lt, lt-ltb, le-ltb}
 use Rattle.std.proofs.lemmas.List.{length-take, length-drop, length-map}
-use Rattle.table_laws.proofs.KnownFrames.{of_two}
 use Rattle.std.proofs.lemmas.Nat.Bits.{bit_at_lowest, bit_at-suc, bit_at-zero}
 use Rattle.std.proofs.lemmas.List.Sums.{sum_by-cons}
 use Rattle.modes.specs.Scalars.{numbers_of}
 use Rattle.chill_tree.specs.declared.tree.expr.Operator.TheVariants as ops
-use Rattle.scalar_operators.specs.Powersets.{numbers_up, offsets, powerset_where, has_member, low_word, intersection, union, symmetric_difference, difference, complement_in}
+use Rattle.scalar_operators.specs.Powersets.{numbers_up, powerset_where, has_member, intersection, union, symmetric_difference, difference, complement_in}
 use Rattle.scalar_operators.specs.Members.{by_pairs, complement_of, has_member_at}
 use Rattle.checks_model.specs.ValueTrees.{bits_of, numbers_from}
 use Rattle.checks_model.specs.OperatorValues.{zipped, logic, member_at}
-use Rattle.table_laws.specs.Bits.{UnionLaw, IntersectionLaw, SymmetricDifferenceLaw, DifferenceLaw, ComplementLaw, MemberLaw}
+use Rattle.member_laws.specs.Bits.{UnionLaw, IntersectionLaw, SymmetricDifferenceLaw, DifferenceLaw, ComplementLaw, MemberLaw}
+
+-- a list whose head and rest are the same
+same_list : {x y : ℤ} {xs ys : List ℤ} → x ≡ y → xs ≡ ys → x ∷ xs ≡ y ∷ ys
+same_list {x} {y} {xs} {ys} first rest = ap (λ z. z ∷ xs) first ∙ ap (λ zs. y ∷ zs) rest
 
 -- ---- the bits of members
 
@@ -115,11 +118,11 @@ one_pair : (test f : Bool → Bool → Bool) (as' bs : List Bool) → ((a b : Bo
     → powerset_where (λ k. test (has_member (pos (bits_of as')) k) (has_member (pos (bits_of bs)) k)) ≡ pos (bits_of (zipped f as' bs))
 one_pair test f as' bs same none long few =
     of_members (λ k. test (has_member (pos (bits_of as')) k) (has_member (pos (bits_of bs)) k)) (zipped f as' bs) (omega (arith, few, zipped_length f as' bs long))
-      (λ k less.
-        ap (λ a. test a (has_member (pos (bits_of bs)) k)) (has_its_member as' k few)
-        ∙ ap (test (member_at k as')) (has_its_member bs k (omega (arith, few, long)))
-        ∙ same (member_at k as') (member_at k bs)
-        ∙ sym (zipped_member f as' bs k none long))
+    (λ k less.
+    ap (λ a. test a (has_member (pos (bits_of bs)) k)) (has_its_member as' k few)
+    ∙ ap (test (member_at k as')) (has_its_member bs k (omega (arith, few, long)))
+    ∙ same (member_at k as') (member_at k bs)
+    ∙ sym (zipped_member f as' bs k none long))
 
 -- an operator on numbers makes of the bits of members what another makes of the members
 abbrev MakesBits : (ℤ → ℤ → ℤ) → (Bool → Bool → Bool) → Type 0
@@ -131,8 +134,8 @@ by_numbers op f makes (suc k) as' bs long =
     let first : length (take 32 as') ≡ length (take 32 bs) = omega (arith, long, length-take 32 as', length-take 32 bs) in
     let few : length (take 32 as') ≤ 32 = omega (arith, length-take 32 as') in
     let rest : length (drop 32 as') ≡ length (drop 32 bs) = omega (arith, long, length-drop 32 as', length-drop 32 bs) in
-    of_two (λ x xs. x ∷ xs) (ap (λ l. pos (bits_of l)) (zipped_take f 32 as' bs) ∙ sym (makes (take 32 as') (take 32 bs) first few))
-      (ap (numbers_from k) (zipped_drop f 32 as' bs long) ∙ by_numbers op f makes k (drop 32 as') (drop 32 bs) rest)
+    same_list (ap (λ l. pos (bits_of l)) (zipped_take f 32 as' bs) ∙ sym (makes (take 32 as') (take 32 bs) first few))
+    (ap (numbers_from k) (zipped_drop f 32 as' bs long) ∙ by_numbers op f makes k (drop 32 as') (drop 32 bs) rest)
 
 by_scalars : (op : ℤ → ℤ → ℤ) (f : Bool → Bool → Bool) → MakesBits op f → (as' bs : List Bool) → length as' ≡ length bs
     → numbers_from (numbers_of (length (zipped f as' bs))) (zipped f as' bs) ≡ by_pairs op (numbers_from (numbers_of (length as')) as') (numbers_from (numbers_of (length bs)) bs)
@@ -175,7 +178,7 @@ not_member (b ∷ bs) (suc k) = not_member bs k ∙ ap (λ t. t && not (member_a
 one_complement : (bs : List Bool) (count : ℕ) → length bs ≤ 32 → ((k : ℕ) → k < 32 → nat_lt k count ≡ nat_lt k (length bs)) → complement_in count (pos (bits_of bs)) ≡ pos (bits_of (map not bs))
 one_complement bs count few same =
     of_members (λ k. nat_lt k count && not (has_member (pos (bits_of bs)) k)) (map not bs) (omega (arith, few, length-map bs not))
-      (λ k less. ap (λ t. t && not (has_member (pos (bits_of bs)) k)) (same k less) ∙ ap (λ m. nat_lt k (length bs) && not m) (has_its_member bs k few) ∙ sym (not_member bs k))
+    (λ k less. ap (λ t. t && not (has_member (pos (bits_of bs)) k)) (same k less) ∙ ap (λ m. nat_lt k (length bs) && not m) (has_its_member bs k few) ∙ sym (not_member bs k))
 
 map_take : (n : ℕ) (bs : List Bool) → take n (map not bs) ≡ map not (take n bs)
 map_take zero bs = refl
@@ -196,9 +199,9 @@ within_first bs k few = elim (cases_lt k (length bs)) [
 complement_numbers : (k : ℕ) (bs : List Bool) → numbers_from k (map not bs) ≡ complement_of (length bs) (numbers_from k bs)
 complement_numbers zero bs = refl
 complement_numbers (suc k) bs =
-    of_two (λ x xs. x ∷ xs)
-      (ap (λ l. pos (bits_of l)) (map_take 32 bs) ∙ sym (one_complement (take 32 bs) (length bs) (omega (arith, length-take 32 bs)) (within_first bs)))
-      (ap (numbers_from k) (map_drop 32 bs) ∙ complement_numbers k (drop 32 bs) ∙ ap (λ n. complement_of n (numbers_from k (drop 32 bs))) (length-drop 32 bs))
+    same_list
+    (ap (λ l. pos (bits_of l)) (map_take 32 bs) ∙ sym (one_complement (take 32 bs) (length bs) (omega (arith, length-take 32 bs)) (within_first bs)))
+    (ap (numbers_from k) (map_drop 32 bs) ∙ complement_numbers k (drop 32 bs) ∙ ap (λ n. complement_of n (numbers_from k (drop 32 bs))) (length-drop 32 bs))
 
 pub complement_members : ComplementLaw
 complement_members bs = ap (λ n. numbers_from (numbers_of n) (map not bs)) (length-map bs not) ∙ complement_numbers (numbers_of (length bs)) bs

@@ -1,6 +1,5 @@
 -- The law of bits: an operation on the members of powersets is the operation on the numbers that tell of them.
 use Rattle.std.specs.Prelude.{◌≡◌, ℕ, Bool, not, List, map, length}
-use Rattle.chill_tree.specs.declared.tree.expr.Operator.{Operator}
 use Rattle.chill_tree.specs.declared.tree.expr.Operator.TheVariants as ops
 use Rattle.scalar_operators.specs.Members.{union_of, intersection_of, symmetric_difference_of, difference_of, complement_of, has_member_at}
 use Rattle.checks_model.specs.ValueTrees.{members, scalars_in}
