@@ -1,6 +1,6 @@
 -- What is told in an expression depends on the ground only by the names in it, and by the parameters of what these call.
 use Rattle.std.proofs.Common.{◌≡◌, ℕ, suc, Bool, true, false, List, [], ◌∷◌, ◌++◌, Option, Some, None, refl, ap, ◌∙◌}
-use Rattle.std.specs.Prelude.{◌==◌, ◌&&◌, is_some, not, if◌then◌else◌, map, flat_map, length}
+use Rattle.std.specs.Prelude.{option_and_then, ◌==◌, ◌&&◌, is_some, not, if◌then◌else◌, map, flat_map, length}
 use Rattle.chill_base.specs.declared.pos.Pos.{Pos}
 use Rattle.chill_tree.specs.declared.tree.name.Name.{Name}
 use Rattle.chill_tree.specs.ExprTree.{ExprTree, ExprNodes, RangeTree, RangeNodes, whole, character, text, this_instance, paren, receive, start, tuple, uniform, name, apply, field, prefixed, binary, no_exprs, more_exprs, alone, between, no_ranges, more_ranges, place_of}
@@ -14,8 +14,11 @@ use Rattle.checks_model.specs.Ground.{Ground, Origin, Predefined, a_synonym, a_m
 use Rattle.checks_model.specs.Operations.{is_routine, field_of_form, element_of_form, is_measuring, gives_no_value, arguments_of, operands_misfit, operand_misfits, argument_misfits}
 use Rattle.checks_model.specs.Classes.{class_of, Callee, calls, routine, no_callee, callee_by, callee_of, tuple_mode, shape_fits, uniform_fits, mode_of_part, count_exprs, measured_misfits}
 use Rattle.checks_model.specs.ValueRules.{place_by_origin, place_part, path_of, whole_access, located, place, Receiver, nothing_asked, of_mode, passed_back, condition, selector, bound, set_of_members, received_mode, does_not_go, does_not_fit_parameter, is_not_boolean, is_not_discrete, is_no_powerset, is_too_large, told_received, call_misfits, told_number, passed, receivers_of_param, receivers_of_formal, receivers_by, receivers_of, each_receiver, head_or_none, rest_of, returns_none, shape_misfits, bare, own_told, value_told, index_receiver, index_mode, receivers_behind, clean_class, told_behind, told_in, told_in_args, told_inside_each, told_in_range, told_in_parts}
+use Rattle.chill_tree.specs.SimpleTree.{while_holds, for_ever, for_members, for_steps}
+use Rattle.checks_model.specs.Operations.{form_in}
+use Rattle.checks_model.specs.ActionRules.{clean, member_in, counter_of_both}
 use Rattle.table_laws.specs.Names.{names_in, names_in_each, names_in_range, names_in_ranges, some_name}
-use Rattle.table_laws.specs.Frames.{SameAt, SameAtEach, SameDefined, SameParameters, parameters_of, ToldFrame}
+use Rattle.table_laws.specs.Frames.{SameAt, SameAtEach, SameDefined, SameParameters, parameters_of, ToldFrame, CounterFrame}
 use Rattle.table_laws.proofs.KnownFrames.{known_each, of_two, of_three, of_four, tuple_mode_frame, callee_frame, measured_first_frame}
 use Rattle.table_laws.proofs.ExprFrames.{first_of_each, later_of_each, class_frame, class_of_first_frame}
 
@@ -259,3 +262,16 @@ mutual
       let right = later_of_each g h (names_in l) (names_in k) same in
       of_two (λ a b. a ++ b) (value_frame g h (of_mode m) l left (told_frame g h (of_mode m) l left (first_parameters g h (names_in l) (names_in k) params)))
       (value_frame g h (of_mode m) k right (told_frame g h (of_mode m) k right (later_parameters g h (names_in l) (names_in k) params)))
+
+-- ---- the mode of a counter
+
+clean_frame : (g h : Ground) (e : ExprTree) → SameAtEach g h (names_in e) → SameParameters g h (names_in e) → clean g e ≡ clean h e
+clean_frame g h e same params = of_two clean_class (told_frame g h nothing_asked e same params) (class_frame g h None e same)
+
+pub counter_frame : CounterFrame
+counter_frame g h (while_holds at c) same params = refl
+counter_frame g h (for_ever at) same params = refl
+counter_frame g h (for_members at n s c) same params = ap (λ k. option_and_then member_in (option_and_then form_in k)) (clean_frame g h s same params)
+counter_frame g h (for_steps at n s b down e c) same params =
+    of_two counter_of_both (clean_frame g h s (first_of_each g h (names_in s) (names_in e) same) (first_parameters g h (names_in s) (names_in e) params))
+    (clean_frame g h e (later_of_each g h (names_in s) (names_in e) same) (later_parameters g h (names_in s) (names_in e) params))

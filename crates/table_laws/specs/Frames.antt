@@ -4,6 +4,7 @@ use Rattle.std.specs.Prelude.{◌≡◌, Bool, true, false, List, [], ◌∷◌,
 use Rattle.chill_tree.specs.declared.tree.name.Name.{Name}
 use Rattle.chill_tree.specs.ExprTree.{ExprTree}
 use Rattle.chill_tree.specs.ModeTree as written
+use Rattle.chill_tree.specs.SimpleTree.{ControlTree}
 use Rattle.modes.specs.ModeTree.{ModeTree}
 use Rattle.checks_model.specs.Ground.{Ground, Origin, a_synonym, a_mode, an_element, a_location, a_parameter, a_received, a_procedure, a_process, number_at, origin_of, entry_of, entry_defined}
 use Rattle.checks_model.specs.Classes.{class_as}
@@ -11,8 +12,9 @@ use Rattle.checks_model.specs.Constants.{constant_as, has_form}
 use Rattle.checks_model.specs.ConstantRules.{Standing, told_as}
 use Rattle.checks_model.specs.WrittenModes.{mode_of, told_of_mode}
 use Rattle.checks_model.specs.ValueRules.{Receiver, told_in}
+use Rattle.checks_model.specs.ActionRules.{counter_mode}
 use Rattle.checks_model.specs.Table.{entry_by}
-use Rattle.table_laws.specs.Names.{names_in, names_in_mode, names_needed}
+use Rattle.table_laws.specs.Names.{names_in, names_in_mode, names_needed, names_bounding}
 
 -- a name stands for the same in both grounds, and the same is known of it
 pub record SameAt (g h : Ground) (n : Name) : Type 0 where
@@ -90,3 +92,7 @@ EntryFrame = (g h : Ground) (o : Origin) → g.defined ≡ h.defined → SameNee
 
 abbrev pub ToldFrame : Type 0
 ToldFrame = (g h : Ground) (r : Receiver) (e : ExprTree) → SameAtEach g h (names_in e) → SameParameters g h (names_in e) → told_in g r e ≡ told_in h r e
+
+-- a counter's mode is known in the phase of statements
+abbrev pub CounterFrame : Type 0
+CounterFrame = (g h : Ground) (c : ControlTree) → SameAtEach g h (names_bounding c) → SameParameters g h (names_bounding c) → counter_mode g c ≡ counter_mode h c

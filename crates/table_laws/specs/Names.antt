@@ -4,6 +4,7 @@ use Rattle.std.specs.Prelude.{List, [], ◌∷◌, ◌++◌, flat_map, Option, S
 use Rattle.chill_tree.specs.declared.tree.name.Name.{Name}
 use Rattle.chill_tree.specs.ExprTree.{ExprTree, ExprNodes, RangeTree, RangeNodes, whole, character, text, this_instance, paren, receive, start, tuple, uniform, name, apply, field, prefixed, binary, no_exprs, more_exprs, alone, between, no_ranges, more_ranges}
 use Rattle.chill_tree.specs.ModeTree as written
+use Rattle.chill_tree.specs.SimpleTree.{ControlTree, while_holds, for_ever, for_members, for_steps}
 use Rattle.checks_model.specs.Ground.{Origin, a_synonym, a_mode, an_element, a_location, a_parameter, a_counter, a_received, a_procedure, a_process, a_signal, a_modulion, a_predefined}
 
 abbrev pub some_name : Option Name → List Name
@@ -108,3 +109,10 @@ names_needed (a_process p) = []
 names_needed (a_signal s) = names_in_modes s.parts
 names_needed (a_modulion kind items) = []
 names_needed (a_predefined p) = []
+
+-- the names that the mode of a loop's counter depends on: those of its bounds, or of the set that it goes through
+abbrev pub names_bounding : ControlTree → List Name
+names_bounding (while_holds at c) = []
+names_bounding (for_ever at) = []
+names_bounding (for_members at n s c) = names_in s
+names_bounding (for_steps at n s b down e c) = names_in s ++ names_in e

@@ -1,5 +1,5 @@
 // Laws of the table of definitions. Each is a fact about the definitions, which a caller learns by calling the function.
-ghost use Rattle.table_laws.specs.Frames.{ClassFrame, FormFrame, ConstantFrame, ToldConstantFrame, ModeFrame, ToldModeFrame, EntryFrame, ToldFrame};
+ghost use Rattle.table_laws.specs.Frames.{ClassFrame, FormFrame, ConstantFrame, ToldConstantFrame, ModeFrame, ToldModeFrame, EntryFrame, ToldFrame, CounterFrame};
 ghost use Rattle.table_laws.specs.OneTable.{OneTableLaw, FilledLaw};
 
 /// The class of an expression is the same where the same is known of the names in it. Its value, whether it has the form of a
@@ -24,10 +24,11 @@ pub fn entries_frame()
     ensures { EntryFrame }
 {}
 
-/// What is told of an expression in a statement is the same where the same is known of the names in it, and of the parameters
-/// of what these call or start.
+/// What is told of an expression in a statement, and the mode of a loop's counter, are the same where the same is known of the
+/// names in it, and of the parameters of what these call or start.
 pub fn told_frame()
-    ensures { ToldFrame }
+    ensures told { ToldFrame }
+    ensures counter { CounterFrame }
 {}
 
 /// Where there is an order of the definitions in which each stands behind those that it needs, two tables of them are one; and a
