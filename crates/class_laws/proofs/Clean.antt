@@ -35,11 +35,11 @@ none_then : (xs ys : List Diagnostic) → then_told xs ys ≡ [] → ys ≡ []
 none_then [] ys none = none
 none_then (x ∷ xs) ys none = absurd (true≢false (sym (ap is_none_told none)))
 
-not_broken : (b : Bool) (d : Diagnostic) → told_if b d ≡ [] → b ≡ false
+pub not_broken : (b : Bool) (d : Diagnostic) → told_if b d ≡ [] → b ≡ false
 not_broken false d none = refl
 not_broken true d none = absurd (true≢false (sym (ap is_none_told none)))
 
-not_true : (b : Bool) → not b ≡ false → b ≡ true
+pub not_true : (b : Bool) → not b ≡ false → b ≡ true
 not_true true no_misfit = refl
 not_true false no_misfit = absurd (true≢false no_misfit)
 

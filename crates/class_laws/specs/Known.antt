@@ -3,8 +3,10 @@
 use Rattle.std.specs.Prelude.{◌≡◌, Bool, true, false, [], Option, Some, None, IsSome}
 use Rattle.chill_tree.specs.declared.tree.name.Name.{Name}
 use Rattle.chill_tree.specs.ExprTree.{ExprTree, ExprNodes, whole, character, text, this_instance, paren, receive, start, tuple, uniform, name, apply, field, prefixed, binary, no_exprs, more_exprs}
+use Rattle.chill_tree.specs.LocalTree.{DeclarationTree}
 use Rattle.modes.specs.ModeTree.{ClassTree}
-use Rattle.checks_model.specs.Ground.{Ground, origin_of, mode_of_name, buffer_element}
+use Rattle.checks_model.specs.Ground.{Ground, origin_of, mode_of_name, buffer_element, a_location, entry_of, mode_of_entry}
+use Rattle.checks_model.specs.ProcessRules.{for_messages, told_misfit}
 use Rattle.checks_model.specs.Operations.{is_measuring}
 use Rattle.checks_model.specs.Classes.{class_as, class_of_name, Callee, calls, routine, no_callee, callee_of, result_class, Measured, a_mode_of, misfit, other, measured_first}
 use Rattle.checks_model.specs.ValueRules.{Receiver, of_mode, received_mode, returns_none, told_in}
@@ -61,3 +63,7 @@ is_unknown_place _ = false
 
 abbrev pub CleanLaw : Type 0
 CleanLaw = (g : Ground) (r : Receiver) (e : ExprTree) → IsKnown g e → is_unknown_place r ≡ false → told_in g r e ≡ [] → IsSome (class_as g (received_mode r) e)
+
+-- a RECEIVE from a location of known mode has its class, where P3 isn't told of it
+abbrev pub ReceiveLaw : Type 0
+ReceiveLaw = (g : Ground) (n : Name) (d : DeclarationTree) → origin_of g n ≡ Some (a_location d) → IsSome (mode_of_entry (entry_of g n)) → told_misfit g for_messages n ≡ [] → IsSome (buffer_element g n)
