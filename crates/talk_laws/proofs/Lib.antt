@@ -1,0 +1,3 @@
+pub mod CountsInRange
+pub mod StatementsCounted
+pub mod CompiledTalks
