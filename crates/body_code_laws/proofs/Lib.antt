@@ -1,0 +1,2 @@
+pub mod GuardedRuns
+pub mod ItemRuns

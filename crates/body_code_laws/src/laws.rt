@@ -1,0 +1,7 @@
+// Laws of the code of bodies. Each is a fact about the definitions, which a caller learns by calling the function.
+ghost use Rattle.body_code_laws.specs.Items.{PlainItemsLaw};
+
+/// Statements and modules with their handlers act as they mean.
+pub fn plain_items_law()
+    ensures { PlainItemsLaw }
+{}
