@@ -1,2 +1,6 @@
 pub mod GuardedRuns
 pub mod ItemRuns
+pub mod BodyPlaces
+pub mod NoExits
+pub mod BodyStands
+pub mod BodyRuns
