@@ -65,7 +65,7 @@ no_region : (t : Bool) (r : Option ℕ) → region_if t r ≡ None → region_en
 no_region true r e = e
 no_region false r e = refl
 
-enters_none : (body : BodyRowTree) → critical_region body ≡ None → entered_by body ≡ None
+pub enters_none : (body : BodyRowTree) → critical_region body ≡ None → entered_by body ≡ None
 enters_none body e = no_region body.critical body.region e
 
 code_is : (p : CheckedTree) (k : ℕ) (body : BodyRowTree) → critical_region body ≡ None

@@ -4,3 +4,4 @@ pub mod BodyPlaces
 pub mod NoExits
 pub mod BodyStands
 pub mod BodyRuns
+pub mod PlainBodyEnds
