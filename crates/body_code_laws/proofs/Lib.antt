@@ -5,3 +5,4 @@ pub mod NoExits
 pub mod BodyStands
 pub mod BodyRuns
 pub mod PlainBodyEnds
+pub mod RegionSteps
