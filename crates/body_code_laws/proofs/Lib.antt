@@ -4,5 +4,6 @@ pub mod BodyPlaces
 pub mod NoExits
 pub mod BodyStands
 pub mod BodyRuns
-pub mod PlainBodyEnds
 pub mod RegionSteps
+pub mod RaisingAgain
+pub mod EndRuns

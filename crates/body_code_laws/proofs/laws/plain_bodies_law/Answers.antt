@@ -1,5 +1,4 @@
 use Rattle.body_code_laws.proofs.laws.plain_bodies_law.Goals as goal
-use Rattle.body_code_laws.proofs.PlainBodyEnds.{plain_bodies}
 
 pub returns : goal.returns
-returns c = plain_bodies
+returns c = hole
