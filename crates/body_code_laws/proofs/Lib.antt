@@ -7,3 +7,5 @@ pub mod BodyRuns
 pub mod RegionSteps
 pub mod RaisingAgain
 pub mod EndRuns
+pub mod CriticalRuns
+pub mod AllBodies
