@@ -1,20 +1,18 @@
 -- All bodies of a program that initialises no region.
-use Rattle.std.proofs.Common.{◌≡◌, ℕ, zero, suc, ◌+◌, ◌≤◌, ◌==◌, if◌then◌else◌, Bool, true, false, ◌||◌, List, [], ◌∷◌, ◌++◌, ℤ, length, Option, Some, None, slice_get, refl, sym, ap, ◌∙◌, subst, arith}
+use Rattle.std.proofs.Common.{◌≡◌, ℕ, suc, ◌+◌, ◌≤◌, ◌==◌, if◌then◌else◌, Bool, true, false, ◌||◌, List, [], ◌∷◌, ◌++◌, ℤ, length, Option, Some, None, slice_get, refl, sym, ap, ◌∙◌, subst, arith}
 use Rattle.std.specs.Prelude.{MatchBool}
 use Rattle.kernel_base.specs.declared.request.Request.TheVariants.{Enter}
 use Rattle.world_model.specs.Session.{Session}
 use Rattle.checked_program.specs.declared.program.Sort.{Sort}
 use Rattle.checked_program.specs.declared.program.Sort.TheVariants.{Outermost, Process, Procedure}
 use Rattle.program_trees.specs.ProgramTree.{BodyRowTree, CheckedTree}
-use Rattle.code_types.specs.declared.instr.Instr.{Instr}
 use Rattle.code_types.specs.declared.instr.Instr.TheVariants as i
 use Rattle.code_types.specs.declared.code.BodyRow.{BodyRow}
 use Rattle.code_types.specs.Actions.{is_open as is_open_there}
-use Rattle.code_types.specs.Agreement.{Agrees}
 use Rattle.code_types.specs.State.{Frame, OpenRegion}
 use Rattle.code_types.specs.Steps.{Run}
 use Rattle.source_meaning.specs.Store.{Store, Taken, first_store}
-use Rattle.source_meaning.specs.Flow.{Flow, done}
+use Rattle.source_meaning.specs.Flow.{done}
 use Rattle.source_meaning.specs.ExprMeaning.{Calls}
 use Rattle.source_meaning.specs.StatementMeaning.{is_open}
 use Rattle.source_meaning.specs.BodyMeaning.{Ending, close, calls_in, leaving, behind_enter, in_region, region_if, critical_region, setting_of, inside_of, body_of, body_mean}
@@ -32,7 +30,7 @@ use Rattle.code_laws.specs.Calls.{taken_scalars, in_frame_of, open_in, EnteredBe
 use Rattle.code_laws.specs.Assembly.{CarriesProcess, CarriesProcedure, Carries, Tells}
 use Rattle.body_code_laws.specs.PlainBodies.{PlainBodiesLaw}
 use Rattle.body_code_laws.proofs.BodyPlaces.{first_at, row_there, count_there}
-use Rattle.body_code_laws.proofs.BodyStands.{around_in, setting_in, row_is, entered_more}
+use Rattle.body_code_laws.proofs.BodyStands.{around_in, row_is, entered_more}
 use Rattle.body_code_laws.proofs.BodyRuns.{IsPlainBody, enter_code, enter_size, entry_at, doing_at, has_enter, Stands, calls_of, RowsAre, rows_lie, begins_there, held_there, doing_runs}
 use Rattle.body_code_laws.proofs.RegionSteps.{enter_comes, enter_passes}
 use Rattle.body_code_laws.proofs.EndRuns.{process_tells, procedure_returns}

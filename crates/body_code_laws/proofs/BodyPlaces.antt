@@ -1,9 +1,8 @@
 -- Where the bodies of a program stand in its code, and whose rows take what is raised there.
-use Rattle.std.proofs.Common.{◌≡◌, ℕ, zero, suc, ◌+◌, ◌<◌, ◌≤◌, List, [], ◌∷◌, ◌++◌, length, Option, Some, slice_get, refl, sym, ap, ◌∙◌, subst, arith, length-append}
+use Rattle.std.proofs.Common.{◌≡◌, ℕ, zero, suc, ◌+◌, ◌<◌, ◌≤◌, List, [], ◌∷◌, length, Some, slice_get, refl, sym, ap, ◌∙◌, subst, arith, length-append}
 use Rattle.kernel_base.specs.declared.ends.Exc.{Exc}
 use Rattle.program_trees.specs.ProgramTree.{BodyRowTree, CheckedTree}
 use Rattle.code_types.specs.declared.instr.Instr.{Instr}
-use Rattle.code_types.specs.declared.code.BodyRow.{BodyRow}
 use Rattle.code_types.specs.declared.code.Handler.{Handler}
 use Rattle.code_types.specs.Places.{first_of, end_of, taker}
 use Rattle.code_scheme.specs.BodyCode.{site_in, body_code, body_handlers, body_row, bodies_code, bodies_handlers, body_rows, code_of}

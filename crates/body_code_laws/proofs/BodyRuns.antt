@@ -1,10 +1,10 @@
 -- What the machine does in a body whose items name no region.
-use Rattle.std.proofs.Common.{◌≡◌, ℕ, zero, suc, ◌+◌, ◌<◌, ◌≤◌, Bool, true, false, ◌&&◌, ◌||◌, List, [], ◌∷◌, ◌++◌, ℤ, length, Option, Some, None, slice_get, refl, sym, ap, ◌∙◌, subst, arith, length-append, append-nil}
+use Rattle.std.proofs.Common.{◌≡◌, ℕ, suc, ◌+◌, ◌<◌, ◌≤◌, Bool, true, false, ◌&&◌, List, [], ◌∷◌, ◌++◌, ℤ, length, Option, Some, None, slice_get, refl, sym, ap, ◌∙◌, subst, arith, length-append, append-nil}
 use Rattle.kernel_base.specs.declared.ends.Exc.{Exc}
 use Rattle.world_model.specs.Session.{Session}
 use Rattle.modes.specs.ModeTree.{ModeTree}
 use Rattle.program_trees.specs.ProgramTree.{BodyRowTree, CheckedTree}
-use Rattle.program_trees.specs.StatementTree.{StatementNodes, HandlerNode}
+use Rattle.program_trees.specs.StatementTree.{StatementNodes}
 use Rattle.code_types.specs.declared.instr.Instr.{Instr}
 use Rattle.code_types.specs.declared.instr.Instr.TheVariants as i
 use Rattle.code_types.specs.declared.code.Handler.{Handler}
@@ -17,23 +17,22 @@ use Rattle.source_meaning.specs.ExprMeaning.{Setting}
 use Rattle.source_meaning.specs.StatementMeaning.{caught, handler_mean, statements_mean}
 use Rattle.source_meaning.specs.BodyMeaning.{body_mean, inside_of}
 use Rattle.code_scheme.specs.StatementSite.{Site, Standing, scalars_of_result}
-use Rattle.code_scheme.specs.StatementGoing.{go_on, handler_goes_on, leave_size}
+use Rattle.code_scheme.specs.StatementGoing.{go_on, leave_size}
 use Rattle.code_scheme.specs.StatementPlain.{entered_by}
 use Rattle.code_scheme.specs.StatementSize.{handler_size}
 use Rattle.code_scheme.specs.StatementCode.{handler_code}
-use Rattle.code_scheme.specs.StatementRows.{handler_rows}
-use Rattle.code_scheme.specs.BodyItems.{raise_again_code, raise_again_rows, items_code, items_rows}
+use Rattle.code_scheme.specs.BodyItems.{raise_again_code, raise_again_rows, items_rows}
 use Rattle.code_scheme.specs.BodyCode.{lowest_code, behind_lowest, standing_in, items_of, guarded_code, guarded_rows, comes_to_end, end_code, raised_again, doing_code, doing_rows, body_code, body_handlers, site_in, code_of}
 use Rattle.follow_laws.specs.Follows.{HasAt, Around, here, Holds, GetsTo, Arrives, Does}
 use Rattle.follow_laws.specs.Parts.{IsCovered}
 use Rattle.follow_laws.proofs.Running.{has_front, has_back, after}
 use Rattle.follow_laws.proofs.HandledRuns.{taker_left}
 use Rattle.code_laws.specs.BodyBounds.{bodies_within, inside_within, called_within}
-use Rattle.code_laws.specs.Calls.{taken_scalars, in_frame_of, open_in, EnteredBelow, FitTaken, BodiesFollow}
+use Rattle.code_laws.specs.Calls.{taken_scalars, in_frame_of, EnteredBelow, FitTaken, BodiesFollow}
 use Rattle.code_laws.specs.Expressions.{NamesIn}
 use Rattle.code_laws.specs.StatementBounds.{Along, OpenCallsWithin, where_raises, statements_within, handler_within}
 use Rattle.code_laws.specs.StatementsInRange.{FitsItems}
-use Rattle.code_laws.specs.Counters.{statements_keep, handler_keeps}
+use Rattle.code_laws.specs.Counters.{statements_keep}
 use Rattle.code_laws.proofs.BodyBegins.{begins_run}
 use Rattle.code_laws.proofs.BodySkips.{skips_run}
 use Rattle.code_laws.proofs.Values.{both_true}
@@ -43,7 +42,6 @@ use Rattle.statement_code_laws.proofs.Joining.{lie_wider, lie_both}
 use Rattle.statement_code_laws.proofs.ChoiceRuns.{names_inside}
 use Rattle.statement_code_laws.proofs.StatementRuns.{looping_law, handler_join}
 use Rattle.body_code_laws.specs.Items.{NameNoRegion}
-use Rattle.body_code_laws.specs.PlainBodies.{InitialisesNoRegion}
 use Rattle.body_code_laws.proofs.GuardedRuns.{resized, guarded}
 use Rattle.body_code_laws.proofs.ItemRuns.{plain_items}
 use Rattle.body_code_laws.proofs.BodyPlaces.{first_at, body_length, RowsLie, code_there, taker_there}

@@ -1,5 +1,5 @@
 -- The ends of critical procedures, which leave the region that they entered.
-use Rattle.std.proofs.Common.{◌≡◌, ℕ, suc, ◌+◌, ◌<◌, ◌≤◌, if◌then◌else◌, Bool, true, false, List, [], ◌∷◌, ◌++◌, ℤ, length, Option, Some, None, slice_get, refl, sym, ap, ◌∙◌, subst, arith}
+use Rattle.std.proofs.Common.{◌≡◌, ℕ, suc, ◌+◌, ◌<◌, ◌≤◌, if◌then◌else◌, Bool, true, false, List, [], ◌∷◌, ◌++◌, ℤ, length, Some, None, refl, ◌∙◌, subst}
 use Rattle.kernel_base.specs.declared.ends.Exc.{Exc}
 use Rattle.kernel_base.specs.declared.request.Request.TheVariants.{Leave}
 use Rattle.world_model.specs.Session.{Session}
@@ -11,7 +11,7 @@ use Rattle.code_types.specs.State.{Frame, OpenRegion}
 use Rattle.code_types.specs.Steps.{Run}
 use Rattle.source_meaning.specs.Store.{Store}
 use Rattle.source_meaning.specs.Flow.{Flow, Goes, Raised, Exits, Returned, Stops, Gone, Bound, then_do, done}
-use Rattle.source_meaning.specs.BodyMeaning.{Ending, Out, close, leaving}
+use Rattle.source_meaning.specs.BodyMeaning.{Out, close, leaving}
 use Rattle.source_meaning.specs.Fitting.{has_instances}
 use Rattle.code_scheme.specs.StatementPlain.{entered_by, way_out_code}
 use Rattle.code_scheme.specs.BodyItems.{raised_in}
@@ -21,8 +21,8 @@ use Rattle.follow_laws.proofs.Running.{gets_then}
 use Rattle.code_laws.specs.Calls.{EnteredBelow, GoesOut, Returns, EndsFitting, results_back, back_in}
 use Rattle.body_code_laws.proofs.BodyStands.{around_in, IsGoodBody}
 use Rattle.body_code_laws.proofs.BodyRuns.{doing_at, ending_at, again_at, held_there, RowsAre, FollowsBody}
-use Rattle.body_code_laws.proofs.RegionSteps.{opened_by, leave_comes, leave_passes}
-use Rattle.body_code_laws.proofs.RaisingAgain.{unlisted_untaken, again_taker, RaisesAgain, again_lands, raise_run}
+use Rattle.body_code_laws.proofs.RegionSteps.{leave_comes, leave_passes}
+use Rattle.body_code_laws.proofs.RaisingAgain.{unlisted_untaken, again_taker, again_lands, raise_run}
 use Rattle.body_code_laws.proofs.EndRuns.{giving_code, out_is, way_there, goes_back, goes_out, no_exit}
 
 -- a critical procedure of a program, and the rows about it

@@ -1,5 +1,5 @@
 -- What stands before a handler, with the handler.
-use Rattle.std.proofs.Common.{◌≡◌, ℕ, ◌+◌, ◌≤◌, Bool, true, false, ◌&&◌, ◌||◌, List, [], ◌++◌, length, refl, sym, ap, ◌∙◌, subst, arith}
+use Rattle.std.proofs.Common.{◌≡◌, ℕ, ◌+◌, ◌≤◌, Bool, true, false, ◌&&◌, ◌||◌, List, [], ◌++◌, length, refl, ap, subst, arith}
 use Rattle.program_trees.specs.StatementTree.{HandlerNode, no_handler, handler}
 use Rattle.code_types.specs.declared.instr.Instr.{Instr}
 use Rattle.code_types.specs.declared.code.Handler.{Handler}
@@ -9,7 +9,7 @@ use Rattle.source_meaning.specs.StatementMeaning.{caught, handler_mean}
 use Rattle.source_meaning.specs.BodyMeaning.{Bodies}
 use Rattle.code_scheme.specs.StatementSite.{Standing}
 use Rattle.code_scheme.specs.StatementGoing.{handler_goes_on, leave_size, leave_code}
-use Rattle.code_scheme.specs.StatementSize.{handler_size, handled_size, otherwise_size}
+use Rattle.code_scheme.specs.StatementSize.{handler_size, otherwise_size}
 use Rattle.code_scheme.specs.StatementCode.{no_code, handler_code, handled_code, otherwise_code}
 use Rattle.code_scheme.specs.StatementRows.{own_rows, handler_rows, handled_rows, otherwise_rows}
 use Rattle.follow_laws.specs.Follows.{HasAt, Around}
@@ -19,7 +19,6 @@ use Rattle.code_laws.specs.Expressions.{NamesIn}
 use Rattle.code_laws.specs.StatementBounds.{Along, where_raises, handler_within}
 use Rattle.code_laws.specs.StatementsInRange.{FitsHandler}
 use Rattle.code_laws.specs.Statements.{StandsAs, calls_from}
-use Rattle.code_laws.specs.Counters.{handler_keeps}
 use Rattle.statement_code_laws.specs.Parts.{Acts}
 use Rattle.statement_code_laws.specs.StatementForms.{HandlerActs}
 use Rattle.statement_code_laws.proofs.Lengths.{leave_length}

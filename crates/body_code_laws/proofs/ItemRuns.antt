@@ -3,22 +3,19 @@ use Rattle.std.proofs.Common.{◌≡◌, ℕ, ◌+◌, if◌then◌else◌, Bool
 use Rattle.program_trees.specs.StatementTree.{StatementTree, statement, ActionTree, module_at, region_at, StatementNodes, no_statements, more_statements, HandlerNode}
 use Rattle.code_types.specs.declared.instr.Instr.{Instr}
 use Rattle.code_types.specs.declared.code.Handler.{Handler}
-use Rattle.source_meaning.specs.ExprMeaning.{Setting}
 use Rattle.source_meaning.specs.StatementMeaning.{caught, handler_mean, statement_mean, statements_mean}
-use Rattle.source_meaning.specs.BodyMeaning.{Bodies}
 use Rattle.code_scheme.specs.StatementSite.{Site, Standing}
 use Rattle.code_scheme.specs.StatementGoing.{is_modulion, go_on, goes_on, handler_goes_on, leave_size}
 use Rattle.code_scheme.specs.StatementSize.{statement_size, handler_size}
 use Rattle.code_scheme.specs.StatementCode.{statement_code, handler_code}
-use Rattle.code_scheme.specs.StatementRows.{statement_rows, handler_rows}
+use Rattle.code_scheme.specs.StatementRows.{statement_rows}
 use Rattle.code_scheme.specs.BodyItems.{items_code, item_code, item_action_code, items_rows, item_rows, item_action_rows}
-use Rattle.follow_laws.specs.Follows.{HasAt, Around}
+use Rattle.follow_laws.specs.Follows.{HasAt}
 use Rattle.follow_laws.proofs.Running.{has_front, has_back}
-use Rattle.code_laws.specs.BodyBounds.{BodiesWithin}
 use Rattle.code_laws.specs.Expressions.{NamesIn}
 use Rattle.code_laws.specs.StatementBounds.{where_raises, statement_within, statements_within, handler_within}
 use Rattle.code_laws.specs.StatementsInRange.{FitsItemAction, FitsStatement, FitsHandler}
-use Rattle.code_laws.specs.Statements.{StandsAs, calls_from}
+use Rattle.code_laws.specs.Statements.{calls_from}
 use Rattle.code_laws.specs.Counters.{statements_keep, statement_keeps, action_keeps, handler_keeps}
 use Rattle.code_laws.proofs.Values.{both_true}
 use Rattle.statement_code_laws.specs.Parts.{Acts}
@@ -27,7 +24,7 @@ use Rattle.statement_code_laws.proofs.Lengths.{statement_length, handler_length}
 use Rattle.statement_code_laws.proofs.Joining.{no_part, order_acts, alone_acts}
 use Rattle.statement_code_laws.proofs.ChoiceRuns.{names_inside}
 use Rattle.statement_code_laws.proofs.StatementRuns.{looping_law, statement_join, handler_join}
-use Rattle.body_code_laws.specs.Items.{NameNoRegion, NamesNoRegion, IsNoRegion, StandsAtItems, ItemActs, ItemsAct, PlainItemsLaw}
+use Rattle.body_code_laws.specs.Items.{NameNoRegion, NamesNoRegion, IsNoRegion, ItemActs, ItemsAct, PlainItemsLaw}
 use Rattle.body_code_laws.proofs.GuardedRuns.{resized, guarded}
 
 -- ---- items that are statements

@@ -1,5 +1,5 @@
 -- The machine comes to at most one place behind its code, since it goes on from none.
-use Rattle.std.proofs.Common.{◌≡◌, ℕ, zero, suc, ◌+◌, ◌≤◌, List, [], ◌∷◌, ℤ, length, Option, slice_get, refl, sym, ap, ◌∙◌, subst, arith}
+use Rattle.std.proofs.Common.{◌≡◌, ℕ, zero, suc, ◌≤◌, List, [], ◌∷◌, ℤ, length, Option, refl, sym, ap, ◌∙◌}
 use Rattle.std.proofs.lemmas.Option.{slice_get_past}
 use Rattle.world_model.specs.Session.{Item, Session}
 use Rattle.code_types.specs.declared.instr.Instr.{Instr}

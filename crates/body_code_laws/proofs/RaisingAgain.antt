@@ -1,5 +1,5 @@
 -- Where exceptions that a critical procedure lists are raised again, behind its way out.
-use Rattle.std.proofs.Common.{◌≡◌, ℕ, zero, suc, ◌+◌, ◌<◌, ◌≤◌, ◌==◌, eqb-true, if◌then◌else◌, Bool, true, false, ◌&&◌, ◌||◌, List, [], ◌∷◌, ◌++◌, ℤ, length, Option, Some, None, slice_get, refl, sym, ap, ◌∙◌, subst, arith}
+use Rattle.std.proofs.Common.{◌≡◌, ℕ, zero, suc, ◌+◌, ◌<◌, ◌≤◌, ◌==◌, eqb-true, if◌then◌else◌, Bool, true, false, ◌&&◌, ◌||◌, List, [], ◌∷◌, ℤ, length, Option, Some, None, slice_get, refl, sym, ap, ◌∙◌, subst, arith}
 use Rattle.std.specs.Prelude.{All}
 use Rattle.std.specs.List.{filter}
 use Rattle.std.proofs.lemmas.List.Elements.{All-head, All-tail}
@@ -18,7 +18,7 @@ use Rattle.code_types.specs.Steps.{Run, At}
 use Rattle.source_meaning.specs.Store.{Store}
 use Rattle.code_scheme.specs.StatementPlain.{entered_by}
 use Rattle.code_scheme.specs.StatementRows.{row_for}
-use Rattle.code_scheme.specs.BodyItems.{is_among, listed_in, raised_in, raised_and_listed, raise_again_code, raise_again_rows}
+use Rattle.code_scheme.specs.BodyItems.{is_among, listed_in, raise_again_code, raise_again_rows}
 use Rattle.code_scheme.specs.BodyCode.{guarded_code, guarded_rows, site_in, body_code, body_rows, code_of}
 use Rattle.follow_laws.specs.Follows.{HasAt, Around, state_at, here, Holds, GetsTo, RaisesIn}
 use Rattle.follow_laws.proofs.Running.{is_there, gets_then, acts}
@@ -27,7 +27,6 @@ use Rattle.code_laws.specs.Regions.{IsRaisedAgain}
 use Rattle.code_laws.specs.StatementsInRange.{IsException}
 use Rattle.code_laws.proofs.RaisedAgain.{raised_again as raised_again_law}
 use Rattle.statement_code_laws.proofs.Joining.{untaken_behind}
-use Rattle.body_code_laws.proofs.BodyPlaces.{first_at, body_length}
 use Rattle.body_code_laws.proofs.BodyStands.{around_in, IsGoodBody, whole_of}
 use Rattle.body_code_laws.proofs.BodyRuns.{again_code, again_rows, doing_at, ending_at, again_at, raised_in_body, rows_of, again_inside, ends_inside, has_guarded, has_again, RowsAre, taker_inside}
 

@@ -6,9 +6,9 @@ use Rattle.kernel_base.specs.declared.answer.Answer.{Answer}
 use Rattle.kernel_base.specs.declared.answer.Answer.TheVariants.{Done}
 use Rattle.world_model.specs.Session.{Item, Ask, Session, Asked, Answered, Unanswered, ask}
 use Rattle.code_types.specs.declared.instr.Instr.TheVariants as i
-use Rattle.code_types.specs.Actions.{Action, Pushes, Requests, is_open, is_last_of}
+use Rattle.code_types.specs.Actions.{Pushes, Requests, is_open, is_last_of}
 use Rattle.code_types.specs.Answers.{gives, is_done, fits_request, answered, goes_on, without_last}
-use Rattle.code_types.specs.State.{Frame, OpenRegion, State, Asking}
+use Rattle.code_types.specs.State.{OpenRegion, State, Asking}
 use Rattle.code_types.specs.Steps.{Run, At, Over, run_with}
 use Rattle.source_meaning.specs.Store.{Store}
 use Rattle.source_meaning.specs.Flow.{Flow, Goes, Stops, then_do, fills, takes_answer, Given, Halts, reply_in, asked_in, done}
