@@ -1,4 +1,4 @@
--- All bodies of a program that initialises no region.
+-- All bodies of a program.
 use Rattle.std.proofs.Common.{◌≡◌, ℕ, suc, ◌+◌, ◌≤◌, ◌==◌, if◌then◌else◌, Bool, true, false, ◌||◌, List, [], ◌∷◌, ◌++◌, ℤ, length, Option, Some, None, slice_get, refl, sym, ap, ◌∙◌, subst, arith}
 use Rattle.std.specs.Prelude.{MatchBool}
 use Rattle.kernel_base.specs.declared.request.Request.TheVariants.{Enter}
@@ -9,6 +9,7 @@ use Rattle.program_trees.specs.ProgramTree.{BodyRowTree, CheckedTree}
 use Rattle.code_types.specs.declared.instr.Instr.TheVariants as i
 use Rattle.code_types.specs.declared.code.BodyRow.{BodyRow}
 use Rattle.code_types.specs.Actions.{is_open as is_open_there}
+use Rattle.code_types.specs.Agreement.{Agrees}
 use Rattle.code_types.specs.State.{Frame, OpenRegion}
 use Rattle.code_types.specs.Steps.{Run}
 use Rattle.source_meaning.specs.Store.{Store, Taken, first_store}
@@ -27,11 +28,14 @@ use Rattle.follow_laws.proofs.Instructions.{renamed}
 use Rattle.code_laws.specs.OwnBounds.{where_goes}
 use Rattle.code_laws.specs.BodyBounds.{bodies_within, body_within, in_region_within, inside_within}
 use Rattle.code_laws.specs.Calls.{taken_scalars, in_frame_of, open_in, EnteredBelow, FitTaken, BodiesFollow, Returns}
-use Rattle.code_laws.specs.Assembly.{CarriesProcess, CarriesProcedure, Carries, Tells}
-use Rattle.body_code_laws.specs.PlainBodies.{PlainBodiesLaw}
+use Rattle.code_laws.specs.Assembly.{CarriesProcess, CarriesProcedure, Carries, CarriesAll, Tells}
+use Rattle.code_laws.specs.Talk.{IsCompilable}
+use Rattle.body_code_laws.specs.Items.{RegionsAct}
+use Rattle.body_code_laws.specs.PlainBodies.{PlainBodiesLaw, BodiesJoined}
+use Rattle.body_code_laws.proofs.ItemRuns.{none_act_there, all_act_there}
 use Rattle.body_code_laws.proofs.BodyPlaces.{first_at, row_there, count_there}
 use Rattle.body_code_laws.proofs.BodyStands.{around_in, row_is, entered_more}
-use Rattle.body_code_laws.proofs.BodyRuns.{IsPlainBody, enter_code, enter_size, entry_at, doing_at, has_enter, Stands, calls_of, RowsAre, rows_lie, begins_there, held_there, doing_runs}
+use Rattle.body_code_laws.proofs.BodyRuns.{IsActingBody, enter_code, enter_size, entry_at, doing_at, has_enter, Stands, calls_of, RowsAre, rows_lie, begins_there, held_there, doing_runs}
 use Rattle.body_code_laws.proofs.RegionSteps.{enter_comes, enter_passes}
 use Rattle.body_code_laws.proofs.EndRuns.{process_tells, procedure_returns}
 use Rattle.body_code_laws.proofs.CriticalRuns.{IsCritical, open_returns, with_region, closed_returns}
@@ -99,7 +103,7 @@ doing_place p k body o e = ap (λ (r : Option ℕ). entry_at p k body + enter_si
 
 -- ---- processes
 
-tells : (p : CheckedTree) (instance k n : ℕ) (body : BodyRowTree) (ts : List Taken) (s : Session) → IsPlainBody p k body → RowsAre p k body → has_instances body.sort ≡ true
+tells : (p : CheckedTree) (instance k n : ℕ) (body : BodyRowTree) (ts : List Taken) (s : Session) → IsActingBody p k body → RowsAre p k body → has_instances body.sort ≡ true
     → BodiesFollow p (code_of p) instance (body_mean p instance n) (bodies_within p instance n) → FitTaken body.locals body.parameters ts → bodies_within p instance (suc n) k 1 [] ts s ≡ true
     → Tells (code_of p) k (start_in p instance k body [] [] ts s) (process_end (body_mean p instance (suc n) k 1 [] ts s))
 tells p instance k n body ts s b rows process follow fit within =
@@ -109,24 +113,27 @@ tells p instance k n body ts s b rows process follow fit within =
     let none_too : critical_region body ≡ None = sym (enters body) ∙ none in
     let begins = begins_there p instance k body [] [] ts s b.good fit in
     let e : entry_at p k body ≡ doing_at p k body = (let f = doing_place p k body None none in omega (arith, f)) in
-    let f = doing_runs p instance k n body [] [] ts begins.locals (start_in p instance k body [] [] ts s) s b (record { follow = follow; entered = tt }) rows fit (within_is p instance k n body [] [] ts s None b.good.is_body none_too within) begins.holds
+    let f = doing_runs p instance k n body [] [] ts begins.locals (start_in p instance k body [] [] ts s) s b (record { follow = follow; entered = tt; closed = λ e. refl }) rows fit (within_is p instance k n body [] [] ts s None b.good.is_body none_too within) begins.holds
     (gets_then begins.by (renamed w (entry_at p k body) (doing_at p k body) [] [] begins.locals s e refl)) in
     subst (λ (x : Ending). Tells (code_of p) k (start_in p instance k body [] [] ts s) (process_end x)) (mean_is p instance k n body [] [] ts s None b.good.is_body none_too)
     (process_tells p instance k body (start_in p instance k body [] [] ts s) _ b.good.is_body rows none process f)
 
 -- ---- procedures
 
+never_outermost : (sort : Sort) (regions : List OpenRegion) → has_instances sort ≡ false → sort ≡ Outermost → regions ≡ []
+never_outermost sort regions procedure e = absurd (let no_instances : has_instances sort ≡ true = ap has_instances e in let no : ⊥ = cc in no)
+
 -- where it is, and what is known of it
 record IsCalled (p : CheckedTree) (instance k n : ℕ) (body : BodyRowTree) (frames : List Frame) (regions : List OpenRegion) (ts : List Taken) : Type 0 where
-  is : IsPlainBody p k body
+  is : IsActingBody p k body
   rows : RowsAre p k body
   procedure : has_instances body.sort ≡ false
   follow : BodiesFollow p (code_of p) instance (body_mean p instance n) (bodies_within p instance n)
   entered : EnteredBelow (length frames) regions
   fit : FitTaken body.locals body.parameters ts
 
-stands_on : {p : CheckedTree} {instance k n : ℕ} {body : BodyRowTree} {frames : List Frame} {regions : List OpenRegion} {ts : List Taken} → IsCalled p instance k n body frames regions ts → Stands p instance n frames regions
-stands_on {p} {instance} {k} {n} {body} {frames} {regions} {ts} c = record { follow = c.follow; entered = entered_more (length frames) regions c.entered }
+stands_on : {p : CheckedTree} {instance k n : ℕ} {body : BodyRowTree} {frames : List Frame} {regions : List OpenRegion} {ts : List Taken} → IsCalled p instance k n body frames regions ts → Stands p instance n body frames regions
+stands_on {p} {instance} {k} {n} {body} {frames} {regions} {ts} c = record { follow = c.follow; entered = entered_more (length frames) regions c.entered; closed = λ e. never_outermost body.sort regions c.procedure e }
 
 returns_plain : (p : CheckedTree) (instance k n : ℕ) (body : BodyRowTree) (caller : Frame) (below : List Frame) (regions : List OpenRegion) (ts : List Taken) (s : Session) → IsCalled p instance k n body (caller ∷ below) regions ts → entered_by body ≡ None
     → within_in p instance n body (caller ∷ below) ts (open_in regions) s ≡ true
@@ -188,7 +195,7 @@ returns_critical p instance k n r body caller below regions ts s c some within =
             → Returns (code_of p) instance k body caller below regions m (leaving r body.listed (mean_in p instance n body frames ts (open_in regions ++ r ∷ []) s1))
         behind s1 locals h gone inside1 =
             let now : open_in inner ≡ open_in regions ++ r ∷ [] = open_more regions (record { region = r; frame = suc (length frames) }) in
-            let stands : Stands p instance n frames inner = record { follow = c.follow; entered = entered_too (suc (length frames)) regions (record { region = r; frame = suc (length frames) }) (entered_more (length frames) regions c.entered) (omega arith) } in
+            let stands : Stands p instance n body frames inner = record { follow = c.follow; entered = entered_too (suc (length frames)) regions (record { region = r; frame = suc (length frames) }) (entered_more (length frames) regions c.entered) (omega arith); closed = λ e. never_outermost body.sort inner c.procedure e } in
             subst (λ (rs : List ℕ). Returns (code_of p) instance k body caller below regions m (leaving r body.listed (mean_in p instance n body frames ts rs s1))) now
             (closed_returns p instance k r body caller below regions m _ critical
             (doing_runs p instance k n body frames inner ts locals m s1 c.is stands c.rows c.fit (subst (λ (rs : List ℕ). within_in p instance n body frames ts rs s1 ≡ true) (sym now) inside1)
@@ -226,7 +233,7 @@ carries_by false P Q first second = second refl
 abbrev there : CheckedTree → ℕ → BodyRowTree → BodyRow
 there p k body = body_row (site_in p body) (first_at p p.bodies 0 k)
 
-carries : (p : CheckedTree) (instance k : ℕ) (body : BodyRowTree) → IsPlainBody p k body → ((j : ℕ) (c : BodyRowTree) → slice_get p.bodies j ≡ Some c → IsPlainBody p j c) → Carries p (code_of p) instance k body (there p k body)
+carries : (p : CheckedTree) (instance k : ℕ) (body : BodyRowTree) → IsActingBody p k body → ((j : ℕ) (c : BodyRowTree) → slice_get p.bodies j ≡ Some c → IsActingBody p j c) → Carries p (code_of p) instance k body (there p k body)
 carries p instance k body b all =
     carries_by (has_instances body.sort) (CarriesProcess p (code_of p) instance k body (there p k body)) (CarriesProcedure p (code_of p) instance k body (there p k body))
     (λ process. record { tells = λ n ts s follow fit within. tells p instance k n body ts s b (rows_lie p instance n k body all b.good.is_body follow) process follow fit within })
@@ -237,12 +244,19 @@ carries p instance k body b all =
           (record { is = b; rows = rows_lie p instance n k body all b.good.is_body follow; procedure = procedure; follow = follow; entered = entered; fit = fit }) within;
     })
 
-pub plain_bodies : PlainBodiesLaw
-plain_bodies p instance outside compilable agrees =
-    let all : (k : ℕ) (b : BodyRowTree) → slice_get p.bodies k ≡ Some b → IsPlainBody p k b = λ k b is. record { good = record { compilable = compilable; agrees = agrees; is_body = is }; items = outside k b is } in
+-- where the regions among the items of each body act
+all_carried : (p : CheckedTree) (instance : ℕ) → ((k : ℕ) (b : BodyRowTree) → slice_get p.bodies k ≡ Some b → RegionsAct b.statements) → IsCompilable p → Agrees (code_of p) → CarriesAll p (code_of p) instance
+all_carried p instance regions compilable agrees =
+    let all : (k : ℕ) (b : BodyRowTree) → slice_get p.bodies k ≡ Some b → IsActingBody p k b = λ k b is. record { good = record { compilable = compilable; agrees = agrees; is_body = is }; regions = regions k b is } in
     record {
       count = count_there p p.bodies 0;
       body = λ k body is.
           let b = all k body is in
           (there p k body, row_there p k body is, row_is p k body b.good, carries p instance k body b all);
     }
+
+pub plain_bodies : PlainBodiesLaw
+plain_bodies p instance outside compilable agrees = all_carried p instance (λ k b is. none_act_there b.statements (outside k b is)) compilable agrees
+
+pub bodies_joined : BodiesJoined
+bodies_joined law p instance compilable agrees = all_carried p instance (λ k b is. all_act_there law b.statements (compilable.well_made k b is).counters.statements) compilable agrees

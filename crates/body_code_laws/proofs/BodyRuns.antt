@@ -3,6 +3,7 @@ use Rattle.std.proofs.Common.{◌≡◌, ℕ, suc, ◌+◌, ◌<◌, ◌≤◌, 
 use Rattle.kernel_base.specs.declared.ends.Exc.{Exc}
 use Rattle.world_model.specs.Session.{Session}
 use Rattle.modes.specs.ModeTree.{ModeTree}
+use Rattle.checked_program.specs.declared.program.Sort.TheVariants.{Outermost}
 use Rattle.program_trees.specs.ProgramTree.{BodyRowTree, CheckedTree}
 use Rattle.program_trees.specs.StatementTree.{StatementNodes}
 use Rattle.code_types.specs.declared.instr.Instr.{Instr}
@@ -16,6 +17,8 @@ use Rattle.source_meaning.specs.Flow.{Flow, Goes, Meaning}
 use Rattle.source_meaning.specs.ExprMeaning.{Setting}
 use Rattle.source_meaning.specs.StatementMeaning.{caught, handler_mean, statements_mean}
 use Rattle.source_meaning.specs.BodyMeaning.{body_mean, inside_of}
+use Rattle.source_meaning.specs.Typed.{around_body}
+use Rattle.source_meaning.specs.TypedStatements.{AreTyped}
 use Rattle.code_scheme.specs.StatementSite.{Site, Standing, scalars_of_result}
 use Rattle.code_scheme.specs.StatementGoing.{go_on, leave_size}
 use Rattle.code_scheme.specs.StatementPlain.{entered_by}
@@ -41,18 +44,18 @@ use Rattle.statement_code_laws.proofs.Lengths.{handler_length}
 use Rattle.statement_code_laws.proofs.Joining.{lie_wider, lie_both}
 use Rattle.statement_code_laws.proofs.ChoiceRuns.{names_inside}
 use Rattle.statement_code_laws.proofs.StatementRuns.{looping_law, handler_join}
-use Rattle.body_code_laws.specs.Items.{NameNoRegion}
+use Rattle.body_code_laws.specs.Items.{RegionsAct}
 use Rattle.body_code_laws.proofs.GuardedRuns.{resized, guarded}
-use Rattle.body_code_laws.proofs.ItemRuns.{plain_items}
+use Rattle.body_code_laws.proofs.ItemRuns.{items_law}
 use Rattle.body_code_laws.proofs.BodyPlaces.{first_at, body_length, RowsLie, code_there, taker_there}
 use Rattle.body_code_laws.proofs.BodyStands.{around_in, setting_in, IsGoodBody, whole_of, items_stand, names_there, frame_stands, holds_behind, goes_behind, within_behind}
 
 -- ---- places
 
--- a body of a program whose items name no region
-pub record IsPlainBody (p : CheckedTree) (k : ℕ) (body : BodyRowTree) : Type 0 where
+-- a body of a program, the regions among whose items act
+pub record IsActingBody (p : CheckedTree) (k : ℕ) (body : BodyRowTree) : Type 0 where
   pub good : IsGoodBody p k body
-  pub items : NameNoRegion body.statements
+  pub regions : RegionsAct body.statements
 
 -- the region that a critical procedure enters, and what raises exceptions again behind its way out
 abbrev pub enter_code : Option ℕ → List Instr
@@ -163,9 +166,10 @@ has_again p k body is = has_back (code_of p).instrs (ending_at p k body) (again_
 -- ---- the items with the handler
 
 -- where a body stands, and what it calls
-pub record Stands (p : CheckedTree) (instance n : ℕ) (below : List Frame) (regions : List OpenRegion) : Type 0 where
+pub record Stands (p : CheckedTree) (instance n : ℕ) (body : BodyRowTree) (below : List Frame) (regions : List OpenRegion) : Type 0 where
   pub follow : BodiesFollow p (code_of p) instance (body_mean p instance n) (bodies_within p instance n)
   pub entered : EnteredBelow (suc (length below)) regions
+  pub closed : body.sort ≡ Outermost → regions ≡ []
 
 abbrev pub calls_of : CheckedTree → ℕ → ℕ → List Frame → OpenCallsWithin
 calls_of p instance n below = called_within (bodies_within p instance n) (suc (length below))
@@ -176,7 +180,7 @@ along_of body n v c ss store s = statements_within v c n ss store s && where_rai
 abbrev mean_of : BodyRowTree → ℕ → Setting → StatementNodes → Meaning (Unit {0})
 mean_of body n v ss store s = caught (statements_mean v n ss store s) (handler_mean v n body.handler)
 
-pub guarded_acts : (p : CheckedTree) (instance k n : ℕ) (body : BodyRowTree) (below : List Frame) (regions : List OpenRegion) (exit : ℕ) → IsPlainBody p k body → Stands p instance n below regions
+pub guarded_acts : (p : CheckedTree) (instance k n : ℕ) (body : BodyRowTree) (below : List Frame) (regions : List OpenRegion) (exit : ℕ) → IsActingBody p k body → Stands p instance n body below regions
     → Acts (around_in p instance k body below regions exit) (doing_at p k body) (ending_at p k body) (guarded_rows (site_in p body) (doing_at p k body)) (ending_at p k body) (comes_to_end body)
     (along_of body (suc n) (setting_in p instance n body below regions) (calls_of p instance n below) (behind_lowest body.statements)) (mean_of body (suc n) (setting_in p instance n body below regions) (behind_lowest body.statements))
 guarded_acts p instance k n body below regions exit b stands =
@@ -198,11 +202,12 @@ guarded_acts p instance k n body below regions exit b stands =
     let counters = (b.good.compilable.well_made k body b.good.is_body).counters in
     let names : NamesIn w from until = names_inside w (first_at p p.bodies 0 k) (first_at p p.bodies 0 k + body_length p body (first_at p p.bodies 0 k)) from until (omega arith) (ends_inside p k body) (names_there p instance k body below regions exit b.good) in
     let has : HasAt (code_of p).instrs from (items ++ own) = has_guarded p k body b.good.is_body in
-    let stand = items_stand p instance k body below regions exit n stands.follow stands.entered in
-    let outside : NameNoRegion ss = holds_behind NameNoRegion (λ s rest h. h.1) body.statements b.items in
+    let stand = items_stand p instance k body below regions exit n b.good stands.closed stands.follow stands.entered in
+    let acting : RegionsAct ss = holds_behind RegionsAct (λ s rest h. h.1) body.statements b.regions in
+    let typed : AreTyped (around_body p body) ss = holds_behind (AreTyped (around_body p body)) (λ s rest h. h.1) body.statements (b.good.compilable.typed.bodies k body b.good.is_body).statements in
     let keeps : statements_keep ss ≡ true = holds_behind (λ rest. statements_keep rest ≡ true) (λ s rest h. (both_true _ _ h).1) body.statements counters.statements in
     let fits : FitsItems (site_in p body) ss = holds_behind (FitsItems (site_in p body)) (λ s rest h. h.1) body.statements whole.statements in
-    let first = plain_items ss outside keeps w v st (body_mean p instance n) (bodies_within p instance n) (suc n) from stand (names_inside w from until from mid (omega arith) (omega (arith, long)) names) fits (has_front (code_of p).instrs from items own has) in
+    let first = items_law ss acting keeps w v st (body_mean p instance n) (bodies_within p instance n) (suc n) from stand (names_inside w from until from mid (omega arith) (omega (arith, long)) names) fits typed (has_front (code_of p).instrs from items own has) in
     let moved : Acts w from mid (items_rows st ss from) mid g (statements_within v c (suc n) ss) (statements_mean v (suc n) ss) =
     subst (λ (t : Bool). Acts w from mid (items_rows st ss from) mid t (statements_within v c (suc n) ss) (statements_mean v (suc n) ss)) (goes_behind body.statements) first in
     resized behind until long
@@ -220,11 +225,11 @@ some_again_lie : (o : Option ℕ) (from until : ℕ) (xs : List ℕ) (target : �
 some_again_lie None from until xs target = tt
 some_again_lie (Some r) from until xs target = again_lie from until xs target
 
-own_lie : (p : CheckedTree) (instance k n : ℕ) (body : BodyRowTree) → IsPlainBody p k body → BodiesFollow p (code_of p) instance (body_mean p instance n) (bodies_within p instance n)
+own_lie : (p : CheckedTree) (instance k n : ℕ) (body : BodyRowTree) → IsActingBody p k body → BodiesFollow p (code_of p) instance (body_mean p instance n) (bodies_within p instance n)
     → LieIn (rows_of p k body) (doing_at p k body) (ending_at p k body)
 own_lie p instance k n body b follow =
     lie_both (guarded_rows (site_in p body) (doing_at p k body)) (again_rows (entered_by body) (doing_at p k body) (ending_at p k body) (raised_in_body p k body) (again_at p k body)) (doing_at p k body) (ending_at p k body)
-    (guarded_acts p instance k n body [] [] 0 b (record { follow = follow; entered = tt })).lie
+    (guarded_acts p instance k n body [] [] 0 b (record { follow = follow; entered = tt; closed = λ e. refl })).lie
     (some_again_lie (entered_by body) (doing_at p k body) (ending_at p k body) (raised_in_body p k body) (again_at p k body))
 
 -- the rows of all bodies lie in them, and those of this one between its places
@@ -232,7 +237,7 @@ pub record RowsAre (p : CheckedTree) (k : ℕ) (body : BodyRowTree) : Type 0 whe
   pub each : RowsLie p p.bodies 0
   pub own : LieIn (rows_of p k body) (doing_at p k body) (ending_at p k body)
 
-pub rows_lie : (p : CheckedTree) (instance n k : ℕ) (body : BodyRowTree) → ((j : ℕ) (b : BodyRowTree) → slice_get p.bodies j ≡ Some b → IsPlainBody p j b) → slice_get p.bodies k ≡ Some body
+pub rows_lie : (p : CheckedTree) (instance n k : ℕ) (body : BodyRowTree) → ((j : ℕ) (b : BodyRowTree) → slice_get p.bodies j ≡ Some b → IsActingBody p j b) → slice_get p.bodies k ≡ Some body
     → BodiesFollow p (code_of p) instance (body_mean p instance n) (bodies_within p instance n) → RowsAre p k body
 rows_lie p instance n k body plain is follow = record { each = each_lies; own = own_lie p instance k n body (plain k body is) follow }
   where
@@ -308,7 +313,7 @@ pub record FollowsBody (p : CheckedTree) (instance k : ℕ) (body : BodyRowTree)
 
 -- so it does from the first of them on
 pub doing_runs : (p : CheckedTree) (instance k n : ℕ) (body : BodyRowTree) (below : List Frame) (regions : List OpenRegion) (ts : List Taken) (locals : List ℤ) (m : Run) (s : Session)
-    → IsPlainBody p k body → Stands p instance n below regions → RowsAre p k body → FitTaken body.locals body.parameters ts
+    → IsActingBody p k body → Stands p instance n body below regions → RowsAre p k body → FitTaken body.locals body.parameters ts
     → inside_within body (suc n) (setting_in p instance n body below regions) (calls_of p instance n below) (first_store body ts) s ≡ true
     → Holds (around_in p instance k body below regions 0) (first_store body ts) locals
     → GetsTo (code_of p) m (here (around_in p instance k body below regions 0) (doing_at p k body) [] locals s)

@@ -63,10 +63,10 @@ pub record IsGoodBody (p : CheckedTree) (k : ℕ) (body : BodyRowTree) : Type 0 
 abbrev pub whole_of : {p : CheckedTree} {k : ℕ} {body : BodyRowTree} → IsGoodBody p k body → FitsWhole p body
 whole_of {p} {k} {body} good = good.compilable.in_range.bodies k body good.is_body
 
-pub items_stand : (p : CheckedTree) (instance k : ℕ) (body : BodyRowTree) (below : List Frame) (regions : List OpenRegion) (exit n : ℕ)
+pub items_stand : (p : CheckedTree) (instance k : ℕ) (body : BodyRowTree) (below : List Frame) (regions : List OpenRegion) (exit n : ℕ) → IsGoodBody p k body → (body.sort ≡ Outermost → regions ≡ [])
     → BodiesFollow p (code_of p) instance (body_mean p instance n) (bodies_within p instance n) → EnteredBelow (suc (length below)) regions
     → StandsAtItems (around_in p instance k body below regions exit) (setting_in p instance n body below regions) (standing_in (site_in p body)) (body_mean p instance n) (bodies_within p instance n)
-items_stand p instance k body below regions exit n follow entered =
+items_stand p instance k body below regions exit n good closed follow entered =
     record {
       stands = record {
         suited = record { instance = refl; rows = refl; open_now = refl; calls = refl; follow = follow; entered = entered };
@@ -77,6 +77,9 @@ items_stand p instance k body below regions exit n follow entered =
         way_out = refl;
       };
       unlabelled = refl;
+      compilable = good.compilable;
+      code = refl;
+      closed = closed;
     }
 
 pub names_there : (p : CheckedTree) (instance k : ℕ) (body : BodyRowTree) (below : List Frame) (regions : List OpenRegion) (exit : ℕ) → IsGoodBody p k body

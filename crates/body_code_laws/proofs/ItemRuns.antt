@@ -24,7 +24,7 @@ use Rattle.statement_code_laws.proofs.Lengths.{statement_length, handler_length}
 use Rattle.statement_code_laws.proofs.Joining.{no_part, order_acts, alone_acts}
 use Rattle.statement_code_laws.proofs.ChoiceRuns.{names_inside}
 use Rattle.statement_code_laws.proofs.StatementRuns.{looping_law, statement_join, handler_join}
-use Rattle.body_code_laws.specs.Items.{NameNoRegion, NamesNoRegion, IsNoRegion, ItemActs, ItemsAct, PlainItemsLaw}
+use Rattle.body_code_laws.specs.Items.{NameNoRegion, IsNoRegion, StandsAtItems, ItemActs, ItemsAct, RegionsAct, RegionsActIn, EachRegionActs, ItemsLaw, InitialisationsLaw}
 use Rattle.body_code_laws.proofs.GuardedRuns.{resized, guarded}
 
 -- ---- items that are statements
@@ -46,7 +46,7 @@ fits_as site t a h plain fits = fits
 
 -- an item that is a statement
 plain_act : (t : Bool) (a : ActionTree) (h : HandlerNode) → is_modulion a ≡ false → StatementActs (statement t a h) → ItemActs (statement t a h)
-plain_act t a h plain act w v st bodies inside n from stands names fits has =
+plain_act t a h plain act w v st bodies inside n from stands names fits typed has =
     let code : List Instr = item_action_code st t a h from in
     let same : code ≡ statement_code st (statement t a h) from = code_is st t a h from plain in
     let fits0 : FitsStatement st.site 0 (statement t a h) = fits_as st.site t a h plain fits in
@@ -64,7 +64,7 @@ module_goes true ss h = refl
 module_goes false ss h = refl
 
 module_act : (t : Bool) (ss : StatementNodes) (h : HandlerNode) → ItemsAct ss → HandlerActs h → ItemActs (statement t (module_at ss) h)
-module_act t ss h items handled w v st bodies inside n from stands names fits has =
+module_act t ss h items handled w v st bodies inside n from stands names fits typed has =
     let code : List Instr = items_code st ss from in
     let until : ℕ = from + length code in
     let own : List Instr = handler_code st h (go_on ss) until in
@@ -74,7 +74,7 @@ module_act t ss h items handled w v st bodies inside n from stands names fits ha
     let long : behind ≡ whole = omega (arith, length-append code own, handler_length st 0 h (go_on ss) until fits.1) in
     let names1 : NamesIn w from behind = subst (λ (j : ℕ). NamesIn w from j) (sym long) names in
     let fits1 : FitsHandler st.site (length st.exits) h = subst (λ (k : ℕ). FitsHandler st.site k h) (sym (ap length stands.unlabelled)) fits.1 in
-    let inner = items w v st bodies inside n from stands (names_inside w from behind from until (omega arith) (omega arith) names1) fits.0 (has_front w.code.instrs from code own has) in
+    let inner = items w v st bodies inside n from stands (names_inside w from behind from until (omega arith) (omega arith) names1) fits.0 typed.1 (has_front w.code.instrs from code own has) in
     let both = guarded w v st bodies inside n from until (items_rows st ss from) (go_on ss) (statements_within v (calls_from inside w) n ss) (statements_mean v n ss) h
     stands.stands inner handled fits1 (omega arith) names1 (has_back w.code.instrs from until code own refl has) in
     labelled_too t (resized behind whole long both)
@@ -88,11 +88,11 @@ module_act t ss h items handled w v st bodies inside n from stands names fits ha
 -- ---- items behind each other
 
 none_act : ItemsAct no_statements
-none_act w v st bodies inside n from stands names fits has =
+none_act w v st bodies inside n from stands names fits typed has =
     resized from (from + 0) (omega arith) (no_part w from)
 
 more_act : (t : StatementTree) (ts : StatementNodes) → ItemActs t → ItemsAct ts → ItemsAct (more_statements t ts)
-more_act t ts first rest w v st bodies inside n from stands names fits has = by_goes (goes_on t) refl names has
+more_act t ts first rest w v st bodies inside n from stands names fits typed has = by_goes (goes_on t) refl names has
   where
     own : List Instr
     own = item_code st t from
@@ -107,7 +107,7 @@ more_act t ts first rest w v st bodies inside n from stands names fits has = by_
     rows g = item_rows st t from ++ (if g then items_rows st ts mid else [])
 
     one : NamesIn w from mid → HasAt w.code.instrs from own → Acts w from mid (item_rows st t from) mid (goes_on t) (statement_within v (calls_from inside w) n t) (statement_mean v n t)
-    one names1 has1 = first w v st bodies inside n from stands names1 fits.0 has1
+    one names1 has1 = first w v st bodies inside n from stands names1 fits.0 typed.0 has1
 
     by_goes : (g : Bool) → goes_on t ≡ g → NamesIn w from (from + length (code g)) → HasAt w.code.instrs from (code g)
         → Acts w from (from + length (code g)) (rows g) (from + length (code g)) (g && go_on ts) (statements_within v (calls_from inside w) n (more_statements t ts)) (statements_mean v n (more_statements t ts))
@@ -115,7 +115,7 @@ more_act t ts first rest w v st bodies inside n from stands names fits has = by_
         let behind : List Instr = items_code st ts mid in
         let whole : ℕ = from + length (own ++ behind) in
         let same : mid + length behind ≡ whole = omega (arith, length-append own behind) in
-        let more = rest w v st bodies inside n mid stands (names_inside w from whole mid (mid + length behind) (omega arith) (omega (arith, same)) names2) fits.1 (has_back w.code.instrs from mid own behind refl has2) in
+        let more = rest w v st bodies inside n mid stands (names_inside w from whole mid (mid + length behind) (omega arith) (omega (arith, same)) names2) fits.1 typed.1 (has_back w.code.instrs from mid own behind refl has2) in
         order_acts w from mid whole whole (item_rows st t from) (items_rows st ts mid) (goes_on t) (go_on ts) (statement_within v (calls_from inside w) n t) (statements_within v (calls_from inside w) n ts) (statement_mean v n t) (statements_mean v n ts)
         (omega arith) (omega (arith, same)) (one (names_inside w from whole from mid (omega arith) (omega (arith, same)) names2) (has_front w.code.instrs from own behind has2)) (resized (mid + length behind) whole same more)
     by_goes false goes names2 has2 =
@@ -130,17 +130,41 @@ more_act t ts first rest w v st bodies inside n from stands names fits has = by_
 -- ---- the law
 
 mutual
-  items_join : (ts : StatementNodes) → NameNoRegion ts → statements_keep ts ≡ true → ItemsAct ts
-  items_join no_statements outside keeps = none_act
-  items_join (more_statements t ts) outside keeps = more_act t ts (item_join t outside.0 (both_true _ _ keeps).0) (items_join ts outside.1 (both_true _ _ keeps).1)
+  items_join : (ts : StatementNodes) → RegionsAct ts → statements_keep ts ≡ true → ItemsAct ts
+  items_join no_statements regions keeps = none_act
+  items_join (more_statements t ts) regions keeps = more_act t ts (item_join t regions.0 (both_true _ _ keeps).0) (items_join ts regions.1 (both_true _ _ keeps).1)
 
-  item_join : (t : StatementTree) → NamesNoRegion t → statement_keeps t ≡ true → ItemActs t
-  item_join (statement t a h) outside keeps = action_join t a h outside keeps
+  item_join : (t : StatementTree) → RegionsActIn t → statement_keeps t ≡ true → ItemActs t
+  item_join (statement t a h) regions keeps = action_join t a h regions keeps
 
-  action_join : (t : Bool) (a : ActionTree) (h : HandlerNode) → IsNoRegion a → (action_keeps a && handler_keeps h) ≡ true → ItemActs (statement t a h)
-  action_join t (module_at ss) h outside keeps = module_act t ss h (items_join ss outside (both_true _ _ keeps).0) (handler_join looping_law h (both_true _ _ keeps).1)
-  action_join t (region_at r ss) h outside keeps = absurd outside
-  action_join t a h outside keeps = plain_act t a h refl (statement_join looping_law (statement t a h) keeps)
+  action_join : (t : Bool) (a : ActionTree) (h : HandlerNode) → EachRegionActs t a h → (action_keeps a && handler_keeps h) ≡ true → ItemActs (statement t a h)
+  action_join t (module_at ss) h regions keeps = module_act t ss h (items_join ss regions (both_true _ _ keeps).0) (handler_join looping_law h (both_true _ _ keeps).1)
+  action_join t (region_at r ss) h regions keeps = regions
+  action_join t a h regions keeps = plain_act t a h refl (statement_join looping_law (statement t a h) keeps)
 
-pub plain_items : PlainItemsLaw
-plain_items ts outside keeps = items_join ts outside keeps
+pub items_law : ItemsLaw
+items_law ts regions keeps = items_join ts regions keeps
+
+-- ---- the regions among items
+
+mutual
+  -- there are none
+  pub none_act_there : (ts : StatementNodes) → NameNoRegion ts → RegionsAct ts
+  none_act_there no_statements outside = tt
+  none_act_there (more_statements (statement t a h) ts) outside = (no_region_acts t a h outside.0, none_act_there ts outside.1)
+
+  no_region_acts : (t : Bool) (a : ActionTree) (h : HandlerNode) → IsNoRegion a → EachRegionActs t a h
+  no_region_acts t (module_at ss) h outside = none_act_there ss outside
+  no_region_acts t (region_at r ss) h outside = absurd outside
+  no_region_acts t a h outside = tt
+
+mutual
+  -- they act, where all initialisations do
+  pub all_act_there : InitialisationsLaw → (ts : StatementNodes) → statements_keep ts ≡ true → RegionsAct ts
+  all_act_there law no_statements keeps = tt
+  all_act_there law (more_statements (statement t a h) ts) keeps = (region_acts law t a h (both_true _ _ keeps).0, all_act_there law ts (both_true _ _ keeps).1)
+
+  region_acts : InitialisationsLaw → (t : Bool) (a : ActionTree) (h : HandlerNode) → (action_keeps a && handler_keeps h) ≡ true → EachRegionActs t a h
+  region_acts law t (module_at ss) h keeps = all_act_there law ss (both_true _ _ keeps).0
+  region_acts law t (region_at r ss) h keeps = law t r ss h (both_true _ _ keeps).0 (both_true _ _ keeps).1
+  region_acts law t a h keeps = tt

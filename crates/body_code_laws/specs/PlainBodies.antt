@@ -4,8 +4,8 @@ use Rattle.program_trees.specs.ProgramTree.{BodyRowTree, CheckedTree}
 use Rattle.code_types.specs.Agreement.{Agrees}
 use Rattle.code_scheme.specs.BodyCode.{code_of}
 use Rattle.code_laws.specs.Assembly.{CarriesAll}
-use Rattle.code_laws.specs.Talk.{IsCompilable}
-use Rattle.body_code_laws.specs.Items.{NameNoRegion}
+use Rattle.code_laws.specs.Talk.{IsCompilable, BodiesLaw}
+use Rattle.body_code_laws.specs.Items.{NameNoRegion, InitialisationsLaw}
 
 -- A program none of whose regions has an initialisation. It may have regions, whose critical procedures enter them.
 abbrev pub InitialisesNoRegion : CheckedTree → Type 0
@@ -14,3 +14,7 @@ InitialisesNoRegion p = (k : ℕ) (b : BodyRowTree) → slice_get p.bodies k ≡
 -- The bodies of the code of such a program do what they mean, in each instance.
 abbrev pub PlainBodiesLaw : Type 0
 PlainBodiesLaw = (p : CheckedTree) (instance : ℕ) → InitialisesNoRegion p → IsCompilable p → Agrees (code_of p) → CarriesAll p (code_of p) instance
+
+-- So do all bodies of a program, where the initialisations of regions act as they mean.
+abbrev pub BodiesJoined : Type 0
+BodiesJoined = InitialisationsLaw → BodiesLaw

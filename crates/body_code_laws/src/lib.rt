@@ -5,4 +5,4 @@
 
 mod laws;
 
-pub use laws::{plain_bodies_law, plain_items_law};
+pub use laws::{bodies_joined, items_law, plain_bodies_law};
