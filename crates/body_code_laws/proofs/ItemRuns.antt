@@ -24,7 +24,7 @@ use Rattle.statement_code_laws.proofs.Lengths.{statement_length, handler_length}
 use Rattle.statement_code_laws.proofs.Joining.{no_part, order_acts, alone_acts}
 use Rattle.statement_code_laws.proofs.ChoiceRuns.{names_inside}
 use Rattle.statement_code_laws.proofs.StatementRuns.{looping_law, statement_join, handler_join}
-use Rattle.body_code_laws.specs.Items.{NameNoRegion, IsNoRegion, StandsAtItems, ItemActs, ItemsAct, RegionsAct, RegionsActIn, EachRegionActs, ItemsLaw, InitialisationsLaw}
+use Rattle.body_code_laws.specs.Items.{NameNoRegion, IsNoRegion, ItemActs, ItemsAct, RegionsAct, RegionsActIn, EachRegionActs, ItemsLaw, InitialisationsLaw}
 use Rattle.body_code_laws.proofs.GuardedRuns.{resized, guarded}
 
 -- ---- items that are statements
