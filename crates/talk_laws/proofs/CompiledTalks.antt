@@ -9,12 +9,13 @@ use Rattle.code_laws.specs.Talk.{IsCompilable, BodiesLaw}
 use Rattle.code_laws.proofs.Assembling.{assembled}
 use Rattle.code_laws.proofs.Births.{birth_fits}
 use Rattle.code_laws.proofs.SameRuns.{code_talks}
+use Rattle.body_code_laws.proofs.AllBodies.{plain_bodies}
 use Rattle.bounds_laws.proofs.BodiesLie.{within}
 use Rattle.scheme_heights.proofs.TypedPrograms.{typed_agrees}
 use Rattle.text_laws.specs.Laws.{HasFittingTalks}
 use Rattle.text_laws.proofs.CodeJournals.{same_runs}
 use Rattle.text_laws.proofs.Suits.{suits}
-use Rattle.talk_laws.specs.Laws.{CompilableAgreesLaw, IsCarried, CarriedTalksLaw, CarriedRunsLaw, CompiledLaw}
+use Rattle.talk_laws.specs.Laws.{CompilableAgreesLaw, IsCarried, CarriedTalksLaw, CarriedRunsLaw, IsPlainProgram, PlainCompiledLaw, CompiledLaw}
 use Rattle.talk_laws.proofs.StatementsCounted.{text_fits}
 
 pub compilable_agrees : CompilableAgreesLaw
@@ -37,6 +38,20 @@ pub carried_runs : CarriedRunsLaw
 carried_runs = record {
   same = λ p facts events carried are. same_runs p (code_of p) facts events are (has_talks p carried);
   suits = λ p facts carried are. suits p (code_of p) facts are (has_talks p carried);
+}
+
+plain_carried : (p : CheckedTree) → IsPlainProgram p → IsCarried p
+plain_carried p is = record {
+  compilable = is.compilable;
+  bodies = λ instance. plain_bodies p instance is.plain is.compilable (compilable_agrees p is.compilable);
+}
+
+pub plain_compiled : PlainCompiledLaw
+plain_compiled = record {
+  carried = plain_carried;
+  talks = λ p is. has_talks p (plain_carried p is);
+  same = λ p facts events is are. carried_runs.same p facts events (plain_carried p is) are;
+  suits = λ p facts is are. carried_runs.suits p facts (plain_carried p is) are;
 }
 
 carried_by : BodiesLaw → (p : CheckedTree) → IsCompilable p → IsCarried p

@@ -11,6 +11,7 @@ use Rattle.source_meaning.specs.Runs.{IsSourceRun}
 use Rattle.code_scheme.specs.BodyCode.{code_of}
 use Rattle.code_laws.specs.Assembly.{CarriesAll, TalksAs}
 use Rattle.code_laws.specs.Talk.{IsCompilable, BodiesLaw}
+use Rattle.body_code_laws.specs.PlainBodies.{InitialisesNoRegion}
 use Rattle.text_laws.specs.Laws.{AreTypedFacts, HasFittingTalks}
 
 -- The code of a program that may be compiled agrees, in all that a guard asks.
@@ -37,7 +38,22 @@ pub record CarriedRunsLaw : Type 0 where
       → IsCodeRun (code_of p) facts events ↔ IsSourceRun p facts events
   pub suits : (p : CheckedTree) (facts : Facts) → IsCarried p → AreTypedFacts p facts → Suits (code_of p) facts
 
--- Each program that may be compiled is such a one, where the bodies of such code do what they mean; so its code has its talks.
+-- A program that may be compiled, none of whose regions has an initialisation. It may have regions with critical procedures.
+pub record IsPlainProgram (p : CheckedTree) : Type 0 where
+  pub compilable : IsCompilable p
+  pub plain : InitialisesNoRegion p
+
+-- Its bodies do what they mean in its code. So the code has its talks, from its facts its runs are exactly those of the text, and
+-- it suits these facts.
+pub record PlainCompiledLaw : Type 0 where
+  pub carried : (p : CheckedTree) → IsPlainProgram p → IsCarried p
+  pub talks : (p : CheckedTree) → IsPlainProgram p → HasFittingTalks p (code_of p)
+  pub same : (p : CheckedTree) (facts : Facts) (events : List Event)
+      → IsPlainProgram p → AreTypedFacts p facts
+      → IsCodeRun (code_of p) facts events ↔ IsSourceRun p facts events
+  pub suits : (p : CheckedTree) (facts : Facts) → IsPlainProgram p → AreTypedFacts p facts → Suits (code_of p) facts
+
+-- In the code of every program that may be compiled the bodies do what they mean, where those of such code do; so it has its talks.
 pub record CompiledLaw : Type 0 where
   pub carried : BodiesLaw → (p : CheckedTree) → IsCompilable p → IsCarried p
   pub talks : BodiesLaw → (p : CheckedTree) → IsCompilable p → HasFittingTalks p (code_of p)

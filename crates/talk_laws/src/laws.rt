@@ -1,5 +1,5 @@
 // Laws of compiled code. Each is a fact about the definitions, which a caller learns by calling the function.
-ghost use Rattle.talk_laws.specs.Laws.{CarriedRunsLaw, CarriedTalksLaw, CompilableAgreesLaw, CompiledLaw};
+ghost use Rattle.talk_laws.specs.Laws.{CarriedRunsLaw, CarriedTalksLaw, CompilableAgreesLaw, CompiledLaw, PlainCompiledLaw};
 
 /// The code of a program that may be compiled agrees, in all that a guard asks.
 pub fn compilable_agrees_law()
@@ -16,7 +16,12 @@ pub fn carried_runs_law()
     ensures { CarriedRunsLaw }
 {}
 
-/// A program that may be compiled has such code, where the bodies of compiled code do what they mean.
+/// A program that may be compiled, none of whose regions has an initialisation, has such code.
+pub fn plain_compiled_law()
+    ensures { PlainCompiledLaw }
+{}
+
+/// Every program that may be compiled has such code, where the bodies of compiled code do what they mean.
 pub fn compiled_law()
     ensures { CompiledLaw }
 {}
