@@ -36,7 +36,7 @@ use Rattle.body_code_laws.proofs.ItemRuns.{none_act_there, all_act_there}
 use Rattle.body_code_laws.proofs.BodyPlaces.{first_at, row_there, count_there}
 use Rattle.body_code_laws.proofs.BodyStands.{around_in, row_is, entered_more}
 use Rattle.body_code_laws.proofs.BodyRuns.{IsActingBody, enter_code, enter_size, entry_at, doing_at, has_enter, Stands, calls_of, RowsAre, rows_lie, begins_there, held_there, doing_runs}
-use Rattle.body_code_laws.proofs.RegionSteps.{enter_comes, enter_passes}
+use Rattle.body_code_laws.proofs.RegionSteps.{open_more, entered_too, enter_comes, enter_passes}
 use Rattle.body_code_laws.proofs.EndRuns.{process_tells, procedure_returns}
 use Rattle.body_code_laws.proofs.CriticalRuns.{IsCritical, open_returns, with_region, closed_returns}
 
@@ -58,14 +58,6 @@ head_alone p k body Procedure head e = absurd (let no : ⊥ = cc in no)
 open_alike : (r : ℕ) (qs : List OpenRegion) → is_open r (open_in qs) ≡ is_open_there r qs
 open_alike r [] = refl
 open_alike r (q ∷ qs) = ap (λ (b : Bool). (q.region == r) || b) (open_alike r qs)
-
-open_more : (qs : List OpenRegion) (q : OpenRegion) → open_in (qs ++ q ∷ []) ≡ open_in qs ++ q.region ∷ []
-open_more [] q = refl
-open_more (x ∷ qs) q = ap (λ (rs : List ℕ). x.region ∷ rs) (open_more qs q)
-
-entered_too : (n : ℕ) (qs : List OpenRegion) (q : OpenRegion) → EnteredBelow n qs → q.frame ≤ n → EnteredBelow n (qs ++ q ∷ [])
-entered_too n [] q below low = (low, tt)
-entered_too n (x ∷ qs) q below low = (below.0, entered_too n qs q below.1 low)
 
 -- ---- a body in its region
 
