@@ -38,6 +38,7 @@ use Rattle.body_code_laws.proofs.BodyStands.{around_in, row_is, entered_more}
 use Rattle.body_code_laws.proofs.BodyRuns.{IsActingBody, enter_code, enter_size, entry_at, doing_at, has_enter, Stands, calls_of, RowsAre, rows_lie, begins_there, held_there, doing_runs}
 use Rattle.body_code_laws.proofs.RegionSteps.{open_more, entered_too, enter_comes, enter_passes}
 use Rattle.body_code_laws.proofs.EndRuns.{process_tells, procedure_returns}
+use Rattle.body_code_laws.proofs.RegionRuns.{initialisations_joined}
 use Rattle.body_code_laws.proofs.CriticalRuns.{IsCritical, open_returns, with_region, closed_returns}
 
 -- ---- regions
@@ -251,4 +252,4 @@ pub plain_bodies : PlainBodiesLaw
 plain_bodies p instance outside compilable agrees = all_carried p instance (λ k b is. none_act_there b.statements (outside k b is)) compilable agrees
 
 pub bodies_joined : BodiesJoined
-bodies_joined law p instance compilable agrees = all_carried p instance (λ k b is. all_act_there law b.statements (compilable.well_made k b is).counters.statements) compilable agrees
+bodies_joined rests p instance compilable agrees = all_carried p instance (λ k b is. all_act_there (initialisations_joined rests) b.statements (compilable.well_made k b is).counters.statements) compilable agrees

@@ -13,7 +13,7 @@ pub fn plain_bodies_law()
     ensures { PlainBodiesLaw }
 {}
 
-/// The bodies of the code of any program do, where the initialisations of regions act as they mean.
+/// The bodies of the code of any program do, on two facts about statements.
 pub fn bodies_joined()
     ensures { BodiesJoined }
 {}
