@@ -1,12 +1,12 @@
 -- The initialisations of a region with their handler.
 use Rattle.std.proofs.Common.{◌≡◌, ℕ, zero, suc, ◌+◌, ◌*◌, ◌<◌, ◌≤◌, if◌then◌else◌, Bool, true, false, ◌&&◌, ◌||◌, List, [], ◌∷◌, ◌++◌, ℤ, length, Option, Some, None, slice_get, ◌==◌, eqb-true, eq-eqb, ltb-true, inl, inr, refl, sym, ap, ◌∙◌, subst, arith, length-append, append_assoc}
 use Rattle.kernel_base.specs.declared.ends.Exc.{Exc}
-use Rattle.kernel_base.specs.declared.request.Request.TheVariants.{Enter, Leave}
+use Rattle.kernel_base.specs.declared.request.Request.TheVariants.{Enter}
 use Rattle.world_model.specs.Session.{Session}
 use Rattle.checked_program.specs.declared.program.Sort.{Sort}
 use Rattle.checked_program.specs.declared.program.Sort.TheVariants.{Outermost, Procedure}
 use Rattle.program_trees.specs.ProgramTree.{BodyRowTree, CheckedTree}
-use Rattle.program_trees.specs.StatementTree.{StatementTree, statement, region_at, StatementNodes, HandlerNode}
+use Rattle.program_trees.specs.StatementTree.{statement, region_at, StatementNodes, HandlerNode}
 use Rattle.code_types.specs.declared.instr.Instr.{Instr}
 use Rattle.code_types.specs.declared.instr.Instr.TheVariants as i
 use Rattle.code_types.specs.declared.code.Code.{Code}
@@ -20,35 +20,32 @@ use Rattle.source_meaning.specs.Store.{Store}
 use Rattle.source_meaning.specs.Flow.{Flow, Goes, Raised, Exits, Returned, Stops, Gone, Bound, Meaning, then_do, done}
 use Rattle.source_meaning.specs.ExprMeaning.{Setting}
 use Rattle.source_meaning.specs.StatementMeaning.{then_leave, is_open, opened, caught, handler_mean, statement_mean, statements_mean}
-use Rattle.source_meaning.specs.BodyMeaning.{Bodies}
-use Rattle.code_scheme.specs.StatementSite.{Site, Standing}
+use Rattle.code_scheme.specs.StatementSite.{Standing}
 use Rattle.code_scheme.specs.StatementGoing.{goes_on, handler_goes_on, leave_size}
 use Rattle.code_scheme.specs.StatementSize.{statements_size, handler_size}
 use Rattle.code_scheme.specs.StatementCode.{statements_code, handler_code}
 use Rattle.code_scheme.specs.StatementRows.{statements_rows, handler_rows}
 use Rattle.code_scheme.specs.BodyItems.{listed_in, raised_in, raise_again_code, raise_again_rows, initialising_code, releasing_code, region_code, region_rows}
 use Rattle.code_scheme.specs.BodyCode.{code_of}
-use Rattle.follow_laws.specs.Follows.{HasAt, Around, here, Holds, GetsTo, CanArise, RaisesIn, ComesBy, always, no_stack, HoldsWith, Nothing, Does}
+use Rattle.follow_laws.specs.Follows.{HasAt, Around, here, Holds, CanArise, RaisesIn, ComesBy, always, no_stack, HoldsWith, Nothing, Does}
 use Rattle.follow_laws.specs.Parts.{IsCovered}
 use Rattle.follow_laws.proofs.Running.{has_front, has_back, stays, gets_then, after}
 use Rattle.follow_laws.proofs.Instructions.{jumps_by, renamed}
 use Rattle.follow_laws.proofs.HandledRuns.{taker_right, taker_left, lands}
 use Rattle.code_laws.specs.OwnBounds.{where_goes}
-use Rattle.code_laws.specs.BodyBounds.{BodiesWithin}
 use Rattle.code_laws.specs.Calls.{open_in}
 use Rattle.code_laws.specs.Expressions.{NamesIn}
 use Rattle.code_laws.specs.Regions.{IsRaisedAgain}
 use Rattle.code_laws.specs.StatementBounds.{Along, where_raises, statement_within, statements_within, handler_within}
 use Rattle.code_laws.specs.StatementsInRange.{FitsStatements, FitsHandler, FitsProgram}
 use Rattle.code_laws.specs.Statements.{StandsAs, calls_from}
-use Rattle.code_laws.specs.Counters.{statements_keep, handler_keeps}
 use Rattle.code_laws.proofs.RaisedAgain.{raised_again as raised_again_law}
 use Rattle.statement_code_laws.specs.Parts.{LieIn, Acts}
 use Rattle.statement_code_laws.proofs.Lengths.{statements_length, handler_length}
 use Rattle.statement_code_laws.proofs.Joining.{untaken_behind, lie_wider, lie_both}
 use Rattle.statement_code_laws.proofs.ChoiceRuns.{names_inside}
 use Rattle.statement_code_laws.proofs.StatementRuns.{looping_law, statements_join, handler_join}
-use Rattle.body_code_laws.specs.Items.{StandsAtItems, ItemActs, InitialisationsLaw}
+use Rattle.body_code_laws.specs.Items.{InitialisationsLaw}
 use Rattle.body_code_laws.specs.Initialisations.{RaisesKnown, InitialisationRests, InitialisationsJoined}
 use Rattle.body_code_laws.proofs.GuardedRuns.{resized, guarded}
 use Rattle.body_code_laws.proofs.NoExits.{one_place}

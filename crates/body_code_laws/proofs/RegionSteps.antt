@@ -1,5 +1,5 @@
 -- What Enter and Leave do: the region is open behind the one, and no longer behind the other.
-use Rattle.std.proofs.Common.{◌≡◌, ℕ, suc, ◌+◌, ◌≤◌, ◌||◌, if◌then◌else◌, Bool, true, false, ◌&&◌, ◌==◌, List, [], ◌∷◌, ◌++◌, ℤ, length, slice_get, Some, eq-eqb, eqb-true, refl, sym, ap, ◌∙◌, arith}
+use Rattle.std.proofs.Common.{◌≡◌, ℕ, suc, ◌+◌, ◌≤◌, if◌then◌else◌, Bool, true, false, ◌&&◌, ◌==◌, List, [], ◌∷◌, ◌++◌, ℤ, length, slice_get, Some, eq-eqb, eqb-true, refl, sym, ap, ◌∙◌, arith}
 use Rattle.kernel_base.specs.declared.request.Request.{Request}
 use Rattle.kernel_base.specs.declared.request.Request.TheVariants.{Enter, Leave}
 use Rattle.kernel_base.specs.declared.answer.Answer.{Answer}
