@@ -1,5 +1,5 @@
 -- All bodies of a program.
-use Rattle.std.proofs.Common.{◌≡◌, ℕ, suc, ◌+◌, ◌≤◌, ◌==◌, if◌then◌else◌, Bool, true, false, ◌||◌, List, [], ◌∷◌, ◌++◌, ℤ, length, Option, Some, None, slice_get, refl, sym, ap, ◌∙◌, subst, arith}
+use Rattle.std.proofs.Common.{◌≡◌, ℕ, suc, ◌+◌, ◌==◌, if◌then◌else◌, Bool, true, false, ◌||◌, List, [], ◌∷◌, ◌++◌, ℤ, length, Option, Some, None, slice_get, refl, sym, ap, ◌∙◌, subst, arith}
 use Rattle.std.specs.Prelude.{MatchBool}
 use Rattle.kernel_base.specs.declared.request.Request.TheVariants.{Enter}
 use Rattle.world_model.specs.Session.{Session}
@@ -36,8 +36,9 @@ use Rattle.body_code_laws.proofs.ItemRuns.{none_act_there, all_act_there}
 use Rattle.body_code_laws.proofs.BodyPlaces.{first_at, row_there, count_there}
 use Rattle.body_code_laws.proofs.BodyStands.{around_in, row_is, entered_more}
 use Rattle.body_code_laws.proofs.BodyRuns.{IsActingBody, enter_code, enter_size, entry_at, doing_at, has_enter, Stands, calls_of, RowsAre, rows_lie, begins_there, held_there, doing_runs}
-use Rattle.body_code_laws.proofs.RegionSteps.{enter_comes, enter_passes}
+use Rattle.body_code_laws.proofs.RegionSteps.{open_more, entered_too, enter_comes, enter_passes}
 use Rattle.body_code_laws.proofs.EndRuns.{process_tells, procedure_returns}
+use Rattle.body_code_laws.proofs.RegionRuns.{initialisations_joined}
 use Rattle.body_code_laws.proofs.CriticalRuns.{IsCritical, open_returns, with_region, closed_returns}
 
 -- ---- regions
@@ -58,14 +59,6 @@ head_alone p k body Procedure head e = absurd (let no : ⊥ = cc in no)
 open_alike : (r : ℕ) (qs : List OpenRegion) → is_open r (open_in qs) ≡ is_open_there r qs
 open_alike r [] = refl
 open_alike r (q ∷ qs) = ap (λ (b : Bool). (q.region == r) || b) (open_alike r qs)
-
-open_more : (qs : List OpenRegion) (q : OpenRegion) → open_in (qs ++ q ∷ []) ≡ open_in qs ++ q.region ∷ []
-open_more [] q = refl
-open_more (x ∷ qs) q = ap (λ (rs : List ℕ). x.region ∷ rs) (open_more qs q)
-
-entered_too : (n : ℕ) (qs : List OpenRegion) (q : OpenRegion) → EnteredBelow n qs → q.frame ≤ n → EnteredBelow n (qs ++ q ∷ [])
-entered_too n [] q below low = (low, tt)
-entered_too n (x ∷ qs) q below low = (below.0, entered_too n qs q below.1 low)
 
 -- ---- a body in its region
 
@@ -259,4 +252,4 @@ pub plain_bodies : PlainBodiesLaw
 plain_bodies p instance outside compilable agrees = all_carried p instance (λ k b is. none_act_there b.statements (outside k b is)) compilable agrees
 
 pub bodies_joined : BodiesJoined
-bodies_joined law p instance compilable agrees = all_carried p instance (λ k b is. all_act_there law b.statements (compilable.well_made k b is).counters.statements) compilable agrees
+bodies_joined rests p instance compilable agrees = all_carried p instance (λ k b is. all_act_there (initialisations_joined rests) b.statements (compilable.well_made k b is).counters.statements) compilable agrees

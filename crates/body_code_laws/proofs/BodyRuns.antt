@@ -217,7 +217,7 @@ guarded_acts p instance k n body below regions exit b stands =
 
 -- ---- the rows of all bodies
 
-again_lie : (from until : ℕ) (xs : List ℕ) (target : ℕ) → LieIn (raise_again_rows from until xs target) from until
+pub again_lie : (from until : ℕ) (xs : List ℕ) (target : ℕ) → LieIn (raise_again_rows from until xs target) from until
 again_lie from until [] target = tt
 again_lie from until (x ∷ xs) target = (let e : from ≤ from = omega arith in e, let e : until ≤ until = omega arith in e, again_lie from until xs (target + 2))
 

@@ -8,4 +8,5 @@ pub mod RegionSteps
 pub mod RaisingAgain
 pub mod EndRuns
 pub mod CriticalRuns
+pub mod RegionRuns
 pub mod AllBodies

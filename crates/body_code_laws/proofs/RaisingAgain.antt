@@ -43,7 +43,7 @@ number_there Extinct = refl
 number_there (User k) = ap exception_of (let e : 7 + k ≡ suc (suc (suc (suc (suc (suc (suc k)))))) = omega arith in e)
 
 -- a listed exception is one of the program
-listed_there : (p : CheckedTree) (listed : List ℕ) (x : Exc) → All (IsException p) listed → names_exception listed x ≡ true → exception_number x < 7 + length p.exceptions
+pub listed_there : (p : CheckedTree) (listed : List ℕ) (x : Exc) → All (IsException p) listed → names_exception listed x ≡ true → exception_number x < 7 + length p.exceptions
 listed_there p [] x all e = absurd (let no : ⊥ = cc in no)
 listed_there p (y ∷ listed) x all e = by_same (y == exception_number x) refl e (λ f. listed_there p listed x (All-tail (IsException p) y listed all) f)
   where
@@ -52,7 +52,7 @@ listed_there p (y ∷ listed) x all e = by_same (y == exception_number x) refl e
     by_same false is f others = others f
 
 -- the code's bodies list what the program's do
-listed_same : (p : CheckedTree) (bs : List BodyRowTree) (at k : ℕ) → listed_of (slice_get (body_rows p bs at) k) ≡ listed_in (slice_get bs k)
+pub listed_same : (p : CheckedTree) (bs : List BodyRowTree) (at k : ℕ) → listed_of (slice_get (body_rows p bs at) k) ≡ listed_in (slice_get bs k)
 listed_same p [] at k = refl
 listed_same p (b ∷ bs) at zero = refl
 listed_same p (b ∷ bs) at (suc k) = listed_same p bs (at + length (body_code (site_in p b) at)) k
@@ -60,7 +60,7 @@ listed_same p (b ∷ bs) at (suc k) = listed_same p bs (at + length (body_code (
 -- ---- rows
 
 -- what takes it is behind the place of the first, and before the end of all
-target_behind : (r from until : ℕ) (xs : List ℕ) (target place : ℕ) (x : Exc) (row : Handler) → taker (raise_again_rows from until xs target) place x ≡ Some row
+pub target_behind : (r from until : ℕ) (xs : List ℕ) (target place : ℕ) (x : Exc) (row : Handler) → taker (raise_again_rows from until xs target) place x ≡ Some row
     → (target ≤ row.target) × (row.target + 1 < target + length (raise_again_code r xs))
 target_behind r from until [] target place x row e = absurd (let no : ⊥ = cc in no)
 target_behind r from until (y ∷ xs) target place x row e = by_head (takes head place x) e (λ f. target_behind r from until xs (target + 2) place x row f)

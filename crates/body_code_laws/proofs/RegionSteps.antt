@@ -1,5 +1,5 @@
 -- What Enter and Leave do: the region is open behind the one, and no longer behind the other.
-use Rattle.std.proofs.Common.{◌≡◌, ℕ, suc, ◌+◌, if◌then◌else◌, Bool, true, false, ◌&&◌, ◌==◌, List, [], ◌∷◌, ◌++◌, ℤ, length, slice_get, Some, eq-eqb, eqb-true, refl, sym, ap, ◌∙◌, arith}
+use Rattle.std.proofs.Common.{◌≡◌, ℕ, suc, ◌+◌, ◌≤◌, if◌then◌else◌, Bool, true, false, ◌&&◌, ◌==◌, List, [], ◌∷◌, ◌++◌, ℤ, length, slice_get, Some, eq-eqb, eqb-true, refl, sym, ap, ◌∙◌, arith}
 use Rattle.kernel_base.specs.declared.request.Request.{Request}
 use Rattle.kernel_base.specs.declared.request.Request.TheVariants.{Enter, Leave}
 use Rattle.kernel_base.specs.declared.answer.Answer.{Answer}
@@ -16,7 +16,7 @@ use Rattle.follow_laws.specs.Follows.{Around, frame_at, state_at, here, Holds, G
 use Rattle.follow_laws.specs.Laws.{GoesOnBehind}
 use Rattle.follow_laws.proofs.Running.{is_there, one_more, gets_then, acts, own_frame}
 use Rattle.follow_laws.proofs.Requesting.{answered_is, fits_alike}
-use Rattle.code_laws.specs.Calls.{EnteredBelow}
+use Rattle.code_laws.specs.Calls.{open_in, EnteredBelow}
 
 -- the region that a frame enters
 abbrev pub opened_by : Around → ℕ → OpenRegion
@@ -25,6 +25,14 @@ opened_by w r = record { region = r; frame = suc (length w.below) }
 -- the same surroundings, where the frame has entered a region
 abbrev pub entered_in : Around → ℕ → Around
 entered_in w r = record w { regions = w.regions ++ opened_by w r ∷ [] }
+
+pub open_more : (qs : List OpenRegion) (q : OpenRegion) → open_in (qs ++ q ∷ []) ≡ open_in qs ++ q.region ∷ []
+open_more [] q = refl
+open_more (x ∷ qs) q = ap (λ (rs : List ℕ). x.region ∷ rs) (open_more qs q)
+
+pub entered_too : (n : ℕ) (qs : List OpenRegion) (q : OpenRegion) → EnteredBelow n qs → q.frame ≤ n → EnteredBelow n (qs ++ q ∷ [])
+entered_too n [] q below low = (low, tt)
+entered_too n (x ∷ qs) q below low = (below.0, entered_too n qs q below.1 low)
 
 first_true : (a b : Bool) → (a && b) ≡ true → a ≡ true
 first_true true b e = refl

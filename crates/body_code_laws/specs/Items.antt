@@ -87,6 +87,6 @@ abbrev mutual
 abbrev pub ItemsLaw : Type 0
 ItemsLaw = (ts : StatementNodes) → RegionsAct ts → statements_keep ts ≡ true → ItemsAct ts
 
--- What is owed: the initialisations of a region with their handler act as they mean.
+-- The initialisations of a region with their handler act as they mean, where each loop alone sets its counter.
 abbrev pub InitialisationsLaw : Type 0
 InitialisationsLaw = (labelled : Bool) (r : ℕ) (ss : StatementNodes) (h : HandlerNode) → statements_keep ss ≡ true → handler_keeps h ≡ true → ItemActs (statement labelled (region_at r ss) h)

@@ -5,4 +5,4 @@
 
 mod laws;
 
-pub use laws::{bodies_joined, items_law, plain_bodies_law};
+pub use laws::{bodies_joined, initialisations_joined, items_law, plain_bodies_law};
