@@ -63,7 +63,7 @@ behind_head true h o e = absurd (let no : ⊥ = cc in no)
 behind_head false h o e = refl
 
 -- no alternatives
-nothing_catches : (w : Around) (from until lo hi behind : ℕ) (within : Exc → Along) → Catches w from until [] lo hi [] behind false within (λ x. Raised x)
+pub nothing_catches : (w : Around) (from until lo hi behind : ℕ) (within : Exc → Along) → Catches w from until [] lo hi [] behind false within (λ x. Raised x)
 nothing_catches w from until lo hi behind within =
     record {
       own_lie = tt;
@@ -338,11 +338,11 @@ abbrev pub HandlerCatches : HandlerNode → Type 0
 HandlerCatches no_handler = Unit {0}
 HandlerCatches (handler hs o) = HandledAct hs × SomeAct o
 
-or_right : (a b : Bool) → b ≡ true → (a || b) ≡ true
+pub or_right : (a b : Bool) → b ≡ true → (a || b) ≡ true
 or_right true b e = refl
 or_right false b e = e
 
-or_left : (a b : Bool) → a ≡ true → (a || b) ≡ true
+pub or_left : (a b : Bool) → a ≡ true → (a || b) ≡ true
 or_left true b e = refl
 or_left false b e = absurd (let no : ⊥ = cc in no)
 

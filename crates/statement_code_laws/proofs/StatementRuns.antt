@@ -39,7 +39,7 @@ receives_act : (rs : ReceiveNodes) → EachReceive rs → ReceivesAct rs
 receives_act no_receives each = no_receives_act
 receives_act (more_receives source ks ss rs) each = more_receives_act source ks ss rs each.0 (receives_act rs each.1)
 
-handled_act : (hs : HandledNodes) → EachHandled hs → HandledAct hs
+pub handled_act : (hs : HandledNodes) → EachHandled hs → HandledAct hs
 handled_act no_handled each = no_handled_act
 handled_act (more_handled names ss hs) each = more_handled_act names ss hs each.0 (handled_act hs each.1)
 
@@ -71,10 +71,10 @@ mutual
   statements_join p no_statements keeps = joining_law.none
   statements_join p (more_statements t ts) keeps = joining_law.more t ts (statement_join p t (both_true _ _ keeps).0) (statements_join p ts (both_true _ _ keeps).1)
 
-  statement_join : LoopsAct → (t : StatementTree) → statement_keeps t ≡ true → StatementActs t
+  pub statement_join : LoopsAct → (t : StatementTree) → statement_keeps t ≡ true → StatementActs t
   statement_join p (statement t a h) keeps = joining_law.handled t a h (action_join p a (both_true _ _ keeps).0) (handler_join p h (both_true _ _ keeps).1)
 
-  handler_join : LoopsAct → (h : HandlerNode) → handler_keeps h ≡ true → HandlerActs h
+  pub handler_join : LoopsAct → (h : HandlerNode) → handler_keeps h ≡ true → HandlerActs h
   handler_join p no_handler keeps = tt
   handler_join p (handler hs o) keeps = (handled_join p hs (both_true _ _ keeps).0, otherwise_join p o (both_true _ _ keeps).1)
 

@@ -1,0 +1,12 @@
+pub mod GuardedRuns
+pub mod ItemRuns
+pub mod BodyPlaces
+pub mod NoExits
+pub mod BodyStands
+pub mod BodyRuns
+pub mod RegionSteps
+pub mod RaisingAgain
+pub mod EndRuns
+pub mod CriticalRuns
+pub mod RegionRuns
+pub mod AllBodies

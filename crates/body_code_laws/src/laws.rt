@@ -1,0 +1,24 @@
+// Laws of the code of bodies. Each is a fact about the definitions, which a caller learns by calling the function.
+ghost use Rattle.body_code_laws.specs.Initialisations.{InitialisationsJoined};
+ghost use Rattle.body_code_laws.specs.Items.{ItemsLaw};
+ghost use Rattle.body_code_laws.specs.PlainBodies.{BodiesJoined, PlainBodiesLaw};
+
+/// Statements and modules with their handlers act as they mean, where the regions among them do.
+pub fn items_law()
+    ensures { ItemsLaw }
+{}
+
+/// The bodies of the code of a program that initialises no region do what they mean, critical procedures among them.
+pub fn plain_bodies_law()
+    ensures { PlainBodiesLaw }
+{}
+
+/// The bodies of the code of any program do, on two facts about statements.
+pub fn bodies_joined()
+    ensures { BodiesJoined }
+{}
+
+/// The initialisations of a region act as they mean, on two facts about statements.
+pub fn initialisations_joined()
+    ensures { InitialisationsJoined }
+{}

@@ -1,0 +1,4 @@
+pub mod CountsInRange
+pub mod StatementsCounted
+pub mod CompiledTalks
+pub mod PlainExample
