@@ -1,5 +1,5 @@
 -- The numbers of scalars in the statements of a typed program in range fit each other.
-use Rattle.std.proofs.Common.{◌≡◌, ℕ, Bool, true, false, Option, Some, None, refl, subst, arith}
+use Rattle.std.proofs.Common.{◌≡◌, ◌∷◌, [], List, ℕ, ℤ, length, Bool, true, false, Option, Some, None, refl, subst, arith}
 use Rattle.modes.specs.ModeTree.{ModeTree}
 use Rattle.program_trees.specs.ExprTree.{ExprTree, ReceivedTree, LocationTree, location_count, count_of}
 use Rattle.program_trees.specs.StatementTree.{SentTree, to_buffer, signal, ControlTree, while_true, for_ever, for_members, for_steps, StatementTree, statement, ActionTree, do_nothing, declare, set_lowest, module_at, region_at, assign, update, perform, drop_routine, evaluate, put_int, put_text, put_line, exit_from, return_with, set_result, assert_that, cause, stop, start_of, delay, continue_at, send, if_then, case_of, do_loop, begin_end, delay_case, receive_buffers, receive_signals, StatementNodes, no_statements, more_statements, ChoiceNodes, no_choices, more_choices, CaseNodes, no_cases, more_cases, DelayNodes, no_delays, more_delays, ReceiveNodes, no_receives, more_receives, OtherwiseNode, no_otherwise, otherwise, HandledNodes, no_handled, more_handled, HandlerNode, no_handler, handler}
@@ -13,8 +13,9 @@ use Rattle.code_scheme.specs.Pieces.{Layout}
 use Rattle.code_scheme.specs.StatementSite.{Site, layout}
 use Rattle.code_scheme.specs.StatementPlain.{dropped_scalars}
 use Rattle.code_scheme.specs.BodyCode.{site_in}
+use Rattle.code_laws.specs.InRange.{IsNumber32}
 use Rattle.code_laws.specs.StatementsInRange.{FitsNumber, FitsSomeNumber, FitsResult, FitsReturn, FitsSet, FitsSent, FitsControl, labels_with, FitsStatements, FitsStatement, FitsHandler, FitsHandled, FitsOtherwise, FitsAction, FitsChoices, FitsCases, FitsDelays, FitsReceives, FitsItems, FitsItem, FitsProgram}
-use Rattle.scheme_heights.specs.StatementCounts.{NumberFits, SomeNumberFits, SetPlaceFits, SentFits, GivenFits, ReturnFits, ControlFits, labels_within, StatementsFit, StatementFits, HandlerFits, HandledFit, OtherwiseFits, ActionFits, ChoicesFit, CasesFit, DelaysFit, ReceivesFit, ItemsFit, ItemFits, TextFits}
+use Rattle.scheme_heights.specs.StatementCounts.{LowestFits, NumberFits, SomeNumberFits, SetPlaceFits, SentFits, GivenFits, ReturnFits, ControlFits, labels_within, StatementsFit, StatementFits, HandlerFits, HandledFit, OtherwiseFits, ActionFits, ChoicesFit, CasesFit, DelaysFit, ReceivesFit, ItemsFit, ItemFits, TextFits}
 use Rattle.talk_laws.proofs.CountsInRange.{StandsTyped, takes_counts, values_taken, expr_counts, received_counts, all_counts, place_counts, start_counts, call_counts}
 
 -- ---- where statements stand
@@ -99,6 +100,11 @@ typed_inside : (at : Around) (brings : Brings) (rs : ReceiveNodes) → AreTypedR
 typed_inside at brings no_receives typed = tt
 typed_inside at brings (more_receives source ks ss rs) typed = (typed.1, typed_inside at brings rs typed.2)
 
+-- a value of fewer than 2^32 scalars may be the lowest of any locals
+lowest_counts : (locals : List ℕ) (xs : List ℤ) → IsNumber32 (length xs) → LowestFits locals xs
+lowest_counts [] xs few = tt
+lowest_counts (k ∷ ks) xs few = omega (arith, few)
+
 -- ---- statements
 
 mutual
@@ -128,7 +134,7 @@ mutual
   action_counts : (site : Site) (at : Around) (n : ℕ) (a : ActionTree) → StandsAround site at → IsTypedAction at a → FitsAction site n a → ActionFits site n a
   action_counts site at n do_nothing st typed fits = tt
   action_counts site at n (declare names r) st typed fits = received_counts (layout site) at.context r typed.0 (in_context site at st) typed.2 fits.0
-  action_counts site at n (set_lowest locals xs) st typed fits = let low = fits.1 in omega (arith, low)
+  action_counts site at n (set_lowest locals xs) st typed fits = lowest_counts locals xs fits.1
   action_counts site at n (module_at ss) st typed fits = fits
   action_counts site at n (region_at r ss) st typed fits = fits
   action_counts site at n (assign l r) st typed fits = (
