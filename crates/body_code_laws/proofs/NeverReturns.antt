@@ -1,5 +1,5 @@
 -- Statements that are typed outside procedures never return.
-use Rattle.std.proofs.Common.{◌≡◌, ℕ, zero, suc, ◌+◌, if◌then◌else◌, Bool, true, false, not, ◌==◌, nat_lt, List, [], ◌∷◌, ℤ, nat_abs, Option, Some, None, slice_get, slice_set, slice_index_or, eq-eqb, refl, sym, ap, ◌∙◌, subst, pos, take, drop, length}
+use Rattle.std.proofs.Common.{◌≡◌, ℕ, zero, suc, ◌+◌, if◌then◌else◌, Bool, true, false, nat_lt, List, [], ◌∷◌, ℤ, nat_abs, Option, Some, None, slice_get, refl, sym, ◌∙◌, subst, pos, length}
 use Rattle.kernel_base.specs.declared.ends.Exc.TheVariants.{Rangefail, Spacefail, Assertfail}
 use Rattle.kernel_base.specs.declared.ends.How.{How}
 use Rattle.kernel_base.specs.declared.ends.How.TheVariants.{Raised as RaisedHow, Stopped}
@@ -10,27 +10,24 @@ use Rattle.world_model.specs.Session.{Session, Ticked, GoesOn, Last, tick}
 use Rattle.modes.specs.declared.mode.Bounds.{Bounds}
 use Rattle.scalar_operators.specs.Numbers.{is_between, is_int, where_true}
 use Rattle.checked_program.specs.declared.expr.Base.{Base}
-use Rattle.checked_program.specs.declared.expr.Base.TheVariants.{Shared, Local}
 use Rattle.checked_program.specs.declared.expr.Binary.{Binary}
 use Rattle.code_types.specs.Actions.{most_frames}
 use Rattle.program_trees.specs.ExprTree.{ExprTree, expr, OperationTree, constant, own_instance, contents, part_of, receive, start, call, powerset, parts, uniform, routine, get_int, prefixed, binary, ReceivedTree, received, ReceivedNodes, no_received, more_received, PartNodes, no_parts, field, element, RangeNodes, no_ranges, one_member, members, LocationTree, location, StartTree, started, CallTree, called, ArgumentNodes, no_arguments, in_argument, out_argument, inout_argument, location_count}
 use Rattle.program_trees.specs.ProgramTree.{BodyRowTree, CheckedTree, LocalRowTree}
-use Rattle.source_meaning.specs.Store.{Store, OpenCall, Taken, Address, in_local, in_shared, address_of, local_value, with_local, count_in}
+use Rattle.source_meaning.specs.Store.{Store, OpenCall, Taken, Address, in_local, in_shared, address_of, with_local}
 use Rattle.source_meaning.specs.Flow.{Flow, Goes, Raised, Exits, Returned, Stops, Gone, Bound, Meaning, then_do, Reply, Given, Halts, reply, asked_in, asked, done, finished, finish, after_tick}
 use Rattle.source_meaning.specs.Operators.{Computed, Yields, Throws, sole_number, offset_within, takes_second, binary_value, prefix_value, routine_value, empty_within, with_span, one, is_true, member_at, without_offset}
 use Rattle.source_meaning.specs.ExprMeaning.{Setting, as_computed, or_rangefail, tested, read_at, assign_at, asked_value, CopyOut, Passed, copied_out, all_copied_out, binary_with, expr_mean, operation_mean, received_mean, all_received_mean, offset_mean, location_mean, members_mean, start_mean, call_mean, arguments_mean, place_mean}
 use Rattle.source_meaning.specs.BodyMeaning.{Ending, Through, Out, Halted, Ended, Unknown, Bodies, at_call, calls_in, listed_by}
 use Rattle.code_types.specs.Places.{names_exception}
-use Rattle.std.specs.List.{list_all}
 use Rattle.kernel_base.specs.declared.ends.Exc.{Exc}
 use Rattle.kernel_base.specs.declared.answer.Answer.{Answer}
 use Rattle.scalar_operators.specs.Powersets.{first_of_list}
 use Rattle.scalar_operators.specs.Members.{offsets_of}
 use Rattle.code_types.specs.Operands.{number_in as number_of_32, bytes_of}
 use Rattle.program_trees.specs.StatementTree.{SentTree, to_buffer, signal, ControlTree, while_true, for_ever, for_members, for_steps, StatementTree, statement, ActionTree, do_nothing, declare, set_lowest, module_at, region_at, assign, update, perform, drop_routine, evaluate, put_int, put_text, put_line, exit_from, return_with, set_result, assert_that, cause, stop, start_of, delay, continue_at, send, if_then, case_of, do_loop, begin_end, delay_case, receive_buffers, receive_signals, StatementNodes, no_statements, more_statements, ChoiceNodes, no_choices, more_choices, CaseNodes, no_cases, more_cases, DelayNodes, no_delays, more_delays, ReceiveNodes, no_receives, more_receives, OtherwiseNode, no_otherwise, otherwise, HandledNodes, no_handled, more_handled, HandlerNode, no_handler, handler}
-use Rattle.source_meaning.specs.StatementMeaning.{skip, set_names, set_locals, spread_over, set_to, set_address, put_bytes, send_to, sent_signal, sent_mean, result_mean, return_mean, holds_one, receive_list, receive_counts, is_written, received_by, Come, comes_to, nothing_came, take_in, woken_as, turn_or_end, turns, where_holds, next_member, passes_end, next_value, next_step, bound_mean, step_mean, loop_mean, is_label, ends_exit, labelled_as, then_leave, is_open, opened, region_in, at_region, caught, behind_wait, receive_with, statement_mean, handler_mean, alternatives_mean, otherwise_mean, statements_mean, action_mean, choices_mean, cases_mean, delay_mean, receive_mean}
-use Rattle.source_meaning.specs.TypedStatements.{Around, labelled_around, around_in, around_action, around_handler, in_region_around, IsTypedStatement, AreTyped, IsTypedHandler, AreTypedAlternatives, IsTypedOtherwise, IsTypedAction, AreTypedChoices, AreTypedCases, AreTypedDelays, AreTypedReceives, Brings, BufferBrings, SignalHas, IsTypedReturn}
-use Rattle.checked_program.specs.declared.program.Sort.{Sort}
+use Rattle.source_meaning.specs.StatementMeaning.{skip, set_names, set_to, set_address, put_bytes, send_to, sent_signal, sent_mean, holds_one, receive_list, receive_counts, is_written, Come, comes_to, nothing_came, take_in, woken_as, turn_or_end, turns, where_holds, next_member, passes_end, next_value, next_step, bound_mean, step_mean, loop_mean, is_label, ends_exit, labelled_as, then_leave, is_open, opened, region_in, at_region, caught, behind_wait, receive_with, statement_mean, handler_mean, alternatives_mean, otherwise_mean, statements_mean, action_mean, choices_mean, cases_mean, delay_mean, receive_mean}
+use Rattle.source_meaning.specs.TypedStatements.{Around, labelled_around, around_in, around_action, around_handler, in_region_around, IsTypedStatement, AreTyped, IsTypedHandler, AreTypedAlternatives, IsTypedOtherwise, IsTypedAction, AreTypedChoices, AreTypedCases, AreTypedDelays, AreTypedReceives, BufferBrings, SignalHas}
 use Rattle.checked_program.specs.declared.program.Sort.TheVariants.{Procedure}
 use Rattle.body_code_laws.specs.Initialisations.{ReturnsNever}
 
