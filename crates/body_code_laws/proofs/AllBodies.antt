@@ -252,4 +252,4 @@ pub plain_bodies : PlainBodiesLaw
 plain_bodies p instance outside compilable agrees = all_carried p instance (λ k b is. none_act_there b.statements (outside k b is)) compilable agrees
 
 pub bodies_joined : BodiesJoined
-bodies_joined rests p instance compilable agrees = all_carried p instance (λ k b is. all_act_there (initialisations_joined rests) b.statements (compilable.well_made k b is).counters.statements) compilable agrees
+bodies_joined known p instance compilable agrees = all_carried p instance (λ k b is. all_act_there (initialisations_joined known) b.statements (compilable.well_made k b is).counters.statements) compilable agrees

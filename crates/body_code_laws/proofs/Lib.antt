@@ -8,5 +8,6 @@ pub mod RegionSteps
 pub mod RaisingAgain
 pub mod EndRuns
 pub mod CriticalRuns
+pub mod NeverReturns
 pub mod RegionRuns
 pub mod AllBodies

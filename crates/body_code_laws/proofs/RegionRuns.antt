@@ -46,10 +46,11 @@ use Rattle.statement_code_laws.proofs.Joining.{untaken_behind, lie_wider, lie_bo
 use Rattle.statement_code_laws.proofs.ChoiceRuns.{names_inside}
 use Rattle.statement_code_laws.proofs.StatementRuns.{looping_law, statements_join, handler_join}
 use Rattle.body_code_laws.specs.Items.{InitialisationsLaw}
-use Rattle.body_code_laws.specs.Initialisations.{RaisesKnown, InitialisationRests, InitialisationsJoined}
+use Rattle.body_code_laws.specs.Initialisations.{RaisesKnown, InitialisationsJoined}
 use Rattle.body_code_laws.proofs.GuardedRuns.{resized, guarded}
 use Rattle.body_code_laws.proofs.NoExits.{one_place}
 use Rattle.body_code_laws.proofs.BodyRuns.{again_lie}
+use Rattle.body_code_laws.proofs.NeverReturns.{returns_never}
 use Rattle.body_code_laws.proofs.RegionSteps.{opened_by, entered_in, open_more, entered_too, enter_comes, leave_comes}
 use Rattle.body_code_laws.proofs.RaisingAgain.{number_there, listed_there, listed_same, target_behind, raise_run}
 
@@ -107,8 +108,8 @@ no_procedure sort e f = let no : ⊥ = cc in no
 
 -- ---- the law
 
-region_act : InitialisationRests → InitialisationsLaw
-region_act rests t r ss h keeps keeps_h w v st bodies inside n from stands names fits typed has =
+region_act : RaisesKnown → InitialisationsLaw
+region_act known t r ss h keeps keeps_h w v st bodies inside n from stands names fits typed has =
     subst (λ (g : Bool). Acts w from behind rows behind g (statement_within v (calls_from inside w) n (statement t (region_at r ss) h)) (statement_mean v n (statement t (region_at r ss) h))) (region_goes t r ss h)
     (record { lie = lies; comes = λ store store1 s s1 e. refl; follows = follows })
   where
@@ -249,7 +250,7 @@ region_act rests t r ss h keeps keeps_h w v st bodies inside n from stands names
           high = f.until;
           listed = λ b. ap (λ (c : Code). listed_of (slice_get c.bodies b)) stands.code ∙ listed_same p p.bodies 0 b;
           arises = f.arises;
-          there = known_there w st ss h at f.place x rests.raises stands.unlabelled fits.0 fits.1 stands.compilable.in_range stands.code has_init f.from f.until f.arises;
+          there = known_there w st ss h at f.place x known stands.unlabelled fits.0 fits.1 stands.compilable.in_range stands.code has_init f.from f.until f.arises;
         }) has_again in
         let row : Handler = a.row in
         let bounds = target_behind r at end xs target f.place x row a.taken in
@@ -294,7 +295,7 @@ region_act rests t r ss h keeps keeps_h w v st bodies inside n from stands names
         let same : code_end ≡ suc code_end = one_place (inner 0) m code_end (suc code_end) (f code_end).locals (f (suc code_end)).locals s1 s1 (omega arith) (omega arith) (f code_end).by (f (suc code_end)).by in
         absurd (let no : ⊥ = omega (arith, same) in no)
     by_outcome covered m store s (Returned store1 s1) is f =
-        absurd (rests.returns p bodies (suc (length w.below)) _ v2 n ss h store store1 s s1 stands.stands.suited.calls (λ e. no_procedure _ typed.0.outermost e) typed.1.1 typed.2.1 is)
+        absurd (returns_never p bodies (suc (length w.below)) _ v2 n ss h store store1 s s1 stands.stands.suited.calls (λ e. no_procedure _ typed.0.outermost e) typed.1.1 typed.2.1 is)
     by_outcome covered m store s (Stops u calls store1) is f = let stop = f 0 in record { by = record { state = stop.state; front = stop.front; frames = stop.frames; are = stop.are; by = stop.by } }
     by_outcome covered m store s (Gone u) is f = let gone = f 0 in record { by = record { state = gone.state; none = gone.none; by = gone.by } }
     by_outcome covered m store s Bound is f = record { by = tt }
@@ -321,4 +322,4 @@ region_act rests t r ss h keeps keeps_h w v st bodies inside n from stands names
             (λ exit. (after {w = inner exit} gone ((inner_acts exit).follows (inner_covered exit covered) store s1 locals inside2 (hold exit store locals q))).by)) inside1
 
 pub initialisations_joined : InitialisationsJoined
-initialisations_joined rests = region_act rests
+initialisations_joined known = region_act known

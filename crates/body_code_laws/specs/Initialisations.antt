@@ -1,4 +1,4 @@
--- On what the law of the initialisations of regions rests.
+-- Two facts about statements on which the law of the initialisations of regions rests.
 use Rattle.std.specs.Prelude.{◌≡◌, ℕ, [], Some, slice_get}
 use Rattle.world_model.specs.Session.{Session}
 use Rattle.checked_program.specs.declared.program.Sort.TheVariants.{Procedure}
@@ -16,7 +16,7 @@ use Rattle.code_scheme.specs.BodyItems.{initialising_code}
 use Rattle.code_laws.specs.StatementsInRange.{IsException, FitsStatements, FitsHandler}
 use Rattle.body_code_laws.specs.Items.{InitialisationsLaw}
 
--- Each exception that the code of statements with their handler raises is one of the program.
+-- What is owed: each exception that the code of statements with their handler raises is one of the program.
 abbrev pub RaisesKnown : Type 0
 RaisesKnown = (st : Standing) (ss : StatementNodes) (h : HandlerNode) (at k e : ℕ)
     → st.exits ≡ [] → FitsStatements st.site 0 ss → FitsHandler st.site 0 h
@@ -28,11 +28,6 @@ ReturnsNever = (p : CheckedTree) (bodies : Bodies) (frames : ℕ) (at : TypedAro
     → v.calls ≡ calls_in p bodies frames → (at.sort ≡ Procedure → ⊥) → AreTyped at ss → IsTypedHandler at h
     → caught (statements_mean v n ss store s) (handler_mean v n h) ≡ Returned store1 s1 → ⊥
 
--- what the law of initialisations rests on
-pub record InitialisationRests : Type 0 where
-  pub raises : RaisesKnown
-  pub returns : ReturnsNever
-
--- On these two it stands.
+-- On the first of these the law of initialisations stands.
 abbrev pub InitialisationsJoined : Type 0
-InitialisationsJoined = InitialisationRests → InitialisationsLaw
+InitialisationsJoined = RaisesKnown → InitialisationsLaw

@@ -5,7 +5,7 @@ use Rattle.code_types.specs.Agreement.{Agrees}
 use Rattle.code_scheme.specs.BodyCode.{code_of}
 use Rattle.code_laws.specs.Assembly.{CarriesAll}
 use Rattle.code_laws.specs.Talk.{IsCompilable, BodiesLaw}
-use Rattle.body_code_laws.specs.Initialisations.{InitialisationRests}
+use Rattle.body_code_laws.specs.Initialisations.{RaisesKnown}
 use Rattle.body_code_laws.specs.Items.{NameNoRegion}
 
 -- A program none of whose regions has an initialisation. It may have regions, whose critical procedures enter them.
@@ -16,6 +16,6 @@ InitialisesNoRegion p = (k : ℕ) (b : BodyRowTree) → slice_get p.bodies k ≡
 abbrev pub PlainBodiesLaw : Type 0
 PlainBodiesLaw = (p : CheckedTree) (instance : ℕ) → InitialisesNoRegion p → IsCompilable p → Agrees (code_of p) → CarriesAll p (code_of p) instance
 
--- So do all bodies of any program, on the two facts about statements on which the law of initialisations rests.
+-- So do all bodies of any program, where each exception that the code of statements raises is one of the program.
 abbrev pub BodiesJoined : Type 0
-BodiesJoined = InitialisationRests → BodiesLaw
+BodiesJoined = RaisesKnown → BodiesLaw

@@ -1,5 +1,5 @@
 // Laws of the code of bodies. Each is a fact about the definitions, which a caller learns by calling the function.
-ghost use Rattle.body_code_laws.specs.Initialisations.{InitialisationsJoined};
+ghost use Rattle.body_code_laws.specs.Initialisations.{InitialisationsJoined, ReturnsNever};
 ghost use Rattle.body_code_laws.specs.Items.{ItemsLaw};
 ghost use Rattle.body_code_laws.specs.PlainBodies.{BodiesJoined, PlainBodiesLaw};
 
@@ -13,12 +13,17 @@ pub fn plain_bodies_law()
     ensures { PlainBodiesLaw }
 {}
 
-/// The bodies of the code of any program do, on two facts about statements.
+/// The bodies of the code of any program do, where each exception that the code of statements raises is one of the program.
 pub fn bodies_joined()
     ensures { BodiesJoined }
 {}
 
-/// The initialisations of a region act as they mean, on two facts about statements.
+/// The initialisations of a region act as they mean, where each exception that their code raises is one of the program.
 pub fn initialisations_joined()
     ensures { InitialisationsJoined }
+{}
+
+/// Statements that are typed outside procedures never return.
+pub fn returns_never_law()
+    ensures { ReturnsNever }
 {}

@@ -5,4 +5,6 @@
 
 mod laws;
 
-pub use laws::{bodies_joined, initialisations_joined, items_law, plain_bodies_law};
+pub use laws::{
+    bodies_joined, initialisations_joined, items_law, plain_bodies_law, returns_never_law,
+};
