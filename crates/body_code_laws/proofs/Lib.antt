@@ -11,3 +11,5 @@ pub mod CriticalRuns
 pub mod NeverReturns
 pub mod RegionRuns
 pub mod AllBodies
+pub mod RaisedParts
+pub mod RaisedActions
