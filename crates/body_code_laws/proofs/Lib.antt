@@ -13,3 +13,4 @@ pub mod RegionRuns
 pub mod AllBodies
 pub mod RaisedParts
 pub mod RaisedActions
+pub mod RaisedStatements
