@@ -1,6 +1,6 @@
 -- Each exception that the code of statements and handlers raises is one of the program: CAUSE names one of it, and the others are of
 -- the language.
-use Rattle.std.proofs.Common.{◌≡◌, ◌+◌, ◌-◌, ◌<◌, ◌≤◌, ℕ, zero, suc, Bool, true, false, List, [], ◌∷◌, length, refl, subst, arith, Option, Some, None, slice_get}
+use Rattle.std.proofs.Common.{◌≡◌, ◌+◌, ◌-◌, ◌<◌, ◌≤◌, ℕ, zero, suc, Bool, true, false, List, [], ◌∷◌, length, refl, subst, arith, Option, Some, slice_get}
 use Rattle.std.specs.Prelude.{slice_index_or}
 use Rattle.modes.specs.declared.mode.Bounds.{Bounds}
 use Rattle.code_types.specs.declared.instr.Instr.{Instr}
@@ -9,14 +9,14 @@ use Rattle.program_trees.specs.ExprTree.{ExprTree, LocationTree, count_of}
 use Rattle.program_trees.specs.StatementTree.{ControlTree, StatementTree, statement, ActionTree, do_nothing, declare, set_lowest, module_at, region_at, assign, update, perform, drop_routine, evaluate, put_int, put_text, put_line, exit_from, return_with, set_result, assert_that, cause, stop, start_of, delay, continue_at, send, if_then, case_of, do_loop, begin_end, delay_case, receive_buffers, receive_signals, StatementNodes, no_statements, more_statements, ChoiceNodes, no_choices, more_choices, CaseNodes, no_cases, more_cases, DelayNodes, no_delays, more_delays, ReceiveNodes, no_receives, more_receives, OtherwiseNode, no_otherwise, otherwise, HandledNodes, no_handled, more_handled, HandlerNode, no_handler, handler}
 use Rattle.code_scheme.specs.Pieces.{are_same}
 use Rattle.code_scheme.specs.ExprSizes.{expr_size, condition_size}
-use Rattle.code_scheme.specs.StatementSite.{Site, layout, Standing, taking}
+use Rattle.code_scheme.specs.StatementSite.{layout, Standing, taking}
 use Rattle.code_scheme.specs.StatementGoing.{go_on, goes_on, action_goes_on, leave_size, leave_code}
 use Rattle.code_scheme.specs.StatementLoops.{control_size, before_turns_size, locals_kept}
 use Rattle.code_scheme.specs.StatementWaits.{from_buffers, of_signals, chosen_in, has_else, is_chosen_code, delay_wait_size, receive_wait_size}
 use Rattle.code_scheme.specs.StatementSize.{label_code, more_labels_code, labels_code, labels_size, turn_back_size, statements_size, statement_size, handler_size, handled_size, otherwise_size, choices_size, cases_size, delays_size, receives_size, action_size}
 use Rattle.code_scheme.specs.StatementCode.{CodeAt, no_code, no_label_code, labelled_around, next_place, joining, chosen, behind_handler, turn_back_code, statements_code, statement_code, handler_code, handled_code, otherwise_code, action_code, choices_code, cases_code, delays_code, receives_code}
 use Rattle.code_scheme.specs.BodyItems.{language_exceptions, initialising_code}
-use Rattle.code_laws.specs.StatementsInRange.{IsException, labels_with, FitsStatements, FitsStatement, FitsHandler, FitsHandled, FitsOtherwise, FitsAction, FitsChoices, FitsCases, FitsDelays, FitsReceives}
+use Rattle.code_laws.specs.StatementsInRange.{labels_with, FitsStatements, FitsStatement, FitsHandler, FitsHandled, FitsOtherwise, FitsAction, FitsChoices, FitsCases, FitsDelays, FitsReceives}
 use Rattle.body_code_laws.specs.Initialisations.{RaisesKnown}
 use Rattle.body_code_laws.proofs.RaisedParts.{IsRaisedBelow, AllRaisedBelow, RaisesBelow, RaisesOwn, none_raises, both_raises, plain_raises, one_raises, this_raises, if_raises, wider}
 use Rattle.body_code_laws.proofs.RaisedActions.{condition_raises, declare_raises, lowest_raises, assign_raises, update_raises, result_raises, return_raises, perform_raises, routine_dropped_raises, taken_raises, start_of_raises, assert_raises, delay_raises, send_raises, control_raises, delay_wait_raises, receive_wait_raises}
