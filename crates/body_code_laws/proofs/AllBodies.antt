@@ -29,9 +29,10 @@ use Rattle.code_laws.specs.OwnBounds.{where_goes}
 use Rattle.code_laws.specs.BodyBounds.{bodies_within, body_within, in_region_within, inside_within}
 use Rattle.code_laws.specs.Calls.{taken_scalars, in_frame_of, open_in, EnteredBelow, FitTaken, BodiesFollow, Returns}
 use Rattle.code_laws.specs.Assembly.{CarriesProcess, CarriesProcedure, Carries, CarriesAll, Tells}
-use Rattle.code_laws.specs.Talk.{IsCompilable}
+use Rattle.code_laws.specs.Talk.{IsCompilable, BodiesLaw}
 use Rattle.body_code_laws.specs.Items.{RegionsAct}
 use Rattle.body_code_laws.specs.PlainBodies.{PlainBodiesLaw, BodiesJoined}
+use Rattle.body_code_laws.proofs.RaisedStatements.{raises_known}
 use Rattle.body_code_laws.proofs.ItemRuns.{none_act_there, all_act_there}
 use Rattle.body_code_laws.proofs.BodyPlaces.{first_at, row_there, count_there}
 use Rattle.body_code_laws.proofs.BodyStands.{around_in, row_is, entered_more}
@@ -253,3 +254,6 @@ plain_bodies p instance outside compilable agrees = all_carried p instance (λ k
 
 pub bodies_joined : BodiesJoined
 bodies_joined known p instance compilable agrees = all_carried p instance (λ k b is. all_act_there (initialisations_joined known) b.statements (compilable.well_made k b is).counters.statements) compilable agrees
+
+pub bodies_law : BodiesLaw
+bodies_law = bodies_joined raises_known

@@ -10,4 +10,7 @@ pub mod EndRuns
 pub mod CriticalRuns
 pub mod NeverReturns
 pub mod RegionRuns
+pub mod RaisedParts
+pub mod RaisedActions
+pub mod RaisedStatements
 pub mod AllBodies

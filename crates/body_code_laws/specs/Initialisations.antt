@@ -16,7 +16,8 @@ use Rattle.code_scheme.specs.BodyItems.{initialising_code}
 use Rattle.code_laws.specs.StatementsInRange.{IsException, FitsStatements, FitsHandler}
 use Rattle.body_code_laws.specs.Items.{InitialisationsLaw}
 
--- What is owed: each exception that the code of statements with their handler raises is one of the program.
+-- Each exception that the code of statements with their handler raises is one of the program, so that it has a row by which it leaves
+-- the region and is raised again.
 abbrev pub RaisesKnown : Type 0
 RaisesKnown = (st : Standing) (ss : StatementNodes) (h : HandlerNode) (at k e : ℕ)
     → st.exits ≡ [] → FitsStatements st.site 0 ss → FitsHandler st.site 0 h

@@ -1,7 +1,8 @@
 // Laws of the code of bodies. Each is a fact about the definitions, which a caller learns by calling the function.
-ghost use Rattle.body_code_laws.specs.Initialisations.{InitialisationsJoined, ReturnsNever};
+ghost use Rattle.body_code_laws.specs.Initialisations.{InitialisationsJoined, RaisesKnown, ReturnsNever};
 ghost use Rattle.body_code_laws.specs.Items.{ItemsLaw};
 ghost use Rattle.body_code_laws.specs.PlainBodies.{BodiesJoined, PlainBodiesLaw};
+ghost use Rattle.code_laws.specs.Talk.{BodiesLaw};
 
 /// Statements and modules with their handlers act as they mean, where the regions among them do.
 pub fn items_law()
@@ -26,4 +27,14 @@ pub fn initialisations_joined()
 /// Statements that are typed outside procedures never return.
 pub fn returns_never_law()
     ensures { ReturnsNever }
+{}
+
+/// Each exception that the code of statements with their handler raises is one of the program.
+pub fn raises_known_law()
+    ensures { RaisesKnown }
+{}
+
+/// The bodies of the code of any program that may be compiled do what they mean, as code that agrees.
+pub fn bodies_law()
+    ensures { BodiesLaw }
 {}

@@ -6,5 +6,6 @@
 mod laws;
 
 pub use laws::{
-    bodies_joined, initialisations_joined, items_law, plain_bodies_law, returns_never_law,
+    bodies_joined, bodies_law, initialisations_joined, items_law, plain_bodies_law,
+    raises_known_law, returns_never_law,
 };

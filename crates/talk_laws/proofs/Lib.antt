@@ -1,4 +1,4 @@
 pub mod CountsInRange
 pub mod StatementsCounted
 pub mod CompiledTalks
-pub mod PlainExample
+pub mod CompilableExample

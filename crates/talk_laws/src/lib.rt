@@ -5,6 +5,4 @@
 
 mod laws;
 
-pub use laws::{
-    carried_runs_law, carried_talks_law, compilable_agrees_law, compiled_law, plain_compiled_law,
-};
+pub use laws::{compilable_agrees_law, compiled_runs_law, compiled_talks_law};

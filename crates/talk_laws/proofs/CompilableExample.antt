@@ -1,4 +1,4 @@
--- A short program that may be compiled, without regions: so the premises on programs can be met.
+-- A short program that may be compiled: so the premise on programs can be met.
 use Rattle.std.proofs.Common.{◌≡◌, ℕ, zero, suc, false, [], ◌∷◌, Some, None, refl, subst, arith}
 use Rattle.std.specs.Prelude.{pos, slice_get}
 use Rattle.std.proofs.lemmas.List.Elements.{All-nil}
@@ -14,9 +14,7 @@ use Rattle.program_trees.specs.ProgramTree.{LocalRowTree, BodyRowTree, CheckedTr
 use Rattle.source_meaning.specs.Values.{domain_in, IsWithin}
 use Rattle.source_meaning.specs.Typed.{IsTypedBody, IsTyped}
 use Rattle.code_laws.specs.StatementsInRange.{FitsWhole}
-use Rattle.code_laws.specs.Talk.{IsWellMade}
-use Rattle.body_code_laws.specs.Items.{NameNoRegion}
-use Rattle.talk_laws.specs.Laws.{IsPlainProgram}
+use Rattle.code_laws.specs.Talk.{IsCompilable, IsWellMade}
 
 abbrev local_n : LocalRowTree
 local_n = record { name = []; mode = int; first = 0; count = 1 }
@@ -112,12 +110,9 @@ typed = record {
   signals = All-nil _;
 }
 
-pub plain_example : IsPlainProgram program
-plain_example = record {
-  compilable = record {
-    typed = typed;
-    in_range = record { outermost = omega arith; bodies = of_each (λ k b. FitsWhole program b) whole };
-    well_made = of_each (λ k b. IsWellMade b) well_made;
-  };
-  plain = of_each (λ k b. NameNoRegion b.statements) (tt, (tt, tt));
+pub compilable_example : IsCompilable program
+compilable_example = record {
+  typed = typed;
+  in_range = record { outermost = omega arith; bodies = of_each (λ k b. FitsWhole program b) whole };
+  well_made = of_each (λ k b. IsWellMade b) well_made;
 }
