@@ -270,7 +270,11 @@ mutual
   arguments_fit p body c callee k (in_argument r as') ps rows b j st laid from_ps from_rows typed told =
       let q = next_item callee.parameters ps k (record { passing = In }) from_ps told.0.1.0 in
       let row = next_item callee.locals rows k told.0.1.1.0 from_rows told.0.1.1.1 in (
-        told.0.1.1.0, q.0, row.0, q.1, row.1,
+        told.0.1.1.0,
+        q.0,
+        row.0,
+        q.1,
+        row.1,
         received_fits p body c r typed.0 st typed.2 told.0.0,
         sym told.0.1.1.2,
         arguments_fit p body c callee (k + 1) as' q.0 row.0 b (suc j) st laid q.2 row.2 typed.3 told.1,
@@ -279,7 +283,11 @@ mutual
       let q = next_item callee.parameters ps k (record { passing = Out }) from_ps told.0.1.0 in
       let row = next_item callee.locals rows k told.0.1.1.0 from_rows told.0.1.1.1 in
       let own = row_told callee.locals 0 k told.0.1.1.0 laid told.0.1.1.1 in (
-        told.0.1.1.0, q.0, row.0, q.1, row.1,
+        told.0.1.1.0,
+        q.0,
+        row.0,
+        q.1,
+        row.1,
         (location_fits p body c l typed.2.0 st typed.2.1 told.0.0, test_fits bounds (location_count l) told.0.2),
         (sym told.0.1.1.2, lowest_counted told.0.1.1.0.mode ∙ sym own.0),
         arguments_fit p body c callee (k + 1) as' q.0 row.0 b (suc j) st laid q.2 row.2 typed.3 told.1,
@@ -287,7 +295,11 @@ mutual
   arguments_fit p body c callee k (inout_argument l taken bounds as') ps rows b j st laid from_ps from_rows typed told =
       let q = next_item callee.parameters ps k (record { passing = InOut }) from_ps told.0.1.0 in
       let row = next_item callee.locals rows k told.0.1.1.0 from_rows told.0.1.1.1 in (
-        told.0.1.1.0, q.0, row.0, q.1, row.1,
+        told.0.1.1.0,
+        q.0,
+        row.0,
+        q.1,
+        row.1,
         (location_fits p body c l typed.3.0 st typed.3.1 told.0.0, test_fits taken (location_count l) told.0.2, test_fits bounds (location_count l) told.0.3),
         sym told.0.1.1.2,
         arguments_fit p body c callee (k + 1) as' q.0 row.0 b (suc j) st laid q.2 row.2 typed.4 told.1,

@@ -1,16 +1,17 @@
--- The numbers of a typed program in range, with few things, fit its code.
+-- The numbers of a typed program in range, with few things, fit its code, so that it may be compiled.
 use Rattle.std.proofs.Common.{◌≡◌, ℕ, ◌+◌, ◌≤◌, List, [], ◌∷◌, length, Option, Some, None, refl, sym, ◌∙◌, arith}
 use Rattle.std.specs.Prelude.{slice_get, All}
 use Rattle.std.proofs.lemmas.List.Elements.{All-nil, All-cons}
 use Rattle.modes.specs.Scalars.{scalars_of}
-use Rattle.program_trees.specs.ProgramTree.{LocalRowTree, BodyRowTree, CheckedTree}
+use Rattle.program_trees.specs.ProgramTree.{LocalRowTree, BodyRowTree, CheckedTree, checked_tree}
 use Rattle.source_meaning.specs.Typed.{AreLaidFrom, around_body, IsTyped}
 use Rattle.code_laws.specs.StatementsInRange.{IsException, AreLaid, FitsWhole, FitsProgram}
 use Rattle.range_laws.specs.StatementInRange.{ExceptionsInRange, BodiesInRange}
+use Rattle.range_laws.proofs.Programs.{bodies_in_range}
 use Rattle.scheme_heights.proofs.ModeCounts.{scalars_few}
 use Rattle.scheme_heights.proofs.Located.{item_below}
 use Rattle.compilable_laws.specs.Few.{HasFew}
-use Rattle.compilable_laws.specs.Laws.{FitsLaw}
+use Rattle.compilable_laws.specs.Laws.{FitsLaw, CompilableLaw}
 use Rattle.compilable_laws.proofs.Statements.{StandsAround, result_few, handler_fits, items_fit}
 
 locals_laid : (first : ℕ) (rows : List LocalRowTree) → AreLaidFrom first rows → AreLaid first rows
@@ -43,4 +44,11 @@ pub program_fits : FitsLaw
 program_fits p typed in_range few = record {
   outermost = let low = item_below p.bodies 0 typed.outermost.0 typed.outermost.1 in omega (arith, low);
   bodies = λ k b is. body_fits p k b typed in_range few is;
+}
+
+pub program_compilable : CompilableLaw
+program_compilable p rests = record {
+  typed = rests.typed;
+  in_range = program_fits (checked_tree p) rests.typed (bodies_in_range p rests.in_range) rests.few;
+  well_made = rests.well_made;
 }

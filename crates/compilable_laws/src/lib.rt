@@ -1,8 +1,8 @@
-//! The law by which a typed program in range, with few events, buffers, signals and alternatives, has numbers that fit its code.
+//! Laws of programs that may be compiled: a typed program in range, with few things and bodies that are well made, is one.
 //!
-//! The crate has definitions and one law. It joins `range_laws` with `code_laws`.
+//! The crate has definitions and laws. It joins `range_laws` with `code_laws`.
 #![tactic(auto)]
 
 mod laws;
 
-pub use laws::fits_law;
+pub use laws::{compilable_law, fits_law};
