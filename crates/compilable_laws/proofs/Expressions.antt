@@ -1,12 +1,11 @@
 -- The numbers in expressions of a typed program in range fit its code.
-use Rattle.std.proofs.Common.{◌≡◌, ℕ, zero, suc, ◌+◌, ◌-◌, ◌*◌, ◌≤◌, ◌<◌, Bool, true, false, ◌&&◌, List, [], ◌∷◌, ℤ, pos, negsuc, length, Option, Some, None, inl, inr, refl, sym, ap, ◌∙◌, subst, arith, IsTrue}
+use Rattle.std.proofs.Common.{◌≡◌, ℕ, zero, suc, ◌+◌, ◌-◌, ◌≤◌, ◌&&◌, List, [], ◌∷◌, ℤ, pos, negsuc, length, Option, Some, None, inl, inr, refl, sym, ap, ◌∙◌, subst, arith, IsTrue}
 use Rattle.std.specs.Prelude.{slice_get, ◌+ℤ◌, ◌-ℤ◌, int_le, nat_eq, nat_le}
 use Rattle.std.proofs.lemmas.Int.{ints}
 use Rattle.modes.specs.declared.mode.Bounds.{Bounds}
 use Rattle.modes.specs.ModeTree.{ModeTree, FieldNodes}
-use Rattle.modes.specs.Form.{form_of}
 use Rattle.modes.specs.Bounds.{natural_of, count_between, values_of}
-use Rattle.modes.specs.Scalars.{scalars_of, lowest_of}
+use Rattle.modes.specs.Scalars.{scalars_of}
 use Rattle.modes.specs.Language.{IsOfLanguage}
 use Rattle.checked_program.specs.declared.expr.Base.{Base}
 use Rattle.checked_program.specs.declared.expr.Base.TheVariants.{Shared, Local}
@@ -14,21 +13,19 @@ use Rattle.checked_program.specs.declared.expr.Binary.{Binary}
 use Rattle.checked_program.specs.declared.expr.Binary.TheVariants.{Equal, NotEqual, Less, LessOrEqual, Greater, GreaterOrEqual, Member}
 use Rattle.checked_program.specs.declared.program.Parameter.{Parameter}
 use Rattle.checked_program.specs.declared.program.Passing.TheVariants.{In, Out, InOut}
-use Rattle.checked_program.specs.declared.program.Sort.{Sort}
 use Rattle.checked_program.specs.declared.program.Sort.TheVariants.{Procedure}
 use Rattle.program_ranges.specs.Around.{bounds_fit, are_ints, are_members, is_int}
 use Rattle.program_ranges.specs.ExprRanges.{operands_fit}
 use Rattle.program_trees.specs.ExprTree.{ExprTree, expr, OperationTree, constant, own_instance, contents, part_of, receive, start, call, powerset, parts, uniform, routine, get_int, prefixed, binary, ReceivedTree, received, ReceivedNodes, no_received, more_received, PartNodes, no_parts, field, element, RangeNodes, no_ranges, one_member, members, LocationTree, location, StartTree, started, CallTree, called, ArgumentNodes, no_arguments, in_argument, out_argument, inout_argument, count_of, received_count, location_count}
-use Rattle.program_trees.specs.ProgramTree.{LocationRowTree, BufferRowTree, LocalRowTree, BodyRowTree, CheckedTree}
+use Rattle.program_trees.specs.ProgramTree.{LocalRowTree, BodyRowTree, CheckedTree}
 use Rattle.source_meaning.specs.Fitting.{has_instances}
 use Rattle.source_meaning.specs.Typed.{AreLaidFrom, IsTyped}
-use Rattle.source_meaning.specs.TypedValues.{Context, BufferHas, BaseHas, HasMode, OperationHas, IsTakenBy, ElementsHave, FieldsHave, AllHave, PartsLead, RangesHave, LocationHas, IsTypedStart, AllTaken, IsTypedCall, ArgumentsFit as AreTypedArguments}
-use Rattle.code_scheme.specs.Pieces.{Layout, layout_in}
+use Rattle.source_meaning.specs.TypedValues.{Context, BufferHas, HasMode, OperationHas, IsTakenBy, ElementsHave, FieldsHave, AllHave, PartsLead, RangesHave, LocationHas, IsTypedStart, AllTaken, IsTypedCall, ArgumentsFit as AreTypedArguments}
+use Rattle.code_scheme.specs.Pieces.{layout_in}
 use Rattle.code_scheme.specs.ExprCode.{counts_of}
 use Rattle.code_laws.specs.Calls.{result_scalars}
 use Rattle.code_laws.specs.InRange.{IsNumber32, IsOffset, AreInts, AreMembers, BoundsFit, OperandsFit, BaseFits, FitsExpr, FitsOperation, FitsReceived, FitsAll, FitsParts, FitsRanges, FitsLocation, FitsStart, FitsCall, FitsArguments}
-use Rattle.code_laws.proofs.Sizes.{AreFrom, first_from, others_from}
-use Rattle.range_laws.specs.ExprInRange.{BaseInRange, LocalInRange, PassedInRange, ExprInRange, OperationInRange, ReceivedInRange, AllInRange, ValuesInRange, PartsInRange, RangesInRange, LocationInRange, StartInRange, CallInRange, ArgumentsInRange}
+use Rattle.range_laws.specs.ExprInRange.{BaseInRange, ExprInRange, OperationInRange, ReceivedInRange, AllInRange, ValuesInRange, PartsInRange, RangesInRange, LocationInRange, StartInRange, CallInRange, ArgumentsInRange}
 use Rattle.range_laws.proofs.Tests.{both_hold, equal, at_most, truly}
 use Rattle.scheme_heights.proofs.ModeCounts.{lowest_counted, scalars_few, elements_few, row_told}
 use Rattle.scheme_heights.proofs.Located.{item_below}

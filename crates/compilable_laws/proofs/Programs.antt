@@ -1,11 +1,10 @@
 -- The numbers of a typed program in range, with few things, fit its code, so that it may be compiled.
-use Rattle.std.proofs.Common.{◌≡◌, ℕ, ◌+◌, ◌≤◌, List, [], ◌∷◌, length, Option, Some, None, refl, sym, ◌∙◌, arith}
+use Rattle.std.proofs.Common.{◌≡◌, ℕ, ◌+◌, List, [], ◌∷◌, Some, refl, sym, arith}
 use Rattle.std.specs.Prelude.{slice_get, All}
 use Rattle.std.proofs.lemmas.List.Elements.{All-nil, All-cons}
-use Rattle.modes.specs.Scalars.{scalars_of}
 use Rattle.program_trees.specs.ProgramTree.{LocalRowTree, BodyRowTree, CheckedTree, checked_tree}
 use Rattle.source_meaning.specs.Typed.{AreLaidFrom, around_body, IsTyped}
-use Rattle.code_laws.specs.StatementsInRange.{IsException, AreLaid, FitsWhole, FitsProgram}
+use Rattle.code_laws.specs.StatementsInRange.{IsException, AreLaid, FitsWhole}
 use Rattle.range_laws.specs.StatementInRange.{ExceptionsInRange, BodiesInRange}
 use Rattle.range_laws.proofs.Programs.{bodies_in_range}
 use Rattle.scheme_heights.proofs.ModeCounts.{scalars_few}

@@ -1,5 +1,5 @@
 -- The numbers in statements of a typed program in range fit its code.
-use Rattle.std.proofs.Common.{◌≡◌, ℕ, suc, ◌+◌, ◌≤◌, ◌<◌, Bool, true, false, List, [], ◌∷◌, ℤ, length, Option, Some, None, refl, sym, ap, ◌∙◌, subst, arith}
+use Rattle.std.proofs.Common.{◌≡◌, ℕ, suc, ◌+◌, ◌<◌, Bool, true, false, List, [], ◌∷◌, ℤ, length, Option, Some, None, refl, sym, ap, ◌∙◌, subst, arith}
 use Rattle.std.specs.Prelude.{slice_get, All, IfSome}
 use Rattle.std.proofs.lemmas.List.Elements.{All-nil, All-cons, All-head, All-tail}
 use Rattle.modes.specs.ModeTree.{ModeTree}
@@ -11,14 +11,14 @@ use Rattle.program_trees.specs.ExprTree.{ExprTree, ReceivedTree, LocationTree, C
 use Rattle.program_trees.specs.StatementTree.{SentTree, to_buffer, signal, ControlTree, while_true, for_ever, for_members, for_steps, StatementTree, statement, ActionTree, do_nothing, declare, set_lowest, module_at, region_at, assign, update, perform, drop_routine, evaluate, put_int, put_text, put_line, exit_from, return_with, set_result, assert_that, cause, stop, start_of, delay, continue_at, send, if_then, case_of, do_loop, begin_end, delay_case, receive_buffers, receive_signals, StatementNodes, no_statements, more_statements, ChoiceNodes, no_choices, more_choices, CaseNodes, no_cases, more_cases, DelayNodes, no_delays, more_delays, ReceiveNodes, no_receives, more_receives, OtherwiseNode, no_otherwise, otherwise, HandledNodes, no_handled, more_handled, HandlerNode, no_handler, handler}
 use Rattle.program_trees.specs.ProgramTree.{LocalRowTree, BodyRowTree, CheckedTree}
 use Rattle.source_meaning.specs.TypedValues.{Context, HasMode, IsTypedCall}
-use Rattle.source_meaning.specs.TypedStatements.{Around, StandsAtTop, IsSomeCondition, IsReceiver, TakesInstance, IsStepped, IsEvent, LocalHas, IsTypedSend, IsTypedControl, IsTypedReturn, Brings, BufferBrings, SignalHas, around_action, around_handler, IsTypedStatement, AreTyped, IsTypedHandler, AreTypedAlternatives, IsTypedOtherwise, IsTypedAction, AreTypedChoices, AreTypedCases, AreTypedDelays, AreTypedReceives}
+use Rattle.source_meaning.specs.TypedStatements.{Around, IsSomeCondition, IsReceiver, TakesInstance, IsStepped, IsEvent, LocalHas, IsTypedSend, IsTypedControl, IsTypedReturn, Brings, BufferBrings, SignalHas, around_action, around_handler, IsTypedStatement, AreTyped, IsTypedHandler, AreTypedAlternatives, IsTypedOtherwise, IsTypedAction, AreTypedChoices, AreTypedCases, AreTypedDelays, AreTypedReceives}
 use Rattle.source_meaning.specs.Typed.{AreLaidFrom, IsTyped}
 use Rattle.code_scheme.specs.Pieces.{layout_in}
 use Rattle.code_scheme.specs.StatementSite.{Site, scalars_of_result}
 use Rattle.code_scheme.specs.StatementPlain.{dropped_by, dropped_scalars}
 use Rattle.code_laws.specs.Calls.{result_scalars}
 use Rattle.code_laws.specs.InRange.{IsNumber32, BaseFits, FitsCall}
-use Rattle.code_laws.specs.StatementsInRange.{LocalFits, FitsNumber, FitsSomeNumber, FitsResult, FitsReturn, FitsSet, FollowFrom, FollowEachOther, FitsSent, FitsControl, labels_with, FitsStatements, FitsStatement, FitsHandler, FitsHandled, FitsOtherwise, FitsAction, FitsChoices, FitsCases, FitsDelays, FitsReceives, FitsItems, FitsItem, count_of_delays}
+use Rattle.code_laws.specs.StatementsInRange.{LocalFits, FitsNumber, FitsSomeNumber, FitsResult, FitsReturn, FitsSet, FollowFrom, FollowEachOther, FitsSent, FitsControl, labels_with, FitsStatements, FitsStatement, FitsHandler, FitsHandled, FitsOtherwise, FitsAction, FitsChoices, FitsCases, FitsDelays, FitsReceives, FitsItems, FitsItem}
 use Rattle.range_laws.specs.ExprInRange.{NumberInRange, ResultInRange, CallInRange}
 use Rattle.range_laws.specs.StatementInRange.{SomeNumberInRange, GivenInRange, SomeGivenInRange, NamesInRange, SetInRange, SentInRange, ControlInRange, LocalsFollow, StatementsInRange, StatementInRange, HandlerInRange, HandledInRange, OtherwiseInRange, ActionInRange, ChoicesInRange, CasesInRange, DelaysInRange, ReceivesInRange}
 use Rattle.scheme_heights.proofs.ModeCounts.{lowest_counted, scalars_few, row_told}
