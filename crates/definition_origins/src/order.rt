@@ -137,8 +137,29 @@ impl<'a, 'b> Search<'a, 'b> {
 
     fn open_name(&mut self, name: &Name) -> Result<(), Memory> {
         match number_at(self.names.uses.as_slice(), name.at) {
-            None => Ok(()),
-            Some(number) => self.open_number(number),
+            Some(number) if self.is_looked_up(number) => self.open_number(number),
+            Some(_) | None => Ok(()),
+        }
+    }
+
+    // Whether a constant or a mode may look up what is known of a definition. A procedure's result is looked up in statements
+    // alone, and may name a location whose mode names the procedure.
+    fn is_looked_up(&self, number: u32) -> bool {
+        match self.origins.as_slice().get(number as usize).copied() {
+            Some(Origin::Synonym { .. })
+            | Some(Origin::SynMode(_))
+            | Some(Origin::NewMode(_))
+            | Some(Origin::Element(_))
+            | Some(Origin::Location { .. })
+            | Some(Origin::Parameter { .. }) => true,
+            Some(Origin::Counter(_))
+            | Some(Origin::Received { .. })
+            | Some(Origin::Procedure(_))
+            | Some(Origin::Process(_))
+            | Some(Origin::Signal(_))
+            | Some(Origin::Modulion(_))
+            | Some(Origin::Predefined(_))
+            | None => false,
         }
     }
 

@@ -1,5 +1,5 @@
 -- How many scalars a mode has, and its lowest value.
-use Rattle.std.specs.Prelude.{ℕ, zero, suc, ◌+◌, ◌*◌, ◌/◌, max, ℤ, pos, List, [], ◌∷◌, ◌++◌, replicate}
+use Rattle.std.specs.Prelude.{◌≡◌, ℕ, zero, suc, ◌+◌, ◌*◌, ◌/◌, max, ℤ, pos, List, [], ◌∷◌, ◌++◌, replicate}
 use Rattle.modes.specs.ModeTree.{ModeTree, int, boolean, char, instance, set_of, range, powerset, chars, array, structure, event, buffer, read, named, FieldNodes, no_fields, more_fields}
 use Rattle.modes.specs.Bounds.{values_of}
 
@@ -37,6 +37,11 @@ scalars_of = scalars_with 0
 -- the same, a text of no characters counting one
 abbrev pub leaves_of : ModeTree → ℕ
 leaves_of = scalars_with 1
+
+-- The list begins with what it was: more may stand behind.
+pub record Begins (old new : List ℤ) : Type 0 where
+  pub more : List ℤ
+  pub same : new ≡ old ++ more
 
 -- the list so many times, one behind the other
 abbrev pub repeated : {A : Type 0} → ℕ → List A → List A

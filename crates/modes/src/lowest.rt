@@ -1,7 +1,7 @@
 // The lowest value of a mode.
 ghost use Rattle.std.specs.Prelude.{◌≡◌, ◌++◌, replicate, OnOk};
 ghost use Rattle.modes.specs.ModeTree.{mode_tree, field_tree, field_trees, field_nodes};
-ghost use Rattle.modes.specs.Scalars.{lowest_of, lowest_of_fields};
+ghost use Rattle.modes.specs.Scalars.{Begins, lowest_of, lowest_of_fields};
 
 use crate::scalars::number_of_numbers;
 use crate::{Field, Mode, number_of_values};
@@ -12,7 +12,8 @@ use chill_base::{Memory, Scalars};
 #[tactic(auto, using(crate::proofs::LowestLemmas::lowest_steps))]
 #[cycle(lowest)]
 pub fn add_lowest(mode: &Mode, out: &mut Scalars) -> Result<(), Memory>
-    ensures { OnOk result (out.new ≡ out.old ++ lowest_of (mode_tree mode.now)) }
+    ensures ok { OnOk result (out.new ≡ out.old ++ lowest_of (mode_tree mode.now)) }
+    ensures keeps { Begins out.old out.new }
 {
     match mode {
         Mode::Int | Mode::Bool | Mode::Char | Mode::Instance | Mode::Set { .. } => out.push(0),
@@ -33,7 +34,8 @@ pub fn add_lowest(mode: &Mode, out: &mut Scalars) -> Result<(), Memory>
 
 // Puts the number so many times behind those that are there.
 fn add_copies(count: u64, number: i64, out: &mut Scalars) -> Result<(), Memory>
-    ensures { OnOk result (out.new ≡ out.old ++ replicate count number) }
+    ensures ok { OnOk result (out.new ≡ out.old ++ replicate count number) }
+    ensures keeps { Begins out.old out.new }
 {
     for _i in 0..count {
         out.push(number)?;
@@ -44,7 +46,8 @@ fn add_copies(count: u64, number: i64, out: &mut Scalars) -> Result<(), Memory>
 // The lowest values of the fields.
 #[cycle(lowest)]
 fn add_fields(fields: &[Field], out: &mut Scalars) -> Result<(), Memory>
-    ensures { OnOk result (out.new ≡ out.old ++ lowest_of_fields (field_nodes (field_trees fields.now))) }
+    ensures ok { OnOk result (out.new ≡ out.old ++ lowest_of_fields (field_nodes (field_trees fields.now))) }
+    ensures keeps { Begins out.old out.new }
 {
     for field in fields {
         add_field(field, out)?;
@@ -56,7 +59,8 @@ fn add_fields(fields: &[Field], out: &mut Scalars) -> Result<(), Memory>
 #[tactic(auto, using(crate::proofs::ModeViews::mode_built))]
 #[cycle(lowest)]
 fn add_field(field: &Field, out: &mut Scalars) -> Result<(), Memory>
-    ensures { OnOk result (out.new ≡ out.old ++ lowest_of (field_tree field.now).mode) }
+    ensures ok { OnOk result (out.new ≡ out.old ++ lowest_of (field_tree field.now).mode) }
+    ensures keeps { Begins out.old out.new }
 {
     add_lowest(&field.mode, out)
 }
