@@ -119,16 +119,6 @@ pub fn shared(mode: Option<&Rc<Mode>>) -> Result<Option<Rc<Mode>>, Memory> {
     }
 }
 
-/// An equal class.
-pub fn copied(class: &Class) -> Result<Class, Memory> {
-    match class {
-        Class::Value(mode) => Ok(Class::Value(mode.clone()?)),
-        Class::Derived(mode) => Ok(Class::Derived(mode.clone()?)),
-        Class::Null => Ok(Class::Null),
-        Class::Nothing => Ok(Class::Nothing),
-    }
-}
-
 impl<'a> Evaluation<'a> {
     /// A program of whose definitions nothing is known yet.
     pub fn unknown(

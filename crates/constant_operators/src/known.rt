@@ -1,7 +1,7 @@
 // What is known of an expression.
 use chill_base::Scalars;
-use modes::{Bounds, Class, Form, Mode, bounds, form_of, goes_with, is_discrete, number_of_values};
-use std::rc::Rc;
+use class_operators::goes;
+use modes::{Bounds, Class, Mode, bounds, number_of_values};
 
 /// What is known of an expression of the phase of modes and constants: its class and, where it is a constant, its value.
 /// Each is none where there is none, or where something that the expression uses is broken.
@@ -126,7 +126,7 @@ impl Known {
     pub fn goes_not_with(&self, mode: &Mode) -> bool {
         match &self.class {
             None => false,
-            Some(class) => !goes_with(class, mode),
+            Some(class) => !goes(class, mode),
         }
     }
 
@@ -139,46 +139,7 @@ impl Known {
     }
 }
 
-/// The mode of a class, where it has one.
-pub fn mode_in(class: &Class) -> Option<&Mode> {
-    match class {
-        Class::Value(mode) => Some(&**mode),
-        Class::Derived(mode) => Some(&**mode),
-        Class::Null => None,
-        Class::Nothing => None,
-    }
-}
-
-/// What the mode of a class is, where it has one.
-pub fn form_in(class: &Class) -> Option<Form<'_>> {
-    match mode_in(class) {
-        None => None,
-        Some(mode) => Some(form_of(mode)),
-    }
-}
-
-/// The mode of the field of that name of a structure.
-pub fn field_in<'k>(of: &'k Mode, name: &[u8]) -> Option<&'k Rc<Mode>> {
-    let Form::Struct { fields, .. } = form_of(of) else {
-        return None;
-    };
-    for field in fields.as_slice() {
-        if field.name.as_slice() == name {
-            return Some(&field.mode);
-        }
-    }
-    None
-}
-
-/// Whether a class has a discrete mode.
-pub fn is_of_discrete(class: &Class) -> bool {
-    match mode_in(class) {
-        None => false,
-        Some(mode) => is_discrete(mode),
-    }
-}
-
 /// How many members a powerset of a mode's values may have.
-pub fn member_count(member: &Mode) -> i64 {
-    i64::try_from(number_of_values(member)).unwrap_or(i64::MAX)
+pub fn member_count(member: &Mode) -> u64 {
+    number_of_values(member)
 }

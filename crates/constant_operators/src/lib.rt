@@ -8,13 +8,11 @@ mod evaluation;
 mod known;
 mod literals;
 mod measuring;
-mod numbers;
 mod operators;
 mod routines;
 
-pub use evaluation::{Entry, Evaluation, Plain, copied, shared};
-pub use known::{Known, field_in, form_in, is_of_discrete, member_count, mode_in};
+pub use constant_values::{GREATEST, add_members, empty_set, single};
+pub use evaluation::{Entry, Evaluation, Plain, shared};
+pub use known::{Known, member_count};
 pub use measuring::Measured;
-pub use numbers::{GREATEST, add_members, empty_set, single};
 pub use operators::Computed;
-pub use routines::{is_measuring, is_value_routine};

@@ -1,8 +1,9 @@
 // What is known of literals, and of names of constants.
-use crate::evaluation::{Evaluation, copied};
+use crate::evaluation::Evaluation;
 use crate::known::Known;
-use crate::numbers::single;
 use chill_base::{Item, Memory, Scalars, Text};
+use class_operators::copied;
+use constant_values::single;
 use definition_origins::{Origin, Predefined};
 use modes::{Class, Mode};
 use std::rc::Rc;

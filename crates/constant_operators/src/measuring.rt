@@ -1,12 +1,13 @@
 // UPPER, LOWER and SIZE: what they measure, and what they give (the routines that measure modes are our own form).
 use crate::evaluation::{Evaluation, shared};
-use crate::known::{Known, field_in};
-use crate::numbers::GREATEST;
+use crate::known::Known;
 use chill_base::Memory;
 use chill_tree::tree::Expr;
+use class_operators::{class_of_measure, field_in, measured_mode};
+use constant_values::{GREATEST, some_single};
 use definition_origins::{Origin, Predefined};
 use layout_map::{layout, words};
-use modes::{Bounds, Class, Form, Mode, bounds, form_of, is_of_language};
+use modes::{Bounds, Form, Mode, bounds, form_of, is_of_language};
 use std::rc::Rc;
 
 /// What the whole argument of UPPER, LOWER or SIZE is.
@@ -28,27 +29,17 @@ impl<'a> Evaluation<'a> {
         if own == Predefined::Size {
             return self.size_of(mode);
         }
-        let of = match form_of(mode) {
-            Form::Array { index, .. } => index,
-            Form::Int
-            | Form::Bool
-            | Form::Char
-            | Form::Instance
-            | Form::Set { .. }
-            | Form::Powerset(_)
-            | Form::Chars(_)
-            | Form::Struct { .. }
-            | Form::Meeting => mode,
-        };
-        let Some(Bounds { low, high }) = bounds(of) else {
+        let Some(class) = class_of_measure(self.alloc, own, mode)? else {
             return Ok(None);
         };
-        let number = if own == Predefined::Upper { high } else { low };
-        let class = Class::Derived(of.clone()?);
-        Ok(
-            self.some_single(Some(number))?
-                .map(|value| Known::constant(class, value)),
-        )
+        let number = bounds(measured_mode(mode)).map(|Bounds { low, high }| if own
+            == Predefined::Upper
+        {
+            high
+        } else {
+            low
+        });
+        Ok(some_single(self.alloc, number)?.map(|value| Known::constant(class, value)))
     }
 
     // The words of a mode's layout.

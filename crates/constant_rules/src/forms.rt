@@ -1,6 +1,7 @@
 // Which expressions have the form of a constant.
 use chill_tree::tree::{Expr, ValueRange};
-use constant_operators::{Evaluation, is_measuring, is_value_routine};
+use class_operators::{is_measuring, is_value_routine};
+use constant_operators::Evaluation;
 use definition_origins::Predefined;
 
 // An expression without the parentheses round it.

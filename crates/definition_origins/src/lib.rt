@@ -7,13 +7,12 @@
 mod check_rule;
 mod order;
 mod origin;
-mod predefined;
 mod told;
 mod uses;
 
 pub use check_rule::CheckRule;
+pub use class_operators::{PREDEFINED, Predefined};
 pub use order::in_order;
 pub use origin::{Element, Origin, Origins, Owner, origins};
-pub use predefined::Predefined;
 pub use told::Told;
 pub use uses::{number_at, places};

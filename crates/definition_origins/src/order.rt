@@ -151,14 +151,14 @@ impl<'a, 'b> Search<'a, 'b> {
             | Some(Origin::NewMode(_))
             | Some(Origin::Element(_))
             | Some(Origin::Location { .. })
-            | Some(Origin::Parameter { .. }) => true,
+            | Some(Origin::Parameter { .. })
+            | Some(Origin::Predefined(_)) => true,
             Some(Origin::Counter(_))
             | Some(Origin::Received { .. })
             | Some(Origin::Procedure(_))
             | Some(Origin::Process(_))
             | Some(Origin::Signal(_))
             | Some(Origin::Modulion(_))
-            | Some(Origin::Predefined(_))
             | None => false,
         }
     }

@@ -1,11 +1,11 @@
 // What each definition of a program is defined by.
-use crate::predefined::{PREDEFINED, Predefined};
 use chill_base::{List, Memory};
 use chill_tree::tree::{
     Base, BodyPart, Bracketed, Control, Declaration, Discrete, Field, Handler, Item, Local, Mode,
     ModeDefinition, Modulion, Name, Passing, Procedure, Process, ReceiveAlternative, Signal,
     Statement, Synonym, Tree,
 };
+use class_operators::{PREDEFINED, Predefined};
 use std::alloc::Global;
 
 /// The name of the mode that a SET is the whole of, READ aside, and whether that is a NEWMODE.

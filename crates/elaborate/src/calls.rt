@@ -2,8 +2,9 @@
 use crate::elaboration::{Elaboration, boxed};
 use checked_program::Action;
 use chill_tree::tree;
+use class_operators::is_measuring;
 use expr_rules::{Callee, Receiver};
-use mode_rules::{Predefined, is_measuring};
+use mode_rules::Predefined;
 use program_numbers::ElaborationRefusal;
 use value_elaboration::Applied;
 

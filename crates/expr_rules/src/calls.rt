@@ -1,6 +1,6 @@
 // Calls, STARTs and messages, and the rules on them.
 use crate::classed::Classed;
-use crate::classes::{Callee, cannot_be_put, gives_no_value, number_of_arguments, takes_no_value};
+use crate::classes::Callee;
 use crate::formals::Formal;
 use crate::receiving::Receiver;
 use crate::surroundings::Walk;
@@ -8,6 +8,10 @@ use crate::telling::{tell_if, tell_wrong_number};
 use crate::values::tell_unfit;
 use chill_base::{Memory, Pos};
 use chill_tree::tree::{Expr, Name};
+use class_operators::{
+    cannot_be_put, class_of_measure, class_of_routine, gives_no_value, is_measuring,
+    number_of_arguments,
+};
 use mode_rules::{CheckRule, Measured, Predefined, Told};
 use modes::Class;
 
@@ -105,7 +109,7 @@ impl<'a, 'b> Walk<'a, 'b> {
         own: Predefined,
         told: &mut Told,
     ) -> Result<Classed, Memory> {
-        if takes_no_value(own) {
+        if is_measuring(own) {
             return self.node(arg, Receiver::Nothing, told);
         }
         self.value(arg, Receiver::Nothing, told)
@@ -126,7 +130,7 @@ impl<'a, 'b> Walk<'a, 'b> {
         match args.first() {
             None => Ok(Classed::clean(self.class_without_argument(own)?)),
             Some(arg) => {
-                if takes_no_value(own) {
+                if is_measuring(own) {
                     self.measuring_routine(own, arg, known, at, told)
                 } else {
                     self.value_routine(own, &known.class, at, told)
@@ -147,7 +151,7 @@ impl<'a, 'b> Walk<'a, 'b> {
             return Ok(Classed::clean(None));
         };
         if !gives_no_value(own) {
-            let found = self.evaluation.class_of_routine(own, class)?;
+            let found = class_of_routine(self.evaluation.alloc, own, class)?;
             return tell_unfit(found, at, told);
         }
         let is_clean = tell_if(cannot_be_put(own, class), CheckRule::S1, at, told)?;
@@ -170,7 +174,11 @@ impl<'a, 'b> Walk<'a, 'b> {
             return Ok(Classed::broken());
         }
         match self.evaluation.measured(arg)? {
-            Measured::Mode(mode) => tell_unfit(self.class_of_measure(own, &mode)?, at, told),
+            Measured::Mode(mode) => tell_unfit(
+                class_of_measure(self.evaluation.alloc, own, &mode)?,
+                at,
+                told,
+            ),
             Measured::Misfit => tell_unfit(None, at, told),
             Measured::Broken => Ok(Classed::clean(None)),
             Measured::Other => {

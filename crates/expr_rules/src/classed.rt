@@ -1,6 +1,5 @@
 // What is known of an expression in a statement.
 use chill_base::Memory;
-use mode_rules::copied;
 use modes::Class;
 
 /// What is known of an expression: its class, and whether nothing is told of it. The class is none where there is none, and

@@ -3,10 +3,9 @@
 use crate::surroundings::Walk;
 use chill_base::{Memory, Text};
 use chill_tree::tree::{Expr, Name};
-use mode_rules::{
-    Origin, Predefined, copied, field_in, form_in, is_measuring, is_value_routine, mode_in,
-};
-use modes::{Class, Form, Mode, bounds, form_of};
+use class_operators::{copied, field_in, is_routine, mode_in};
+use mode_rules::{Origin, Predefined};
+use modes::{Class, Form, Mode, form_of};
 use std::rc::Rc;
 
 /// What a name with brackets behind it calls, if it does.
@@ -226,44 +225,6 @@ impl<'a, 'b> Walk<'a, 'b> {
         }
         Ok(Some(Class::Value(self.evaluation.plain.int.clone()?)))
     }
-
-    /// The class of UPPER, LOWER or SIZE of a mode; none where the mode doesn't fit.
-    pub(crate) fn class_of_measure(
-        &self,
-        own: Predefined,
-        mode: &Rc<Mode>,
-    ) -> Result<Option<Class>, Memory> {
-        if own == Predefined::Size {
-            return match form_of(mode) {
-                Form::Meeting => Ok(None),
-                Form::Int
-                | Form::Bool
-                | Form::Char
-                | Form::Instance
-                | Form::Set { .. }
-                | Form::Powerset(_)
-                | Form::Chars(_)
-                | Form::Array { .. }
-                | Form::Struct { .. } => Ok(Some(self.class_of_whole()?)),
-            };
-        }
-        let of = match form_of(mode) {
-            Form::Array { index, .. } => index,
-            Form::Int
-            | Form::Bool
-            | Form::Char
-            | Form::Instance
-            | Form::Set { .. }
-            | Form::Powerset(_)
-            | Form::Chars(_)
-            | Form::Struct { .. }
-            | Form::Meeting => mode,
-        };
-        if bounds(of).is_none() {
-            return Ok(None);
-        }
-        Ok(Some(Class::Derived(of.clone()?)))
-    }
 }
 
 // The class of a part of this mode: Nothing where it doesn't fit what it is a part of.
@@ -280,76 +241,4 @@ fn value_of_mode(mode: Option<&Rc<Mode>>) -> Result<Option<Class>, Memory> {
         None => Ok(None),
         Some(mode) => Ok(Some(Class::Value(mode.clone()?))),
     }
-}
-
-/// Rule S1 of PUT_INT and PUT_TEXT, which take root INT and root CHARS: the argument is of another.
-pub fn cannot_be_put(own: Predefined, argument: &Class) -> bool {
-    match own {
-        Predefined::PutInt => !matches!(form_in(argument), Some(Form::Int)),
-        Predefined::PutText => !matches!(form_in(argument), Some(Form::Chars(_))),
-        Predefined::Int
-        | Predefined::Bool
-        | Predefined::Char
-        | Predefined::Instance
-        | Predefined::True
-        | Predefined::False
-        | Predefined::Null
-        | Predefined::Num
-        | Predefined::Succ
-        | Predefined::Pred
-        | Predefined::Abs
-        | Predefined::Card
-        | Predefined::Min
-        | Predefined::Max
-        | Predefined::Upper
-        | Predefined::Lower
-        | Predefined::Size
-        | Predefined::PutLine
-        | Predefined::GetInt => false,
-    }
-}
-
-/// Whether a predefined name is one of a routine.
-pub fn is_routine(own: Predefined) -> bool {
-    is_value_routine(own) || gives_no_value(own) || own == Predefined::GetInt
-}
-
-/// Whether a routine gives no value.
-pub fn gives_no_value(own: Predefined) -> bool {
-    matches!(
-        own,
-        Predefined::PutInt | Predefined::PutText | Predefined::PutLine
-    )
-}
-
-/// How many arguments a routine has.
-pub fn number_of_arguments(own: Predefined) -> usize {
-    match own {
-        Predefined::PutLine | Predefined::GetInt => 0,
-        Predefined::Num
-        | Predefined::Succ
-        | Predefined::Pred
-        | Predefined::Abs
-        | Predefined::Card
-        | Predefined::Min
-        | Predefined::Max
-        | Predefined::Upper
-        | Predefined::Lower
-        | Predefined::Size
-        | Predefined::PutInt
-        | Predefined::PutText => 1,
-        // What is no routine isn't called.
-        Predefined::Int
-        | Predefined::Bool
-        | Predefined::Char
-        | Predefined::Instance
-        | Predefined::True
-        | Predefined::False
-        | Predefined::Null => 1,
-    }
-}
-
-/// Whether the argument of a routine is no value: UPPER, LOWER and SIZE ask of its mode alone.
-pub fn takes_no_value(own: Predefined) -> bool {
-    is_measuring(own)
 }

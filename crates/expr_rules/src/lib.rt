@@ -22,7 +22,7 @@ mod tuples;
 mod values;
 
 pub use classed::Classed;
-pub use classes::{Callee, gives_no_value};
+pub use classes::Callee;
 pub use formals::Formal;
 pub use local_modes::add_local_modes;
 pub use places::{Access, Located};

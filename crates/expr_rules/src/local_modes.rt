@@ -3,7 +3,8 @@ use crate::receiving::Receiver;
 use crate::surroundings::Walk;
 use chill_base::Memory;
 use chill_tree::tree::{Control, ReceiveAlternative};
-use mode_rules::{Evaluation, Origin, Told, form_in, is_of_discrete, shared};
+use class_operators::{form_in, is_of_discrete, their_class};
+use mode_rules::{Evaluation, Origin, Told, shared};
 use modes::{Class, Form, Mode, compatible};
 use std::rc::Rc;
 
@@ -109,7 +110,7 @@ impl<'a, 'b> Walk<'a, 'b> {
         if !is_of_discrete(one) || !is_of_discrete(other) || !compatible(one, other) {
             return Ok(None);
         }
-        match self.evaluation.combined(one, other)? {
+        match their_class(self.evaluation.alloc, one, other)? {
             Some(Class::Value(mode)) | Some(Class::Derived(mode)) => Ok(Some(mode)),
             Some(Class::Null) | Some(Class::Nothing) | None => Ok(None),
         }

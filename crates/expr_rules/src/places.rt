@@ -1,12 +1,13 @@
 // Locations: what they are of, their modes, and whether they can be written (Z.200, chapter on locations).
 use crate::classed::Classed;
-use crate::classes::{Callee, takes_no_value};
+use crate::classes::Callee;
 use crate::receiving::Receiver;
 use crate::surroundings::Walk;
 use crate::telling::tell_if;
 use chill_base::Memory;
 use chill_tree::tree::{Expr, Name};
-use mode_rules::{CheckRule, Origin, Predefined, Told, field_in, shared};
+use class_operators::{field_in, is_measuring};
+use mode_rules::{CheckRule, Origin, Predefined, Told, shared};
 use modes::{Class, Mode, holds_read, is_read};
 use std::rc::Rc;
 
@@ -102,7 +103,7 @@ impl<'a, 'b> Walk<'a, 'b> {
     // The routine that measures what stands in the brackets behind an expression, if it does: that is no value here either.
     fn measured_by(&self, of: &Expr) -> Option<Predefined> {
         match self.callee(of) {
-            Callee::Routine(own) => { if takes_no_value(own) { Some(own) } else { None } }
+            Callee::Routine(own) => { if is_measuring(own) { Some(own) } else { None } }
             Callee::Procedure(_) | Callee::Nothing => None,
         }
     }

@@ -4,7 +4,8 @@ use crate::surroundings::Walk;
 use crate::telling::tell_if;
 use chill_base::Memory;
 use chill_tree::tree::Expr;
-use mode_rules::{CheckRule, Told, form_in, is_of_discrete};
+use class_operators::{form_in, is_of_discrete};
+use mode_rules::{CheckRule, Told};
 use modes::{Class, Form, Mode, goes_with, v_equivalent};
 use std::rc::Rc;
 

@@ -6,7 +6,8 @@ use crate::surroundings::Walk;
 use crate::telling::tell_if;
 use chill_base::{Memory, Pos};
 use chill_tree::tree::{Expr, Name, Operator, Prefix};
-use mode_rules::{CheckRule, Told, mode_in};
+use class_operators::{class_of_binary, class_of_unary, mode_in};
+use mode_rules::{CheckRule, Told};
 use modes::{Class, number_of_scalars};
 
 // How many scalars a value may have.
@@ -196,7 +197,7 @@ impl<'a, 'b> Walk<'a, 'b> {
         match &known.class {
             None => Ok(Classed::clean(None)),
             Some(class) => {
-                let found = self.evaluation.class_of_unary(operator, class)?;
+                let found = class_of_unary(self.evaluation.alloc, operator, class)?;
                 tell_unfit(found, at, told)
             }
         }
@@ -234,7 +235,7 @@ impl<'a, 'b> Walk<'a, 'b> {
     ) -> Result<Classed, Memory> {
         match (left, right) {
             (Some(left), Some(right)) => {
-                let found = self.evaluation.class_of_binary(operator, left, right)?;
+                let found = class_of_binary(self.evaluation.alloc, operator, left, right)?;
                 tell_unfit(found, sign, told)
             }
             (Some(_), None) | (None, _) => Ok(Classed::clean(None)),

@@ -10,10 +10,7 @@ mod meeting;
 mod phase;
 mod table;
 
-pub use constant_operators::{
-    Computed, Entry, Evaluation, Known, Measured, Plain, copied, field_in, form_in, is_measuring,
-    is_of_discrete, is_value_routine, mode_in, shared,
-};
+pub use constant_operators::{Computed, Entry, Evaluation, Known, Measured, Plain, shared};
 pub use constant_rules::{TupleValue, has_parts, known, needed};
 pub use definition_origins::{CheckRule, Element, Origin, Origins, Owner, Predefined, Told};
 pub use exceptions::{FIRST_OWN_EXCEPTION, exception_of_language, one_spelling};

@@ -1,7 +1,8 @@
 // The modes, classes and values of all definitions, each evaluated once, behind those that it depends on.
 use chill_base::{Item, Memory, Scalars};
 use chill_tree::tree::{Declaration, ModeDefinition, Name, Signal, Synonym, Tree};
-use constant_operators::{Entry, Evaluation, Known, copied, shared, single};
+use class_operators::copied;
+use constant_operators::{Entry, Evaluation, Known, shared, single};
 use constant_rules::{is_constant_tuple, needed, tuple_of_synonym};
 use definition_origins::{CheckRule, Element, Origin, Owner, Predefined, Told, in_order};
 use modes::{Class, Mode, holds_read};
@@ -140,9 +141,10 @@ pub fn signal_entry(
 // An element is of the SET's mode, with the name that the SET is the whole mode of.
 fn element_entry(ground: &Evaluation<'_>, own: Element<'_>) -> Result<Entry, Memory> {
     let Element { names, part, owner } = own;
+    let number = i64::from(part);
     match set_mode(ground, names, owner)? {
-        None => constant_entry(ground, None, i64::from(part)),
-        Some(mode) => constant_entry(ground, Some(Class::Derived(mode)), i64::from(part)),
+        None => constant_entry(ground, None, number),
+        Some(mode) => constant_entry(ground, Some(Class::Derived(mode)), number),
     }
 }
 

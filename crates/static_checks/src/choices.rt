@@ -2,8 +2,9 @@
 use crate::walk::Statements;
 use chill_base::Memory;
 use chill_tree::tree::{Expr, ValueRange};
+use class_operators::is_of_discrete;
 use expr_rules::{Receiver, tell_if};
-use mode_rules::{CheckRule, Told, is_of_discrete};
+use mode_rules::{CheckRule, Told};
 use modes::{Class, compatible};
 
 impl<'a, 'b> Statements<'a, 'b> {

@@ -2,8 +2,9 @@
 use crate::walk::Statements;
 use chill_base::Memory;
 use chill_tree::tree::{Control, Expr};
+use class_operators::{form_in, is_of_discrete};
 use expr_rules::{Receiver, tell_if};
-use mode_rules::{CheckRule, Told, form_in, is_of_discrete};
+use mode_rules::{CheckRule, Told};
 use modes::{Class, Form, Mode, compatible, form_of};
 use std::rc::Rc;
 

@@ -6,8 +6,9 @@ use crate::values::{Values, fitting};
 use checked_program::{Argument, Call, Expr, Operation, Received, Routine, Start};
 use chill_base::List;
 use chill_tree::tree::{Expr as Tree, Name, Passing};
-use expr_rules::{Callee, Formal, Receiver, gives_no_value};
-use mode_rules::{Predefined, is_measuring};
+use class_operators::{gives_no_value, is_measuring};
+use expr_rules::{Callee, Formal, Receiver};
+use mode_rules::Predefined;
 use modes::{Class, bounds};
 use program_numbers::{ElaborationRefusal, Thing};
 

@@ -3,6 +3,7 @@
 use crate::values::Values;
 use chill_base::Memory;
 use chill_tree::tree::{Expr as Tree, Name, Operator, Prefix};
+use class_operators::{class_of_binary, class_of_routine, class_of_unary};
 use mode_rules::{Computed, Known, Measured, Predefined};
 use modes::Class;
 
@@ -71,7 +72,7 @@ impl<'a, 'b, 'c> Values<'a, 'b, 'c> {
         let (Some(one), Some(other)) = (&left.class, &right.class) else {
             return Ok(Some(Known::unknown()));
         };
-        let class = self.walk.evaluation.class_of_binary(operator, one, other)?;
+        let class = class_of_binary(self.walk.evaluation.alloc, operator, one, other)?;
         Ok(varying_of(class))
     }
 
@@ -86,7 +87,11 @@ impl<'a, 'b, 'c> Values<'a, 'b, 'c> {
         }
         match &operand.class {
             None => Ok(Some(Known::unknown())),
-            Some(class) => Ok(varying_of(self.walk.evaluation.class_of_unary(operator, class)?)),
+            Some(class) => Ok(varying_of(class_of_unary(
+                self.walk.evaluation.alloc,
+                operator,
+                class,
+            )?)),
         }
     }
 
@@ -101,7 +106,11 @@ impl<'a, 'b, 'c> Values<'a, 'b, 'c> {
         }
         match &arg.class {
             None => Ok(Some(Known::unknown())),
-            Some(class) => Ok(varying_of(self.walk.evaluation.class_of_routine(own, class)?)),
+            Some(class) => Ok(varying_of(class_of_routine(
+                self.walk.evaluation.alloc,
+                own,
+                class,
+            )?)),
         }
     }
 

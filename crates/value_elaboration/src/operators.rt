@@ -2,7 +2,8 @@
 // chapter on operations).
 use checked_program::{Binary, Prefix, Routine};
 use chill_tree::tree::{Operator, Prefix as WrittenPrefix};
-use mode_rules::{Predefined, form_in, mode_in};
+use class_operators::{form_in, mode_in};
+use mode_rules::Predefined;
 use modes::{Class, Form, Mode, bounds, number_of_values};
 
 /// The operator between operands of these classes, or none where it takes no such operands.

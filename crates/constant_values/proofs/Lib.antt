@@ -1,0 +1,2 @@
+pub mod SetWords
+pub mod Below

@@ -1,0 +1,2 @@
+pub mod PowersetWords
+pub mod PowersetMembers
