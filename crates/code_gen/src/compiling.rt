@@ -1,5 +1,7 @@
 // The code of a program.
-ghost use Rattle.std.specs.Prelude.{◌<◌, ◌↔◌, length, IfOk, IsErrOf};
+ghost use Rattle.std.specs.Prelude.{◌≡◌, ◌<◌, ◌↔◌, length, IfOk, IsErrOf};
+ghost use Rattle.program_trees.specs.ProgramTree.{checked_tree};
+ghost use Rattle.code_scheme.specs.BodyCode.{code_of};
 
 use crate::bodies::put_bodies;
 use crate::refusal::{CodeRefusal, refusal_of};
@@ -12,10 +14,11 @@ use std::alloc::Global;
 const GREATEST_SIZE: u32 = 65_536;
 
 /// The code of a program. `CodeTooLong` comes exactly where the size of the text is above 65,536. Each place in a code is a
-/// number of 32 bits, as is the one behind it.
+/// number of 32 bits, as is the one behind it. The code is that of the scheme.
 pub fn compile(alloc: Global, program: &Checked) -> Result<Code, CodeRefusal>
     ensures too_long { IsErrOf result CodeRefusal.CodeTooLong ↔ 65536 < program.now.size }
     ensures places { IfOk result (λ code. length code.instrs < 4294967295) }
+    ensures scheme { IfOk result (λ code. code ≡ code_of (checked_tree program.now)) }
 {
     if program.size > GREATEST_SIZE {
         return Err(CodeRefusal::CodeTooLong);

@@ -1,4 +1,9 @@
 // Regions: an exception that goes out of one is raised again behind the release of the region.
+ghost use Rattle.std.specs.Prelude.{◌≡◌, ◌-◌, length, take, drop, filter, IfOk, OnOk};
+ghost use Rattle.program_trees.specs.ProgramTree.{checked_tree};
+ghost use Rattle.code_scheme.specs.BodyItems.{raised_in, is_among, raise_again_code, raise_again_rows};
+ghost use Rattle.stmt_gen.specs.Appending.{AppendsBoth};
+
 use crate::handlers::put_row;
 use checked_program::Checked;
 use chill_base::{List, Memory, Numbers};
@@ -36,7 +41,9 @@ pub fn raised_between(
     until: u32,
     program: &Checked,
     draft: &Draft,
-) -> Result<Numbers, PartRefusal> {
+) -> Result<Numbers, PartRefusal>
+    ensures { IfOk result (λ raised. raised ≡ raised_in (checked_tree program.now) (take (until - from) (drop from draft.now.code.instrs))) }
+{
     let alloc = draft.allocator();
     let mut found = marks(alloc, LANGUAGE.saturating_add(program.exceptions.len()))?;
     let mut called = marks(alloc, program.bodies.len())?;
@@ -109,7 +116,9 @@ pub fn raised_and_listed(
     raised: &Numbers,
     listed: &Numbers,
     program: &Checked,
-) -> Result<Numbers, PartRefusal> {
+) -> Result<Numbers, PartRefusal>
+    ensures { IfOk result (λ both. both ≡ filter (λ x. is_among x listed.now) raised.now) }
+{
     let alloc = raised.allocator();
     let mut is_listed = marks(alloc, LANGUAGE.saturating_add(program.exceptions.len()))?;
     mark_all(listed.as_slice(), &mut is_listed)?;
@@ -134,10 +143,12 @@ pub fn put_again(
     until: u32,
     region: u32,
     draft: &mut Draft,
-) -> Result<(), PartRefusal> {
+) -> Result<(), PartRefusal>
+    ensures appends { OnOk result (AppendsBoth (raise_again_code region exceptions.now) (raise_again_rows from until exceptions.now (length draft.old.code.instrs)) draft.old.code draft.new.code) }
+{
     let alloc = draft.allocator();
     for exception in exceptions {
-        let target = draft.place();
+        let target = draft.target_behind(0)?;
         let mut names = List::new(alloc);
         names.push(*exception)?;
         put_row(

@@ -1,6 +1,8 @@
 // Where statements stand: in which body, among which labels, and which scratch locals are free.
+ghost use Rattle.std.specs.Prelude.{◌≡◌, ◌+◌, [], ◌∷◌, ◌++◌, vec_items, IfOk};
+
 use chill_base::Memory;
-use expr_gen::Site;
+use expr_gen::{PartRefusal, Site, uncapped};
 use std::alloc::Global;
 
 /// Where statements stand.
@@ -15,17 +17,21 @@ pub struct Around<'a, 'b> {
 
 impl<'a, 'b> Around<'a, 'b> {
     /// The same place, with the first so many scratch locals taken.
-    pub fn taking(&self, count: u32) -> Around<'a, 'b> {
-        Around {
+    pub fn taking(&self, count: u32) -> Result<Around<'a, 'b>, PartRefusal>
+        ensures { IfOk result (λ inside. inside ≡ record self.now { free = self.now.free + count }) }
+    {
+        Ok(Around {
             site: self.site,
-            free: self.free.saturating_add(count),
+            free: uncapped(self.free.saturating_add(count))?,
             exits: self.exits,
-        }
+        })
     }
 }
 
 /// The places behind the labelled statements around, and that behind one within them.
-pub fn with_exit(alloc: Global, exits: &[u32], behind: u32) -> Result<Vec<u32>, Memory> {
+pub fn with_exit(alloc: Global, exits: &[u32], behind: u32) -> Result<Vec<u32>, Memory>
+    ensures { IfOk result (λ all. vec_items all ≡ exits.now ++ behind ∷ []) }
+{
     let mut all = Vec::with_capacity(alloc, exits.len())?;
     for exit in exits {
         all.push(*exit)?;

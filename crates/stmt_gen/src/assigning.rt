@@ -1,13 +1,21 @@
 // Declarations, assignments, and the result of a procedure.
+ghost use Rattle.std.specs.Prelude.{◌≡◌, [], ◌∷◌, length, option_map, IfOk, OnOk};
+ghost use Rattle.program_trees.specs.ExprTree.{expr_tree, received_tree, location_tree};
+ghost use Rattle.code_scheme.specs.Pieces.{capped, bounds_to_test, bounds_of_operator};
+ghost use Rattle.code_scheme.specs.StatementSite.{layout};
+ghost use Rattle.code_scheme.specs.StatementPlain.{offset_of_name, name_code, names_code, name_size, names_size, keeping_code, keeping_size, declare_code, declare_size, set_lowest_code, set_lowest_size, assign_code, assign_size, read_code, read_size, update_code, update_size, set_result_code, set_result_size, return_code, return_size};
+ghost use Rattle.expr_gen.specs.Putting.{Appends};
+ghost use Rattle.stmt_gen.specs.Putting.{standing_of, site_of};
+
 use crate::around::Around;
 use crate::ways_out::{put_way_out, way_out_size};
-use checked_program::{Base, Binary, Body, Expr, Location, Received};
+use checked_program::{Base, Binary, Expr, Location, Received};
 use code_types::Instr;
 use expr_gen::{
-    Draft, PartRefusal, bounds_of_operator, bounds_to_test, check_size, declared_scalars,
-    expr_size, has_offset, local_of, place_size, put_again, put_behind, put_between, put_check,
+    Draft, PartRefusal, Site, bounds_of_operator, bounds_to_test, check_size, declared_scalars,
+    expr_size, local_of, offsets_kept, place_size, put_again, put_behind, put_between, put_check,
     put_contents, put_expr, put_place, put_received, put_scalars, put_store, received_size,
-    result_scalars, scalars_size, size_behind, size_between,
+    result_scalars, scalars_size, size_behind, size_between, uncapped,
 };
 use modes::Bounds;
 
@@ -17,19 +25,13 @@ pub fn put_declare(
     value: &Received,
     around: &Around,
     draft: &mut Draft,
-) -> Result<(), PartRefusal> {
-    if names.len() == 1 {
-        return put_only(names[0], value, around, draft);
+) -> Result<(), PartRefusal>
+    ensures appends { OnOk result (Appends (declare_code (standing_of around.now) names.now (received_tree value.now) (length draft.old.code.instrs)) (declare_size names.now (received_tree value.now)) draft.old.code draft.new.code) }
+{
+    match names {
+        [name] => put_only(*name, value, around, draft),
+        _ => put_several(names, value, around, draft),
     }
-    let count = value.value.count;
-    put_received(value, &around.site, around.free, draft)?;
-    draft.put(Instr::SetLocal(around.free, count))?;
-    for name in names {
-        put_offset_of(*name, draft)?;
-        draft.put(Instr::Local(around.free, count))?;
-        put_named(*name, count, around, draft)?;
-    }
-    Ok(())
 }
 
 // The value is assigned to one name.
@@ -38,14 +40,50 @@ fn put_only(
     value: &Received,
     around: &Around,
     draft: &mut Draft,
-) -> Result<(), PartRefusal> {
+) -> Result<(), PartRefusal>
+    ensures appends { OnOk result (Appends (declare_code (standing_of around.now) (name ∷ []) (received_tree value.now) (length draft.old.code.instrs)) (declare_size (name ∷ []) (received_tree value.now)) draft.old.code draft.new.code) }
+{
     put_offset_of(name, draft)?;
     put_received(value, &around.site, around.free, draft)?;
     put_named(name, value.value.count, around, draft)
 }
 
+// The value is kept, and assigned to each name.
+fn put_several(
+    names: &[Base],
+    value: &Received,
+    around: &Around,
+    draft: &mut Draft,
+) -> Result<(), PartRefusal>
+    ensures appends { OnOk result (Appends (keeping_code (standing_of around.now) names.now (received_tree value.now) (length draft.old.code.instrs)) (keeping_size names.now (received_tree value.now)) draft.old.code draft.new.code) }
+{
+    let count = value.value.count;
+    put_received(value, &around.site, around.free, draft)?;
+    draft.put(Instr::SetLocal(around.free, count))?;
+    put_names(names, count, around, draft)
+}
+
+// The value of so many scalars that is kept is assigned to each name.
+fn put_names(
+    names: &[Base],
+    count: u32,
+    around: &Around,
+    draft: &mut Draft,
+) -> Result<(), PartRefusal>
+    ensures appends { OnOk result (Appends (names_code (layout (site_of around.now.site.program.now around.now.site.body.now)) around.now.free count names.now) (names_size names.now) draft.old.code draft.new.code) }
+{
+    for name in names {
+        put_offset_of(*name, draft)?;
+        draft.put(Instr::Local(around.free, count))?;
+        put_named(*name, count, around, draft)?;
+    }
+    Ok(())
+}
+
 // The place of a name, where it is a shared location.
-fn put_offset_of(name: Base, draft: &mut Draft) -> Result<(), PartRefusal> {
+fn put_offset_of(name: Base, draft: &mut Draft) -> Result<(), PartRefusal>
+    ensures appends { OnOk result (Appends (offset_of_name name) (length (offset_of_name name)) draft.old.code draft.new.code) }
+{
     match name {
         Base::Shared(_) => draft.put(Instr::Push(0)),
         Base::Local(_) => Ok(()),
@@ -58,7 +96,9 @@ fn put_named(
     count: u32,
     around: &Around,
     draft: &mut Draft,
-) -> Result<(), PartRefusal> {
+) -> Result<(), PartRefusal>
+    ensures appends { OnOk result (Appends (name_code (layout (site_of around.now.site.program.now around.now.site.body.now)) name count) 1 draft.old.code draft.new.code) }
+{
     match name {
         Base::Shared(location) => draft.put(Instr::Write(location, 0, count)),
         Base::Local(number) => {
@@ -69,12 +109,21 @@ fn put_named(
 }
 
 /// How many instructions a declaration with a value has.
-pub fn declare_size(names: &[Base], value: &Received) -> u32 {
-    let mut size = received_size(value);
-    if names.len() == 1 {
-        return size.saturating_add(named_size(names[0]));
+pub fn declare_size(names: &[Base], value: &Received) -> u32
+    ensures { result ≡ capped (declare_size names.now (received_tree value.now)) }
+{
+    match names {
+        [name] => received_size(value).saturating_add(named_size(*name)),
+        _ => received_size(value)
+            .saturating_add(1)
+            .saturating_add(names_size(names)),
     }
-    size = size.saturating_add(1);
+}
+
+fn names_size(names: &[Base]) -> u32
+    ensures { result ≡ capped (names_size names.now) }
+{
+    let mut size = 0u32;
     for name in names {
         size = size.saturating_add(named_size(*name)).saturating_add(1);
     }
@@ -82,7 +131,9 @@ pub fn declare_size(names: &[Base], value: &Received) -> u32 {
 }
 
 // How many instructions assign a value to a name.
-fn named_size(name: Base) -> u32 {
+fn named_size(name: Base) -> u32
+    ensures { result ≡ name_size name }
+{
     match name {
         Base::Shared(_) => 2,
         Base::Local(_) => 1,
@@ -95,26 +146,47 @@ pub fn put_lowest_of(
     value: &[i64],
     around: &Around,
     draft: &mut Draft,
-) -> Result<(), PartRefusal> {
+) -> Result<(), PartRefusal>
+    ensures appends { OnOk result (Appends (set_lowest_code (layout (site_of around.now.site.program.now around.now.site.body.now)) locals.now value.now) (set_lowest_size locals.now value.now) draft.old.code draft.new.code) }
+{
+    let count = count_of(value)?;
     for number in locals {
-        let local = local_of(around.site.body, *number)?;
-        put_scalars(value, draft)?;
-        draft.put(Instr::SetLocal(local.first, count_of(value)))?;
+        put_lowest(*number, value, count, around, draft)?;
     }
     Ok(())
 }
 
+// A local gets a value of so many scalars.
+fn put_lowest(
+    number: u32,
+    value: &[i64],
+    count: u32,
+    around: &Around,
+    draft: &mut Draft,
+) -> Result<(), PartRefusal>
+    ensures appends { OnOk result (count ≡ length value.now → Appends (set_lowest_code (layout (site_of around.now.site.program.now around.now.site.body.now)) (number ∷ []) value.now) (set_lowest_size (number ∷ []) value.now) draft.old.code draft.new.code) }
+{
+    let local = local_of(around.site.body, number)?;
+    put_scalars(value, draft)?;
+    draft.put(Instr::SetLocal(local.first, count))
+}
+
 /// How many instructions a declaration without a value has.
-pub fn lowest_size(locals: &[u32], value: &[i64]) -> u32 {
+pub fn lowest_size(locals: &[u32], value: &[i64]) -> u32
+    ensures { result ≡ capped (set_lowest_size locals.now value.now) }
+{
     let mut size = 0u32;
-    for _ in locals {
+    for _local in locals {
         size = size.saturating_add(scalars_size(value)).saturating_add(1);
     }
     size
 }
 
-fn count_of(value: &[i64]) -> u32 {
-    (value.len() as u64).min(u32::MAX as u64) as u32
+// How many scalars a value has.
+fn count_of(value: &[i64]) -> Result<u32, PartRefusal>
+    ensures { IfOk result (λ count. count ≡ length value.now) }
+{
+    uncapped((value.len() as u64).min(u32::MAX as u64) as u32)
 }
 
 /// An assignment.
@@ -123,14 +195,18 @@ pub fn put_assign(
     value: &Received,
     around: &Around,
     draft: &mut Draft,
-) -> Result<(), PartRefusal> {
+) -> Result<(), PartRefusal>
+    ensures appends { OnOk result (Appends (assign_code (standing_of around.now) (location_tree target.now) (received_tree value.now) (length draft.old.code.instrs)) (assign_size (location_tree target.now) (received_tree value.now)) draft.old.code draft.new.code) }
+{
     put_place(target, &around.site, around.free, draft)?;
     put_received(value, &around.site, around.free, draft)?;
     put_store(target, &around.site, draft)
 }
 
 /// How many instructions an assignment has.
-pub fn assign_size(target: &Location, value: &Received) -> u32 {
+pub fn assign_size(target: &Location, value: &Received) -> u32
+    ensures { result ≡ capped (assign_size (location_tree target.now) (received_tree value.now)) }
+{
     place_size(target)
         .saturating_add(received_size(value))
         .saturating_add(1)
@@ -146,7 +222,9 @@ pub struct Change<'a> {
 
 impl<'a> Change<'a> {
     // The bounds that the new value has to be tested against.
-    fn tested(&self) -> Option<Bounds> {
+    fn tested(&self) -> Option<Bounds>
+        ensures { result ≡ bounds_to_test self.now.bounds (bounds_of_operator self.now.operator) }
+    {
         bounds_to_test(self.bounds, bounds_of_operator(self.operator))
     }
 }
@@ -157,10 +235,10 @@ pub fn put_update(
     change: Change,
     around: &Around,
     draft: &mut Draft,
-) -> Result<(), PartRefusal> {
-    put_place(target, &around.site, around.free, draft)?;
-    put_again(target, draft)?;
-    put_contents(target, &around.site, draft)?;
+) -> Result<(), PartRefusal>
+    ensures appends { OnOk result (Appends (update_code (standing_of around.now) (location_tree target.now) change.operator (expr_tree change.value.now) change.bounds (length draft.old.code.instrs)) (update_size (location_tree target.now) change.operator (expr_tree change.value.now) change.bounds) draft.old.code draft.new.code) }
+{
+    put_read(target, around, draft)?;
     put_between(
         change.operator,
         change.bounds,
@@ -173,11 +251,21 @@ pub fn put_update(
     put_store(target, &around.site, draft)
 }
 
+// The place and the contents of a target.
+fn put_read(target: &Location, around: &Around, draft: &mut Draft) -> Result<(), PartRefusal>
+    ensures appends { OnOk result (Appends (read_code (standing_of around.now) (location_tree target.now) (length draft.old.code.instrs)) (read_size (location_tree target.now)) draft.old.code draft.new.code) }
+{
+    put_place(target, &around.site, around.free, draft)?;
+    put_again(target, draft)?;
+    put_contents(target, &around.site, draft)
+}
+
 /// How many instructions an assignment with an operator has.
-pub fn update_size(target: &Location, change: Change) -> u32 {
-    let again = if has_offset(target) { 1 } else { 0 };
+pub fn update_size(target: &Location, change: Change) -> u32
+    ensures { result ≡ capped (update_size (location_tree target.now) change.operator (expr_tree change.value.now) change.bounds) }
+{
     place_size(target)
-        .saturating_add(again)
+        .saturating_add(offsets_kept(target))
         .saturating_add(1)
         .saturating_add(size_between(change.operator, change.bounds))
         .saturating_add(expr_size(change.value))
@@ -187,14 +275,19 @@ pub fn update_size(target: &Location, change: Change) -> u32 {
 }
 
 /// RESULT: the result is set.
-pub fn put_result(value: &Received, around: &Around, draft: &mut Draft) -> Result<(), PartRefusal> {
+pub fn put_result(value: &Received, around: &Around, draft: &mut Draft) -> Result<(), PartRefusal>
+    ensures appends { OnOk result (Appends (set_result_code (standing_of around.now) (received_tree value.now) (length draft.old.code.instrs)) (set_result_size (received_tree value.now)) draft.old.code draft.new.code) }
+{
     let body = around.site.body;
+    let first = uncapped(declared_scalars(body))?;
     put_received(value, &around.site, around.free, draft)?;
-    draft.put(Instr::SetLocal(declared_scalars(body), result_scalars(body)))
+    draft.put(Instr::SetLocal(first, result_scalars(body)))
 }
 
 /// How many instructions RESULT has.
-pub fn result_size(value: &Received) -> u32 {
+pub fn result_size(value: &Received) -> u32
+    ensures { result ≡ capped (set_result_size (received_tree value.now)) }
+{
     received_size(value).saturating_add(1)
 }
 
@@ -203,19 +296,24 @@ pub fn put_return(
     value: &Option<Received>,
     around: &Around,
     draft: &mut Draft,
-) -> Result<(), PartRefusal> {
+) -> Result<(), PartRefusal>
+    ensures appends { OnOk result (Appends (return_code (standing_of around.now) (option_map received_tree value.now) (length draft.old.code.instrs)) (return_size (site_of around.now.site.program.now around.now.site.body.now) (option_map received_tree value.now)) draft.old.code draft.new.code) }
+{
     match value {
-        Some(value) => put_result(value, around, draft)?,
-        None => {}
+        Some(value) => {
+            put_result(value, around, draft)?;
+            put_way_out(around.site.body, draft)
+        }
+        None => put_way_out(around.site.body, draft),
     }
-    put_way_out(around.site.body, draft)
 }
 
 /// How many instructions RETURN has in a body.
-pub fn return_size(value: &Option<Received>, body: &Body) -> u32 {
-    let result = match value {
-        Some(value) => result_size(value),
-        None => 0,
-    };
-    result.saturating_add(way_out_size(body))
+pub fn return_size(value: &Option<Received>, site: &Site) -> u32
+    ensures { result ≡ capped (return_size (site_of site.now.program.now site.now.body.now) (option_map received_tree value.now)) }
+{
+    match value {
+        Some(value) => result_size(value).saturating_add(way_out_size(site.body)),
+        None => way_out_size(site.body),
+    }
 }

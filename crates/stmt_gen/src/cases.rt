@@ -1,4 +1,14 @@
 // CASE: its selector, which is kept in a scratch local, and the tests of the labels.
+ghost use Rattle.std.specs.Prelude.{◌≡◌, ◌+◌, length, OnOk};
+ghost use Rattle.code_types.specs.declared.instr.Instr.TheVariants as instrs;
+ghost use Rattle.program_trees.specs.ExprTree.{expr_tree};
+ghost use Rattle.code_scheme.specs.Pieces.{capped};
+ghost use Rattle.code_scheme.specs.ExprSizes.{expr_size};
+ghost use Rattle.code_scheme.specs.StatementPlain.{taken_by};
+ghost use Rattle.code_scheme.specs.StatementSize.{label_code, more_labels_code, labels_code, labels_size};
+ghost use Rattle.expr_gen.specs.Putting.{Appends};
+ghost use Rattle.stmt_gen.specs.Putting.{standing_of};
+
 use crate::around::Around;
 use checked_program::Expr;
 use code_types::Instr;
@@ -10,29 +20,41 @@ pub fn put_selector(
     selector: &Expr,
     around: &Around,
     draft: &mut Draft,
-) -> Result<(), PartRefusal> {
+) -> Result<(), PartRefusal>
+    ensures appends { OnOk result (Appends (taken_by (standing_of around.now) (expr_tree selector.now) (instrs.SetLocal around.now.free 1) (length draft.old.code.instrs)) (expr_size (expr_tree selector.now) + 1) draft.old.code draft.new.code) }
+{
     put_expr(selector, &around.site, around.free, draft)?;
     draft.put(Instr::SetLocal(around.free, 1))
 }
 
 /// Whether one of the labels holds the selector that is kept in this local.
-pub fn put_labels(labels: &[Bounds], kept: u32, draft: &mut Draft) -> Result<(), PartRefusal> {
-    if labels.is_empty() {
-        return draft.put(Instr::Push(0));
+pub fn put_labels(labels: &[Bounds], kept: u32, draft: &mut Draft) -> Result<(), PartRefusal>
+    ensures appends { OnOk result (Appends (labels_code kept labels.now) (labels_size labels.now) draft.old.code draft.new.code) }
+{
+    match labels {
+        [] => draft.put(Instr::Push(0)),
+        [first, others @ ..] => {
+            put_label(*first, kept, draft)?;
+            put_more_labels(others, kept, draft)
+        }
     }
-    let mut is_first = true;
+}
+
+// Whether one of further labels does, or what is on top.
+fn put_more_labels(labels: &[Bounds], kept: u32, draft: &mut Draft) -> Result<(), PartRefusal>
+    ensures appends { OnOk result (Appends (more_labels_code kept labels.now) (length (more_labels_code 0 labels.now)) draft.old.code draft.new.code) }
+{
     for label in labels {
         put_label(*label, kept, draft)?;
-        if !is_first {
-            draft.put(Instr::Or)?;
-        }
-        is_first = false;
+        draft.put(Instr::Or)?;
     }
     Ok(())
 }
 
 // Whether a label holds the selector that is kept in this local.
-fn put_label(label: Bounds, kept: u32, draft: &mut Draft) -> Result<(), PartRefusal> {
+fn put_label(label: Bounds, kept: u32, draft: &mut Draft) -> Result<(), PartRefusal>
+    ensures appends { OnOk result (Appends (label_code kept label) (length (label_code 0 label)) draft.old.code draft.new.code) }
+{
     draft.put(Instr::Local(kept, 1))?;
     draft.put(Instr::Push(label.low))?;
     if label.low == label.high {
@@ -47,17 +69,29 @@ fn put_label(label: Bounds, kept: u32, draft: &mut Draft) -> Result<(), PartRefu
 }
 
 /// How many instructions the tests of labels have.
-pub fn labels_size(labels: &[Bounds]) -> u32 {
-    if labels.is_empty() {
-        return 1;
+#[tactic(auto, using(crate::proofs::Lengths::lengths))]
+pub fn labels_size(labels: &[Bounds]) -> u32
+    ensures { result ≡ capped (labels_size labels.now) }
+{
+    match labels {
+        [] => 1,
+        [first, others @ ..] => label_size(*first).saturating_add(more_labels_size(others)),
     }
+}
+
+#[tactic(auto, using(crate::proofs::Lengths::lengths))]
+fn more_labels_size(labels: &[Bounds]) -> u32
+    ensures { result ≡ capped (length (more_labels_code 0 labels.now)) }
+{
     let mut size = 0u32;
     for label in labels {
         size = size.saturating_add(label_size(*label)).saturating_add(1);
     }
-    size.saturating_sub(1)
+    size
 }
 
-fn label_size(label: Bounds) -> u32 {
+fn label_size(label: Bounds) -> u32
+    ensures { result ≡ length (label_code 0 label) }
+{
     if label.low == label.high { 3 } else { 8 }
 }

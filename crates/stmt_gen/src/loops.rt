@@ -1,6 +1,17 @@
 // The controls of DO: what is done before the first turn, and the test before each turn.
+ghost use Rattle.std.specs.Prelude.{◌≡◌, false, length, option_map, OnOk};
+ghost use Rattle.program_trees.specs.ExprTree.{expr_tree, boxed_expr};
+ghost use Rattle.program_trees.specs.StatementTree.{control_tree};
+ghost use Rattle.code_scheme.specs.Pieces.{capped};
+ghost use Rattle.code_scheme.specs.ExprSizes.{condition_size};
+ghost use Rattle.code_scheme.specs.StatementLoops.{while_code, some_while_code, some_while_size, next_member_code, members_test, members_test_size, before_turns, before_turns_size, turn_test, turn_test_size, locals_kept, control_size};
+ghost use Rattle.expr_gen.specs.Putting.{Appends};
+ghost use Rattle.stmt_gen.specs.Putting.{standing_of};
+
 use crate::around::Around;
-use crate::steps::{Steps, bounds_size, put_bounds, put_steps, steps_kept, steps_size};
+use crate::steps::{
+    Steps, bounds_size, first_value_size, put_bounds, put_first_value, put_next, steps_kept,
+};
 use checked_program::{Control, Expr};
 use code_types::Instr;
 use expr_gen::{
@@ -8,30 +19,20 @@ use expr_gen::{
     put_expr, put_member,
 };
 
-/// The control of a DO, behind which is this place. The answer is the place to which control goes back after a turn.
-pub fn put_control(
+/// What a DO does before its turns, behind which is this place.
+pub fn put_before_turns(
     control: &Control,
     behind: u32,
     around: &Around,
     draft: &mut Draft,
-) -> Result<u32, PartRefusal> {
-    let frame = Frame { behind, around };
+) -> Result<(), PartRefusal>
+    ensures appends { OnOk result (Appends (before_turns (standing_of around.now) (control_tree control.now) behind (length draft.old.code.instrs)) (before_turns_size (control_tree control.now)) draft.old.code draft.new.code) }
+{
     match control {
-        Control::While(condition) => {
-            let again = draft.place();
-            put_while(condition, behind, around, draft)?;
-            Ok(again)
-        }
-        Control::Forever => Ok(draft.place()),
-        Control::Members {
-            counter,
-            set,
-            low,
-            condition,
-        } => {
-            let again = put_members(*counter, set, *low, frame, draft)?;
-            put_some_while(condition, behind, &around.taking(1), draft)?;
-            Ok(again)
+        Control::While(_) | Control::Forever => Ok(()),
+        Control::Members { set, .. } => {
+            put_expr(set, &around.site, around.free, draft)?;
+            draft.put(Instr::SetLocal(around.free, 1))
         }
         Control::Steps {
             counter,
@@ -39,20 +40,55 @@ pub fn put_control(
             step,
             end,
             down,
-            condition,
+            ..
         } => {
             let counter = local_of(around.site.body, *counter)?.first;
             put_bounds(start, step, end, around, draft)?;
-            let steps = Steps::new(counter, step, *down, around.free);
-            let again = put_steps(steps, behind, draft)?;
-            put_some_while(condition, behind, &around.taking(steps_kept(step)), draft)?;
-            Ok(again)
+            put_first_value(Steps::new(counter, step, *down, around.free)?, behind, draft)
+        }
+    }
+}
+
+/// The test of a DO before each turn, behind which is this place.
+pub fn put_turn_test(
+    control: &Control,
+    behind: u32,
+    around: &Around,
+    draft: &mut Draft,
+) -> Result<(), PartRefusal>
+    ensures appends { OnOk result (Appends (turn_test (standing_of around.now) (control_tree control.now) behind (length draft.old.code.instrs)) (turn_test_size (control_tree control.now)) draft.old.code draft.new.code) }
+{
+    match control {
+        Control::While(condition) => put_while(condition, behind, around, draft),
+        Control::Forever => Ok(()),
+        Control::Members {
+            counter,
+            low,
+            condition,
+            ..
+        } => {
+            let counter = local_of(around.site.body, *counter)?.first;
+            put_members_test(counter, *low, behind, around, draft)?;
+            put_some_while(condition, behind, &around.taking(1)?, draft)
+        }
+        Control::Steps {
+            counter,
+            step,
+            down,
+            condition,
+            ..
+        } => {
+            let counter = local_of(around.site.body, *counter)?.first;
+            put_next(Steps::new(counter, step, *down, around.free)?, behind, draft)?;
+            put_some_while(condition, behind, &around.taking(steps_kept(step))?, draft)
         }
     }
 }
 
 /// How many scratch locals a control keeps during the turns.
-pub fn locals_kept(control: &Control) -> u32 {
+pub fn locals_kept(control: &Control) -> u32
+    ensures { result ≡ locals_kept (control_tree control.now) }
+{
     match control {
         Control::While(_) | Control::Forever => 0,
         Control::Members { .. } => 1,
@@ -61,28 +97,39 @@ pub fn locals_kept(control: &Control) -> u32 {
 }
 
 /// How many instructions the control of a DO has.
-pub fn control_size(control: &Control) -> u32 {
+pub fn control_size(control: &Control) -> u32
+    ensures { result ≡ capped (control_size (control_tree control.now)) }
+{
+    before_turns_size(control).saturating_add(turn_test_size(control))
+}
+
+/// How many instructions stand before the test before each turn.
+pub fn before_turns_size(control: &Control) -> u32
+    ensures { result ≡ capped (before_turns_size (control_tree control.now)) }
+{
     match control {
-        Control::While(condition) => condition_size(condition, false),
-        Control::Forever => 0,
-        Control::Members {
-            set,
-            low,
-            condition,
-            ..
-        } => expr_size(set)
-            .saturating_add(13)
-            .saturating_add(member_size(*low))
-            .saturating_add(some_while_size(condition)),
+        Control::While(_) | Control::Forever => 0,
+        Control::Members { set, .. } => expr_size(set).saturating_add(1),
         Control::Steps {
             start,
             step,
             end,
-            condition,
             ..
-        } => bounds_size(start, step, end)
-            .saturating_add(steps_size(step))
+        } => bounds_size(start, step, end).saturating_add(first_value_size(step)),
+    }
+}
+
+// How many instructions the test before each turn has.
+fn turn_test_size(control: &Control) -> u32
+    ensures { result ≡ capped (turn_test_size (control_tree control.now)) }
+{
+    match control {
+        Control::While(condition) => condition_size(condition, false),
+        Control::Forever => 0,
+        Control::Members { low, condition, .. } => member_size(*low)
+            .saturating_add(12)
             .saturating_add(some_while_size(condition)),
+        Control::Steps { condition, .. } => some_while_size(condition).saturating_add(8),
     }
 }
 
@@ -92,7 +139,9 @@ fn put_while(
     behind: u32,
     around: &Around,
     draft: &mut Draft,
-) -> Result<(), PartRefusal> {
+) -> Result<(), PartRefusal>
+    ensures appends { OnOk result (Appends (while_code (standing_of around.now) (expr_tree condition.now) behind (length draft.old.code.instrs)) (condition_size (expr_tree condition.now) false) draft.old.code draft.new.code) }
+{
     let branch = Branch {
         when: false,
         target: behind,
@@ -106,46 +155,39 @@ fn put_some_while(
     behind: u32,
     around: &Around,
     draft: &mut Draft,
-) -> Result<(), PartRefusal> {
+) -> Result<(), PartRefusal>
+    ensures appends { OnOk result (Appends (some_while_code (standing_of around.now) (option_map boxed_expr condition.now) behind (length draft.old.code.instrs)) (some_while_size (option_map boxed_expr condition.now)) draft.old.code draft.new.code) }
+{
     match condition {
         Some(condition) => put_while(condition, behind, around, draft),
         None => Ok(()),
     }
 }
 
-fn some_while_size(condition: &Option<Box<Expr>>) -> u32 {
+fn some_while_size(condition: &Option<Box<Expr>>) -> u32
+    ensures { result ≡ capped (some_while_size (option_map boxed_expr condition.now)) }
+{
     match condition {
         Some(condition) => condition_size(condition, false),
         None => 0,
     }
 }
 
-// Where a loop stands, and the place behind it.
-#[derive(Clone, Copy)]
-struct Frame<'a, 'b, 'c> {
-    behind: u32,
-    around: &'c Around<'a, 'b>,
-}
-
-// DO FOR IN: what is left of the powerset is kept in a scratch local. The answer is the place of the test.
-fn put_members(
+// DO FOR IN: past the loop where nothing is left of the powerset, which is kept in the first free scratch local, else the next
+// member.
+fn put_members_test(
     counter: u32,
-    set: &Expr,
     low: i64,
-    frame: Frame,
+    behind: u32,
+    around: &Around,
     draft: &mut Draft,
-) -> Result<u32, PartRefusal> {
-    let around = frame.around;
-    let left = around.free;
-    let counter = local_of(around.site.body, counter)?.first;
-    put_expr(set, &around.site, around.free, draft)?;
-    draft.put(Instr::SetLocal(left, 1))?;
-    let again = draft.place();
-    draft.put(Instr::Local(left, 1))?;
+) -> Result<(), PartRefusal>
+    ensures appends { OnOk result (Appends (members_test around.now.free counter low behind) (members_test_size low) draft.old.code draft.new.code) }
+{
+    draft.put(Instr::Local(around.free, 1))?;
     draft.put(Instr::Card)?;
-    draft.put(Instr::Unless(frame.behind))?;
-    put_next_member(left, counter, low, draft)?;
-    Ok(again)
+    draft.put(Instr::Unless(behind))?;
+    put_next_member(around.free, counter, low, draft)
 }
 
 // The counter gets the least member of the powerset that is kept in this local, which is taken out of it.
@@ -154,7 +196,9 @@ fn put_next_member(
     counter: u32,
     low: i64,
     draft: &mut Draft,
-) -> Result<(), PartRefusal> {
+) -> Result<(), PartRefusal>
+    ensures appends { let made = next_member_code left counter low in OnOk result (Appends made (length made) draft.old.code draft.new.code) }
+{
     draft.put(Instr::Local(left, 1))?;
     draft.put(Instr::Copy(1))?;
     draft.put(Instr::Least)?;

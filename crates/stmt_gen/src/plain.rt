@@ -1,4 +1,15 @@
 // Actions that hold no statements.
+ghost use Rattle.std.specs.Prelude.{◌≡◌, ◌+◌, length, false, OnOk};
+ghost use Rattle.program_trees.specs.ExprTree.{expr_tree, call_tree, start_tree};
+ghost use Rattle.program_trees.specs.StatementTree.{action_tree};
+ghost use Rattle.code_scheme.specs.Pieces.{capped};
+ghost use Rattle.code_scheme.specs.ExprSizes.{expr_size, start_size};
+ghost use Rattle.code_scheme.specs.StatementPlain.{perform_code, perform_size, dropped_scalars, drop_code, drop_routine_code, drop_routine_size, taken_by, start_of_code, exit_code, assert_code, assert_size};
+ghost use Rattle.code_scheme.specs.StatementSize.{action_size};
+ghost use Rattle.code_scheme.specs.StatementCode.{action_code};
+ghost use Rattle.expr_gen.specs.Putting.{Appends};
+ghost use Rattle.stmt_gen.specs.Putting.{standing_of, site_of, holds_statements};
+
 use crate::around::Around;
 use crate::assigning::{
     Change, assign_size, declare_size, lowest_size, put_assign, put_declare, put_lowest_of,
@@ -16,7 +27,10 @@ use expr_gen::{
 const ASSERTFAIL: u32 = 3;
 
 /// Appends the code of an action that holds no statements. A modulion is none.
-pub fn put_plain(action: &Action, around: &Around, draft: &mut Draft) -> Result<(), PartRefusal> {
+#[tactic(auto, using(crate::proofs::Views::statement_built))]
+pub fn put_plain(action: &Action, around: &Around, draft: &mut Draft) -> Result<(), PartRefusal>
+    ensures appends { OnOk result (Appends (action_code (standing_of around.now) (action_tree action.now) (length draft.old.code.instrs)) (action_size (site_of around.now.site.program.now around.now.site.body.now) (action_tree action.now)) draft.old.code draft.new.code) }
+{
     match action {
         Action::Nothing => Ok(()),
         Action::Declare { names, value } => put_declare(names.as_slice(), value, around, draft),
@@ -48,13 +62,16 @@ pub fn put_plain(action: &Action, around: &Around, draft: &mut Draft) -> Result<
 }
 
 // Appends the code of an action that calls, asks or puts.
-fn put_asking(action: &Action, around: &Around, draft: &mut Draft) -> Result<(), PartRefusal> {
+#[tactic(auto, using(crate::proofs::Views::statement_built))]
+fn put_asking(action: &Action, around: &Around, draft: &mut Draft) -> Result<(), PartRefusal>
+    ensures appends { OnOk result (Appends (action_code (standing_of around.now) (action_tree action.now) (length draft.old.code.instrs)) (action_size (site_of around.now.site.program.now around.now.site.body.now) (action_tree action.now)) draft.old.code draft.new.code) }
+{
     match action {
         Action::Call(call) => put_dropped_call(call, around, draft),
         Action::Routine { routine, argument } => {
             put_dropped_routine(*routine, argument, around, draft)
         }
-        Action::Evaluate(value) => put_dropped(value, around, draft),
+        Action::Evaluate(value) => put_used(value, Instr::Pop(value.count), around, draft),
         Action::PutInt(value) => put_used(value, Instr::PutInt, around, draft),
         Action::PutText(value) => put_used(value, Instr::PutText(value.count), around, draft),
         Action::PutLine => draft.put(Instr::PutLine),
@@ -66,8 +83,12 @@ fn put_asking(action: &Action, around: &Around, draft: &mut Draft) -> Result<(),
     }
 }
 
-/// How many instructions an action that holds no statements has. A modulion has none here.
-pub fn plain_size(action: &Action, site: &Site) -> u32 {
+/// How many instructions an action that holds no statements has. A modulion counts nothing, and what holds statements is
+/// counted elsewhere.
+#[tactic(auto, using(crate::proofs::Views::statement_built))]
+pub fn plain_size(action: &Action, site: &Site) -> u32
+    ensures { holds_statements (action_tree action.now) ≡ false → result ≡ capped (action_size (site_of site.now.program.now site.now.body.now) (action_tree action.now)) }
+{
     match action {
         Action::Nothing => 0,
         Action::Declare { names, value } => declare_size(names.as_slice(), value),
@@ -86,7 +107,7 @@ pub fn plain_size(action: &Action, site: &Site) -> u32 {
             };
             update_size(target, change)
         }
-        Action::Return { value } => return_size(value, site.body),
+        Action::Return { value } => return_size(value, site),
         Action::Result { value } => result_size(value),
         Action::Assert(condition) => condition_size(condition, true).saturating_add(1),
         Action::Exit { .. } | Action::Cause { .. } | Action::Stop => 1,
@@ -107,16 +128,14 @@ pub fn plain_size(action: &Action, site: &Site) -> u32 {
 // How many instructions an action has that calls, asks or puts.
 fn asking_size(action: &Action, site: &Site) -> u32 {
     match action {
-        Action::Call(call) => {
-            call_size(call).saturating_add(u32::from(dropped_scalars(call, site) > 0))
-        }
+        Action::Call(call) => dropped_call_size(call, site),
         Action::Routine { routine, argument } => expr_size(argument)
             .saturating_add(routine_size(*routine))
             .saturating_add(1),
         Action::Evaluate(value) | Action::PutInt(value) | Action::PutText(value) => {
             expr_size(value).saturating_add(1)
         }
-        Action::Start(start) => received_sizes(start.arguments.as_slice()).saturating_add(2),
+        Action::Start(start) => dropped_start_size(start),
         Action::Delay { .. } => 4,
         Action::PutLine | Action::Continue { .. } => 1,
         Action::Send { sent, .. } => send_size(sent),
@@ -132,8 +151,25 @@ fn asking_size(action: &Action, site: &Site) -> u32 {
     }
 }
 
+// How many instructions a call has whose result is dropped.
+fn dropped_call_size(call: &Call, site: &Site) -> u32
+    ensures { result ≡ capped (perform_size (site_of site.now.program.now site.now.body.now) (call_tree call.now)) }
+{
+    call_size(call).saturating_add(u32::from(dropped_scalars(call, site) > 0))
+}
+
+// How many instructions START has whose instance is dropped.
+#[tactic(auto, using(expr_gen::proofs::Views::tree_built))]
+fn dropped_start_size(start: &Start) -> u32
+    ensures { result ≡ capped (start_size (start_tree start.now) + 1) }
+{
+    received_sizes(start.arguments.as_slice()).saturating_add(2)
+}
+
 // EXIT of the labelled statement that is so many outwards.
-fn put_exit(outwards: u32, around: &Around, draft: &mut Draft) -> Result<(), PartRefusal> {
+fn put_exit(outwards: u32, around: &Around, draft: &mut Draft) -> Result<(), PartRefusal>
+    ensures appends { OnOk result (Appends (exit_code (standing_of around.now) outwards) 1 draft.old.code draft.new.code) }
+{
     let exits = around.exits;
     let outwards = outwards as usize;
     if outwards < exits.len() {
@@ -144,20 +180,30 @@ fn put_exit(outwards: u32, around: &Around, draft: &mut Draft) -> Result<(), Par
 }
 
 // ASSERT.
-fn put_assert(condition: &Expr, around: &Around, draft: &mut Draft) -> Result<(), PartRefusal> {
+fn put_assert(condition: &Expr, around: &Around, draft: &mut Draft) -> Result<(), PartRefusal>
+    ensures appends { OnOk result (Appends (assert_code (standing_of around.now) (expr_tree condition.now) (length draft.old.code.instrs)) (assert_size (expr_tree condition.now)) draft.old.code draft.new.code) }
+{
     let size = condition_size(condition, true).saturating_add(1);
     let branch = Branch {
         when: true,
-        target: draft.place_behind(size),
+        target: draft.target_behind(size)?,
     };
     put_condition(condition, branch, &around.site, around.free, draft)?;
     draft.put(Instr::Raise(ASSERTFAIL))
 }
 
 // A call whose result is dropped, where it has one.
-fn put_dropped_call(call: &Call, around: &Around, draft: &mut Draft) -> Result<(), PartRefusal> {
+fn put_dropped_call(call: &Call, around: &Around, draft: &mut Draft) -> Result<(), PartRefusal>
+    ensures appends { OnOk result (Appends (perform_code (standing_of around.now) (call_tree call.now) (length draft.old.code.instrs)) (perform_size (site_of around.now.site.program.now around.now.site.body.now) (call_tree call.now)) draft.old.code draft.new.code) }
+{
     put_call(call, &around.site, around.free, draft)?;
-    let count = dropped_scalars(call, &around.site);
+    put_drop(dropped_scalars(call, &around.site), draft)
+}
+
+// So many scalars are dropped, where there are any.
+fn put_drop(count: u32, draft: &mut Draft) -> Result<(), PartRefusal>
+    ensures appends { OnOk result (Appends (drop_code count) (length (drop_code count)) draft.old.code draft.new.code) }
+{
     if count > 0 {
         draft.put(Instr::Pop(count))
     } else {
@@ -166,7 +212,9 @@ fn put_dropped_call(call: &Call, around: &Around, draft: &mut Draft) -> Result<(
 }
 
 // How many scalars the result of a call has.
-fn dropped_scalars(call: &Call, site: &Site) -> u32 {
+fn dropped_scalars(call: &Call, site: &Site) -> u32
+    ensures { result ≡ dropped_scalars (site_of site.now.program.now site.now.body.now) (call_tree call.now) }
+{
     match site.program.bodies.as_slice().get(call.body as usize) {
         Some(callee) => result_scalars(callee),
         None => 0,
@@ -179,15 +227,12 @@ fn put_dropped_routine(
     argument: &Expr,
     around: &Around,
     draft: &mut Draft,
-) -> Result<(), PartRefusal> {
+) -> Result<(), PartRefusal>
+    ensures appends { OnOk result (Appends (drop_routine_code (standing_of around.now) routine (expr_tree argument.now) (length draft.old.code.instrs)) (drop_routine_size routine (expr_tree argument.now)) draft.old.code draft.new.code) }
+{
     put_expr(argument, &around.site, around.free, draft)?;
     put_routine(routine, draft)?;
     draft.put(Instr::Pop(1))
-}
-
-// An expression whose value is dropped.
-fn put_dropped(value: &Expr, around: &Around, draft: &mut Draft) -> Result<(), PartRefusal> {
-    put_used(value, Instr::Pop(value.count), around, draft)
 }
 
 // An expression, and an instruction that takes its value.
@@ -196,13 +241,17 @@ fn put_used(
     instr: Instr,
     around: &Around,
     draft: &mut Draft,
-) -> Result<(), PartRefusal> {
+) -> Result<(), PartRefusal>
+    ensures appends { OnOk result (Appends (taken_by (standing_of around.now) (expr_tree value.now) instr (length draft.old.code.instrs)) (expr_size (expr_tree value.now) + 1) draft.old.code draft.new.code) }
+{
     put_expr(value, &around.site, around.free, draft)?;
     draft.put(instr)
 }
 
 // START of a process, whose instance is dropped.
-fn put_dropped_start(start: &Start, around: &Around, draft: &mut Draft) -> Result<(), PartRefusal> {
+fn put_dropped_start(start: &Start, around: &Around, draft: &mut Draft) -> Result<(), PartRefusal>
+    ensures appends { OnOk result (Appends (start_of_code (standing_of around.now) (start_tree start.now) (length draft.old.code.instrs)) (start_size (start_tree start.now) + 1) draft.old.code draft.new.code) }
+{
     put_start(start, &around.site, around.free, draft)?;
     draft.put(Instr::Pop(1))
 }

@@ -1,14 +1,24 @@
 // What processes ask of each other without an answer that the text names.
+ghost use Rattle.std.specs.Prelude.{◌≡◌, length, option_map, OnOk};
+ghost use Rattle.program_trees.specs.ExprTree.{boxed_expr};
+ghost use Rattle.program_trees.specs.StatementTree.{sent_tree};
+ghost use Rattle.code_scheme.specs.Pieces.{capped};
+ghost use Rattle.code_scheme.specs.StatementPlain.{delay_code, send_code, send_size, receiver_code, receiver_size};
+ghost use Rattle.expr_gen.specs.Putting.{Appends};
+ghost use Rattle.stmt_gen.specs.Putting.{standing_of};
+
 use crate::around::Around;
 use checked_program::{Expr, Received, Sent};
 use code_types::Instr;
 use expr_gen::{
     Draft, PartRefusal, expr_size, put_all_received, put_expr, put_received, received_size,
-    received_sizes, scalars_of,
+    received_sizes, scalars_of, uncapped,
 };
 
 /// DELAY of one event.
-pub fn put_delay(event: u32, priority: u32, draft: &mut Draft) -> Result<(), PartRefusal> {
+pub fn put_delay(event: u32, priority: u32, draft: &mut Draft) -> Result<(), PartRefusal>
+    ensures appends { OnOk result (Appends (delay_code event priority) 4 draft.old.code draft.new.code) }
+{
     draft.put(Instr::Thing(event))?;
     draft.put(Instr::Push(0))?;
     draft.put(Instr::Delay(1, priority))?;
@@ -21,7 +31,9 @@ pub fn put_send(
     priority: u32,
     around: &Around,
     draft: &mut Draft,
-) -> Result<(), PartRefusal> {
+) -> Result<(), PartRefusal>
+    ensures appends { OnOk result (Appends (send_code (standing_of around.now) (sent_tree sent.now) priority (length draft.old.code.instrs)) (send_size (sent_tree sent.now)) draft.old.code draft.new.code) }
+{
     match sent {
         Sent::ToBuffer { buffer, value } => {
             put_received(value, &around.site, around.free, draft)?;
@@ -35,7 +47,8 @@ pub fn put_send(
             let parts = parts.as_slice();
             put_all_received(parts, &around.site, around.free, draft)?;
             put_receiver(receiver, around, draft)?;
-            draft.put(Instr::Signal(*signal, scalars_of(parts), receiver.is_some(), priority))
+            let count = uncapped(scalars_of(parts))?;
+            draft.put(Instr::Signal(*signal, count, receiver.is_some(), priority))
         }
     }
 }
@@ -45,7 +58,9 @@ fn put_receiver(
     receiver: &Option<Box<Expr>>,
     around: &Around,
     draft: &mut Draft,
-) -> Result<(), PartRefusal> {
+) -> Result<(), PartRefusal>
+    ensures appends { OnOk result (Appends (receiver_code (standing_of around.now) (option_map boxed_expr receiver.now) (length draft.old.code.instrs)) (receiver_size (option_map boxed_expr receiver.now)) draft.old.code draft.new.code) }
+{
     match receiver {
         Some(receiver) => put_expr(receiver, &around.site, around.free, draft),
         None => Ok(()),
@@ -53,7 +68,9 @@ fn put_receiver(
 }
 
 /// How many instructions SEND has.
-pub fn send_size(sent: &Sent) -> u32 {
+pub fn send_size(sent: &Sent) -> u32
+    ensures { result ≡ capped (send_size (sent_tree sent.now)) }
+{
     match sent {
         Sent::ToBuffer { value, .. } => received_size(value).saturating_add(1),
         Sent::Signal {
@@ -61,14 +78,19 @@ pub fn send_size(sent: &Sent) -> u32 {
             receiver,
             ..
         } => {
-            let receiver = match receiver {
-                Some(receiver) => expr_size(receiver),
-                None => 0,
-            };
             let parts: &[Received] = parts.as_slice();
             received_sizes(parts)
-                .saturating_add(receiver)
+                .saturating_add(receiver_size(receiver))
                 .saturating_add(1)
         }
+    }
+}
+
+fn receiver_size(receiver: &Option<Box<Expr>>) -> u32
+    ensures { result ≡ capped (receiver_size (option_map boxed_expr receiver.now)) }
+{
+    match receiver {
+        Some(receiver) => expr_size(receiver),
+        None => 0,
     }
 }

@@ -1,4 +1,14 @@
 // How many instructions statements have: what the targets of jumps are found from.
+ghost use Rattle.std.specs.Prelude.{false, ◌≡◌, ℕ, ◌+◌, suc};
+ghost use Rattle.program_trees.specs.StatementTree.{statement_tree, action_tree, handler_tree, statements_of, set_tree};
+ghost use Rattle.code_scheme.specs.Pieces.{capped};
+ghost use Rattle.code_scheme.specs.ExprSizes.{condition_size};
+ghost use Rattle.code_scheme.specs.StatementWaits.{has_else, receive_wait_size};
+ghost use Rattle.code_scheme.specs.StatementSize.{statements_size, statement_size, handler_size, handled_size, otherwise_size, action_size, choices_size, cases_size, delays_size, receives_size};
+ghost use Rattle.stmt_gen.specs.Trees.{choice_tree, choices_of, cases_of, delays_of, receives_of, handled_of, else_of};
+ghost use Rattle.stmt_gen.specs.Joining.{size_before};
+ghost use Rattle.stmt_gen.specs.Putting.{site_of};
+
 use crate::cases::labels_size;
 use crate::going_on::{action_goes_on, go_on, goes_on};
 use crate::joining::Joined;
@@ -6,14 +16,17 @@ use crate::loops::control_size;
 use crate::plain::plain_size;
 use crate::waits::{delay_wait_size, receive_wait_size};
 use checked_program::{
-    Action, CaseAlternative, Choice, DelayAlternative, Handler, HandlerAlternative,
+    Action, CaseAlternative, Choice, DelayAlternative, Handler, HandlerAlternative, Location,
     ReceiveAlternative, Statement,
 };
+use chill_base::List;
 use expr_gen::{Site, condition_size, expr_size};
 
 /// How many instructions statements have, as far as control comes.
 #[cycle(extent)]
-pub fn statements_size(statements: &[Statement], site: &Site) -> u32 {
+pub fn statements_size(statements: &[Statement], site: &Site) -> u32
+    ensures { result ≡ capped (statements_size (site_of site.now.program.now site.now.body.now) (statements_of statements.now)) }
+{
     let mut size = 0u32;
     for statement in statements {
         size = size.saturating_add(statement_size(statement, site));
@@ -25,8 +38,11 @@ pub fn statements_size(statements: &[Statement], site: &Site) -> u32 {
 }
 
 /// How many instructions a statement has, with its handler.
+#[tactic(auto, using(crate::proofs::Views::statement_built))]
 #[cycle(extent)]
-pub fn statement_size(statement: &Statement, site: &Site) -> u32 {
+pub fn statement_size(statement: &Statement, site: &Site) -> u32
+    ensures { result ≡ capped (statement_size (site_of site.now.program.now site.now.body.now) (statement_tree statement.now)) }
+{
     let size = action_size(&statement.action, site);
     match &statement.handler {
         Some(handler) => Joined::none()
@@ -38,19 +54,33 @@ pub fn statement_size(statement: &Statement, site: &Site) -> u32 {
 }
 
 /// How many instructions the alternatives of a handler have.
+#[tactic(auto, using(crate::proofs::Views::statement_built))]
 #[cycle(extent)]
-pub fn handled_size(handler: &Handler, site: &Site) -> u32 {
-    let rest = match &handler.otherwise {
-        Some(actions) => statements_size(actions.as_slice(), site),
-        None => 0,
-    };
+pub fn handled_size(handler: &Handler, site: &Site) -> u32
+    ensures { result ≡ capped (handler_size (site_of site.now.program.now site.now.body.now) (handler_tree handler.now)) }
+{
+    let rest = otherwise_size(&handler.otherwise, 0, site);
     handled_joined(handler.alternatives.as_slice(), site)
         .then(rest, false)
         .size
 }
 
+/// How many instructions ELSE has, or so many where none is written.
 #[cycle(extent)]
-fn handled_joined(alternatives: &[HandlerAlternative], site: &Site) -> Joined {
+pub fn otherwise_size(otherwise: &Option<List<Statement>>, none: u32, site: &Site) -> u32
+    ensures { (n : ℕ) → none ≡ capped n → result ≡ capped (otherwise_size (site_of site.now.program.now site.now.body.now) (else_of otherwise.now) n) }
+{
+    match otherwise {
+        Some(actions) => statements_size(actions.as_slice(), site),
+        None => none,
+    }
+}
+
+#[tactic(auto, using(crate::proofs::Views::statement_built))]
+#[cycle(extent)]
+fn handled_joined(alternatives: &[HandlerAlternative], site: &Site) -> Joined
+    ensures { (rest : ℕ) → capped (size_before result rest) ≡ capped (handled_size (site_of site.now.program.now site.now.body.now) (handled_of alternatives.now) rest) }
+{
     let mut joined = Joined::none();
     for alternative in alternatives {
         let actions = alternative.actions.as_slice();
@@ -59,9 +89,12 @@ fn handled_joined(alternatives: &[HandlerAlternative], site: &Site) -> Joined {
     joined
 }
 
-/// How many instructions an action has.
+/// How many instructions an action has. A modulion counts nothing.
+#[tactic(auto, using(crate::proofs::Views::statement_built))]
 #[cycle(extent)]
-pub fn action_size(action: &Action, site: &Site) -> u32 {
+pub fn action_size(action: &Action, site: &Site) -> u32
+    ensures { result ≡ capped (action_size (site_of site.now.program.now site.now.body.now) (action_tree action.now)) }
+{
     match action {
         Action::If { choices, otherwise } => choices_joined(choices.as_slice(), site)
             .then(statements_size(otherwise.as_slice(), site), false)
@@ -74,25 +107,9 @@ pub fn action_size(action: &Action, site: &Site) -> u32 {
             selector,
             alternatives,
             otherwise,
-        } => {
-            // what no label holds raises, where nothing is written for it
-            let rest = match otherwise {
-                Some(actions) => statements_size(actions.as_slice(), site),
-                None => 1,
-            };
-            expr_size(selector).saturating_add(1).saturating_add(
-                cases_joined(alternatives.as_slice(), site)
-                    .then(rest, false)
-                    .size,
-            )
-        }
-        _ => waiting_size(action, site),
-    }
-}
-
-#[cycle(extent)]
-fn waiting_size(action: &Action, site: &Site) -> u32 {
-    match action {
+        } => expr_size(selector)
+            .saturating_add(1)
+            .saturating_add(cases_size(alternatives.as_slice(), otherwise, site)),
         Action::DelayCase {
             set,
             alternatives,
@@ -109,38 +126,78 @@ fn waiting_size(action: &Action, site: &Site) -> u32 {
             set,
             alternatives,
             otherwise,
-        } => {
-            let rest = match otherwise {
-                Some(actions) => statements_size(actions.as_slice(), site),
-                None => 0,
-            };
-            receive_wait_size(alternatives.as_slice(), set, otherwise.is_some()).saturating_add(
-                receives_joined(alternatives.as_slice(), site)
-                    .then(rest, false)
-                    .size,
-            )
-        }
+        } => receive_case_size(alternatives.as_slice(), set, otherwise, site),
         _ => plain_size(action, site),
     }
 }
 
+// How many instructions the alternatives of a CASE have. What no label holds raises, where nothing is written for it.
+#[cycle(extent)]
+fn cases_size(
+    alternatives: &[CaseAlternative],
+    otherwise: &Option<List<Statement>>,
+    site: &Site,
+) -> u32
+    ensures { result ≡ capped (cases_size (site_of site.now.program.now site.now.body.now) (cases_of alternatives.now) (otherwise_size (site_of site.now.program.now site.now.body.now) (else_of otherwise.now) 1)) }
+{
+    cases_joined(alternatives, site)
+        .then(otherwise_size(otherwise, 1, site), false)
+        .size
+}
+
+// How many instructions a RECEIVE CASE has.
+#[cycle(extent)]
+fn receive_case_size(
+    alternatives: &[ReceiveAlternative],
+    set: &Option<Box<Location>>,
+    otherwise: &Option<List<Statement>>,
+    site: &Site,
+) -> u32
+    ensures { result ≡ capped (receive_wait_size (set_tree set.now) (receives_of alternatives.now) (has_else (else_of otherwise.now)) + receives_size (site_of site.now.program.now site.now.body.now) (receives_of alternatives.now) (otherwise_size (site_of site.now.program.now site.now.body.now) (else_of otherwise.now) 0)) }
+{
+    receive_wait_size(alternatives, set, otherwise.is_some())
+        .saturating_add(receives_size(alternatives, otherwise, site))
+}
+
+/// How many instructions the alternatives of a RECEIVE CASE have, with ELSE.
+#[cycle(extent)]
+pub fn receives_size(
+    alternatives: &[ReceiveAlternative],
+    otherwise: &Option<List<Statement>>,
+    site: &Site,
+) -> u32
+    ensures { result ≡ capped (receives_size (site_of site.now.program.now site.now.body.now) (receives_of alternatives.now) (otherwise_size (site_of site.now.program.now site.now.body.now) (else_of otherwise.now) 0)) }
+{
+    receives_joined(alternatives, site)
+        .then(otherwise_size(otherwise, 0, site), false)
+        .size
+}
+
 /// How many instructions actions have that are chosen by a Boolean, without the jump behind them.
 #[cycle(extent)]
-pub fn chosen_size(actions: &[Statement], site: &Site) -> u32 {
+pub fn chosen_size(actions: &[Statement], site: &Site) -> u32
+    ensures { result ≡ capped (suc (statements_size (site_of site.now.program.now site.now.body.now) (statements_of actions.now))) }
+{
     statements_size(actions, site).saturating_add(1)
 }
 
 /// How many instructions a condition and its actions have, without the jump behind them.
+#[tactic(auto, using(crate::proofs::Views::statement_built))]
 #[cycle(extent)]
-pub fn choice_size(choice: &Choice, site: &Site) -> u32 {
+pub fn choice_size(choice: &Choice, site: &Site) -> u32
+    ensures { let tree = choice_tree choice.now in result ≡ capped (condition_size tree.condition false + statements_size (site_of site.now.program.now site.now.body.now) tree.actions) }
+{
     condition_size(&choice.condition, false).saturating_add(statements_size(
         choice.actions.as_slice(),
         site,
     ))
 }
 
+#[tactic(auto, using(crate::proofs::Views::statement_built))]
 #[cycle(extent)]
-fn choices_joined(choices: &[Choice], site: &Site) -> Joined {
+fn choices_joined(choices: &[Choice], site: &Site) -> Joined
+    ensures { (rest : ℕ) → capped (size_before result rest) ≡ capped (choices_size (site_of site.now.program.now site.now.body.now) (choices_of choices.now) rest) }
+{
     let mut joined = Joined::none();
     for choice in choices {
         joined = joined.then(choice_size(choice, site), go_on(choice.actions.as_slice()));
@@ -148,8 +205,11 @@ fn choices_joined(choices: &[Choice], site: &Site) -> Joined {
     joined
 }
 
+#[tactic(auto, using(crate::proofs::Views::statement_built))]
 #[cycle(extent)]
-fn cases_joined(alternatives: &[CaseAlternative], site: &Site) -> Joined {
+fn cases_joined(alternatives: &[CaseAlternative], site: &Site) -> Joined
+    ensures { (rest : ℕ) → capped (size_before result rest) ≡ capped (cases_size (site_of site.now.program.now site.now.body.now) (cases_of alternatives.now) rest) }
+{
     let mut joined = Joined::none();
     for alternative in alternatives {
         let actions = alternative.actions.as_slice();
@@ -162,8 +222,11 @@ fn cases_joined(alternatives: &[CaseAlternative], site: &Site) -> Joined {
     joined
 }
 
+#[tactic(auto, using(crate::proofs::Views::statement_built))]
 #[cycle(extent)]
-fn delays_joined(alternatives: &[DelayAlternative], site: &Site) -> Joined {
+fn delays_joined(alternatives: &[DelayAlternative], site: &Site) -> Joined
+    ensures { capped (size_before result 0) ≡ capped (delays_size (site_of site.now.program.now site.now.body.now) (delays_of alternatives.now)) }
+{
     let mut joined = Joined::none();
     for alternative in alternatives {
         let actions = alternative.actions.as_slice();
@@ -172,8 +235,11 @@ fn delays_joined(alternatives: &[DelayAlternative], site: &Site) -> Joined {
     joined
 }
 
+#[tactic(auto, using(crate::proofs::Views::statement_built))]
 #[cycle(extent)]
-fn receives_joined(alternatives: &[ReceiveAlternative], site: &Site) -> Joined {
+fn receives_joined(alternatives: &[ReceiveAlternative], site: &Site) -> Joined
+    ensures { (rest : ℕ) → capped (size_before result rest) ≡ capped (receives_size (site_of site.now.program.now site.now.body.now) (receives_of alternatives.now) rest) }
+{
     let mut joined = Joined::none();
     for alternative in alternatives {
         let actions = alternative.actions.as_slice();

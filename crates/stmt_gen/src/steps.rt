@@ -1,10 +1,18 @@
 // DO FOR from a start to an end: what is done before the first turn, and the test before each other turn.
+ghost use Rattle.std.specs.Prelude.{◌≡◌, Some, false, length, option_map, IfOk, OnOk};
+ghost use Rattle.program_trees.specs.ExprTree.{expr_tree, boxed_expr};
+ghost use Rattle.code_scheme.specs.Pieces.{capped};
+ghost use Rattle.code_scheme.specs.StatementLoops.{steps_with, steps_kept, constant_step, step_of_value, within_code, within_size, step_code, step_size, bounds_code, bounds_size, order_code, before_code, rest_code, nearest_code, nearer_code, near_end_code, moved_end_code, limit_code, first_test_code, by_step, next_code, first_value_code, first_value_size, is_one, forth, back};
+ghost use Rattle.expr_gen.specs.Putting.{Appends};
+ghost use Rattle.stmt_gen.specs.Putting.{standing_of};
+ghost use Rattle.stmt_gen.specs.Counting.{step_of, steps_of};
+
 use crate::around::Around;
 use checked_program::{Expr, Operation};
 use code_types::Instr;
 use expr_gen::{
-    Branch, Draft, INT, PartRefusal, bounds_of_value, bounds_to_test, branch_size, check_size,
-    expr_size, put_branch, put_check, put_expr,
+    Branch, Draft, INT, PartRefusal, bounds_of_value, bounds_to_test, check_size, expr_size,
+    put_branch, put_check, put_expr, uncapped,
 };
 use modes::Bounds;
 
@@ -33,43 +41,61 @@ pub struct Steps {
 
 impl Steps {
     /// The steps of a counter, kept in scratch locals from the first free one on.
-    pub fn new(counter: u32, step: &Option<Box<Expr>>, down: bool, free: u32) -> Steps {
-        let (step, end) = match constant_step(step) {
-            Some(step) => (Step::Constant(step), free.saturating_add(1)),
-            None => (Step::Kept(free.saturating_add(1)), free.saturating_add(2)),
-        };
-        Steps {
-            counter,
-            start: free,
-            step,
-            end,
-            down,
+    pub fn new(
+        counter: u32,
+        step: &Option<Box<Expr>>,
+        down: bool,
+        free: u32,
+    ) -> Result<Steps, PartRefusal>
+        ensures { IfOk result (λ steps. steps_of steps ≡ steps_with counter (constant_step (option_map boxed_expr step.now)) down free) }
+    {
+        let next = uncapped(free.saturating_add(1))?;
+        match constant_step(step) {
+            Some(step) => Ok(Steps {
+                counter,
+                start: free,
+                step: Step::Constant(step),
+                end: next,
+                down,
+            }),
+            None => Ok(Steps {
+                counter,
+                start: free,
+                step: Step::Kept(next),
+                end: uncapped(free.saturating_add(2))?,
+                down,
+            }),
         }
     }
 }
 
 // The step where it is a constant from 1 on, or 1 where none is written.
-fn constant_step(step: &Option<Box<Expr>>) -> Option<i64> {
+fn constant_step(step: &Option<Box<Expr>>) -> Option<i64>
+    ensures { result ≡ constant_step (option_map boxed_expr step.now) }
+{
     match step {
-        Some(step) => match &step.operation {
-            Operation::Constant(scalars) => step_of(scalars.as_slice()),
-            _ => None,
-        },
+        Some(step) => step_of_value(step),
         None => Some(1),
     }
 }
 
-// The step of these scalars, where they are one number from 1 on.
-fn step_of(scalars: &[i64]) -> Option<i64> {
-    if scalars.len() == 1 && (STEPS.low <= scalars[0] && scalars[0] <= STEPS.high) {
-        Some(scalars[0])
-    } else {
-        None
+#[tactic(auto, using(expr_gen::proofs::Views::tree_built))]
+fn step_of_value(step: &Expr) -> Option<i64>
+    ensures { result ≡ step_of_value (expr_tree step.now) }
+{
+    match &step.operation {
+        Operation::Constant(scalars) => match scalars.as_slice() {
+            [number] if STEPS.low <= *number && *number <= STEPS.high => Some(*number),
+            _ => None,
+        },
+        _ => None,
     }
 }
 
 /// How many scratch locals a DO FOR with such a step keeps: start and end, and the step where it is no constant.
-pub fn steps_kept(step: &Option<Box<Expr>>) -> u32 {
+pub fn steps_kept(step: &Option<Box<Expr>>) -> u32
+    ensures { result ≡ steps_kept (option_map boxed_expr step.now) }
+{
     match constant_step(step) {
         Some(_) => 2,
         None => 3,
@@ -83,26 +109,52 @@ pub fn put_bounds(
     end: &Expr,
     around: &Around,
     draft: &mut Draft,
-) -> Result<(), PartRefusal> {
+) -> Result<(), PartRefusal>
+    ensures appends { let by = option_map boxed_expr step.now in OnOk result (Appends (bounds_code (standing_of around.now) (expr_tree start.now) by (expr_tree end.now) (length draft.old.code.instrs)) (bounds_size (expr_tree start.now) by (expr_tree end.now)) draft.old.code draft.new.code) }
+{
     put_within(start, INT, around, draft)?;
-    match (step, constant_step(step)) {
-        (Some(step), None) => put_within(step, STEPS, around, draft)?,
-        _ => {}
-    }
+    put_own_step(step, around, draft)?;
     put_within(end, INT, around, draft)?;
     draft.put(Instr::SetLocal(around.free, steps_kept(step)))
 }
 
+// A step that is no constant.
+fn put_own_step(
+    step: &Option<Box<Expr>>,
+    around: &Around,
+    draft: &mut Draft,
+) -> Result<(), PartRefusal>
+    ensures appends { let by = option_map boxed_expr step.now in OnOk result (Appends (step_code (standing_of around.now) (constant_step by) by (length draft.old.code.instrs)) (step_size (constant_step by) by) draft.old.code draft.new.code) }
+{
+    match constant_step(step) {
+        Some(_) => Ok(()),
+        None => match step {
+            Some(step) => put_within(step, STEPS, around, draft),
+            None => Ok(()),
+        },
+    }
+}
+
 /// How many instructions that has.
-pub fn bounds_size(start: &Expr, step: &Option<Box<Expr>>, end: &Expr) -> u32 {
-    let own = match (step, constant_step(step)) {
-        (Some(step), None) => within_size(step, STEPS),
-        _ => 0,
-    };
+pub fn bounds_size(start: &Expr, step: &Option<Box<Expr>>, end: &Expr) -> u32
+    ensures { result ≡ capped (bounds_size (expr_tree start.now) (option_map boxed_expr step.now) (expr_tree end.now)) }
+{
     within_size(start, INT)
-        .saturating_add(own)
+        .saturating_add(own_step_size(step))
         .saturating_add(within_size(end, INT))
         .saturating_add(1)
+}
+
+fn own_step_size(step: &Option<Box<Expr>>) -> u32
+    ensures { let by = option_map boxed_expr step.now in result ≡ capped (step_size (constant_step by) by) }
+{
+    match constant_step(step) {
+        Some(_) => 0,
+        None => match step {
+            Some(step) => within_size(step, STEPS),
+            None => 0,
+        },
+    }
 }
 
 // A value in these bounds, or RANGEFAIL.
@@ -111,81 +163,120 @@ fn put_within(
     bounds: Bounds,
     around: &Around,
     draft: &mut Draft,
-) -> Result<(), PartRefusal> {
+) -> Result<(), PartRefusal>
+    ensures appends { OnOk result (Appends (within_code (standing_of around.now) (Some bounds) (expr_tree value.now) (length draft.old.code.instrs)) (within_size (Some bounds) (expr_tree value.now)) draft.old.code draft.new.code) }
+{
     put_expr(value, &around.site, around.free, draft)?;
     put_check(bounds_to_test(Some(bounds), bounds_of_value(value)), draft)
 }
 
-fn within_size(value: &Expr, bounds: Bounds) -> u32 {
+fn within_size(value: &Expr, bounds: Bounds) -> u32
+    ensures { result ≡ capped (within_size (Some bounds) (expr_tree value.now)) }
+{
     let tested = bounds_to_test(Some(bounds), bounds_of_value(value));
     expr_size(value).saturating_add(check_size(tested))
 }
 
-/// The tests of DO FOR: one before the first turn, one before each other turn. The answer is the latter's place.
-pub fn put_steps(steps: Steps, behind: u32, draft: &mut Draft) -> Result<u32, PartRefusal> {
+/// What DO FOR does before the first turn: the first test, the limit, and the first value.
+pub fn put_first_value(steps: Steps, behind: u32, draft: &mut Draft) -> Result<(), PartRefusal>
+    ensures appends { OnOk result (Appends (first_value_code (steps_of steps) behind (length draft.old.code.instrs)) (first_value_size (steps_of steps)) draft.old.code draft.new.code) }
+{
     put_first_test(steps, behind, draft)?;
     put_limit(steps, draft)?;
     draft.put(Instr::Local(steps.start, 1))?;
     draft.put(Instr::SetLocal(steps.counter, 1))?;
-    draft.put(Instr::Jump(draft.place_behind(9)))?;
-    let again = draft.place();
-    put_next(steps, behind, draft)?;
-    Ok(again)
+    let turn = draft.target_behind(9)?;
+    draft.put(Instr::Jump(turn))
 }
 
-/// How many instructions the tests have.
-pub fn steps_size(step: &Option<Box<Expr>>) -> u32 {
-    let steps = Steps::new(0, step, false, 0);
-    branch_size(true)
-        .saturating_add(14)
-        .saturating_add(limit_size(steps.step))
+/// How many instructions that has.
+pub fn first_value_size(step: &Option<Box<Expr>>) -> u32
+    ensures { result ≡ first_value_size (steps_with 0 (constant_step (option_map boxed_expr step.now)) false 0) }
+{
+    match constant_step(step) {
+        Some(step) => {
+            if step == 1 {
+                8
+            } else {
+                22
+            }
+        }
+        None => 28,
+    }
 }
 
 // Past the loop where the start is past the end.
-fn put_first_test(steps: Steps, behind: u32, draft: &mut Draft) -> Result<(), PartRefusal> {
+fn put_first_test(steps: Steps, behind: u32, draft: &mut Draft) -> Result<(), PartRefusal>
+    ensures appends { OnOk result (Appends (first_test_code (steps_of steps) behind (length draft.old.code.instrs)) 5 draft.old.code draft.new.code) }
+{
     let branch = Branch {
         when: true,
         target: behind,
     };
-    if steps.down {
-        put_order(steps.start, steps.end, draft)?;
-    } else {
-        put_order(steps.end, steps.start, draft)?;
-    }
+    put_before(steps.down, steps.end, steps.start, draft)?;
     put_branch(branch, draft)
 }
 
+// Whether what one local has comes before what another one has, or behind it with DOWN.
+fn put_before(down: bool, first: u32, second: u32, draft: &mut Draft) -> Result<(), PartRefusal>
+    ensures appends { OnOk result (Appends (before_code down first second) 3 draft.old.code draft.new.code) }
+{
+    if down {
+        put_order(second, first, draft)
+    } else {
+        put_order(first, second, draft)
+    }
+}
+
 // Whether what one local has comes before what another one has.
-fn put_order(first: u32, second: u32, draft: &mut Draft) -> Result<(), PartRefusal> {
+fn put_order(first: u32, second: u32, draft: &mut Draft) -> Result<(), PartRefusal>
+    ensures appends { OnOk result (Appends (order_code first second) 3 draft.old.code draft.new.code) }
+{
     draft.put(Instr::Local(first, 1))?;
     draft.put(Instr::Local(second, 1))?;
     draft.put(Instr::Less(1))
 }
 
-// The next value, where it doesn't pass the end: where the counter lies before the limit.
-fn put_next(steps: Steps, behind: u32, draft: &mut Draft) -> Result<(), PartRefusal> {
-    if steps.down {
-        put_order(steps.end, steps.counter, draft)?;
-    } else {
-        put_order(steps.counter, steps.end, draft)?;
-    }
+/// The next value, where it doesn't pass the end: where the counter lies before the limit.
+pub fn put_next(steps: Steps, behind: u32, draft: &mut Draft) -> Result<(), PartRefusal>
+    ensures appends { OnOk result (Appends (next_code (steps_of steps) behind) 8 draft.old.code draft.new.code) }
+{
+    put_before(steps.down, steps.counter, steps.end, draft)?;
     draft.put(Instr::Unless(behind))?;
     draft.put(Instr::Local(steps.counter, 1))?;
-    put_step(steps.step, draft)?;
-    draft.put(if steps.down { Instr::Sub } else { Instr::Add })?;
+    draft.put(by_step(steps.step))?;
+    draft.put(forth(steps.down))?;
     draft.put(Instr::SetLocal(steps.counter, 1))
 }
 
 // The step.
-fn put_step(step: Step, draft: &mut Draft) -> Result<(), PartRefusal> {
+fn by_step(step: Step) -> Instr
+    ensures { result ≡ by_step (step_of step) }
+{
     match step {
-        Step::Constant(step) => draft.put(Instr::Push(step)),
-        Step::Kept(local) => draft.put(Instr::Local(local, 1)),
+        Step::Constant(step) => Instr::Push(step),
+        Step::Kept(local) => Instr::Local(local, 1),
     }
 }
 
+// Away from the start.
+fn forth(down: bool) -> Instr
+    ensures { result ≡ forth down }
+{
+    if down { Instr::Sub } else { Instr::Add }
+}
+
+// Back towards the start.
+fn back(down: bool) -> Instr
+    ensures { result ≡ back down }
+{
+    if down { Instr::Add } else { Instr::Sub }
+}
+
 // The end becomes the limit, from which on another step passes the end. With a step of 1 that is the end itself.
-fn put_limit(steps: Steps, draft: &mut Draft) -> Result<(), PartRefusal> {
+fn put_limit(steps: Steps, draft: &mut Draft) -> Result<(), PartRefusal>
+    ensures appends { OnOk result (Appends (limit_code (steps_of steps) (length draft.old.code.instrs)) (length (limit_code (steps_of steps) 0)) draft.old.code draft.new.code) }
+{
     if is_one(steps.step) {
         return Ok(());
     }
@@ -194,7 +285,9 @@ fn put_limit(steps: Steps, draft: &mut Draft) -> Result<(), PartRefusal> {
 }
 
 // Whether the step is known to be 1.
-fn is_one(step: Step) -> bool {
+fn is_one(step: Step) -> bool
+    ensures { result ≡ is_one (step_of step) }
+{
     match step {
         Step::Constant(step) => step == 1,
         Step::Kept(_) => false,
@@ -202,40 +295,58 @@ fn is_one(step: Step) -> bool {
 }
 
 // Where the limit wouldn't lie in INT, the end is moved so far that it does.
-fn put_near_end(steps: Steps, draft: &mut Draft) -> Result<(), PartRefusal> {
-    if steps.down {
-        put_nearest(steps, draft)?;
-        draft.put(Instr::Local(steps.end, 1))?;
-    } else {
-        draft.put(Instr::Local(steps.end, 1))?;
-        put_nearest(steps, draft)?;
-    }
+fn put_near_end(steps: Steps, draft: &mut Draft) -> Result<(), PartRefusal>
+    ensures appends { OnOk result (Appends (near_end_code (steps_of steps) (length draft.old.code.instrs)) (length (near_end_code (steps_of steps) 0)) draft.old.code draft.new.code) }
+{
+    put_nearer(steps, draft)?;
     draft.put(Instr::Less(1))?;
-    let size = rest_size(steps.step).saturating_add(4);
-    draft.put(Instr::Unless(draft.place_behind(size)))?;
+    let behind = draft.target_behind(rest_size(steps.step).saturating_add(4))?;
+    draft.put(Instr::Unless(behind))?;
     put_nearest(steps, draft)?;
     draft.put(Instr::SetLocal(steps.end, 1))
 }
 
+// The end and the nearest one, the one lowest that comes first where no step leaves INT.
+fn put_nearer(steps: Steps, draft: &mut Draft) -> Result<(), PartRefusal>
+    ensures appends { OnOk result (Appends (nearer_code (steps_of steps)) (length (nearer_code (steps_of steps))) draft.old.code draft.new.code) }
+{
+    if steps.down {
+        put_nearest(steps, draft)?;
+        draft.put(Instr::Local(steps.end, 1))
+    } else {
+        draft.put(Instr::Local(steps.end, 1))?;
+        put_nearest(steps, draft)
+    }
+}
+
 // The end whose limit is the first value of INT, or the last one behind DOWN.
-fn put_nearest(steps: Steps, draft: &mut Draft) -> Result<(), PartRefusal> {
+fn put_nearest(steps: Steps, draft: &mut Draft) -> Result<(), PartRefusal>
+    ensures appends { OnOk result (Appends (nearest_code (steps_of steps)) (length (nearest_code (steps_of steps))) draft.old.code draft.new.code) }
+{
     draft.put(Instr::Push(if steps.down { INT.high } else { INT.low }))?;
     put_rest(steps.step, draft)?;
-    draft.put(if steps.down { Instr::Sub } else { Instr::Add })
+    draft.put(forth(steps.down))
 }
 
 // The end is moved towards the start by 1 less than the step.
-fn put_moved_end(steps: Steps, draft: &mut Draft) -> Result<(), PartRefusal> {
+fn put_moved_end(steps: Steps, draft: &mut Draft) -> Result<(), PartRefusal>
+    ensures appends { OnOk result (Appends (moved_end_code (steps_of steps)) (length (moved_end_code (steps_of steps))) draft.old.code draft.new.code) }
+{
     draft.put(Instr::Local(steps.end, 1))?;
     put_rest(steps.step, draft)?;
-    draft.put(if steps.down { Instr::Add } else { Instr::Sub })?;
+    draft.put(back(steps.down))?;
     draft.put(Instr::SetLocal(steps.end, 1))
 }
 
 // 1 less than the step.
-fn put_rest(step: Step, draft: &mut Draft) -> Result<(), PartRefusal> {
+fn put_rest(step: Step, draft: &mut Draft) -> Result<(), PartRefusal>
+    ensures appends { OnOk result (Appends (rest_code (step_of step)) (length (rest_code (step_of step))) draft.old.code draft.new.code) }
+{
     match step {
-        Step::Constant(step) => draft.put(Instr::Push(step.saturating_sub(1))),
+        Step::Constant(step) => match step.checked_sub(1) {
+            Some(rest) => draft.put(Instr::Push(rest)),
+            None => Err(PartRefusal::Unsound),
+        },
         Step::Kept(local) => {
             draft.put(Instr::Local(local, 1))?;
             draft.put(Instr::Push(1))?;
@@ -244,17 +355,11 @@ fn put_rest(step: Step, draft: &mut Draft) -> Result<(), PartRefusal> {
     }
 }
 
-fn rest_size(step: Step) -> u32 {
+fn rest_size(step: Step) -> u32
+    ensures { result ≡ length (rest_code (step_of step)) }
+{
     match step {
         Step::Constant(_) => 1,
         Step::Kept(_) => 3,
-    }
-}
-
-fn limit_size(step: Step) -> u32 {
-    if is_one(step) {
-        0
-    } else {
-        rest_size(step).saturating_mul(3).saturating_add(11)
     }
 }

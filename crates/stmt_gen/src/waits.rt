@@ -1,11 +1,21 @@
 // DELAY CASE and RECEIVE CASE: what comes before their alternatives.
+ghost use Rattle.std.specs.Prelude.{true, ◌≡◌, pos, [], ◌∷◌, map, length, IfOk, OnOk};
+ghost use Rattle.code_types.specs.declared.instr.Instr.TheVariants as instrs;
+ghost use Rattle.program_trees.specs.ProgramTree.{local_row_tree};
+ghost use Rattle.program_trees.specs.StatementTree.{set_tree};
+ghost use Rattle.code_scheme.specs.Pieces.{capped};
+ghost use Rattle.code_scheme.specs.StatementWaits.{set_place_code, set_place_size, set_kept, chosen_in, set_code, set_size, events_code, all_events_code, count_of_events, delay_wait_code, delay_wait_size, first_received, scalars_received, sources_code, receive_instr, nothing_code, receive_wait_code, receive_wait_size, is_chosen_code};
+ghost use Rattle.expr_gen.specs.Putting.{Appends};
+ghost use Rattle.stmt_gen.specs.Trees.{delays_of, receives_of};
+ghost use Rattle.stmt_gen.specs.Putting.{standing_of};
+ghost use Rattle.stmt_gen.specs.Receiving.{kind_of, waits_else};
+
 use crate::around::Around;
-use checked_program::{DelayAlternative, Location, ReceiveAlternative};
-use chill_base::List;
+use checked_program::{DelayAlternative, Location, LocalRow, ReceiveAlternative};
 use code_types::Instr;
 use expr_gen::{
     Draft, PartRefusal, keep_place, local_of, offsets_kept, place_size, put_kept, put_place,
-    put_store,
+    put_store, uncapped,
 };
 
 /// Which instruction a RECEIVE CASE has, and whether ELSE is written.
@@ -16,9 +26,21 @@ pub enum Receives {
 }
 
 impl Receives {
-    fn has_else(self) -> bool {
+    fn has_else(self) -> bool
+        ensures { result ≡ waits_else self }
+    {
         match self {
             Receives::Buffers(otherwise) | Receives::Signals(otherwise) => otherwise,
+        }
+    }
+
+    // The instruction, for so many sources.
+    fn instr(self, count: u32) -> Instr
+        ensures { result ≡ receive_instr (kind_of self) count (waits_else self) }
+    {
+        match self {
+            Receives::Buffers(otherwise) => Instr::Take(count, otherwise),
+            Receives::Signals(otherwise) => Instr::Hear(count, otherwise),
         }
     }
 }
@@ -30,30 +52,79 @@ pub fn put_delay_wait(
     priority: u32,
     around: &Around,
     draft: &mut Draft,
-) -> Result<(), PartRefusal> {
+) -> Result<(), PartRefusal>
+    ensures appends { OnOk result (Appends (delay_wait_code (standing_of around.now) (set_tree set.now) priority (delays_of alternatives.now) (length draft.old.code.instrs)) (delay_wait_size (set_tree set.now) (delays_of alternatives.now)) draft.old.code draft.new.code) }
+{
+    let chosen = chosen_local(set, around)?;
+    let count = uncapped(count_of_events(alternatives))?;
     put_set_place(set, around, draft)?;
-    let mut count = 0u32;
-    for (i, alternative) in alternatives.iter().enumerate() {
-        for event in alternative.events.as_slice() {
-            draft.put(Instr::Thing(*event))?;
-            draft.put(Instr::Push(i as i64))?;
-            count = count.saturating_add(1);
-        }
-    }
+    put_all_events(alternatives, draft)?;
     draft.put(Instr::Delay(count, priority))?;
-    draft.put(Instr::SetLocal(chosen_local(set, around), 2))?;
+    draft.put(Instr::SetLocal(chosen, 2))?;
     put_set(set, around, draft)
 }
 
-/// How many instructions a DELAY CASE has up to its alternatives.
-pub fn delay_wait_size(alternatives: &[DelayAlternative], set: &Option<Box<Location>>) -> u32 {
-    let mut size = set_size(set).saturating_add(2);
-    for alternative in alternatives {
-        for _ in alternative.events.as_slice() {
-            size = size.saturating_add(2);
-        }
+// Each event with the number of its alternative.
+#[tactic(auto, using(crate::proofs::Views::statement_built))]
+fn put_all_events(
+    alternatives: &[DelayAlternative],
+    draft: &mut Draft,
+) -> Result<(), PartRefusal>
+    ensures appends { OnOk result (Appends (all_events_code 0 (delays_of alternatives.now)) (length (all_events_code 0 (delays_of alternatives.now))) draft.old.code draft.new.code) }
+{
+    for number in 0..alternatives.len() {
+        put_events(number, alternatives[number].events.as_slice(), draft)?;
     }
-    size
+    Ok(())
+}
+
+// The events of the alternative of this number.
+fn put_events(number: usize, events: &[u32], draft: &mut Draft) -> Result<(), PartRefusal>
+    ensures appends { OnOk result (Appends (events_code number events.now) (length (events_code 0 events.now)) draft.old.code draft.new.code) }
+{
+    for event in events {
+        draft.put(Instr::Thing(*event))?;
+        put_number(number, draft)?;
+    }
+    Ok(())
+}
+
+// The number of an alternative.
+fn put_number(number: usize, draft: &mut Draft) -> Result<(), PartRefusal>
+    ensures appends { OnOk result (Appends (instrs.Push (pos number) ∷ []) 1 draft.old.code draft.new.code) }
+{
+    match i64::try_from(number) {
+        Ok(number) => draft.put(Instr::Push(number)),
+        Err(_) => Err(PartRefusal::Memory),
+    }
+}
+
+/// How many instructions a DELAY CASE has up to its alternatives.
+pub fn delay_wait_size(alternatives: &[DelayAlternative], set: &Option<Box<Location>>) -> u32
+    ensures { result ≡ capped (delay_wait_size (set_tree set.now) (delays_of alternatives.now)) }
+{
+    set_place_size(set)
+        .saturating_add(count_of_events(alternatives).saturating_mul(2))
+        .saturating_add(2)
+        .saturating_add(set_size(set))
+}
+
+#[tactic(auto, using(crate::proofs::Views::statement_built))]
+fn count_of_events(alternatives: &[DelayAlternative]) -> u32
+    ensures { result ≡ capped (count_of_events (delays_of alternatives.now)) }
+{
+    let mut count = 0u32;
+    for alternative in alternatives {
+        count = count.saturating_add(counted(alternative.events.len()));
+    }
+    count
+}
+
+// A length, or the greatest number where it is greater.
+fn counted(length: usize) -> u32
+    ensures { result ≡ capped length }
+{
+    (length as u64).min(u32::MAX as u64) as u32
 }
 
 /// What a RECEIVE CASE does up to its alternatives: it waits, keeps the alternative in a scratch local, goes to this place
@@ -65,26 +136,34 @@ pub fn put_receive_wait(
     otherwise: u32,
     around: &Around,
     draft: &mut Draft,
-) -> Result<(), PartRefusal> {
+) -> Result<(), PartRefusal>
+    ensures appends { OnOk result (Appends (receive_wait_code (standing_of around.now) (kind_of receives) (set_tree set.now) (receives_of alternatives.now) (waits_else receives) otherwise (length draft.old.code.instrs)) (receive_wait_size (set_tree set.now) (receives_of alternatives.now) (waits_else receives)) draft.old.code draft.new.code) }
+{
+    let chosen = chosen_local(set, around)?;
+    let count = uncapped(counted(alternatives.len()))?;
     put_set_place(set, around, draft)?;
-    let mut count = 0u32;
-    for alternative in alternatives {
-        put_triple(alternative, around, draft)?;
-        count = count.saturating_add(1);
-    }
-    match receives {
-        Receives::Buffers(has_else) => draft.put(Instr::Take(count, has_else))?,
-        Receives::Signals(has_else) => draft.put(Instr::Hear(count, has_else))?,
-    }
-    let chosen = chosen_local(set, around);
+    put_sources(alternatives, around, draft)?;
+    draft.put(receives.instr(count))?;
     draft.put(Instr::SetLocal(chosen, 2))?;
     if receives.has_else() {
-        draft.put(Instr::Local(chosen, 1))?;
-        draft.put(Instr::Push(i64::from(count)))?;
-        draft.put(Instr::Less(1))?;
-        draft.put(Instr::Unless(otherwise))?;
+        put_nothing(chosen, count, otherwise, draft)?;
     }
     put_set(set, around, draft)
+}
+
+// To this place where nothing came, of so many sources.
+fn put_nothing(
+    chosen: u32,
+    count: u32,
+    otherwise: u32,
+    draft: &mut Draft,
+) -> Result<(), PartRefusal>
+    ensures appends { OnOk result (Appends (nothing_code true chosen count otherwise) 4 draft.old.code draft.new.code) }
+{
+    draft.put(Instr::Local(chosen, 1))?;
+    draft.put(Instr::Push(i64::from(count)))?;
+    draft.put(Instr::Less(1))?;
+    draft.put(Instr::Unless(otherwise))
 }
 
 /// How many instructions a RECEIVE CASE has up to its alternatives.
@@ -92,53 +171,97 @@ pub fn receive_wait_size(
     alternatives: &[ReceiveAlternative],
     set: &Option<Box<Location>>,
     has_else: bool,
-) -> u32 {
-    let mut size = set_size(set).saturating_add(2);
-    for _ in alternatives {
-        size = size.saturating_add(3);
+) -> u32
+    ensures { result ≡ capped (receive_wait_size (set_tree set.now) (receives_of alternatives.now) has_else) }
+{
+    let nothing = if has_else { 4 } else { 0 };
+    set_place_size(set)
+        .saturating_add(counted(alternatives.len()).saturating_mul(3))
+        .saturating_add(2)
+        .saturating_add(nothing)
+        .saturating_add(set_size(set))
+}
+
+// What is received, and the locals that get it.
+#[tactic(auto, using(crate::proofs::Views::statement_built))]
+fn put_sources(
+    alternatives: &[ReceiveAlternative],
+    around: &Around,
+    draft: &mut Draft,
+) -> Result<(), PartRefusal>
+    ensures appends { let rows = map local_row_tree around.now.site.body.now.locals in OnOk result (Appends (sources_code rows (receives_of alternatives.now)) (length (sources_code rows (receives_of alternatives.now))) draft.old.code draft.new.code) }
+{
+    for alternative in alternatives {
+        let received = alternative.received.as_slice();
+        put_source(alternative.source, received, around, draft)?;
     }
-    if has_else {
-        size = size.saturating_add(4);
-    }
-    size
+    Ok(())
 }
 
 // What is received, and the locals that get it, which follow each other.
-fn put_triple(
-    alternative: &ReceiveAlternative,
+fn put_source(
+    source: u32,
+    received: &[u32],
     around: &Around,
     draft: &mut Draft,
-) -> Result<(), PartRefusal> {
-    let mut first = 0u32;
-    let mut count = 0u32;
-    for (i, number) in alternative.received.as_slice().iter().enumerate() {
-        let local = local_of(around.site.body, *number)?;
-        if i == 0 {
-            first = local.first;
-        }
-        if local.first != first.saturating_add(count) {
-            return Err(PartRefusal::Unsound);
-        }
-        count = count.saturating_add(local.count);
-    }
-    draft.put(Instr::Thing(alternative.source))?;
+) -> Result<(), PartRefusal>
+    ensures appends { let rows = map local_row_tree around.now.site.body.now.locals in OnOk result (Appends (instrs.Thing source ∷ instrs.Push (pos (first_received rows received.now)) ∷ instrs.Push (pos (scalars_received rows received.now)) ∷ []) 3 draft.old.code draft.new.code) }
+{
+    let first = first_received(received, around)?;
+    let count = scalars_received(first, received, around)?;
+    draft.put(Instr::Thing(source))?;
     draft.put(Instr::Push(i64::from(first)))?;
     draft.put(Instr::Push(i64::from(count)))
 }
 
+// The first of the locals that get what is received, or 0 where there is none.
+fn first_received(received: &[u32], around: &Around) -> Result<u32, PartRefusal>
+    ensures { IfOk result (λ first. first ≡ first_received (map local_row_tree around.now.site.body.now.locals) received.now) }
+{
+    match received {
+        [] => Ok(0),
+        [number, ..] => Ok(local_of(around.site.body, *number)?.first),
+    }
+}
+
+// How many scalars these locals have, which follow each other from this one on, or Unsound where they don't.
+fn scalars_received(first: u32, received: &[u32], around: &Around) -> Result<u32, PartRefusal>
+    ensures { IfOk result (λ count. count ≡ scalars_received (map local_row_tree around.now.site.body.now.locals) received.now) }
+{
+    let mut count = 0u32;
+    for number in received {
+        let local = local_of(around.site.body, *number)?;
+        if local.first != first.saturating_add(count) {
+            return Err(PartRefusal::Unsound);
+        }
+        count = uncapped(count.saturating_add(local.count))?;
+    }
+    Ok(count)
+}
+
 /// The scratch local that keeps the number of the alternative; the instance stands behind it.
-pub fn chosen_local(set: &Option<Box<Location>>, around: &Around) -> u32 {
-    let kept = match set {
+pub fn chosen_local(set: &Option<Box<Location>>, around: &Around) -> Result<u32, PartRefusal>
+    ensures { IfOk result (λ chosen. chosen ≡ chosen_in around.now.free (set_tree set.now)) }
+{
+    uncapped(around.free.saturating_add(set_kept(set)))
+}
+
+// How many scratch locals keep the place of SET.
+fn set_kept(set: &Option<Box<Location>>) -> u32
+    ensures { result ≡ set_kept (set_tree set.now) }
+{
+    match set {
         Some(location) => offsets_kept(location),
         None => 0,
-    };
-    around.free.saturating_add(kept)
+    }
 }
 
 /// Whether the alternative of this number is the one that is kept in this local.
-pub fn put_is_chosen(chosen: u32, number: u32, draft: &mut Draft) -> Result<(), PartRefusal> {
+pub fn put_is_chosen(chosen: u32, number: usize, draft: &mut Draft) -> Result<(), PartRefusal>
+    ensures appends { OnOk result (Appends (is_chosen_code chosen number) 3 draft.old.code draft.new.code) }
+{
     draft.put(Instr::Local(chosen, 1))?;
-    draft.put(Instr::Push(i64::from(number)))?;
+    put_number(number, draft)?;
     draft.put(Instr::Same(1))
 }
 
@@ -147,7 +270,9 @@ fn put_set_place(
     set: &Option<Box<Location>>,
     around: &Around,
     draft: &mut Draft,
-) -> Result<(), PartRefusal> {
+) -> Result<(), PartRefusal>
+    ensures appends { OnOk result (Appends (set_place_code (standing_of around.now) (set_tree set.now) (length draft.old.code.instrs)) (set_place_size (set_tree set.now)) draft.old.code draft.new.code) }
+{
     match set {
         Some(location) => {
             put_place(location, &around.site, around.free, draft)?;
@@ -157,15 +282,27 @@ fn put_set_place(
     }
 }
 
+// How many instructions that has.
+fn set_place_size(set: &Option<Box<Location>>) -> u32
+    ensures { result ≡ capped (set_place_size (set_tree set.now)) }
+{
+    match set {
+        Some(location) => place_size(location).saturating_add(offsets_kept(location)),
+        None => 0,
+    }
+}
+
 // The location after SET gets the instance.
 fn put_set(
     set: &Option<Box<Location>>,
     around: &Around,
     draft: &mut Draft,
-) -> Result<(), PartRefusal> {
+) -> Result<(), PartRefusal>
+    ensures appends { OnOk result (Appends (set_code (standing_of around.now) (set_tree set.now)) (set_size (set_tree set.now)) draft.old.code draft.new.code) }
+{
     match set {
         Some(location) => {
-            let by = chosen_local(set, around).saturating_add(1);
+            let by = uncapped(chosen_local(set, around)?.saturating_add(1))?;
             put_kept(location, around.free, draft)?;
             draft.put(Instr::Local(by, 1))?;
             put_store(location, &around.site, draft)
@@ -174,13 +311,12 @@ fn put_set(
     }
 }
 
-// How many instructions SET has, in both its parts.
-fn set_size(set: &Option<Box<Location>>) -> u32 {
+// How many instructions that has.
+fn set_size(set: &Option<Box<Location>>) -> u32
+    ensures { result ≡ set_size (set_tree set.now) }
+{
     match set {
-        Some(location) => place_size(location)
-            .saturating_add(offsets_kept(location))
-            .saturating_add(offsets_kept(location))
-            .saturating_add(2),
+        Some(location) => offsets_kept(location).saturating_add(2),
         None => 0,
     }
 }

@@ -1,15 +1,26 @@
 // The way out of a body: what a call gives back, or the end of a process.
-use checked_program::{Body, Passing, Sort};
+ghost use Rattle.std.specs.Prelude.{◌≡◌, map, length, OnOk};
+ghost use Rattle.program_trees.specs.ProgramTree.{body_row_tree, local_row_tree};
+ghost use Rattle.code_scheme.specs.Pieces.{capped};
+ghost use Rattle.code_scheme.specs.StatementSite.{is_given_back};
+ghost use Rattle.code_scheme.specs.StatementPlain.{entered_by, leave_region, result_code, end_of_call, parameters_code, way_out_code};
+ghost use Rattle.expr_gen.specs.Putting.{Appends};
+
+use checked_program::{Body, LocalRow, Parameter, Passing, Sort};
 use code_types::Instr;
-use expr_gen::{Draft, PartRefusal, declared_scalars, result_scalars};
+use expr_gen::{Draft, PartRefusal, declared_scalars, result_scalars, uncapped};
 
 /// The region that a call of the body enters.
-pub fn critical_region(body: &Body) -> Option<u32> {
+pub fn critical_region(body: &Body) -> Option<u32>
+    ensures { result ≡ entered_by (body_row_tree body.now) }
+{
     if body.critical { body.region } else { None }
 }
 
 /// Appends the way out of a body: a process ends, a call gives back its result and its OUT and INOUT parameters.
-pub fn put_way_out(body: &Body, draft: &mut Draft) -> Result<(), PartRefusal> {
+pub fn put_way_out(body: &Body, draft: &mut Draft) -> Result<(), PartRefusal>
+    ensures appends { let made = way_out_code (body_row_tree body.now) in OnOk result (Appends made (length made) draft.old.code draft.new.code) }
+{
     match body.sort {
         Sort::Outermost | Sort::Process => draft.put(Instr::Finish),
         Sort::Procedure => put_return(body, draft),
@@ -17,49 +28,97 @@ pub fn put_way_out(body: &Body, draft: &mut Draft) -> Result<(), PartRefusal> {
 }
 
 // The region is left, and the result and the parameters are given back.
-fn put_return(body: &Body, draft: &mut Draft) -> Result<(), PartRefusal> {
-    if let Some(region) = critical_region(body) {
-        draft.put(Instr::Leave(region))?;
-    }
-    if result_scalars(body) > 0 {
-        draft.put(Instr::Local(declared_scalars(body), result_scalars(body)))?;
-    }
-    put_parameters(body, draft)?;
+fn put_return(body: &Body, draft: &mut Draft) -> Result<(), PartRefusal>
+    ensures appends { let made = end_of_call (body_row_tree body.now) in OnOk result (Appends made (length made) draft.old.code draft.new.code) }
+{
+    put_leave(critical_region(body), draft)?;
+    put_own_result(body, draft)?;
+    put_parameters(body.parameters.as_slice(), body.locals.as_slice(), draft)?;
     draft.put(Instr::Return)?;
     draft.come_with(0);
     Ok(())
 }
 
+// A region is left, where there is one.
+fn put_leave(region: Option<u32>, draft: &mut Draft) -> Result<(), PartRefusal>
+    ensures appends { OnOk result (Appends (leave_region region) (length (leave_region region)) draft.old.code draft.new.code) }
+{
+    match region {
+        Some(region) => draft.put(Instr::Leave(region)),
+        None => Ok(()),
+    }
+}
+
+// The result of a body, where it has scalars.
+fn put_own_result(body: &Body, draft: &mut Draft) -> Result<(), PartRefusal>
+    ensures appends { let made = result_code (body_row_tree body.now) in OnOk result (Appends made (length made) draft.old.code draft.new.code) }
+{
+    let first = uncapped(declared_scalars(body))?;
+    if result_scalars(body) > 0 {
+        draft.put(Instr::Local(first, result_scalars(body)))
+    } else {
+        Ok(())
+    }
+}
+
 // The OUT and INOUT parameters, the last one lowest.
-fn put_parameters(body: &Body, draft: &mut Draft) -> Result<(), PartRefusal> {
-    let parameters = body.parameters.as_slice();
-    let locals = body.locals.as_slice();
-    for (parameter, local) in parameters.iter().zip(locals).rev() {
-        match parameter.passing {
-            Passing::In => {}
-            Passing::Out | Passing::InOut => draft.put(Instr::Local(local.first, local.count))?,
+fn put_parameters(
+    parameters: &[Parameter],
+    locals: &[LocalRow],
+    draft: &mut Draft,
+) -> Result<(), PartRefusal>
+    ensures appends { let made = parameters_code parameters.now (map local_row_tree locals.now) in OnOk result (Appends made (length made) draft.old.code draft.new.code) }
+{
+    let count = parameters.len().min(locals.len());
+    for _turn in 0..count {
+        let i = count - 1 - _turn;
+        if is_given_back(parameters[i].passing) {
+            draft.put(Instr::Local(locals[i].first, locals[i].count))?;
         }
     }
     Ok(())
 }
 
+// Whether a call gives a parameter back.
+fn is_given_back(passing: Passing) -> bool
+    ensures { result ≡ is_given_back passing }
+{
+    match passing {
+        Passing::In => false,
+        Passing::Out | Passing::InOut => true,
+    }
+}
+
 /// How many instructions the way out of a body has.
-pub fn way_out_size(body: &Body) -> u32 {
+pub fn way_out_size(body: &Body) -> u32
+    ensures { result ≡ capped (length (way_out_code (body_row_tree body.now))) }
+{
     match body.sort {
         Sort::Outermost | Sort::Process => 1,
         Sort::Procedure => return_size(body),
     }
 }
 
-fn return_size(body: &Body) -> u32 {
+fn return_size(body: &Body) -> u32
+    ensures { result ≡ capped (length (end_of_call (body_row_tree body.now))) }
+{
     let region = u32::from(critical_region(body).is_some());
     let result = u32::from(result_scalars(body) > 0);
-    let mut size = region.saturating_add(result).saturating_add(1);
-    let parameters = body.parameters.as_slice().iter();
-    for (parameter, _) in parameters.zip(body.locals.as_slice()) {
-        match parameter.passing {
-            Passing::In => {}
-            Passing::Out | Passing::InOut => size = size.saturating_add(1),
+    let parameters = parameters_size(body.parameters.as_slice(), body.locals.as_slice());
+    region
+        .saturating_add(result)
+        .saturating_add(parameters)
+        .saturating_add(1)
+}
+
+#[tactic(auto, using(crate::proofs::Lengths::lengths))]
+fn parameters_size(parameters: &[Parameter], locals: &[LocalRow]) -> u32
+    ensures { result ≡ capped (length (parameters_code parameters.now (map local_row_tree locals.now))) }
+{
+    let mut size = 0u32;
+    for i in 0..parameters.len() {
+        if i < locals.len() && is_given_back(parameters[i].passing) {
+            size = size.saturating_add(1);
         }
     }
     size

@@ -1,0 +1,5 @@
+pub mod Views
+pub mod Placing
+pub mod Sizes
+pub mod Made
+pub mod Lengths

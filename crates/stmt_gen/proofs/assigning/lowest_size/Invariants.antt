@@ -1,0 +1,7 @@
+use Rattle.std.proofs.Common.{◌≡◌, ◌+◌, ◌-◌, ◌++◌, length, drop, map}
+use Rattle.code_scheme.specs.Pieces.{capped}
+use Rattle.code_scheme.specs.StatementPlain.{set_lowest_size}
+use Rattle.stmt_gen.proofs.assigning.lowest_size.Given as goal
+
+abbrev pub invariant-loop-_local : goal.invariant-loop-_local
+invariant-loop-_local l = capped (l.size + set_lowest_size (drop l._local-index l.locals) l.value) ≡ capped (set_lowest_size l.locals l.value)
