@@ -330,8 +330,9 @@ PutsDelayWait around set priority as' old new =
     PutsAt (delay_wait_code (standing_of around) (set_tree set) priority (delays_of as')) (waiting_size set as') old new
 
 -- to this place where nothing came
-abbrev pub PutsNothing : ℕ → ℕ → ℕ → Draft → Draft → Type 0
-PutsNothing chosen count otherwise old new = PutsSome (nothing_code true chosen count otherwise) 4 old new
+abbrev pub PutsNothing : Bool → ℕ → ℕ → ℕ → Draft → Draft → Type 0
+PutsNothing has_else chosen count otherwise old new =
+    PutsSome (nothing_code has_else chosen count otherwise) (length (nothing_code has_else 0 0 0)) old new
 
 -- what is received, and the locals that get it
 abbrev pub PutsOneSource : Around → ℕ → List ℕ → Draft → Draft → Type 0

@@ -1,4 +1,6 @@
 // DELAY CASE and RECEIVE CASE: what comes before their alternatives.
+#![tactic(auto, using(expr_gen::proofs::Appending::keeping))]
+
 ghost use Rattle.std.specs.Prelude.{◌≡◌, pos, [], ◌∷◌, length, IfOk, OnOk};
 ghost use Rattle.code_types.specs.declared.instr.Instr.TheVariants as instrs;
 ghost use Rattle.program_trees.specs.StatementTree.{set_tree};
@@ -66,7 +68,7 @@ pub fn put_delay_wait(
 }
 
 // Each event with the number of its alternative.
-#[tactic(auto, using(crate::proofs::Views::statement_built))]
+#[tactic(auto, using(crate::proofs::Views::statement_built, expr_gen::proofs::Appending::keeping))]
 fn put_all_events(alternatives: &[DelayAlternative], draft: &mut Draft) -> Result<(), PartRefusal>
     ensures puts { OnOk result (PutsAllEvents alternatives.now draft.old draft.new) }
     ensures keeps { Keeps draft.old.code draft.new.code }
@@ -147,26 +149,29 @@ pub fn put_receive_wait(
     put_sources(alternatives, around, draft)?;
     draft.put(receives.instr(count))?;
     draft.put(Instr::SetLocal(chosen, 2))?;
-    if receives.has_else() {
-        put_nothing(chosen, count, otherwise, draft)?;
-    }
+    put_nothing(receives.has_else(), chosen, count, otherwise, draft)?;
     put_set(set, around, draft)
 }
 
-// To this place where nothing came, of so many sources.
+// To this place where nothing came, of so many sources, if ELSE is written.
 fn put_nothing(
+    has_else: bool,
     chosen: u32,
     count: u32,
     otherwise: u32,
     draft: &mut Draft,
 ) -> Result<(), PartRefusal>
-    ensures puts { OnOk result (PutsNothing chosen count otherwise draft.old draft.new) }
+    ensures puts { OnOk result (PutsNothing has_else chosen count otherwise draft.old draft.new) }
     ensures keeps { Keeps draft.old.code draft.new.code }
 {
-    draft.put(Instr::Local(chosen, 1))?;
-    draft.put(Instr::Push(i64::from(count)))?;
-    draft.put(Instr::Less(1))?;
-    draft.put(Instr::Unless(otherwise))
+    if has_else {
+        draft.put(Instr::Local(chosen, 1))?;
+        draft.put(Instr::Push(i64::from(count)))?;
+        draft.put(Instr::Less(1))?;
+        draft.put(Instr::Unless(otherwise))
+    } else {
+        Ok(())
+    }
 }
 
 /// How many instructions a RECEIVE CASE has up to its alternatives.
@@ -186,7 +191,7 @@ pub fn receive_wait_size(
 }
 
 // What is received, and the locals that get it.
-#[tactic(auto, using(crate::proofs::Views::statement_built))]
+#[tactic(auto, using(crate::proofs::Views::statement_built, expr_gen::proofs::Appending::keeping))]
 fn put_sources(
     alternatives: &[ReceiveAlternative],
     around: &Around,
@@ -220,6 +225,7 @@ fn put_source(
 }
 
 // The first of the locals that get what is received, or 0 where there is none.
+#[tactic(auto, using(expr_gen::proofs::Rows::local_there))]
 fn first_received(received: &[u32], around: &Around) -> Result<u32, PartRefusal>
     ensures { IfOk result (λ n. n ≡ first_received (rows_around around.now) received.now) }
 {

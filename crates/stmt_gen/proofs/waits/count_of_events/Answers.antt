@@ -1,0 +1,12 @@
+use Rattle.std.proofs.Common.{arith}
+use Rattle.stmt_gen.proofs.Waiting.{count_turn, count_done}
+use Rattle.stmt_gen.proofs.waits.count_of_events.Goals as goal
+
+pub loop-alternative-preserved : goal.loop-alternative-preserved
+loop-alternative-preserved c = record {
+  counted = ? ;
+  few = omega arith;
+}
+
+pub returns : goal.returns
+returns c = omega (arith, count_done c.args.alternatives.now c.loop-alternative.alternative-index c.loop-alternative-test.false, c.loop-alternative.invariant.counted, c.loop-alternative.invariant.few)

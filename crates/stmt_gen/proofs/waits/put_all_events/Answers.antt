@@ -1,0 +1,13 @@
+use Rattle.std.proofs.Common.{get_or}
+use Rattle.expr_gen.proofs.Appending.{kept_on}
+use Rattle.stmt_gen.proofs.Waiting.{alternative_turn, alternatives_done}
+use Rattle.stmt_gen.proofs.waits.put_all_events.Goals as goal
+
+pub loop-number-preserved : goal.loop-number-preserved
+loop-number-preserved c = record {
+  left = ? ;
+  keeps = kept_on c.loop-number.invariant.keeps c.in_ok-put_events.ensures.keeps;
+}
+
+pub returns-clause-puts : goal.returns-clause-puts
+returns-clause-puts c = alternatives_done c.loop-number.number c.args.alternatives.now c.loop-number.number c.loop-number-test.false c.loop-number.invariant.left
