@@ -1,5 +1,5 @@
 -- What is appended for DELAY CASE and RECEIVE CASE before their alternatives.
-use Rattle.std.proofs.Common.{◌≡◌, ℕ, suc, ◌+◌, ◌*◌, ◌≤◌, ◌<◌, Bool, true, false, List, [], ◌∷◌, ◌++◌, pos, length, Option, Some, None, refl, sym, ap, subst, ◌∙◌, arith, append_assoc, length-append, get_or, drop}
+use Rattle.std.proofs.Common.{◌≡◌, ℕ, suc, ◌+◌, ◌*◌, ◌≤◌, ◌<◌, Bool, true, false, List, [], ◌∷◌, ◌++◌, pos, length, Option, Some, None, refl, sym, ap, subst, ◌∙◌, arith, append_assoc, length-append, get_or, drop, add-one, drop-cons}
 use Rattle.std.specs.Prelude.{map, slice_get}
 use Rattle.std.specs.declared.alloc.Global.{Global}
 use Rattle.std.specs.declared.boxed.Box.{Box}
@@ -71,14 +71,17 @@ all_events_length k (more_delays es ss ds) =
     let both = length-append (events_code k es) (all_events_code (suc k) ds) in
     omega (arith, both, events_length k es, all_events_length (suc k) ds)
 
-pub event_turn : {a : ℕ → List Instr} {m : ℕ} (number : ℕ) (xs : List ℕ) (k : ℕ) (it : ℕ) {x y1 y2 z : Code} → k < length xs → it ≡ get_or xs k it
+number_at : (xs : List ℕ) (k it : ℕ) → k < length xs → it ≡ get_or xs k 0 → drop k xs ≡ it ∷ drop (k + 1) xs
+number_at xs k it h e = rw (add-one, drop-cons xs k 0 h, ← e) refl
+
+pub event_turn : {a : ℕ → List Instr} {m : ℕ} (number : ℕ) (xs : List ℕ) (k : ℕ) (it : ℕ) {x y1 y2 z : Code} → k < length xs → it ≡ get_or xs k 0
     → StillTo a m (λ at. events_code number (drop k xs)) (length (events_code 0 (drop k xs))) x y1
     → Appends (i.Thing it ∷ []) 1 y1 y2
     → Appends (i.Push (pos number) ∷ []) 1 y2 z
     → StillTo a m (λ at. events_code number (drop (k + 1) xs)) (length (events_code 0 (drop (k + 1) xs))) x z
 event_turn {a} {m} number xs k it {x} {y1} h e p q r =
     let there : StillTo a m (λ at. events_code number (it ∷ drop (k + 1) xs)) (length (events_code 0 (it ∷ drop (k + 1) xs))) x y1 =
-    subst (λ (ys : List ℕ). StillTo a m (λ at. events_code number ys) (length (events_code 0 ys)) x y1) (item_at xs k it h e) p in
+    subst (λ (ys : List ℕ). StillTo a m (λ at. events_code number ys) (length (events_code 0 ys)) x y1) (number_at xs k it h e) p in
     step (λ at. events_code number (drop (k + 1) xs)) (length (events_code 0 (drop (k + 1) xs))) refl (omega arith) there (and_then q r)
 
 pub events_done : {a : ℕ → List Instr} {m : ℕ} (number : ℕ) (xs : List ℕ) (k : ℕ) {x y : Code} → length xs ≤ k
@@ -171,19 +174,24 @@ sources_done rows xs k h p =
     done p (at_drop_all (λ (ys : List ReceiveAlternative). sources_code rows (receives_of ys)) xs k h) (at_drop_all (λ (ys : List ReceiveAlternative). length (sources_code rows (receives_of ys))) xs k h)
 
 -- the scalars of the locals that get what is received
-pub scalars_turn : (rows : List LocalRow) (xs : List ℕ) (k it : ℕ) (row : LocalRow) (count new all : ℕ) → k < length xs → it ≡ get_or xs k it → slice_get rows it ≡ Some row
+pub scalars_turn : (rows : List LocalRow) (xs : List ℕ) (k it : ℕ) (row : LocalRow) (count new all : ℕ) → k < length xs → it ≡ get_or xs k 0 → slice_get rows it ≡ Some row
     → new ≡ count + row.count
     → count + scalars_received (map local_row_tree rows) (drop k xs) ≡ all → new + scalars_received (map local_row_tree rows) (drop (k + 1) xs) ≡ all
 scalars_turn rows xs k it row count new all h e f g p =
     let own : scalars_of_row (slice_get (map local_row_tree rows) it) ≡ row.count = ap scalars_of_row (local_found rows it row f) in
     let there : scalars_received (map local_row_tree rows) (drop k xs) ≡ scalars_of_row (slice_get (map local_row_tree rows) it) + scalars_received (map local_row_tree rows) (drop (k + 1) xs) =
-    ap (λ (ks : List ℕ). scalars_received (map local_row_tree rows) ks) (item_at xs k it h e) in
+    ap (λ (ks : List ℕ). scalars_received (map local_row_tree rows) ks) (number_at xs k it h e) in
     omega (arith, own, there, g, p)
 
 pub scalars_done : (rows : List LocalRowTree) (xs : List ℕ) (k count all : ℕ) → length xs ≤ k → count + scalars_received rows (drop k xs) ≡ all → count ≡ all
 scalars_done rows xs k count all h p =
     let none : scalars_received rows (drop k xs) ≡ 0 = at_drop_all (λ (ks : List ℕ). scalars_received rows ks) xs k h in
     omega (arith, none, p)
+
+-- where ELSE is written
+pub nothing_made : (b : Bool) (chosen count to : ℕ) {x z : Code} → b ≡ true
+    → Appends (i.Local chosen 1 ∷ i.Push (pos count) ∷ i.Less 1 ∷ i.Unless to ∷ []) 4 x z → Appends (nothing_code b chosen count to) (length (nothing_code b 0 0 0)) x z
+nothing_made b chosen count to e p = rw e p
 
 pub receive_made : (w : Standing) (receives : Receives) (set : Option LocationTree) (rs : ReceiveNodes) (has_else : Bool) (nothing_at : ℕ) {x y1 y2 y3 y4 y5 z : Code}
     → Appends (set_place_code w set (length x.instrs)) (set_place_size set) x y1

@@ -5,7 +5,7 @@ ghost use Rattle.std.specs.Prelude.{◌≡◌, pos, [], ◌∷◌, length, IfOk,
 ghost use Rattle.code_types.specs.declared.instr.Instr.TheVariants as instrs;
 ghost use Rattle.program_trees.specs.StatementTree.{set_tree};
 ghost use Rattle.code_scheme.specs.Pieces.{capped};
-ghost use Rattle.code_scheme.specs.StatementWaits.{set_place_size, set_kept, chosen_in, set_size, count_of_events, first_received, scalars_received, receive_instr, is_chosen_code};
+ghost use Rattle.code_scheme.specs.StatementWaits.{set_place_size, set_kept, chosen_in, set_size, count_of_events, first_received, scalars_received, receive_instr, nothing_code, is_chosen_code};
 ghost use Rattle.stmt_gen.specs.Trees.{delays_of};
 ghost use Rattle.stmt_gen.specs.Receiving.{kind_of, waits_else};
 ghost use Rattle.expr_gen.specs.Putting.{Keeps};
@@ -166,7 +166,7 @@ fn put_nothing(
 {
     if has_else {
         draft.put(Instr::Local(chosen, 1))?;
-        draft.put(Instr::Push(i64::from(count)))?;
+        put_count(count, draft)?;
         draft.put(Instr::Less(1))?;
         draft.put(Instr::Unless(otherwise))
     } else {
@@ -182,12 +182,18 @@ pub fn receive_wait_size(
 ) -> u32
     ensures { result ≡ capped (hearing_size set.now alternatives.now has_else) }
 {
-    let nothing = if has_else { 4 } else { 0 };
     set_place_size(set)
         .saturating_add(counted(alternatives.len()).saturating_mul(3))
         .saturating_add(2)
-        .saturating_add(nothing)
+        .saturating_add(nothing_size(has_else))
         .saturating_add(set_size(set))
+}
+
+// How many instructions go to ELSE, where it is written.
+fn nothing_size(has_else: bool) -> u32
+    ensures { result ≡ length (nothing_code has_else 0 0 0) }
+{
+    if has_else { 4 } else { 0 }
 }
 
 // What is received, and the locals that get it.
@@ -220,7 +226,15 @@ fn put_source(
     let first = first_received(received, around)?;
     let count = scalars_received(first, received, around)?;
     draft.put(Instr::Thing(source))?;
-    draft.put(Instr::Push(i64::from(first)))?;
+    put_count(first, draft)?;
+    put_count(count, draft)
+}
+
+// A number of sources, locals or scalars.
+fn put_count(count: u32, draft: &mut Draft) -> Result<(), PartRefusal>
+    ensures puts { OnOk result (PutsSome (instrs.Push (pos count) ∷ []) 1 draft.old draft.new) }
+    ensures keeps { Keeps draft.old.code draft.new.code }
+{
     draft.put(Instr::Push(i64::from(count)))
 }
 

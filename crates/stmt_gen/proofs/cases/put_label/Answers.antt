@@ -1,7 +1,8 @@
-use Rattle.std.proofs.Common.{rules, w64, sym, ◌∙◌}
+use Rattle.std.proofs.Common.{◌≡◌, false, arith, rules, w64}
 use mir.Val.{SFits}
-use Rattle.std.proofs.lemmas.Int.{to_z-of_z}
+use Rattle.std.proofs.lemmas.Int.{ints, to_z-of_z}
 use Rattle.std.proofs.lemmas.Result.{on_ok_weaker}
+use Rattle.code_scheme.specs.Pieces.{are_same}
 use Rattle.expr_gen.proofs.Appending.{and_then, kept_by, kept_on}
 use Rattle.stmt_gen.proofs.Labels.{wide_label}
 use Rattle.stmt_gen.proofs.cases.put_label.Goals as goal
@@ -17,8 +18,9 @@ returns-clause-puts c =
     let high : SFits w64 c.args.label.high = search rules in
     let first = simp to_z-of_z at c.in_ok-put-2.ensures.puts in
     let last = simp to_z-of_z at c.in_ok-put-4.ensures.puts in
+    let differ : are_same c.args.label.low c.args.label.high ≡ false = grind (arith, ints, c.if-label.false) in
     on_ok_weaker c.put-8.result
-    (λ q. wide_label c.args.kept c.args.label ?
+    (λ q. wide_label c.args.kept c.args.label differ
     (and_then c.in_ok-put.ensures.puts (and_then first (and_then c.in_ok-put-3.ensures.puts (and_then last
     (and_then c.in_ok-put-5.ensures.puts (and_then c.in_ok-put-6.ensures.puts (and_then c.in_ok-put-7.ensures.puts q))))))))
     c.put-8.ensures.puts

@@ -1,11 +1,11 @@
-use Rattle.std.proofs.Common.{get_or}
 use Rattle.expr_gen.proofs.Appending.{kept_on}
 use Rattle.stmt_gen.proofs.Waiting.{alternative_turn, alternatives_done}
 use Rattle.stmt_gen.proofs.waits.put_all_events.Goals as goal
 
 pub loop-number-preserved : goal.loop-number-preserved
 loop-number-preserved c = record {
-  left = ? ;
+  left = alternative_turn c.args.alternatives.now c.loop-number.number c.index-alternatives-number.result c.as_slice.result.now c.loop-number-test.true c.index-alternatives-number.is c.as_slice.ensures
+      c.loop-number.invariant.left c.in_ok-put_events.ensures.puts;
   keeps = kept_on c.loop-number.invariant.keeps c.in_ok-put_events.ensures.keeps;
 }
 

@@ -9,5 +9,5 @@ returns-in-None-clause-puts c = no_place (standing_of c.args.around.now) c.args.
 pub returns-in_ok-put_place-in-Some-clause-puts : goal.returns-in_ok-put_place-in-Some-clause-puts
 returns-in_ok-put_place-in-Some-clause-puts c =
     on_ok_weaker c.keep_place.result
-    (λ q. place_made (standing_of c.args.around.now) c.args.set.now c.in-Some.location c.deref-in-Some.result.now c.deref-in-Some-2.result.now c.in-Some.is c.deref-in-Some.ensures c.deref-in-Some-2.ensures c.in_ok-put_place-in-Some.ensures.puts q)
+    (λ q. place_made (standing_of c.args.around.now) c.args.set.now c.in-Some.location c.deref.result.now c.deref-in-Some.result.now c.in-Some.is c.deref.ensures c.deref-in-Some.ensures c.in_ok-put_place-in-Some.ensures.puts q)
     c.keep_place.ensures.puts
