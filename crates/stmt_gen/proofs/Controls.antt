@@ -16,9 +16,9 @@ use Rattle.program_trees.specs.ExprTree.{ExprTree, expr_tree, boxed_expr}
 use Rattle.program_trees.specs.StatementTree.{for_members, for_steps, control_tree}
 use Rattle.code_scheme.specs.Pieces.{check_code, bounds_to_test, bounds_of_value, first_in, branch_code, member_code}
 use Rattle.code_scheme.specs.ExprSizes.{expr_size, condition_size}
-use Rattle.code_scheme.specs.ExprCode.{expr_code, condition_code}
+use Rattle.code_scheme.specs.ExprCode.{expr_code}
 use Rattle.code_scheme.specs.StatementSite.{Standing, layout, taking}
-use Rattle.code_scheme.specs.StatementLoops.{Step, by_constant, by_kept, Steps, steps_with, constant_step, steps_kept, within_code, within_size, step_code, step_size, bounds_code, bounds_size, before_code, rest_code, nearest_code, nearer_code, near_end_code, moved_end_code, is_one, limit_code, first_test_code, by_step, forth, back, next_code, first_value_code, first_value_size, next_size, while_code, some_while_code, some_while_size, next_member_code, members_test, members_test_size, before_turns, before_turns_size, turn_test, turn_test_size}
+use Rattle.code_scheme.specs.StatementLoops.{by_constant, Steps, steps_with, constant_step, steps_kept, within_code, within_size, step_code, step_size, bounds_code, bounds_size, before_code, rest_code, nearest_code, nearer_code, near_end_code, moved_end_code, is_one, limit_code, first_test_code, next_code, first_value_code, first_value_size, while_code, some_while_code, some_while_size, next_member_code, members_test, members_test_size, before_turns, before_turns_size, turn_test, turn_test_size}
 use Rattle.expr_gen.specs.Putting.{Appends}
 use Rattle.stmt_gen.specs.declared.steps.Step.{Step as RustStep}
 use Rattle.stmt_gen.specs.declared.steps.Step.TheVariants.{Kept}

@@ -1,5 +1,5 @@
 -- What is appended for DELAY CASE and RECEIVE CASE before their alternatives.
-use Rattle.std.proofs.Common.{◌≡◌, ℕ, suc, ◌+◌, ◌*◌, ◌≤◌, ◌<◌, Bool, true, false, List, [], ◌∷◌, ◌++◌, pos, length, Option, Some, None, refl, sym, ap, subst, ◌∙◌, arith, append_assoc, length-append, get_or, drop, add-one, drop-cons}
+use Rattle.std.proofs.Common.{◌≡◌, ℕ, suc, ◌+◌, ◌*◌, ◌≤◌, ◌<◌, Bool, true, List, [], ◌∷◌, ◌++◌, pos, length, Option, Some, None, refl, ap, subst, ◌∙◌, arith, length-append, get_or, drop, add-one, drop-cons}
 use Rattle.std.specs.Prelude.{map, slice_get}
 use Rattle.std.specs.declared.alloc.Global.{Global}
 use Rattle.std.specs.declared.boxed.Box.{Box}
@@ -13,12 +13,12 @@ use Rattle.checked_program.specs.declared.statement.DelayAlternative.{DelayAlter
 use Rattle.checked_program.specs.declared.statement.ReceiveAlternative.{ReceiveAlternative, out-ReceiveAlternative}
 use Rattle.program_trees.specs.ExprTree.{LocationTree, location_tree}
 use Rattle.program_trees.specs.ProgramTree.{LocalRowTree, local_row_tree}
-use Rattle.program_trees.specs.StatementTree.{NumbersTree, ReceiveTree, DelayNodes, no_delays, more_delays, delay_nodes, ReceiveNodes, no_receives, more_receives, receive_nodes, set_tree}
+use Rattle.program_trees.specs.StatementTree.{NumbersTree, ReceiveTree, DelayNodes, no_delays, more_delays, delay_nodes, ReceiveNodes, no_receives, more_receives, set_tree}
 use Rattle.code_scheme.specs.Pieces.{capped, keep_code, kept_code, offsets_kept, store_code}
 use Rattle.code_scheme.specs.ExprSizes.{place_size}
 use Rattle.code_scheme.specs.ExprCode.{place_code}
 use Rattle.code_scheme.specs.StatementSite.{Standing, layout}
-use Rattle.code_scheme.specs.StatementWaits.{set_place_code, set_place_size, set_kept, chosen_in, set_code, set_size, events_code, all_events_code, count_of_events, delay_wait_code, delay_wait_size, first_received, scalars_of_row, scalars_received, sources_code, count_of_sources, Receives, receive_instr, nothing_code, receive_wait_code, receive_wait_size}
+use Rattle.code_scheme.specs.StatementWaits.{set_place_code, set_place_size, chosen_in, set_code, set_size, events_code, all_events_code, count_of_events, delay_wait_code, delay_wait_size, first_received, scalars_of_row, scalars_received, sources_code, count_of_sources, Receives, receive_instr, nothing_code, receive_wait_code, receive_wait_size}
 use Rattle.expr_gen.specs.Putting.{Appends}
 use Rattle.expr_gen.specs.Puts.{source_code}
 use Rattle.expr_gen.proofs.Appending.{nothing, and_then, resized, StillTo, step, done}

@@ -344,13 +344,13 @@ fn put_nearest(steps: Steps, draft: &mut Draft) -> Result<(), PartRefusal>
     ensures puts { OnOk result (PutsAll (nearest_code (steps_of steps)) draft.old draft.new) }
     ensures keeps { Keeps draft.old.code draft.new.code }
 {
-    draft.put(Instr::Push(last_value(steps.down)))?;
+    draft.put(Instr::Push(first_counted(steps.down)))?;
     put_rest(steps.step, draft)?;
     draft.put(forth(steps.down))
 }
 
-// The value of INT at which counting would begin at the earliest: the least, or the greatest with DOWN.
-fn last_value(down: bool) -> i64
+// The first value of INT as one counts: the least, or the greatest with DOWN.
+fn first_counted(down: bool) -> i64
     ensures { result ≡ (if down then greatest_int else least_int) }
 {
     if down { INT.high } else { INT.low }
