@@ -3,3 +3,4 @@ pub mod Placing
 pub mod Capping
 pub mod Made
 pub mod Lengths
+pub mod Nodes
