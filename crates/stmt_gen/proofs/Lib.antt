@@ -6,3 +6,4 @@ pub mod Lengths
 pub mod Controls
 pub mod Labels
 pub mod Waiting
+pub mod Nodes
