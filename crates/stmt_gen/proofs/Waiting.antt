@@ -13,7 +13,7 @@ use Rattle.checked_program.specs.declared.statement.DelayAlternative.{DelayAlter
 use Rattle.checked_program.specs.declared.statement.ReceiveAlternative.{ReceiveAlternative, out-ReceiveAlternative}
 use Rattle.program_trees.specs.ExprTree.{LocationTree, location_tree}
 use Rattle.program_trees.specs.ProgramTree.{LocalRowTree, local_row_tree}
-use Rattle.program_trees.specs.StatementTree.{NumbersTree, ReceiveTree, DelayNodes, no_delays, more_delays, delay_nodes, ReceiveNodes, no_receives, more_receives, set_tree}
+use Rattle.program_trees.specs.StatementTree.{DelayNodes, no_delays, more_delays, ReceiveNodes, no_receives, more_receives, statements_of, set_tree}
 use Rattle.code_scheme.specs.Pieces.{capped, keep_code, kept_code, offsets_kept, store_code}
 use Rattle.code_scheme.specs.ExprSizes.{place_size}
 use Rattle.code_scheme.specs.ExprCode.{place_code}
@@ -23,10 +23,9 @@ use Rattle.expr_gen.specs.Putting.{Appends}
 use Rattle.expr_gen.specs.Puts.{source_code}
 use Rattle.expr_gen.proofs.Appending.{nothing, and_then, resized, StillTo, step, done}
 use Rattle.expr_gen.proofs.Made.{moved}
-use Rattle.expr_gen.proofs.Items.{item_at}
 use Rattle.expr_gen.proofs.Rows.{local_found}
-use Rattle.stmt_gen.specs.Trees.{delay_tree, delays_of, receive_tree, receives_of}
-use Rattle.stmt_gen.proofs.Views.{delay_tree-out, receive_tree-out}
+use Rattle.stmt_gen.specs.Trees.{delays_of, receives_of}
+use Rattle.stmt_gen.proofs.Nodes.{delays_at, receives_at}
 
 -- ---- SET
 
@@ -89,12 +88,6 @@ pub events_done : {a : ℕ → List Instr} {m : ℕ} (number : ℕ) (xs : List �
 events_done number xs k h p =
     done p (at_drop_all (λ (ys : List ℕ). events_code number ys) xs k h) (at_drop_all (λ (ys : List ℕ). length (events_code 0 ys)) xs k h)
 
-delays_at : (xs : List DelayAlternative) (k : ℕ) (it : DelayAlternative) → k < length xs → it ≡ get_or xs k it
-    → delays_of (drop k xs) ≡ delay_nodes (record { numbers = (out-DelayAlternative it).events; actions = (delay_tree it).actions } ∷ map delay_tree (drop (k + 1) xs))
-delays_at xs k it h e =
-    ap delays_of (item_at xs k it h e)
-    ∙ ap (λ (ns : List ℕ). more_delays ns (delay_tree it).actions (delays_of (drop (k + 1) xs))) (ap (λ (t : NumbersTree). t.numbers) (delay_tree-out it))
-
 pub alternative_turn : {a : ℕ → List Instr} {m : ℕ} (xs : List DelayAlternative) (k : ℕ) (it : DelayAlternative) (es : List ℕ) {x y z : Code} → k < length xs → it ≡ get_or xs k it
     → es ≡ (out-DelayAlternative it).events
     → StillTo a m (λ at. all_events_code k (delays_of (drop k xs))) (length (all_events_code 0 (delays_of (drop k xs)))) x y
@@ -102,9 +95,9 @@ pub alternative_turn : {a : ℕ → List Instr} {m : ℕ} (xs : List DelayAltern
     → StillTo a m (λ at. all_events_code (k + 1) (delays_of (drop (k + 1) xs))) (length (all_events_code 0 (delays_of (drop (k + 1) xs)))) x z
 alternative_turn {a} {m} xs k it es {x} {y} {z} h e f p q =
     let rest : DelayNodes = delays_of (drop (k + 1) xs) in
-    let all : DelayNodes = more_delays (out-DelayAlternative it).events (delay_tree it).actions rest in
+    let all : DelayNodes = more_delays (out-DelayAlternative it).events (statements_of (out-DelayAlternative it).actions) rest in
     let there : StillTo a m (λ at. all_events_code k all) (length (all_events_code 0 all)) x y =
-    subst (λ (ds : DelayNodes). StillTo a m (λ at. all_events_code k ds) (length (all_events_code 0 ds)) x y) (delays_at xs k it h e) p in
+    subst (λ (ds : DelayNodes). StillTo a m (λ at. all_events_code k ds) (length (all_events_code 0 ds)) x y) (delays_at xs k it (out-DelayAlternative it).actions h e refl) p in
     let own : Appends (events_code k (out-DelayAlternative it).events) (length (events_code 0 (out-DelayAlternative it).events)) y z =
     subst (λ (ns : List ℕ). Appends (events_code k ns) (length (events_code 0 ns)) y z) f q in
     step (λ at. all_events_code (k + 1) rest) (length (all_events_code 0 rest)) (ap (λ (j : ℕ). events_code k (out-DelayAlternative it).events ++ all_events_code j rest) (omega arith))
@@ -120,7 +113,7 @@ pub count_turn : (xs : List DelayAlternative) (k : ℕ) (it : DelayAlternative) 
     → many ≡ length (out-DelayAlternative it).events → own ≡ capped many → new ≡ capped (count + own)
     → capped (count + count_of_events (delays_of (drop k xs))) ≡ all → capped (new + count_of_events (delays_of (drop (k + 1) xs))) ≡ all
 count_turn xs k it many count own new all h e f g o p =
-    let there : count_of_events (delays_of (drop k xs)) ≡ length (out-DelayAlternative it).events + count_of_events (delays_of (drop (k + 1) xs)) = ap count_of_events (delays_at xs k it h e) in
+    let there : count_of_events (delays_of (drop k xs)) ≡ length (out-DelayAlternative it).events + count_of_events (delays_of (drop (k + 1) xs)) = ap count_of_events (delays_at xs k it (out-DelayAlternative it).actions h e refl) in
     omega (arith, there, f, g, o, p)
 
 pub count_done : (xs : List DelayAlternative) (k : ℕ) → length xs ≤ k → count_of_events (delays_of (drop k xs)) ≡ 0
@@ -146,14 +139,6 @@ pub sources_count : (xs : List ReceiveAlternative) → count_of_sources (receive
 sources_count [] = refl
 sources_count (x ∷ xs) = ap suc (sources_count xs)
 
-receives_at : (xs : List ReceiveAlternative) (k : ℕ) (it : ReceiveAlternative) → k < length xs → it ≡ get_or xs k it
-    → receives_of (drop k xs) ≡ more_receives (out-ReceiveAlternative it).source (out-ReceiveAlternative it).received (receive_tree it).actions (receives_of (drop (k + 1) xs))
-receives_at xs k it h e =
-    let tree = receive_tree-out it in
-    ap receives_of (item_at xs k it h e)
-    ∙ ap (λ (n : ℕ). more_receives n (receive_tree it).received (receive_tree it).actions (receives_of (drop (k + 1) xs))) (ap (λ (t : ReceiveTree). t.source) tree)
-    ∙ ap (λ (ns : List ℕ). more_receives (out-ReceiveAlternative it).source ns (receive_tree it).actions (receives_of (drop (k + 1) xs))) (ap (λ (t : ReceiveTree). t.received) tree)
-
 pub source_turn : {a : ℕ → List Instr} {m : ℕ} (rows : List LocalRowTree) (xs : List ReceiveAlternative) (k : ℕ) (it : ReceiveAlternative) (source : ℕ) (ks : List ℕ) {x y z : Code}
     → k < length xs → it ≡ get_or xs k it → source ≡ (out-ReceiveAlternative it).source → ks ≡ (out-ReceiveAlternative it).received
     → StillTo a m (λ at. sources_code rows (receives_of (drop k xs))) (length (sources_code rows (receives_of (drop k xs)))) x y
@@ -161,9 +146,9 @@ pub source_turn : {a : ℕ → List Instr} {m : ℕ} (rows : List LocalRowTree) 
     → StillTo a m (λ at. sources_code rows (receives_of (drop (k + 1) xs))) (length (sources_code rows (receives_of (drop (k + 1) xs)))) x z
 source_turn {a} {m} rows xs k it source ks {x} {y} {z} h e f g p q =
     let rest : ReceiveNodes = receives_of (drop (k + 1) xs) in
-    let all : ReceiveNodes = more_receives (out-ReceiveAlternative it).source (out-ReceiveAlternative it).received (receive_tree it).actions rest in
+    let all : ReceiveNodes = more_receives (out-ReceiveAlternative it).source (out-ReceiveAlternative it).received (statements_of (out-ReceiveAlternative it).actions) rest in
     let there : StillTo a m (λ at. sources_code rows all) (length (sources_code rows all)) x y =
-    subst (λ (rs : ReceiveNodes). StillTo a m (λ at. sources_code rows rs) (length (sources_code rows rs)) x y) (receives_at xs k it h e) p in
+    subst (λ (rs : ReceiveNodes). StillTo a m (λ at. sources_code rows rs) (length (sources_code rows rs)) x y) (receives_at xs k it (out-ReceiveAlternative it).actions h e refl) p in
     let own1 = subst (λ (n : ℕ). Appends (source_code n (first_received rows ks) (scalars_received rows ks)) 3 y z) f q in
     let own2 = subst (λ (ns : List ℕ). Appends (source_code (out-ReceiveAlternative it).source (first_received rows ns) (scalars_received rows ns)) 3 y z) g own1 in
     step (λ at. sources_code rows rest) (length (sources_code rows rest)) refl (omega arith) there own2
