@@ -5,11 +5,11 @@ ghost use Rattle.std.specs.Prelude.{◌≡◌, Some, length, IfOk, OnOk, if◌th
 ghost use Rattle.program_trees.specs.ExprTree.{constant, expr_tree};
 ghost use Rattle.scalar_operators.specs.Numbers.{greatest_int, least_int};
 ghost use Rattle.code_scheme.specs.Pieces.{capped};
-ghost use Rattle.code_scheme.specs.StatementLoops.{steps_kept, constant_step, step_in, step_of_value, within_size, order_code, before_code, rest_code, nearest_code, nearer_code, moved_end_code, by_step, next_code, is_one, forth, back};
+ghost use Rattle.code_scheme.specs.StatementLoops.{steps_kept, constant_step, step_in, step_of_value, within_size, order_code, before_code, rest_code, nearest_code, nearer_code, moved_end_code, by_step, is_one, forth, back};
 ghost use Rattle.stmt_gen.specs.Counting.{step_of, steps_of};
 ghost use Rattle.expr_gen.specs.Putting.{Keeps};
 ghost use Rattle.expr_gen.specs.Puts.{PutsAll, PutsSome};
-ghost use Rattle.stmt_gen.specs.Puts.{IsSteps, PutsFirstTest, PutsFirstValue, PutsLimit, PutsNearEnd, PutsOwnStep, PutsRangeOf, PutsWithin, own_step_size, range_size, some_expr, start_of_turns};
+ghost use Rattle.stmt_gen.specs.Puts.{IsSteps, PutsFirstTest, PutsFirstValue, PutsLimit, PutsNearEnd, PutsNext, PutsOwnStep, PutsRangeOf, PutsWithin, own_step_size, range_size, some_expr, start_of_turns};
 
 use crate::around::Around;
 use checked_program::{Expr, Operation};
@@ -255,7 +255,7 @@ fn put_order(first: u32, second: u32, draft: &mut Draft) -> Result<(), PartRefus
 
 /// The next value, where it doesn't pass the end: where the counter lies before the limit.
 pub fn put_next(steps: Steps, behind: u32, draft: &mut Draft) -> Result<(), PartRefusal>
-    ensures puts { OnOk result (PutsSome (next_code (steps_of steps) behind) 8 draft.old draft.new) }
+    ensures puts { OnOk result (PutsNext steps behind draft.old draft.new) }
     ensures keeps { Keeps draft.old.code draft.new.code }
 {
     put_before(steps.down, steps.counter, steps.end, draft)?;
