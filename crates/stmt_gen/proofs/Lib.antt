@@ -1,5 +1,7 @@
+pub mod Front
 pub mod Views
 pub mod Placing
-pub mod Sizes
+pub mod Capping
 pub mod Made
+pub mod Held
 pub mod Lengths

@@ -6,3 +6,6 @@ pub mod JoiningSizes
 pub mod Joining
 pub mod Counting
 pub mod Receiving
+pub mod Holding
+pub mod HandlerRows
+pub mod Modulions

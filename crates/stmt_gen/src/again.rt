@@ -1,8 +1,9 @@
 // Regions: an exception that goes out of one is raised again behind the release of the region.
-ghost use Rattle.std.specs.Prelude.{◌≡◌, ◌-◌, length, take, drop, filter, IfOk, OnOk};
+ghost use Rattle.std.specs.Prelude.{◌≡◌, filter, IfOk, OnOk};
 ghost use Rattle.program_trees.specs.ProgramTree.{checked_tree};
-ghost use Rattle.code_scheme.specs.BodyItems.{raised_in, is_among, raise_again_code, raise_again_rows};
-ghost use Rattle.stmt_gen.specs.Appending.{AppendsBoth};
+ghost use Rattle.code_scheme.specs.BodyItems.{raised_in, is_among};
+ghost use Rattle.stmt_gen.specs.Appending.{KeepsFront};
+ghost use Rattle.stmt_gen.specs.Modulions.{PutsReleases, instrs_between};
 
 use crate::handlers::put_row;
 use checked_program::Checked;
@@ -42,7 +43,10 @@ pub fn raised_between(
     program: &Checked,
     draft: &Draft,
 ) -> Result<Numbers, PartRefusal>
-    ensures { IfOk result (λ raised. raised ≡ raised_in (checked_tree program.now) (take (until - from) (drop from draft.now.code.instrs))) }
+    ensures {
+        IfOk result
+        (λ raised. raised ≡ raised_in (checked_tree program.now) (instrs_between from until draft.now))
+    }
 {
     let alloc = draft.allocator();
     let mut found = marks(alloc, LANGUAGE.saturating_add(program.exceptions.len()))?;
@@ -144,7 +148,10 @@ pub fn put_again(
     region: u32,
     draft: &mut Draft,
 ) -> Result<(), PartRefusal>
-    ensures appends { OnOk result (AppendsBoth (raise_again_code region exceptions.now) (raise_again_rows from until exceptions.now (length draft.old.code.instrs)) draft.old.code draft.new.code) }
+    ensures puts {
+        OnOk result (PutsReleases region exceptions.now from until draft.old draft.new)
+    }
+    ensures keeps { KeepsFront draft.old.code draft.new.code }
 {
     let alloc = draft.allocator();
     for exception in exceptions {
