@@ -9,3 +9,4 @@ pub mod Receiving
 pub mod Holding
 pub mod HandlerRows
 pub mod Modulions
+pub mod Puts
