@@ -455,22 +455,22 @@ loop_inside around inside n m e f = ap (λ (a : Around). standing_of a) e ∙ ap
 back_again : (g : Bool) (again at : ℕ) → g ≡ true → again ≡ at → i.Again again ∷ [] ≡ (if g then i.Again at ∷ [] else [])
 back_again g again at e f = ap (λ (k : ℕ). i.Again k ∷ []) f ∙ sym (ap (λ (b : Bool). if b then i.Again at ∷ [] else []) e)
 
-pub loop_again : (around inside : Around) (c : Control) (ss : List Statement) (n behind again : ℕ) {x y1 y2 y3 z : Draft}
+pub loop_again : (around inside : Around) (c : Control) (ss : List Statement) (n behind again : ℕ) (y1 y2 y3 : Draft) {x z : Draft}
     → inside ≡ record around { free = around.free + n } → n ≡ locals_kept (control_tree c) → go_on (statements_of ss) ≡ true → again ≡ length y1.code.instrs
     → Appends (before_turns (standing_of around) (control_tree c) behind (length x.code.instrs)) (before_turns_size (control_tree c)) x.code y1.code
     → Appends (turn_test (standing_of around) (control_tree c) behind (length y1.code.instrs)) (turn_test_size (control_tree c)) y1.code y2.code
     → PutsStatements inside ss y2 y3 → Appends (i.Again again ∷ []) 1 y3.code z.code → PutsDo around c ss behind x z
-loop_again around inside c ss n behind again {x} {y1} {y2} {y3} {z} in_is n_is goes there p q r s =
+loop_again around inside c ss n behind again y1 y2 y3 {x} {z} in_is n_is goes there p q r s =
     let turns = subst (λ (w : Standing). AtStatements w (statements_of ss) y2.code y3.code) (loop_inside around inside n (locals_kept (control_tree c)) in_is n_is) r.puts in
     let back = subst (λ (g : Bool). Appends (i.Again again ∷ []) (turn_back_size g) y3.code z.code) (sym goes) s in
     record { puts = λ to. loop_node (standing_of around) (control_tree c) (statements_of ss) behind (i.Again again ∷ []) to p q turns back (back_again (go_on (statements_of ss)) again (length y1.code.instrs) goes there) }
 
-pub loop_left : (around inside : Around) (c : Control) (ss : List Statement) (n behind : ℕ) {x y1 y2 y3 : Draft}
+pub loop_left : (around inside : Around) (c : Control) (ss : List Statement) (n behind : ℕ) (y1 y2 : Draft) {x y3 : Draft}
     → inside ≡ record around { free = around.free + n } → n ≡ locals_kept (control_tree c) → go_on (statements_of ss) ≡ false
     → Appends (before_turns (standing_of around) (control_tree c) behind (length x.code.instrs)) (before_turns_size (control_tree c)) x.code y1.code
     → Appends (turn_test (standing_of around) (control_tree c) behind (length y1.code.instrs)) (turn_test_size (control_tree c)) y1.code y2.code
     → PutsStatements inside ss y2 y3 → PutsDo around c ss behind x y3
-loop_left around inside c ss n behind {x} {y1} {y2} {y3} in_is n_is goes p q r =
+loop_left around inside c ss n behind y1 y2 {x} {y3} in_is n_is goes p q r =
     let turns = subst (λ (w : Standing). AtStatements w (statements_of ss) y2.code y3.code) (loop_inside around inside n (locals_kept (control_tree c)) in_is n_is) r.puts in
     let back = subst (λ (g : Bool). Appends [] (turn_back_size g) y3.code y3.code) (sym goes) (nothing y3.code) in
     let none : [] ≡ (if go_on (statements_of ss) then i.Again (length y1.code.instrs) ∷ [] else []) = sym (ap (λ (b : Bool). if b then i.Again (length y1.code.instrs) ∷ [] else []) goes) in

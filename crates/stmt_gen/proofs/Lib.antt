@@ -3,5 +3,9 @@ pub mod Views
 pub mod Placing
 pub mod Capping
 pub mod Made
+pub mod Marks
+pub mod Rows
+pub mod Released
+pub mod Modular
 pub mod Held
 pub mod Lengths

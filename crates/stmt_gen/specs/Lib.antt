@@ -9,4 +9,5 @@ pub mod Receiving
 pub mod Holding
 pub mod HandlerRows
 pub mod Modulions
+pub mod Marking
 pub mod Puts

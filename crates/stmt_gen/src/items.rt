@@ -5,7 +5,7 @@ ghost use Rattle.stmt_gen.specs.Modulions.{PutsItems, PutsItem, PutsModule, Puts
 
 use crate::again::{put_again, raised_between};
 use crate::around::Around;
-use crate::going_on::{go_on, goes_on};
+use crate::going_on::{go_on, goes_on, is_modulion};
 use crate::statements::{put_handler, put_statement, put_statements};
 use checked_program::{Action, Handler, Statement};
 use code_types::Instr;
@@ -13,6 +13,7 @@ use expr_gen::{Draft, PartRefusal};
 
 /// Appends the code of what the outermost process does: statements, modules and regions in their order, as far as
 /// control comes.
+#[tactic(auto, using(crate::proofs::Front::keeping_front))]
 #[cycle(item)]
 pub fn put_items(
     items: &[Statement],
@@ -32,8 +33,23 @@ pub fn put_items(
 }
 
 // A modulion with its handler, or a statement.
+#[tactic(auto, using(crate::proofs::Front::keeping_front))]
 #[cycle(item)]
 fn put_item(item: &Statement, around: &Around, draft: &mut Draft) -> Result<(), PartRefusal>
+    ensures puts { OnOk result (PutsItem around.now item.now draft.old draft.new) }
+    ensures keeps { KeepsFront draft.old.code draft.new.code }
+{
+    if is_modulion(&item.action) {
+        put_modulion(item, around, draft)
+    } else {
+        put_statement(item, around, draft)
+    }
+}
+
+// A modulion with its handler. What is none is unsound.
+#[tactic(auto, using(crate::proofs::Front::keeping_front))]
+#[cycle(item)]
+fn put_modulion(item: &Statement, around: &Around, draft: &mut Draft) -> Result<(), PartRefusal>
     ensures puts { OnOk result (PutsItem around.now item.now draft.old draft.new) }
     ensures keeps { KeepsFront draft.old.code draft.new.code }
 {
@@ -43,11 +59,12 @@ fn put_item(item: &Statement, around: &Around, draft: &mut Draft) -> Result<(), 
             let initialisations = actions.as_slice();
             put_region(*region, initialisations, &item.handler, around, draft)
         }
-        _ => put_statement(item, around, draft),
+        _ => Err(PartRefusal::Unsound),
     }
 }
 
 // A module with its handler.
+#[tactic(auto, using(crate::proofs::Front::keeping_front))]
 #[cycle(item)]
 fn put_module(
     items: &[Statement],
@@ -64,6 +81,7 @@ fn put_module(
 }
 
 // The handler of what stands from this place up to the present one, where it has one.
+#[tactic(auto, using(crate::proofs::Front::keeping_front))]
 fn put_some_handler(
     handler: &Option<Box<Handler>>,
     from: u32,
@@ -84,6 +102,7 @@ fn put_some_handler(
 
 // The initialisations of a region with its handler. The region is released behind them, also where an exception goes out
 // of them.
+#[tactic(auto, using(crate::proofs::Front::keeping_front))]
 fn put_region(
     region: u32,
     initialisations: &[Statement],

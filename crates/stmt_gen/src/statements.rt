@@ -291,7 +291,7 @@ fn put_receive_case(
 ) -> Result<(), PartRefusal>
     ensures puts {
         OnOk result
-        (PutsReceiveCase around.now alternatives.now otherwise.now wait draft.old draft.new)
+        (PutsReceiveCase around.now alternatives.now otherwise.now wait.entry draft.old draft.new)
     }
     ensures keeps { KeepsFront draft.old.code draft.new.code }
 {
