@@ -17,7 +17,7 @@ use Rattle.program_trees.specs.ProgramTree.{CheckedTree, BodyRowTree, checked_tr
 use Rattle.std.specs.Prelude.{slice_get}
 use Rattle.code_scheme.specs.BodyItems.{language_exceptions, listed_in, is_among, raises, can_arise, numbers_from, raised_in}
 use Rattle.expr_gen.proofs.Rows.{body_found}
-use Rattle.stmt_gen.specs.Marking.{has_mark, MarksMore, MarksOne, MarksAll, MarksRaised, MarksAllRaised, HasNoMark, MarksBelow, marked_in}
+use Rattle.stmt_gen.specs.Marking.{has_mark, MarksMore, MarksOne, MarksAll, MarksRaised, MarksAllRaised, HasNoMark, MarksBelow, marked_in, where_marked}
 
 or_false : (b : Bool) → b ≡ (b || false)
 or_false true = refl
@@ -142,6 +142,10 @@ marked_true p k e = ap (filter p) (first_numbers k) ∙ filter-append p (numbers
 
 pub marked_false : (p : ℕ → Bool) (k : ℕ) → p k ≡ false → filter p (numbers_from 0 (k + 1)) ≡ filter p (numbers_from 0 k)
 marked_false p k e = ap (filter p) (first_numbers k) ∙ filter-append p (numbers_from 0 k) (k ∷ []) ∙ ap (λ (ks : List ℕ). filter p (numbers_from 0 k) ++ ks) (fails p k e) ∙ append-nil (filter p (numbers_from 0 k))
+
+pub marked_next : (p : ℕ → Bool) (k : ℕ) (b : Bool) → b ≡ p k → filter p (numbers_from 0 k) ++ where_marked b k ≡ filter p (numbers_from 0 (k + 1))
+marked_next p k true e = sym (marked_true p k (sym e))
+marked_next p k false e = append-nil (filter p (numbers_from 0 k)) ∙ sym (marked_false p k (sym e))
 
 -- ---- between two places
 

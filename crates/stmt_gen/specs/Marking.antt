@@ -1,5 +1,5 @@
 -- Sets of exceptions by a mark for each number.
-use Rattle.std.specs.Prelude.{◌≡◌, ℕ, ◌||◌, ◌==◌, nat_lt, Bool, false, List, length, get_or, filter}
+use Rattle.std.specs.Prelude.{◌≡◌, ℕ, ◌||◌, ◌==◌, nat_lt, Bool, false, List, length, get_or, filter, [], ◌∷◌, if◌then◌else◌}
 use Rattle.std.specs.List.{list_any}
 use Rattle.code_types.specs.declared.instr.Instr.{Instr}
 use Rattle.checked_program.specs.declared.program.Checked.{Checked}
@@ -41,3 +41,6 @@ pub record MarksBelow (few count : ℕ) (all : List Bool) : Type 0 where
 -- the numbers that are marked, rising
 abbrev pub marked_in : List Bool → List ℕ
 marked_in marks = filter (has_mark marks) (numbers_from 0 (length marks))
+
+abbrev pub where_marked : Bool → ℕ → List ℕ
+where_marked is_marked x = if is_marked then x ∷ [] else []

@@ -1,16 +1,16 @@
 // Regions: an exception that goes out of one is raised again behind the release of the region.
-ghost use Rattle.std.specs.Prelude.{◌≡◌, ◌+◌, length, filter, IfOk, OnOk};
+ghost use Rattle.std.specs.Prelude.{◌≡◌, ◌+◌, ◌++◌, length, filter, IfOk, OnOk};
 ghost use Rattle.program_trees.specs.ProgramTree.{checked_tree};
 ghost use Rattle.code_scheme.specs.BodyItems.{language_exceptions, raised_in, is_among};
 ghost use Rattle.stmt_gen.specs.Appending.{KeepsFront};
-ghost use Rattle.stmt_gen.specs.Marking.{HasNoMark, MarksBelow, MarksOne, MarksAll, MarksRaised, MarksAllRaised, has_mark, marked_in};
+ghost use Rattle.stmt_gen.specs.Marking.{HasNoMark, MarksBelow, MarksOne, MarksAll, MarksRaised, MarksAllRaised, has_mark, marked_in, where_marked};
 ghost use Rattle.stmt_gen.specs.Modulions.{PutsReleases, instrs_between};
 
 use crate::handlers::put_row;
 use checked_program::Checked;
 use chill_base::{List, Memory, Numbers};
 use code_types::Instr;
-use expr_gen::{Draft, PartRefusal, body_of, uncapped};
+use expr_gen::{Draft, PartRefusal, body_of};
 use std::alloc::Global;
 
 /// How many exceptions the language has. The user's are numbered behind them.
@@ -93,8 +93,8 @@ fn no_marks(alloc: Global, count: usize) -> Result<Vec<bool>, Memory>
 }
 
 // The mark of this number is set, or Unsound where there is none.
-fn mark(number: u32, marks: &mut [bool]) -> Result<(), PartRefusal>
-    ensures { OnOk result (MarksOne number marks.old marks.new) }
+fn mark(number: u32, marks: &mut Vec<bool>) -> Result<(), PartRefusal>
+    ensures { OnOk result (MarksOne number marks.old.items marks.new.items) }
 {
     let number = number as usize;
     if number < marks.len() {
@@ -106,8 +106,8 @@ fn mark(number: u32, marks: &mut [bool]) -> Result<(), PartRefusal>
 }
 
 // Each of these exceptions is marked.
-fn mark_all(exceptions: &[u32], marks: &mut [bool]) -> Result<(), PartRefusal>
-    ensures { OnOk result (MarksAll exceptions.now marks.old marks.new) }
+fn mark_all(exceptions: &[u32], marks: &mut Vec<bool>) -> Result<(), PartRefusal>
+    ensures { OnOk result (MarksAll exceptions.now marks.old.items marks.new.items) }
 {
     for exception in exceptions {
         mark(*exception, marks)?;
@@ -116,8 +116,8 @@ fn mark_all(exceptions: &[u32], marks: &mut [bool]) -> Result<(), PartRefusal>
 }
 
 // The exceptions are marked that an instruction raises, or the procedure lists that it calls.
-fn mark_raised(instr: Instr, program: &Checked, marks: &mut [bool]) -> Result<(), PartRefusal>
-    ensures { OnOk result (MarksRaised program.now instr marks.old marks.new) }
+fn mark_raised(instr: Instr, program: &Checked, marks: &mut Vec<bool>) -> Result<(), PartRefusal>
+    ensures { OnOk result (MarksRaised program.now instr marks.old.items marks.new.items) }
 {
     match instr {
         Instr::Raise(exception) => mark(exception, marks),
@@ -130,9 +130,11 @@ fn mark_raised(instr: Instr, program: &Checked, marks: &mut [bool]) -> Result<()
 fn mark_all_raised(
     instrs: &[Instr],
     program: &Checked,
-    marks: &mut [bool],
+    marks: &mut Vec<bool>,
 ) -> Result<(), PartRefusal>
-    ensures { OnOk result (MarksAllRaised program.now instrs.now marks.old marks.new) }
+    ensures {
+        OnOk result (MarksAllRaised program.now instrs.now marks.old.items marks.new.items)
+    }
 {
     for instr in instrs {
         mark_raised(*instr, program, marks)?;
@@ -146,11 +148,29 @@ fn marked(alloc: Global, marks: &[bool]) -> Result<Numbers, PartRefusal>
 {
     let mut numbers = List::new(alloc);
     for number in 0..marks.len() {
-        if marks[number] {
-            numbers.push(uncapped((number as u64).min(u32::MAX as u64) as u32)?)?;
-        }
+        put_marked(number, marks[number], &mut numbers)?;
     }
     Ok(numbers)
+}
+
+// The number behind the others, where it is marked.
+fn put_marked(number: usize, is_marked: bool, numbers: &mut Numbers) -> Result<(), PartRefusal>
+    ensures { OnOk result (numbers.new ≡ numbers.old ++ where_marked is_marked number) }
+{
+    if is_marked {
+        numbers.push(narrow(number)?)?;
+    }
+    Ok(())
+}
+
+// The number in 32 bits. There is no memory for as many exceptions as need more.
+fn narrow(number: usize) -> Result<u32, Memory>
+    ensures { IfOk result (λ narrow. narrow ≡ number) }
+{
+    match u32::try_from(number) {
+        Ok(number) => Ok(number),
+        Err(_) => Err(Memory),
+    }
 }
 
 /// Those of the raised exceptions that are listed.
