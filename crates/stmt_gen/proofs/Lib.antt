@@ -9,3 +9,4 @@ pub mod Released
 pub mod Modular
 pub mod Held
 pub mod Lengths
+pub mod Nodes

@@ -112,6 +112,14 @@ PutsLeaving goes behind old new =
 abbrev pub IsElseSize : Site → SomeStatements → ℕ → ℕ → Type 0
 IsElseSize site o none size = (n : ℕ) → none ≡ capped n → size ≡ capped (otherwise_size (site_tree site) (else_of o) n)
 
+-- the alternatives of a CASE and of a RECEIVE CASE, with so many instructions behind them
+abbrev pub IsCasesSize : Site → List CaseAlternative → ℕ → ℕ → Type 0
+IsCasesSize site as' last size = (n : ℕ) → last ≡ capped n → size ≡ capped (cases_size (site_tree site) (cases_of as') n)
+
+abbrev pub IsReceivesSize : Site → List ReceiveAlternative → ℕ → ℕ → Type 0
+IsReceivesSize site as' last size = (n : ℕ) → last ≡ capped n → size ≡ capped (receives_size (site_tree site) (receives_of as') n)
+
+-- the same, with ELSE behind them
 abbrev pub all_cases_size : Site → List CaseAlternative → SomeStatements → ℕ
 all_cases_size site as' o = cases_size (site_tree site) (cases_of as') (otherwise_size (site_tree site) (else_of o) 1)
 

@@ -5,7 +5,7 @@ ghost use Rattle.code_scheme.specs.Pieces.{capped};
 ghost use Rattle.code_scheme.specs.StatementSize.{statements_size, statement_size, handler_size, handled_size, action_size, choices_size, cases_size, delays_size, receives_size};
 ghost use Rattle.stmt_gen.specs.Trees.{choices_of, cases_of, delays_of, receives_of, handled_of};
 ghost use Rattle.stmt_gen.specs.Putting.{site_tree};
-ghost use Rattle.stmt_gen.specs.Puts.{IsElseSize, Joins, JoinsAll, all_cases_size, all_receives_size, choice_size, chosen_size, receiving_size};
+ghost use Rattle.stmt_gen.specs.Puts.{IsCasesSize, IsElseSize, IsReceivesSize, Joins, JoinsAll, choice_size, chosen_size};
 
 use crate::cases::labels_size;
 use crate::going_on::{action_goes_on, go_on, goes_on};
@@ -57,21 +57,13 @@ pub fn statement_size(statement: &Statement, site: &Site) -> u32
 pub fn handled_size(handler: &Handler, site: &Site) -> u32
     ensures { result ≡ capped (handler_size (site_tree site.now) (handler_tree handler.now)) }
 {
-    let rest = otherwise_size(&handler.otherwise, 0, site);
+    let rest = match &handler.otherwise {
+        Some(actions) => statements_size(actions.as_slice(), site),
+        None => 0,
+    };
     handled_joined(handler.alternatives.as_slice(), site)
         .then(rest, false)
         .size
-}
-
-/// How many instructions ELSE has, or so many where none is written.
-#[cycle(extent)]
-pub fn otherwise_size(otherwise: &Option<List<Statement>>, none: u32, site: &Site) -> u32
-    ensures { IsElseSize site.now otherwise.now none result }
-{
-    match otherwise {
-        Some(actions) => statements_size(actions.as_slice(), site),
-        None => none,
-    }
 }
 
 #[tactic(auto, using(crate::proofs::Views::statement_built))]
@@ -105,9 +97,16 @@ pub fn action_size(action: &Action, site: &Site) -> u32
             selector,
             alternatives,
             otherwise,
-        } => expr_size(selector)
-            .saturating_add(1)
-            .saturating_add(cases_size(alternatives.as_slice(), otherwise, site)),
+        } => {
+            // what no label holds raises, where nothing is written for it
+            let last = match otherwise {
+                Some(actions) => statements_size(actions.as_slice(), site),
+                None => 1,
+            };
+            expr_size(selector)
+                .saturating_add(1)
+                .saturating_add(cases_size(alternatives.as_slice(), last, site))
+        }
         Action::DelayCase {
             set,
             alternatives,
@@ -124,54 +123,32 @@ pub fn action_size(action: &Action, site: &Site) -> u32
             set,
             alternatives,
             otherwise,
-        } => receive_case_size(alternatives.as_slice(), set, otherwise, site),
+        } => {
+            let last = match otherwise {
+                Some(actions) => statements_size(actions.as_slice(), site),
+                None => 0,
+            };
+            receive_wait_size(alternatives.as_slice(), set, otherwise.is_some())
+                .saturating_add(receives_size(alternatives.as_slice(), last, site))
+        }
         _ => plain_size(action, site),
     }
 }
 
-// How many instructions the alternatives of a CASE have. What no label holds raises, where nothing is written for it.
+// How many instructions the alternatives of a CASE have, with so many behind them.
 #[cycle(extent)]
-fn cases_size(
-    alternatives: &[CaseAlternative],
-    otherwise: &Option<List<Statement>>,
-    site: &Site,
-) -> u32
-    ensures { result ≡ capped (all_cases_size site.now alternatives.now otherwise.now) }
+fn cases_size(alternatives: &[CaseAlternative], last: u32, site: &Site) -> u32
+    ensures { IsCasesSize site.now alternatives.now last result }
 {
-    cases_joined(alternatives, site)
-        .then(otherwise_size(otherwise, 1, site), false)
-        .size
+    cases_joined(alternatives, site).then(last, false).size
 }
 
-// How many instructions a RECEIVE CASE has.
+// How many instructions the alternatives of a RECEIVE CASE have, with so many behind them.
 #[cycle(extent)]
-fn receive_case_size(
-    alternatives: &[ReceiveAlternative],
-    set: &Option<Box<Location>>,
-    otherwise: &Option<List<Statement>>,
-    site: &Site,
-) -> u32
-    ensures { result ≡ capped (receiving_size site.now set.now alternatives.now otherwise.now) }
+fn receives_size(alternatives: &[ReceiveAlternative], last: u32, site: &Site) -> u32
+    ensures { IsReceivesSize site.now alternatives.now last result }
 {
-    receive_wait_size(alternatives, set, otherwise.is_some()).saturating_add(receives_size(
-        alternatives,
-        otherwise,
-        site,
-    ))
-}
-
-/// How many instructions the alternatives of a RECEIVE CASE have, with ELSE.
-#[cycle(extent)]
-pub fn receives_size(
-    alternatives: &[ReceiveAlternative],
-    otherwise: &Option<List<Statement>>,
-    site: &Site,
-) -> u32
-    ensures { result ≡ capped (all_receives_size site.now alternatives.now otherwise.now) }
-{
-    receives_joined(alternatives, site)
-        .then(otherwise_size(otherwise, 0, site), false)
-        .size
+    receives_joined(alternatives, site).then(last, false).size
 }
 
 /// How many instructions actions have that are chosen by a Boolean, without the jump behind them.
@@ -247,4 +224,14 @@ fn receives_joined(alternatives: &[ReceiveAlternative], site: &Site) -> Joined
         joined = joined.then(chosen_size(actions, site).saturating_add(3), go_on(actions));
     }
     joined
+}
+
+/// How many instructions ELSE has, or so many where none is written.
+pub fn otherwise_size(otherwise: &Option<List<Statement>>, none: u32, site: &Site) -> u32
+    ensures { IsElseSize site.now otherwise.now none result }
+{
+    match otherwise {
+        Some(actions) => statements_size(actions.as_slice(), site),
+        None => none,
+    }
 }

@@ -3,5 +3,5 @@ use Rattle.code_scheme.specs.Pieces.{capped}
 use Rattle.code_scheme.specs.StatementPlain.{set_lowest_size}
 use Rattle.stmt_gen.proofs.assigning.lowest_size.Given as goal
 
-abbrev pub invariant-loop-_local : goal.invariant-loop-_local
-invariant-loop-_local l = capped (l.size + set_lowest_size (drop l._local-index l.locals) l.value) ≡ capped (set_lowest_size l.locals l.value)
+abbrev pub invariant-loop-local : goal.invariant-loop-local
+invariant-loop-local l = capped (l.size + set_lowest_size (drop l._local-index l.locals) l.value) ≡ capped (set_lowest_size l.locals l.value)
