@@ -1,7 +1,13 @@
+pub mod Front
 pub mod Views
 pub mod Placing
 pub mod Capping
 pub mod Made
+pub mod Marks
+pub mod Rows
+pub mod Released
+pub mod Modular
+pub mod Held
 pub mod Lengths
 pub mod Controls
 pub mod Labels
