@@ -4,3 +4,8 @@ pub mod Capping
 pub mod Made
 pub mod Lengths
 pub mod Nodes
+pub mod Extents
+pub mod Assigned
+pub mod Asked
+pub mod GivenBack
+pub mod Dropped
