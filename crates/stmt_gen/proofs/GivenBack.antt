@@ -73,21 +73,23 @@ pub begin_back : (ps : List Parameter) (ls : List LocalRow) (k : ℕ) (x : Code)
 begin_back ps ls k x h = subst (λ (is : List Instr). Appends is (length is) x x) (sym (none_back ps ls k h)) (nothing x)
 
 pub back_turn : (ps : List Parameter) (ls : List LocalRow) (count turn : ℕ) (p : Parameter) (l : LocalRow) {x y z : Code}
-    → turn < count → count ≡ min (length ps) (length ls)
+    → turn < count → count ≡ min (length ps) (length ls) → l ≡ get_or ls (count - 1 - turn) l
     → Appends (given_back (drop (count - turn) ps) (drop (count - turn) ls)) (length (given_back (drop (count - turn) ps) (drop (count - turn) ls))) x y
-    → Appends (own_back (get_or ps (count - 1 - turn) p).passing (get_or ls (count - 1 - turn) l)) (length (own_back (get_or ps (count - 1 - turn) p).passing (get_or ls (count - 1 - turn) l))) y z
+    → Appends (own_back (get_or ps (count - 1 - turn) p).passing l) (length (own_back (get_or ps (count - 1 - turn) p).passing l)) y z
     → Appends (given_back (drop (count - (turn + 1)) ps) (drop (count - (turn + 1)) ls)) (length (given_back (drop (count - (turn + 1)) ps) (drop (count - (turn + 1)) ls))) x z
-back_turn ps ls count turn p l {x} {y} {z} h m a b =
+back_turn ps ls count turn p l {x} {y} {z} h m e a b =
     let k : ℕ = count - 1 - turn in
     let next : count - turn ≡ count - 1 - turn + 1 = omega (arith, h) in
     let now : count - 1 - turn ≡ count - (turn + 1) = omega (arith, h) in
     let in_ps : count - 1 - turn < length ps = omega (arith, h, m) in
     let in_ls : count - 1 - turn < length ls = omega (arith, h, m) in
+    let own : Appends (own_back (get_or ps k p).passing (get_or ls k l)) (length (own_back (get_or ps k p).passing (get_or ls k l))) y z =
+    subst (λ (r : LocalRow). Appends (own_back (get_or ps k p).passing r) (length (own_back (get_or ps k p).passing r)) y z) e b in
     let before : Appends (given_back (drop (k + 1) ps) (drop (k + 1) ls)) (length (given_back (drop (k + 1) ps) (drop (k + 1) ls))) x y =
     subst (λ (n : ℕ). Appends (given_back (drop n ps) (drop n ls)) (length (given_back (drop n ps) (drop n ls))) x y) next a in
     subst (λ (n : ℕ). Appends (given_back (drop n ps) (drop n ls)) (length (given_back (drop n ps) (drop n ls))) x z) now
     (subst (λ (is : List Instr). Appends is (length is) x z) (sym (one_back ps ls k p l in_ps in_ls))
-    (resized (sym (length-append (given_back (drop (k + 1) ps) (drop (k + 1) ls)) (own_back (get_or ps k p).passing (get_or ls k l)))) (and_then before b)))
+    (resized (sym (length-append (given_back (drop (k + 1) ps) (drop (k + 1) ls)) (own_back (get_or ps k p).passing (get_or ls k l)))) (and_then before own)))
 
 all_turns : (n k : ℕ) → n ≤ k → n - k ≡ 0
 all_turns n k h = omega (arith, h)

@@ -9,3 +9,4 @@ pub mod Assigned
 pub mod Asked
 pub mod GivenBack
 pub mod Dropped
+pub mod Exits

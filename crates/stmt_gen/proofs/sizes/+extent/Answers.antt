@@ -1,5 +1,7 @@
-use Rattle.std.proofs.Common.{◌≤◌, arith, rules}
-use Rattle.stmt_gen.proofs.Extents.{last_joined, handled_counted, choices_counted, cases_counted, delays_counted, receives_counted, guarded_counted, if_counted, statements_none}
+use Rattle.std.proofs.Common.{◌≤◌, ◌∙◌, ap, List, Option, arith, rules}
+use Rattle.checked_program.specs.declared.statement.Action.TheVariants as actions
+use Rattle.checked_program.specs.declared.statement.Statement.{Statement}
+use Rattle.stmt_gen.proofs.Extents.{last_joined, handled_counted, choices_counted, cases_counted, delays_counted, receives_counted, guarded_counted, if_counted, case_counted, statements_none}
 use Rattle.code_scheme.specs.StatementSize.{cases_size, receives_size}
 use Rattle.stmt_gen.specs.Putting.{site_tree}
 use Rattle.stmt_gen.specs.Trees.{cases_of, receives_of}
@@ -62,4 +64,7 @@ receive_case_size-returns t c n e =
     omega (arith, last_joined c.receives_joined.result c.then.result (receives_size (site_tree c.args.site.now) (receives_of c.args.alternatives.now)) c.args.last n c.receives_joined.ensures c.then.ensures e few, c.receive_wait_size.ensures, c.saturating_add.ensures)
 
 pub choosing_size-returns-in-Some : goal.choosing_size-returns-in-Some
-choosing_size-returns-in-Some t c = ?
+choosing_size-returns-in-Some t c chosen =
+    case_counted (site_tree c.args.site.now) c.args.action.now c.in-Case.selector c.in-Case.alternatives c.as_slice-in-Some.result.now c.in-Some.actions c.as_slice.result.now c.deref.result.now c.statements_size-last.result c.case_size.result
+    (c.in-Case.is ∙ ap (λ (o : Option (List Statement)). actions.Case c.in-Case.selector c.in-Case.alternatives o) c.in-Some.is)
+    c.as_slice-in-Some.ensures c.as_slice.ensures c.deref.ensures c.statements_size-last.ensures c.case_size.ensures

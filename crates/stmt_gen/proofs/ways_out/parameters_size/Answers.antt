@@ -17,7 +17,7 @@ loop-i-preserved c =
             few = omega (arith, w.saturating_add-size.ensures, w.size-is);
           })
       | else-is_given_back w ↦ (
-          let len : length (given_back (drop c.loop-i.i c.args.parameters.now) (drop c.loop-i.i c.args.locals.now)) ≡ length (given_back (drop (c.loop-i.i + 1) c.args.parameters.now) (drop (c.loop-i.i + 1) c.args.locals.now)) =
+          let len : length (given_back (drop c.loop-i.i c.args.parameters.now) (drop c.loop-i.i c.args.locals.now)) ≡ 0 + length (given_back (drop (c.loop-i.i + 1) c.args.parameters.now) (drop (c.loop-i.i + 1) c.args.locals.now)) =
           size_at c.args.parameters.now c.args.locals.now c.loop-i.i _ c.is_given_back.result false in_ps in_ls c.is_given_back.ensures w.if-is_given_back.false in
           record {
             counted = omega (arith, len, w.size-is, c.loop-i.invariant.counted, c.loop-i.invariant.few);
