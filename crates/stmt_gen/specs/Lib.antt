@@ -7,3 +7,4 @@ pub mod Joining
 pub mod Counting
 pub mod Receiving
 pub mod Puts
+pub mod WaysOut
