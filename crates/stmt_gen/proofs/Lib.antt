@@ -13,3 +13,9 @@ pub mod Controls
 pub mod Labels
 pub mod Waiting
 pub mod Nodes
+pub mod Extents
+pub mod Assigned
+pub mod Asked
+pub mod GivenBack
+pub mod Dropped
+pub mod Exits
