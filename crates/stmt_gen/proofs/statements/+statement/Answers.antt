@@ -181,12 +181,12 @@ put_cases-returns-in-None-clause-puts t c =
 pub put_do-returns-then-go_on-clause-puts : goal.put_do-returns-then-go_on-clause-puts
 put_do-returns-then-go_on-clause-puts t c =
     let again : c.in_ok-again.again ≡ length c.put_before_turns.new.draft.code.instrs = omega (arith, c.in_ok-again.ensures 0 refl) in
-    on_ok_weaker c.put.result (λ q. loop_again c.args.around.now _ c.args.control.now c.args.actions.now c.locals_kept.result c.args.behind c.in_ok-again.again _ _ _
+    on_ok_weaker c.put.result (λ q. loop_again c.args.around.now _ c.args.control.now c.args.actions.now c.locals_kept.result c.args.behind c.in_ok-again.again c.put_before_turns.new.draft c.put_turn_test.new.draft c.put_statements.new.draft
     c.in_ok-inside.ensures c.locals_kept.ensures (sym c.go_on.ensures ∙ c.if-go_on.true) again c.in_ok-put_before_turns.ensures.puts c.in_ok-put_turn_test.ensures.puts c.in_ok-put_statements.ensures.puts q) c.put.ensures.puts
 
 pub put_do-returns-else-go_on-clause-puts : goal.put_do-returns-else-go_on-clause-puts
 put_do-returns-else-go_on-clause-puts t c =
-    loop_left c.args.around.now _ c.args.control.now c.args.actions.now c.locals_kept.result c.args.behind _ _
+    loop_left c.args.around.now _ c.args.control.now c.args.actions.now c.locals_kept.result c.args.behind c.put_before_turns.new.draft c.put_turn_test.new.draft
     c.in_ok-inside.ensures c.locals_kept.ensures (sym c.go_on.ensures ∙ c.if-go_on.false) c.in_ok-put_before_turns.ensures.puts c.in_ok-put_turn_test.ensures.puts c.in_ok-put_statements.ensures.puts
 
 pub put_delays-loop-number-init : goal.put_delays-loop-number-init
