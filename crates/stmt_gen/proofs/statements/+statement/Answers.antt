@@ -52,7 +52,7 @@ put_handler-returns-clause-puts t c =
     let jump = c.leaving_size-jump.ensures (handler_size (site_around c.args.around.now) (handler_tree c.args.handler.now)) c.handled_size-size.ensures in
     let until : c.in_ok-until.until ≡ length c.args.draft.now.code.instrs = omega (arith, c.in_ok-until.ensures 0 refl) in
     let behind = c.in_ok-behind.ensures (leave_size c.args.comes (handler_size (site_around c.args.around.now) (handler_tree c.args.handler.now)) + handler_size (site_around c.args.around.now) (handler_tree c.args.handler.now))
-        (omega (arith, jump, c.handled_size-size.ensures, c.saturating_add.ensures)) in
+    (omega (arith, jump, c.handled_size-size.ensures, c.saturating_add.ensures)) in
     let target = c.in_ok-target_behind.ensures (leave_size c.args.comes (handler_size (site_around c.args.around.now) (handler_tree c.args.handler.now))) (omega (arith, jump)) in
     on_ok_weaker c.put_handled.result (λ q. handler_told c.args.around.now c.args.handler.now c.as_slice.result.now _ _ c.args.comes c.in_ok-behind.behind c.as_slice.ensures refl until target behind
     c.in_ok-put_rows.ensures.puts c.in_ok-put_leaving.ensures.puts q) c.put_handled.ensures.puts
