@@ -161,8 +161,10 @@ pub labelled : (around inside : Around) (s : Statement) (behind : ℕ) {x y : Dr
 labelled around inside s behind {x} {y} is site free exits there p =
     let tree = statement_tree-out s ∙ ap (λ (l : Bool). statement l (action_tree (out-Statement s).action.value) (handler_of (out-Statement s).handler)) is in
     let own = subst (λ (w : Standing). AtGuarded w (statement_tree s) x.code y.code) (within around inside behind site free exits) p.puts in
-    record { puts = subst (λ (t : StatementTree). behind ≡ length x.code.instrs + statement_size (site_around around) t → AtGuarded (within_label (standing_of around) behind) t x.code y.code → AtStatement (standing_of around) t x.code y.code)
-        (sym tree) (labelled_node (standing_of around) _ _ behind) there own }
+    record {
+      puts = subst (λ (t : StatementTree). behind ≡ length x.code.instrs + statement_size (site_around around) t → AtGuarded (within_label (standing_of around) behind) t x.code y.code → AtStatement (standing_of around) t x.code y.code)
+          (sym tree) (labelled_node (standing_of around) _ _ behind) there own;
+    }
 
 handled_node : (w : Standing) (l : Bool) (a : ActionTree) (h : HandlerNode) (comes : Bool) (from : ℕ) {x y z : Code} → from ≡ length x.instrs → comes ≡ action_goes_on a
     → AtAction w a x y → AtHandler w h comes from y z → AtGuarded w (statement l a h) x z
@@ -174,11 +176,13 @@ pub with_handler : (around : Around) (s : Statement) (a b : Action) (boxed : Box
     → from ≡ length x.code.instrs → comes ≡ action_goes_on (action_tree b) → PutsAction around a x y → PutsHandler around h from comes y z → PutsGuarded around s x z
 with_handler around s a b boxed h comes from {x} {y} {z} a_is b_is some h_is there goes p q =
     let tree = statement_tree-out s ∙ ap (λ (v : Action). statement (out-Statement s).labelled (action_tree v) (handler_of (out-Statement s).handler)) (sym a_is)
-        ∙ ap (λ (o : Option (Box CheckedHandler Global)). statement (out-Statement s).labelled (action_tree a) (handler_of o)) some
-        ∙ ap (λ (v : CheckedHandler). statement (out-Statement s).labelled (action_tree a) (handler_tree v)) (sym h_is) in
+    ∙ ap (λ (o : Option (Box CheckedHandler Global)). statement (out-Statement s).labelled (action_tree a) (handler_of o)) some
+    ∙ ap (λ (v : CheckedHandler). statement (out-Statement s).labelled (action_tree a) (handler_tree v)) (sym h_is) in
     let goes_too = goes ∙ ap (λ (v : Action). action_goes_on (action_tree v)) (b_is ∙ sym a_is) in
-    record { puts = subst (λ (t : StatementTree). AtGuarded (standing_of around) t x.code z.code) (sym tree)
-        (handled_node (standing_of around) (out-Statement s).labelled (action_tree a) (handler_tree h) comes from there goes_too p.puts q.puts) }
+    record {
+      puts = subst (λ (t : StatementTree). AtGuarded (standing_of around) t x.code z.code) (sym tree)
+          (handled_node (standing_of around) (out-Statement s).labelled (action_tree a) (handler_tree h) comes from there goes_too p.puts q.puts);
+    }
 
 leaves_nothing : (g : Bool) → leave_size g 0 ≡ 0
 leaves_nothing true = refl
@@ -188,9 +192,11 @@ pub without_handler : (around : Around) (s : Statement) (a : Action) {x y : Draf
     → PutsAction around a x y → PutsGuarded around s x y
 without_handler around s a {x} {y} a_is none p =
     let tree = statement_tree-out s ∙ ap (λ (v : Action). statement (out-Statement s).labelled (action_tree v) (handler_of (out-Statement s).handler)) (sym a_is)
-        ∙ ap (λ (o : Option (Box CheckedHandler Global)). statement (out-Statement s).labelled (action_tree a) (handler_of o)) none in
-    record { puts = subst (λ (t : StatementTree). AtGuarded (standing_of around) t x.code y.code) (sym tree)
-        (unguarded (standing_of around) (out-Statement s).labelled (action_tree a) p.puts (sym (append-nil _)) (sym (append-nil _)) (leaves_nothing (action_goes_on (action_tree a)))) }
+    ∙ ap (λ (o : Option (Box CheckedHandler Global)). statement (out-Statement s).labelled (action_tree a) (handler_of o)) none in
+    record {
+      puts = subst (λ (t : StatementTree). AtGuarded (standing_of around) t x.code y.code) (sym tree)
+          (unguarded (standing_of around) (out-Statement s).labelled (action_tree a) p.puts (sym (append-nil _)) (sym (append-nil _)) (leaves_nothing (action_goes_on (action_tree a))));
+    }
 
 -- ---- handlers
 
@@ -222,12 +228,14 @@ pub handler_told : (around : Around) (h : CheckedHandler) (hs : List HandlerAlte
     → PutsHandled around hs o behind y z → PutsHandler around h first.from comes u z
 handler_told around h hs o first comes behind {u} {x} {y} {z} hs_is o_is until target is rows jump rest =
     let tree : handler_tree h ≡ handler (handled_of hs) (else_of o) = handler_tree-out h ∙ ap (λ (v : List HandlerAlternative). handler (handled_of v) (else_of (out-Handler h).otherwise)) (sym hs_is)
-        ∙ ap (λ (v : Option (List Statement)). handler (handled_of hs) (else_of v)) (sym o_is) in
-    record { puts = subst (λ (t : HandlerNode). first.target ≡ length u.code.instrs + leave_size comes (handler_size (site_around around) t)
-        → behind ≡ length u.code.instrs + (leave_size comes (handler_size (site_around around) t) + handler_size (site_around around) t)
-        → (behind ≡ first.target + handler_size (site_around around) t → AppendsRows (rows_of_handler (site_around around) first.from first.until t first.target) u.code x.code)
-        → AtHandler (standing_of around) t comes first.from u.code z.code) (sym tree)
-        (λ target_is is_there own. handler_node (standing_of around) (handled_of hs) (else_of o) comes first.from first.until first.target behind until target_is is_there own jump rest.puts) target is rows.puts }
+    ∙ ap (λ (v : Option (List Statement)). handler (handled_of hs) (else_of v)) (sym o_is) in
+    record {
+      puts = subst (λ (t : HandlerNode). first.target ≡ length u.code.instrs + leave_size comes (handler_size (site_around around) t)
+          → behind ≡ length u.code.instrs + (leave_size comes (handler_size (site_around around) t) + handler_size (site_around around) t)
+          → (behind ≡ first.target + handler_size (site_around around) t → AppendsRows (rows_of_handler (site_around around) first.from first.until t first.target) u.code x.code)
+          → AtHandler (standing_of around) t comes first.from u.code z.code) (sym tree)
+          (λ target_is is_there own. handler_node (standing_of around) (handled_of hs) (else_of o) comes first.from first.until first.target behind until target_is is_there own jump rest.puts) target is rows.puts;
+    }
 
 abbrev LeftHandled : Standing → HandledNodes → OtherwiseNode → ℕ → HandledNodes → Code → Code → Type 0
 LeftHandled w all o behind hs x y =
@@ -256,9 +264,11 @@ pub handled_turn : (around : Around) (hs : List HandlerAlternative) (o : Option 
 handled_turn around hs o k it ss behind {x} {y} {z} h e ss_is p q =
     let own : (handled_tree it).actions ≡ statements_of ss = ap (λ (t : NumbersTree). t.actions) (handled_tree-out it) ∙ ap (λ (v : List Statement). statements_of v) (sym ss_is) in
     let tree : handled_of (drop k hs) ≡ more_handled (handled_tree it).numbers (statements_of ss) (handled_of (drop (k + 1) hs)) =
-        ap handled_of (item_at hs k it h e) ∙ ap (λ (t : StatementNodes). more_handled (handled_tree it).numbers t (handled_of (drop (k + 1) hs))) own in
-    record { left = λ there. handled_step (standing_of around) (handled_of hs) (handled_of (drop (k + 1) hs)) (else_of o) (handled_tree it).numbers (statements_of ss) behind there
-        (subst (λ (t : HandledNodes). LeftHandled (standing_of around) (handled_of hs) (else_of o) behind t x.code y.code) tree (p.left there)) q.puts }
+    ap handled_of (item_at hs k it h e) ∙ ap (λ (t : StatementNodes). more_handled (handled_tree it).numbers t (handled_of (drop (k + 1) hs))) own in
+    record {
+      left = λ there. handled_step (standing_of around) (handled_of hs) (handled_of (drop (k + 1) hs)) (else_of o) (handled_tree it).numbers (statements_of ss) behind there
+          (subst (λ (t : HandledNodes). LeftHandled (standing_of around) (handled_of hs) (else_of o) behind t x.code y.code) tree (p.left there)) q.puts;
+    }
 
 pub handled_end : (around : Around) (hs : List HandlerAlternative) (o : Option (List Statement)) (k behind : ℕ) {x y z : Draft} → length hs ≤ k
     → HandledLeft around hs o k behind x y → PutsOtherwise around o y z → PutsHandled around hs o behind x z
@@ -300,7 +310,7 @@ chosen_told around ss behind next goes {x} {y} {z} goes_is there p q = record {
   puts = λ rest is.
       let leave : leave_size goes rest ≡ leave_size (go_on (statements_of ss)) rest = ap (λ (g : Bool). leave_size g rest) goes_is in
       let to : next ≡ length x.code.instrs + (suc (statements_size (site_around around) (statements_of ss)) + leave_size goes rest) =
-          there (suc (statements_size (site_around around) (statements_of ss))) rest refl (omega (arith, is, leave)) in
+      there (suc (statements_size (site_around around) (statements_of ss))) rest refl (omega (arith, is, leave)) in
       let to_next : next ≡ length x.code.instrs + (suc (statements_size (site_around around) (statements_of ss)) + leave_size (go_on (statements_of ss)) rest) = omega (arith, to, leave) in
       chosen_on (standing_of around) (statements_of ss) rest behind next to_next p (q.puts rest (omega (arith, is, p.length)));
 }
@@ -329,7 +339,7 @@ choice_told around c e ss behind next goes {x} {y} {z} e_is ss_is goes_is there 
     let goes_on_is : goes ≡ go_on (choice_tree c).actions = goes_is ∙ ap (λ (t : StatementNodes). go_on t) own in
     let p1 = subst (λ (t : ExprTree). Appends (condition_code (layout (site_around around)) around.free t false next (length x.code.instrs)) (condition_size t false) x.code y.code) condition p in
     let q1 = subst (λ (t : StatementNodes). (rest : ℕ) → behind ≡ length y.code.instrs + (statements_size (site_around around) t + (leave_size (go_on t) rest + rest))
-        → AppendsAt (λ at. joining (statements_code (standing_of around) t at) (go_on t) rest behind) (statements_size (site_around around) t + leave_size (go_on t) rest) (statements_rows (site_around around) t) y.code z.code) own q.puts in
+    → AppendsAt (λ at. joining (statements_code (standing_of around) t at) (go_on t) rest behind) (statements_size (site_around around) t + leave_size (go_on t) rest) (statements_rows (site_around around) t) y.code z.code) own q.puts in
     record {
       puts = λ rest is.
           let leave : leave_size goes rest ≡ leave_size (go_on (choice_tree c).actions) rest = ap (λ (g : Bool). leave_size g rest) goes_on_is in
@@ -361,8 +371,10 @@ pub choices_turn : (around : Around) (cs : List Choice) (ss : List Statement) (k
     → ChoicesLeft around cs ss k behind x y → PutsChoice around it behind y z → ChoicesLeft around cs ss (k + 1) behind x z
 choices_turn around cs ss k it behind {x} {y} {z} h e p q =
     let tree : choices_of (drop k cs) ≡ more_choices (choice_tree it).condition (choice_tree it).actions (choices_of (drop (k + 1) cs)) = ap choices_of (item_at cs k it h e) in
-    record { left = λ there. choices_step (standing_of around) (choices_of cs) (choices_of (drop (k + 1) cs)) (statements_of ss) (choice_tree it).condition (choice_tree it).actions behind there
-        (subst (λ (t : ChoiceNodes). LeftChoices (standing_of around) (choices_of cs) (statements_of ss) behind t x.code y.code) tree (p.left there)) q.puts }
+    record {
+      left = λ there. choices_step (standing_of around) (choices_of cs) (choices_of (drop (k + 1) cs)) (statements_of ss) (choice_tree it).condition (choice_tree it).actions behind there
+          (subst (λ (t : ChoiceNodes). LeftChoices (standing_of around) (choices_of cs) (statements_of ss) behind t x.code y.code) tree (p.left there)) q.puts;
+    }
 
 pub choices_end : (around : Around) (cs : List Choice) (ss : List Statement) (k behind : ℕ) {x y z : Draft} → length cs ≤ k
     → ChoicesLeft around cs ss k behind x y → PutsStatements around ss y z → PutsChoices around cs ss behind x z
@@ -393,7 +405,7 @@ cases_step : (w : Standing) (all cs : CaseNodes) (o : OtherwiseNode) (labels : L
 cases_step w all cs o labels ss behind {x} {y1} {y2} {z} there p l q =
     let rest : ℕ = cases_size w.site cs (otherwise_size w.site o 1) in
     let left : length y1.instrs + ((labels_size labels + suc (statements_size w.site ss)) + (leave_size (go_on ss) (cases_size w.site cs (otherwise_size w.site o 1)) + cases_size w.site cs (otherwise_size w.site o 1)))
-        ≡ length x.instrs + cases_size w.site all (otherwise_size w.site o 1) = p.length in
+    ≡ length x.instrs + cases_size w.site all (otherwise_size w.site o 1) = p.length in
     next_case w labels ss cs behind (otherwise_size w.site o 1) (otherwise_code w o no_label_code) (otherwise_rows w.site o) p
     (cased w labels ss (cases_size w.site cs (otherwise_size w.site o 1)) behind l (q (cases_size w.site cs (otherwise_size w.site o 1)) (omega (arith, there, left, l.length))))
 
@@ -406,11 +418,13 @@ pub cases_turn : (around : Around) (cs : List CaseAlternative) (o : Option (List
     → CasesLeft around cs o (k + 1) behind x z
 cases_turn around cs o k it labels ss behind {x} {y1} {y2} {z} h e labels_are ss_is p l q =
     let own : case_tree it ≡ record { labels = labels; actions = statements_of ss } = case_tree-out it
-        ∙ ap (λ (v : List Bounds). case_of_parts v (statements_of (out-CaseAlternative it).actions)) (sym labels_are) ∙ ap (λ (v : List Statement). case_of_parts labels (statements_of v)) (sym ss_is) in
+    ∙ ap (λ (v : List Bounds). case_of_parts v (statements_of (out-CaseAlternative it).actions)) (sym labels_are) ∙ ap (λ (v : List Statement). case_of_parts labels (statements_of v)) (sym ss_is) in
     let tree : cases_of (drop k cs) ≡ more_cases labels (statements_of ss) (cases_of (drop (k + 1) cs)) =
-        ap cases_of (item_at cs k it h e) ∙ ap (λ (t : CaseTree). more_cases t.labels t.actions (cases_of (drop (k + 1) cs))) own in
-    record { left = λ there. cases_step (standing_of around) (cases_of cs) (cases_of (drop (k + 1) cs)) (else_of o) labels (statements_of ss) behind there
-        (subst (λ (t : CaseNodes). LeftCases (standing_of around) (cases_of cs) (else_of o) behind t x.code y1.code) tree (p.left there)) l q.puts }
+    ap cases_of (item_at cs k it h e) ∙ ap (λ (t : CaseTree). more_cases t.labels t.actions (cases_of (drop (k + 1) cs))) own in
+    record {
+      left = λ there. cases_step (standing_of around) (cases_of cs) (cases_of (drop (k + 1) cs)) (else_of o) labels (statements_of ss) behind there
+          (subst (λ (t : CaseNodes). LeftCases (standing_of around) (cases_of cs) (else_of o) behind t x.code y1.code) tree (p.left there)) l q.puts;
+    }
 
 cases_end : (around : Around) (cs : List CaseAlternative) (o : Option (List Statement)) (k behind : ℕ) {x y z : Draft} → length cs ≤ k
     → CasesLeft around cs o k behind x y → AtOtherwise (standing_of around) (else_of o) no_label_code 1 y.code z.code → PutsCases around cs o behind x z
@@ -507,11 +521,13 @@ pub delays_turn : (around : Around) (ds : List DelayAlternative) (kept k : ℕ) 
 delays_turn around ds kept k it ss behind {x} {y1} {y2} {z} h e ss_is p t q =
     let own : (delay_tree it).actions ≡ statements_of ss = ap (λ (t : NumbersTree). t.actions) (delay_tree-out it) ∙ ap (λ (v : List Statement). statements_of v) (sym ss_is) in
     let tree : delays_of (drop k ds) ≡ more_delays (delay_tree it).numbers (statements_of ss) (delays_of (drop (k + 1) ds)) =
-        ap delays_of (item_at ds k it h e) ∙ ap (λ (t : StatementNodes). more_delays (delay_tree it).numbers t (delays_of (drop (k + 1) ds))) own in
+    ap delays_of (item_at ds k it h e) ∙ ap (λ (t : StatementNodes). more_delays (delay_tree it).numbers t (delays_of (drop (k + 1) ds))) own in
     let one : suc k ≡ k + 1 = omega arith in
-    record { left = λ there. subst (λ (j : ℕ). LeftDelays (standing_of around) (delays_of ds) kept behind j (delays_of (drop (k + 1) ds)) x.code z.code) one
-        (delays_step (standing_of around) (delays_of ds) (delays_of (drop (k + 1) ds)) kept k (delay_tree it).numbers (statements_of ss) behind there
-        (subst (λ (t : DelayNodes). LeftDelays (standing_of around) (delays_of ds) kept behind k t x.code y1.code) tree (p.left there)) t q.puts) }
+    record {
+      left = λ there. subst (λ (j : ℕ). LeftDelays (standing_of around) (delays_of ds) kept behind j (delays_of (drop (k + 1) ds)) x.code z.code) one
+          (delays_step (standing_of around) (delays_of ds) (delays_of (drop (k + 1) ds)) kept k (delay_tree it).numbers (statements_of ss) behind there
+          (subst (λ (t : DelayNodes). LeftDelays (standing_of around) (delays_of ds) kept behind k t x.code y1.code) tree (p.left there)) t q.puts);
+    }
 
 pub delays_end : (around : Around) (ds : List DelayAlternative) (kept k behind : ℕ) {x y : Draft} → length ds ≤ k → DelaysLeft around ds kept k behind x y → PutsDelays around ds kept behind x y
 delays_end around ds kept k behind {x} {y} h p = record {
@@ -537,7 +553,7 @@ receives_step : (w : Standing) (all rs : ReceiveNodes) (o : OtherwiseNode) (kept
     → Appends (is_chosen_code kept k) 3 y1 y2 → IsChosen w ss behind y2 z → LeftReceives w all o kept behind (suc k) rs x z
 receives_step w all rs o kept k source ks ss behind {x} {y1} {y2} {z} there p t q =
     let left : length y1.instrs + ((3 + suc (statements_size w.site ss)) + (leave_size (go_on ss) (receives_size w.site rs (otherwise_size w.site o 0)) + receives_size w.site rs (otherwise_size w.site o 0)))
-        ≡ length x.instrs + receives_size w.site all (otherwise_size w.site o 0) = p.length in
+    ≡ length x.instrs + receives_size w.site all (otherwise_size w.site o 0) = p.length in
     next_receive w kept k source ks ss rs behind (otherwise_size w.site o 0) (otherwise_code w o no_code) (otherwise_rows w.site o) p
     (waited w kept k ss (receives_size w.site rs (otherwise_size w.site o 0)) behind t (q (receives_size w.site rs (otherwise_size w.site o 0)) (omega (arith, there, left, t.length))))
 
@@ -547,11 +563,13 @@ pub receives_turn : (around : Around) (rs : List ReceiveAlternative) (o : Option
 receives_turn around rs o kept k it ss {x} {y1} {y2} {z} h e ss_is p t q =
     let own : (receive_tree it).actions ≡ statements_of ss = ap (λ (t : ReceiveTree). t.actions) (receive_tree-out it) ∙ ap (λ (v : List Statement). statements_of v) (sym ss_is) in
     let tree : receives_of (drop k rs) ≡ more_receives (receive_tree it).source (receive_tree it).received (statements_of ss) (receives_of (drop (k + 1) rs)) =
-        ap receives_of (item_at rs k it h e) ∙ ap (λ (t : StatementNodes). more_receives (receive_tree it).source (receive_tree it).received t (receives_of (drop (k + 1) rs))) own in
+    ap receives_of (item_at rs k it h e) ∙ ap (λ (t : StatementNodes). more_receives (receive_tree it).source (receive_tree it).received t (receives_of (drop (k + 1) rs))) own in
     let one : suc k ≡ k + 1 = omega arith in
-    record { left = λ there. subst (λ (j : ℕ). LeftReceives (standing_of around) (receives_of rs) (else_of o) kept.chosen kept.behind j (receives_of (drop (k + 1) rs)) x.code z.code) one
-        (receives_step (standing_of around) (receives_of rs) (receives_of (drop (k + 1) rs)) (else_of o) kept.chosen k (receive_tree it).source (receive_tree it).received (statements_of ss) kept.behind there
-        (subst (λ (t : ReceiveNodes). LeftReceives (standing_of around) (receives_of rs) (else_of o) kept.chosen kept.behind k t x.code y1.code) tree (p.left there)) t q.puts) }
+    record {
+      left = λ there. subst (λ (j : ℕ). LeftReceives (standing_of around) (receives_of rs) (else_of o) kept.chosen kept.behind j (receives_of (drop (k + 1) rs)) x.code z.code) one
+          (receives_step (standing_of around) (receives_of rs) (receives_of (drop (k + 1) rs)) (else_of o) kept.chosen k (receive_tree it).source (receive_tree it).received (statements_of ss) kept.behind there
+          (subst (λ (t : ReceiveNodes). LeftReceives (standing_of around) (receives_of rs) (else_of o) kept.chosen kept.behind k t x.code y1.code) tree (p.left there)) t q.puts);
+    }
 
 pub receives_end : (around : Around) (rs : List ReceiveAlternative) (o : Option (List Statement)) (kept : Kept) (k : ℕ) {x y z : Draft} → length rs ≤ k
     → ReceivesLeft around rs o kept k x y → PutsOtherwise around o y z → PutsReceives around rs o kept x z
@@ -590,14 +608,16 @@ pub receive_told : (around : Around) (rs : List ReceiveAlternative) (o : Option 
     → PutsReceives around rs o kept y z → PutsReceiveCase around rs o wait x z
 receive_told around rs o wait kept last nothing_at {x} {y} {z} fits last_is is chosen_is behind_is p q =
     let at_nothing : nothing_at ≡ wait.behind - otherwise_size (site_around around) (else_of o) 0 = omega (arith, fits, last_is, is) in
-    record { puts = λ same there.
-        let p1 = subst (λ (b : Bool). Appends (receive_wait_code (standing_of around) (kind_of wait.receives) (set_tree wait.set.now) (receives_of rs) b nothing_at (length x.code.instrs)) (receive_wait_size (set_tree wait.set.now) (receives_of rs) b) x.code y.code) same p in
-        let q1 = q.puts (behind_is ∙ behind_after (length x.code.instrs) (length y.code.instrs) _ _ wait.behind there p1.length) in
-        let q2 = subst (λ (k : ℕ). AppendsAt (receives_code (standing_of around) k 0 (receives_of rs) kept.behind (otherwise_size (site_around around) (else_of o) 0) (otherwise_code (standing_of around) (else_of o) no_code))
-            (receives_parts around rs o) (receives_rows (site_around around) (receives_of rs) (otherwise_size (site_around around) (else_of o) 0) (otherwise_rows (site_around around) (else_of o))) y.code z.code) chosen_is q1 in
-        let q3 = subst (λ (k : ℕ). AppendsAt (receives_code (standing_of around) (chosen_in around.free (set_tree wait.set.now)) 0 (receives_of rs) k (otherwise_size (site_around around) (else_of o) 0) (otherwise_code (standing_of around) (else_of o) no_code))
-            (receives_parts around rs o) (receives_rows (site_around around) (receives_of rs) (otherwise_size (site_around around) (else_of o) 0) (otherwise_rows (site_around around) (else_of o))) y.code z.code) behind_is q2 in
-        receive_node (standing_of around) (kind_of wait.receives) (set_tree wait.set.now) (receives_of rs) (else_of o) wait.behind nothing_at there at_nothing p1 q3 }
+    record {
+      puts = λ same there.
+          let p1 = subst (λ (b : Bool). Appends (receive_wait_code (standing_of around) (kind_of wait.receives) (set_tree wait.set.now) (receives_of rs) b nothing_at (length x.code.instrs)) (receive_wait_size (set_tree wait.set.now) (receives_of rs) b) x.code y.code) same p in
+          let q1 = q.puts (behind_is ∙ behind_after (length x.code.instrs) (length y.code.instrs) _ _ wait.behind there p1.length) in
+          let q2 = subst (λ (k : ℕ). AppendsAt (receives_code (standing_of around) k 0 (receives_of rs) kept.behind (otherwise_size (site_around around) (else_of o) 0) (otherwise_code (standing_of around) (else_of o) no_code))
+          (receives_parts around rs o) (receives_rows (site_around around) (receives_of rs) (otherwise_size (site_around around) (else_of o) 0) (otherwise_rows (site_around around) (else_of o))) y.code z.code) chosen_is q1 in
+          let q3 = subst (λ (k : ℕ). AppendsAt (receives_code (standing_of around) (chosen_in around.free (set_tree wait.set.now)) 0 (receives_of rs) k (otherwise_size (site_around around) (else_of o) 0) (otherwise_code (standing_of around) (else_of o) no_code))
+          (receives_parts around rs o) (receives_rows (site_around around) (receives_of rs) (otherwise_size (site_around around) (else_of o) 0) (otherwise_rows (site_around around) (else_of o))) y.code z.code) behind_is q2 in
+          receive_node (standing_of around) (kind_of wait.receives) (set_tree wait.set.now) (receives_of rs) (else_of o) wait.behind nothing_at there at_nothing p1 q3;
+    }
 
 -- ---- actions
 
@@ -690,7 +710,7 @@ pub case_told : (around : Around) (a : Action) (boxed : Box Expr Global) (e : Ex
     → PutsCases around cs o behind y z → PutsActionTo around a behind x z
 case_told around a boxed e own_cs cs own_o o behind {x} {y} {z} is e_is cs_are o_is p q =
     let tree = ap action_tree is ∙ action_tree-Case boxed own_cs own_o ∙ ap (λ (v : Expr). case_of (expr_tree v) (cases_of own_cs) (else_of own_o)) (sym e_is)
-        ∙ ap (λ (v : List CaseAlternative). case_of (expr_tree e) (cases_of v) (else_of own_o)) (sym cs_are) ∙ ap (λ (v : Option (List Statement)). case_of (expr_tree e) (cases_of cs) (else_of v)) (sym o_is) in
+    ∙ ap (λ (v : List CaseAlternative). case_of (expr_tree e) (cases_of v) (else_of own_o)) (sym cs_are) ∙ ap (λ (v : Option (List Statement)). case_of (expr_tree e) (cases_of cs) (else_of v)) (sym o_is) in
     of_tree around a (case_of (expr_tree e) (cases_of cs) (else_of o)) behind tree
     (λ there.
     let place : behind ≡ length y.code.instrs + cases_parts around cs o = case_place behind (length x.code.instrs) (length y.code.instrs) (expr_size (expr_tree e)) (cases_parts around cs o) there p.length in
@@ -722,7 +742,7 @@ pub buffers_told : (around : Around) (a : Action) (own_rs rs : List ReceiveAlter
     → PutsReceiveCase around rs o wait x y → PutsActionTo around a wait.behind x y
 buffers_told around a own_rs rs own_o o wait {x} {y} is rs_are o_is kind same p =
     let tree = ap action_tree is ∙ action_tree-ReceiveBuffers wait.set.now own_rs own_o ∙ ap (λ (v : List ReceiveAlternative). receive_buffers (set_tree wait.set.now) (receives_of v) (else_of own_o)) (sym rs_are)
-        ∙ ap (λ (v : Option (List Statement)). receive_buffers (set_tree wait.set.now) (receives_of rs) (else_of v)) (sym o_is) in
+    ∙ ap (λ (v : Option (List Statement)). receive_buffers (set_tree wait.set.now) (receives_of rs) (else_of v)) (sym o_is) in
     of_tree around a (receive_buffers (set_tree wait.set.now) (receives_of rs) (else_of o)) wait.behind tree
     (λ there. told_as _ _ _ refl refl refl (subst (λ (k : Receives). AtReceiving (standing_of around) k (set_tree wait.set.now) (receives_of rs) (else_of o) x.code y.code) kind (p.puts same there)))
 
@@ -731,7 +751,7 @@ pub signals_told : (around : Around) (a : Action) (own_rs rs : List ReceiveAlter
     → PutsReceiveCase around rs o wait x y → PutsActionTo around a wait.behind x y
 signals_told around a own_rs rs own_o o wait {x} {y} is rs_are o_is kind same p =
     let tree = ap action_tree is ∙ action_tree-ReceiveSignals wait.set.now own_rs own_o ∙ ap (λ (v : List ReceiveAlternative). receive_signals (set_tree wait.set.now) (receives_of v) (else_of own_o)) (sym rs_are)
-        ∙ ap (λ (v : Option (List Statement)). receive_signals (set_tree wait.set.now) (receives_of rs) (else_of v)) (sym o_is) in
+    ∙ ap (λ (v : Option (List Statement)). receive_signals (set_tree wait.set.now) (receives_of rs) (else_of v)) (sym o_is) in
     of_tree around a (receive_signals (set_tree wait.set.now) (receives_of rs) (else_of o)) wait.behind tree
     (λ there. told_as _ _ _ refl refl refl (subst (λ (k : Receives). AtReceiving (standing_of around) k (set_tree wait.set.now) (receives_of rs) (else_of o) x.code y.code) kind (p.puts same there)))
 

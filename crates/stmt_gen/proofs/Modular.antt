@@ -60,9 +60,9 @@ length_after {made} {rows} {x} p = ap (λ (is : List Instr). length is) p.instrs
 item_step : (w : Standing) (all ss : StatementNodes) (s : StatementTree) {x y z : Code} → goes_on s ≡ true → ItemsTo w all (more_statements s ss) x y → AtItem w s y z → ItemsTo w all ss x z
 item_step w all ss s {x} {y} {z} goes p q =
     let code : items_code w (more_statements s ss) (length y.instrs) ≡ item_code w s (length y.instrs) ++ items_code w ss (length y.instrs + length (item_code w s (length y.instrs))) =
-        ap (λ (g : Bool). item_code w s (length y.instrs) ++ (if g then items_code w ss (length y.instrs + length (item_code w s (length y.instrs))) else [])) goes in
+    ap (λ (g : Bool). item_code w s (length y.instrs) ++ (if g then items_code w ss (length y.instrs + length (item_code w s (length y.instrs))) else [])) goes in
     let rows : items_rows w (more_statements s ss) (length y.instrs) ≡ item_rows w s (length y.instrs) ++ items_rows w ss (length y.instrs + length (item_code w s (length y.instrs))) =
-        ap (λ (g : Bool). item_rows w s (length y.instrs) ++ (if g then items_rows w ss (length y.instrs + length (item_code w s (length y.instrs))) else [])) goes in
+    ap (λ (g : Bool). item_rows w s (length y.instrs) ++ (if g then items_rows w ss (length y.instrs + length (item_code w s (length y.instrs))) else [])) goes in
     record {
       instrs = ap (λ (k : ℕ). z.instrs ++ items_code w ss k) (length_after q) ∙ ap (λ (is : List Instr). is ++ items_code w ss (length y.instrs + length (item_code w s (length y.instrs)))) q.instrs
           ∙ append_assoc y.instrs (item_code w s (length y.instrs)) (items_code w ss (length y.instrs + length (item_code w s (length y.instrs)))) ∙ ap (λ (is : List Instr). y.instrs ++ is) (sym code) ∙ p.instrs;
@@ -74,9 +74,9 @@ item_step w all ss s {x} {y} {z} goes p q =
 item_last : (w : Standing) (all ss : StatementNodes) (s : StatementTree) {x y z : Code} → goes_on s ≡ false → ItemsTo w all (more_statements s ss) x y → AtItem w s y z → AtItems w all x z
 item_last w all ss s {x} {y} {z} goes p q =
     let code : items_code w (more_statements s ss) (length y.instrs) ≡ item_code w s (length y.instrs) ++ [] =
-        ap (λ (g : Bool). item_code w s (length y.instrs) ++ (if g then items_code w ss (length y.instrs + length (item_code w s (length y.instrs))) else [])) goes in
+    ap (λ (g : Bool). item_code w s (length y.instrs) ++ (if g then items_code w ss (length y.instrs + length (item_code w s (length y.instrs))) else [])) goes in
     let rows : items_rows w (more_statements s ss) (length y.instrs) ≡ item_rows w s (length y.instrs) ++ [] =
-        ap (λ (g : Bool). item_rows w s (length y.instrs) ++ (if g then items_rows w ss (length y.instrs + length (item_code w s (length y.instrs))) else [])) goes in
+    ap (λ (g : Bool). item_rows w s (length y.instrs) ++ (if g then items_rows w ss (length y.instrs + length (item_code w s (length y.instrs))) else [])) goes in
     record {
       instrs = q.instrs ∙ ap (λ (is : List Instr). y.instrs ++ is) (sym (append-nil _) ∙ sym code) ∙ p.instrs;
       handlers = q.handlers ∙ ap (λ (rs : List Handler). y.handlers ++ rs) (sym (append-nil _) ∙ sym rows) ∙ p.handlers;
@@ -176,20 +176,22 @@ pub statement_told : (around : Around) (s : Statement) (a : Action) {x y : Draft
 statement_told around s a {x} {y} a_is none p =
     let tree = statement_tree-out s ∙ ap (λ (v : Action). statement (out-Statement s).labelled (action_tree v) (handler_of (out-Statement s).handler)) (sym a_is) in
     let own = subst (λ (t : StatementTree). AppendsAt (statement_code (standing_of around) t) (statement_size_of around t) (statement_rows (site_around around) t) x.code y.code) tree p.puts in
-    record { puts = subst (λ (t : StatementTree). AtItem (standing_of around) t x.code y.code) (sym tree) (record {
-      instrs = own.instrs ∙ ap (λ (is : List Instr). x.code.instrs ++ is) (sym (statement_item (standing_of around) (out-Statement s).labelled (action_tree a) (handler_of (out-Statement s).handler) (length x.code.instrs) none));
-      handlers = own.handlers ∙ ap (λ (rs : List Handler). x.code.handlers ++ rs) (sym (statement_item_rows (standing_of around) (out-Statement s).labelled (action_tree a) (handler_of (out-Statement s).handler) (length x.code.instrs) none));
-      bodies = own.bodies;
-    }) }
+    record {
+      puts = subst (λ (t : StatementTree). AtItem (standing_of around) t x.code y.code) (sym tree) (record {
+        instrs = own.instrs ∙ ap (λ (is : List Instr). x.code.instrs ++ is) (sym (statement_item (standing_of around) (out-Statement s).labelled (action_tree a) (handler_of (out-Statement s).handler) (length x.code.instrs) none));
+        handlers = own.handlers ∙ ap (λ (rs : List Handler). x.code.handlers ++ rs) (sym (statement_item_rows (standing_of around) (out-Statement s).labelled (action_tree a) (handler_of (out-Statement s).handler) (length x.code.instrs) none));
+        bodies = own.bodies;
+      });
+    }
 
 pub module_told : (around : Around) (s : Statement) (a : Action) (own items : List Statement) (h : Option (Box CheckedHandler Global)) {x y : Draft} → a ≡ (out-Statement s).action.value → a ≡ actions.Module own → items ≡ own → h ≡ (out-Statement s).handler
     → PutsModule around items h x y → PutsItem around s x y
 module_told around s a own items h {x} {y} a_is is items_are h_is p =
     let action : action_tree a ≡ module_at (statements_of items) = ap action_tree is ∙ action_tree-Module own ∙ ap (λ (v : List Statement). module_at (statements_of v)) (sym items_are) in
     let tree : statement_tree s ≡ statement (out-Statement s).labelled (module_at (statements_of items)) (handler_of h) =
-        statement_tree-out s ∙ ap (λ (v : Action). statement (out-Statement s).labelled (action_tree v) (handler_of (out-Statement s).handler)) (sym a_is)
-        ∙ ap (λ (t : ActionTree). statement (out-Statement s).labelled t (handler_of (out-Statement s).handler)) action
-        ∙ ap (λ (v : Option (Box CheckedHandler Global)). statement (out-Statement s).labelled (module_at (statements_of items)) (handler_of v)) (sym h_is) in
+    statement_tree-out s ∙ ap (λ (v : Action). statement (out-Statement s).labelled (action_tree v) (handler_of (out-Statement s).handler)) (sym a_is)
+    ∙ ap (λ (t : ActionTree). statement (out-Statement s).labelled t (handler_of (out-Statement s).handler)) action
+    ∙ ap (λ (v : Option (Box CheckedHandler Global)). statement (out-Statement s).labelled (module_at (statements_of items)) (handler_of v)) (sym h_is) in
     record { puts = subst (λ (t : StatementTree). AtItem (standing_of around) t x.code y.code) (sym tree) p.puts }
 
 pub region_told : (around : Around) (s : Statement) (a : Action) (region : ℕ) (own ss : List Statement) (h : Option (Box CheckedHandler Global)) {x y : Draft} → a ≡ (out-Statement s).action.value → a ≡ actions.Region region own → ss ≡ own → h ≡ (out-Statement s).handler
@@ -197,9 +199,9 @@ pub region_told : (around : Around) (s : Statement) (a : Action) (region : ℕ) 
 region_told around s a region own ss h {x} {y} a_is is ss_are h_is p =
     let action : action_tree a ≡ region_at region (statements_of ss) = ap action_tree is ∙ action_tree-Region region own ∙ ap (λ (v : List Statement). region_at region (statements_of v)) (sym ss_are) in
     let tree : statement_tree s ≡ statement (out-Statement s).labelled (region_at region (statements_of ss)) (handler_of h) =
-        statement_tree-out s ∙ ap (λ (v : Action). statement (out-Statement s).labelled (action_tree v) (handler_of (out-Statement s).handler)) (sym a_is)
-        ∙ ap (λ (t : ActionTree). statement (out-Statement s).labelled t (handler_of (out-Statement s).handler)) action
-        ∙ ap (λ (v : Option (Box CheckedHandler Global)). statement (out-Statement s).labelled (region_at region (statements_of ss)) (handler_of v)) (sym h_is) in
+    statement_tree-out s ∙ ap (λ (v : Action). statement (out-Statement s).labelled (action_tree v) (handler_of (out-Statement s).handler)) (sym a_is)
+    ∙ ap (λ (t : ActionTree). statement (out-Statement s).labelled t (handler_of (out-Statement s).handler)) action
+    ∙ ap (λ (v : Option (Box CheckedHandler Global)). statement (out-Statement s).labelled (region_at region (statements_of ss)) (handler_of v)) (sym h_is) in
     record { puts = subst (λ (t : StatementTree). AtItem (standing_of around) t x.code y.code) (sym tree) p.puts }
 
 -- ---- a module
@@ -208,8 +210,10 @@ pub handler_there : (around : Around) (o : Option (Box CheckedHandler Global)) (
     → PutsHandler around h from comes x y → PutsSomeHandler around o from comes x y
 handler_there around o boxed h from comes {x} {y} some is p =
     let tree : handler_of o ≡ handler_tree h = ap (λ (v : Option (Box CheckedHandler Global)). handler_of v) some ∙ ap (λ (v : CheckedHandler). handler_tree v) (sym is) in
-    record { puts = subst (λ (t : HandlerNode). AppendsAt (handler_code (standing_of around) t comes) (leave_size comes (handler_size (site_around around) t) + handler_size (site_around around) t) (handler_rows (site_around around) t comes from) x.code y.code)
-        (sym tree) p.puts }
+    record {
+      puts = subst (λ (t : HandlerNode). AppendsAt (handler_code (standing_of around) t comes) (leave_size comes (handler_size (site_around around) t) + handler_size (site_around around) t) (handler_rows (site_around around) t comes from) x.code y.code)
+          (sym tree) p.puts;
+    }
 
 leaves_no : (g : Bool) → leave_size g 0 + 0 ≡ 0
 leaves_no true = refl
@@ -218,8 +222,10 @@ leaves_no false = refl
 pub no_handler_there : (around : Around) (o : Option (Box CheckedHandler Global)) (from : ℕ) (comes : Bool) (x : Draft) → o ≡ None → PutsSomeHandler around o from comes x x
 no_handler_there around o from comes x none =
     let tree : handler_of o ≡ no_handler = ap (λ (v : Option (Box CheckedHandler Global)). handler_of v) none in
-    record { puts = subst (λ (t : HandlerNode). AppendsAt (handler_code (standing_of around) t comes) (leave_size comes (handler_size (site_around around) t) + handler_size (site_around around) t) (handler_rows (site_around around) t comes from) x.code x.code)
-        (sym tree) (told_as _ _ _ refl (sym (leaves_no comes)) refl (nothing_at x.code)) }
+    record {
+      puts = subst (λ (t : HandlerNode). AppendsAt (handler_code (standing_of around) t comes) (leave_size comes (handler_size (site_around around) t) + handler_size (site_around around) t) (handler_rows (site_around around) t comes from) x.code x.code)
+          (sym tree) (told_as _ _ _ refl (sym (leaves_no comes)) refl (nothing_at x.code));
+    }
 
 both_then : (made : List Instr) (rows : List Handler) {b : CodeAt} {n : ℕ} {s : RowsAt} {x y z : Code} → AppendsBoth made rows x y → AppendsAt b n s y z
     → AppendsBoth (made ++ b (length x.instrs + length made)) (rows ++ s (length x.instrs + length made)) x z
@@ -265,32 +271,32 @@ region_node w r from until behind ss h raised {x} {y1} {y2} {y3} {y4} {y5} {z} f
     let first : y2.instrs ≡ y1.instrs ++ statements_code w ss (length x.instrs + 1) = p.instrs ∙ ap (λ (k : ℕ). y1.instrs ++ statements_code w ss k) at1 in
     let at2 : length y2.instrs ≡ length x.instrs + 1 + statements_size w.site ss = omega (arith, at1, p.length) in
     let all : y3.instrs ≡ y1.instrs ++ initialising_code w ss h (length x.instrs + 1) = q.instrs ∙ ap (λ (k : ℕ). y2.instrs ++ handler_code w h true k) at2
-        ∙ ap (λ (is : List Instr). is ++ handler_code w h true (length x.instrs + 1 + statements_size w.site ss)) first
-        ∙ append_assoc y1.instrs (statements_code w ss (length x.instrs + 1)) (handler_code w h true (length x.instrs + 1 + statements_size w.site ss)) in
+    ∙ ap (λ (is : List Instr). is ++ handler_code w h true (length x.instrs + 1 + statements_size w.site ss)) first
+    ∙ append_assoc y1.instrs (statements_code w ss (length x.instrs + 1)) (handler_code w h true (length x.instrs + 1 + statements_size w.site ss)) in
     let at3 : length y3.instrs ≡ length x.instrs + 1 + length (initialising_code w ss h (length x.instrs + 1)) =
-        ap (λ (is : List Instr). length is) all ∙ length-append y1.instrs (initialising_code w ss h (length x.instrs + 1)) ∙ ap (λ (k : ℕ). k + length (initialising_code w ss h (length x.instrs + 1))) at1 in
+    ap (λ (is : List Instr). length is) all ∙ length-append y1.instrs (initialising_code w ss h (length x.instrs + 1)) ∙ ap (λ (k : ℕ). k + length (initialising_code w ss h (length x.instrs + 1))) at1 in
     let between : take (until - from) (drop from y3.instrs) ≡ initialising_code w ss h (length x.instrs + 1) =
-        ap (λ (is : List Instr). take (until - from) (drop from is)) all
-        ∙ between_told y1.instrs (initialising_code w ss h (length x.instrs + 1)) from until from_is (until_is ∙ ap (λ (is : List Instr). length is) all) in
+    ap (λ (is : List Instr). take (until - from) (drop from is)) all
+    ∙ between_told y1.instrs (initialising_code w ss h (length x.instrs + 1)) from until from_is (until_is ∙ ap (λ (is : List Instr). length is) all) in
     let found : raised ≡ raised_in w.site.program (initialising_code w ss h (length x.instrs + 1)) = raised_is ∙ ap (λ (is : List Instr). raised_in w.site.program is) between in
     let from_at : from ≡ length x.instrs + 1 = from_is ∙ at1 in
     let until_at : until ≡ length x.instrs + 1 + length (initialising_code w ss h (length x.instrs + 1)) = until_is ∙ at3 in
     let to : behind ≡ length x.instrs + 1 + length (initialising_code w ss h (length x.instrs + 1)) + (2 * length (raised_in w.site.program (initialising_code w ss h (length x.instrs + 1))) + 2) =
-        behind_is ∙ ap (λ (xs : List ℕ). length y3.instrs + (2 * length xs + 2)) found ∙ ap (λ (k : ℕ). k + (2 * length (raised_in w.site.program (initialising_code w ss h (length x.instrs + 1))) + 2)) at3 in
+    behind_is ∙ ap (λ (xs : List ℕ). length y3.instrs + (2 * length xs + 2)) found ∙ ap (λ (k : ℕ). k + (2 * length (raised_in w.site.program (initialising_code w ss h (length x.instrs + 1))) + 2)) at3 in
     let at5 : length y5.instrs ≡ length x.instrs + 1 + length (initialising_code w ss h (length x.instrs + 1)) + 2 = omega (arith, at3, leave.length, jump.length) in
     let last : z.instrs ≡ y3.instrs ++ (i.Leave r ∷ i.Jump behind ∷ raise_again_code r raised) =
-        again.instrs ∙ ap (λ (is : List Instr). is ++ raise_again_code r raised) (jump.instrs ∙ ap (λ (is : List Instr). is ++ i.Jump behind ∷ []) leave.instrs ∙ append_assoc y3.instrs (i.Leave r ∷ []) (i.Jump behind ∷ []))
-        ∙ append_assoc y3.instrs (i.Leave r ∷ i.Jump behind ∷ []) (raise_again_code r raised) in
+    again.instrs ∙ ap (λ (is : List Instr). is ++ raise_again_code r raised) (jump.instrs ∙ ap (λ (is : List Instr). is ++ i.Jump behind ∷ []) leave.instrs ∙ append_assoc y3.instrs (i.Leave r ∷ []) (i.Jump behind ∷ []))
+    ∙ append_assoc y3.instrs (i.Leave r ∷ i.Jump behind ∷ []) (raise_again_code r raised) in
     let rows2 : y2.handlers ≡ x.handlers ++ statements_rows w.site ss (length x.instrs + 1) = p.handlers ∙ ap (λ (k : ℕ). y1.handlers ++ statements_rows w.site ss k) at1 ∙ ap (λ (rs : List Handler). rs ++ statements_rows w.site ss (length x.instrs + 1)) enter.handlers in
     let rows3 : y3.handlers ≡ y2.handlers ++ handler_rows w.site h true (length x.instrs + 1) (length x.instrs + 1 + statements_size w.site ss) =
-        q.handlers ∙ ap (λ (k : ℕ). y2.handlers ++ handler_rows w.site h true from k) at2 ∙ ap (λ (k : ℕ). y2.handlers ++ handler_rows w.site h true k (length x.instrs + 1 + statements_size w.site ss)) from_at in
+    q.handlers ∙ ap (λ (k : ℕ). y2.handlers ++ handler_rows w.site h true from k) at2 ∙ ap (λ (k : ℕ). y2.handlers ++ handler_rows w.site h true k (length x.instrs + 1 + statements_size w.site ss)) from_at in
     let rows5 : z.handlers ≡ y3.handlers ++ raise_again_rows (length x.instrs + 1) (length x.instrs + 1 + length (initialising_code w ss h (length x.instrs + 1))) (raised_in w.site.program (initialising_code w ss h (length x.instrs + 1)))
-            (length x.instrs + 1 + length (initialising_code w ss h (length x.instrs + 1)) + 2) =
-        again.handlers ∙ ap (λ (rs : List Handler). rs ++ raise_again_rows from until raised (length y5.instrs)) (jump.handlers ∙ leave.handlers)
-        ∙ ap (λ (k : ℕ). y3.handlers ++ raise_again_rows from until raised k) at5
-        ∙ ap (λ (k : ℕ). y3.handlers ++ raise_again_rows k until raised (length x.instrs + 1 + length (initialising_code w ss h (length x.instrs + 1)) + 2)) from_at
-        ∙ ap (λ (k : ℕ). y3.handlers ++ raise_again_rows (length x.instrs + 1) k raised (length x.instrs + 1 + length (initialising_code w ss h (length x.instrs + 1)) + 2)) until_at
-        ∙ ap (λ (xs : List ℕ). y3.handlers ++ raise_again_rows (length x.instrs + 1) (length x.instrs + 1 + length (initialising_code w ss h (length x.instrs + 1))) xs (length x.instrs + 1 + length (initialising_code w ss h (length x.instrs + 1)) + 2)) found in
+    (length x.instrs + 1 + length (initialising_code w ss h (length x.instrs + 1)) + 2) =
+    again.handlers ∙ ap (λ (rs : List Handler). rs ++ raise_again_rows from until raised (length y5.instrs)) (jump.handlers ∙ leave.handlers)
+    ∙ ap (λ (k : ℕ). y3.handlers ++ raise_again_rows from until raised k) at5
+    ∙ ap (λ (k : ℕ). y3.handlers ++ raise_again_rows k until raised (length x.instrs + 1 + length (initialising_code w ss h (length x.instrs + 1)) + 2)) from_at
+    ∙ ap (λ (k : ℕ). y3.handlers ++ raise_again_rows (length x.instrs + 1) k raised (length x.instrs + 1 + length (initialising_code w ss h (length x.instrs + 1)) + 2)) until_at
+    ∙ ap (λ (xs : List ℕ). y3.handlers ++ raise_again_rows (length x.instrs + 1) (length x.instrs + 1 + length (initialising_code w ss h (length x.instrs + 1))) xs (length x.instrs + 1 + length (initialising_code w ss h (length x.instrs + 1)) + 2)) found in
     record {
       instrs = last ∙ ap (λ (k : ℕ). y3.instrs ++ (i.Leave r ∷ i.Jump k ∷ raise_again_code r raised)) to
           ∙ ap (λ (xs : List ℕ). y3.instrs ++ (i.Leave r ∷ i.Jump (length x.instrs + 1 + length (initialising_code w ss h (length x.instrs + 1)) + (2 * length (raised_in w.site.program (initialising_code w ss h (length x.instrs + 1))) + 2)) ∷ raise_again_code r xs)) found

@@ -31,7 +31,7 @@ releases_step region from until e target all es {x} {y1} {y2} {y3} {z} there p r
     let before : length y2.instrs ≡ length y1.instrs = ap (λ (is : List Instr). length is) r.instrs in
     let after : length z.instrs ≡ length y1.instrs + 2 = omega (arith, before, q.length, s.length) in
     let code : z.instrs ≡ y1.instrs ++ (i.Leave region ∷ i.Raise e ∷ []) = s.instrs ∙ ap (λ (is : List Instr). is ++ i.Raise e ∷ []) (q.instrs ∙ ap (λ (is : List Instr). is ++ i.Leave region ∷ []) r.instrs)
-        ∙ append_assoc y1.instrs (i.Leave region ∷ []) (i.Raise e ∷ []) in
+    ∙ append_assoc y1.instrs (i.Leave region ∷ []) (i.Raise e ∷ []) in
     let row : z.handlers ≡ y1.handlers ++ row_for from until (e ∷ []) false (length y1.instrs) ∷ [] = s.handlers ∙ q.handlers ∙ r.handlers ∙ ap (λ (k : ℕ). y1.handlers ++ row_for from until (e ∷ []) false k ∷ []) there in
     record {
       instrs = ap (λ (is : List Instr). is ++ raise_again_code region es) code ∙ append_assoc y1.instrs (i.Leave region ∷ i.Raise e ∷ []) (raise_again_code region es) ∙ p.instrs;

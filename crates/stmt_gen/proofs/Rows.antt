@@ -81,12 +81,14 @@ pub rows_turn : (site : RustSite) (hs : List HandlerAlternative) (o : Option (Li
     → RowsLeft site hs o first behind (k + 1) next x z
 rows_turn site hs o first behind k target next it names ss {x} {y} {z} h e names_are ss_is there p q =
     let own : handled_tree it ≡ numbers_tree names (statements_of ss) = handled_tree-out it ∙ ap (λ (v : List ℕ). numbers_tree v (statements_of (out-HandlerAlternative it).actions)) (sym names_are)
-        ∙ ap (λ (v : List Statement). numbers_tree names (statements_of v)) (sym ss_is) in
+    ∙ ap (λ (v : List Statement). numbers_tree names (statements_of v)) (sym ss_is) in
     let tree : handled_of (drop k hs) ≡ more_handled names (statements_of ss) (handled_of (drop (k + 1) hs)) =
-        ap handled_of (item_at hs k it h e) ∙ ap (λ (t : NumbersTree). more_handled t.numbers t.actions (handled_of (drop (k + 1) hs))) own in
-    record { left = λ is. rows_step (site_at site) (handled_of hs) (handled_of (drop (k + 1) hs)) (else_of o) first.from first.until first.target behind target next names (statements_of ss)
-        (subst (λ (t : HandledNodes). RowsTo (site_at site) (handled_of hs) t (else_of o) first.from first.until first.target behind target x.code y.code) tree (p.left is))
-        (there (handled_size (site_at site) (handled_of (drop (k + 1) hs)) (otherwise_size (site_at site) (else_of o) 0))) q }
+    ap handled_of (item_at hs k it h e) ∙ ap (λ (t : NumbersTree). more_handled t.numbers t.actions (handled_of (drop (k + 1) hs))) own in
+    record {
+      left = λ is. rows_step (site_at site) (handled_of hs) (handled_of (drop (k + 1) hs)) (else_of o) first.from first.until first.target behind target next names (statements_of ss)
+          (subst (λ (t : HandledNodes). RowsTo (site_at site) (handled_of hs) t (else_of o) first.from first.until first.target behind target x.code y.code) tree (p.left is))
+          (there (handled_size (site_at site) (handled_of (drop (k + 1) hs)) (otherwise_size (site_at site) (else_of o) 0))) q;
+    }
 
 -- the last row is that of ELSE, where it is written
 rows_done : (site : RustSite) (h : CheckedHandler) (hs : List HandlerAlternative) (first : Span) (behind k target : ℕ) {x y z : Draft} → hs ≡ (out-Handler h).alternatives → length hs ≤ k
@@ -95,10 +97,10 @@ rows_done : (site : RustSite) (h : CheckedHandler) (hs : List HandlerAlternative
 rows_done site h hs first behind k target {x} {y} {z} hs_are e p q =
     let tree : handler_tree h ≡ handler (handled_of hs) (else_of (out-Handler h).otherwise) = handler_tree-out h ∙ ap (λ (v : List HandlerAlternative). handler (handled_of v) (else_of (out-Handler h).otherwise)) (sym hs_are) in
     let own : (behind ≡ first.target + handler_size (site_at site) (handler (handled_of hs) (else_of (out-Handler h).otherwise)))
-        → AppendsRows (rows_of_handler (site_at site) first.from first.until (handler (handled_of hs) (else_of (out-Handler h).otherwise)) first.target) x.code z.code = λ there.
-        let r = p.left there in
-        let last = subst (λ (t : HandledNodes). RowsTo (site_at site) (handled_of hs) t (else_of (out-Handler h).otherwise) first.from first.until first.target behind target x.code y.code) (at_drop_all handled_of hs k e) r in
-        record { handlers = q.handlers ∙ last.handlers; instrs = q.instrs ∙ last.instrs; bodies = q.bodies ∙ last.bodies } in
+    → AppendsRows (rows_of_handler (site_at site) first.from first.until (handler (handled_of hs) (else_of (out-Handler h).otherwise)) first.target) x.code z.code = λ there.
+    let r = p.left there in
+    let last = subst (λ (t : HandledNodes). RowsTo (site_at site) (handled_of hs) t (else_of (out-Handler h).otherwise) first.from first.until first.target behind target x.code y.code) (at_drop_all handled_of hs k e) r in
+    record { handlers = q.handlers ∙ last.handlers; instrs = q.instrs ∙ last.instrs; bodies = q.bodies ∙ last.bodies } in
     record { puts = subst (λ (t : HandlerNode). behind ≡ first.target + handler_size (site_at site) t → AppendsRows (rows_of_handler (site_at site) first.from first.until t first.target) x.code z.code) (sym tree) own }
 
 pub rows_else : (site : RustSite) (h : CheckedHandler) (hs : List HandlerAlternative) (own : List Statement) (first : Span) (behind k target : ℕ) {x y z : Draft} → hs ≡ (out-Handler h).alternatives → length hs ≤ k

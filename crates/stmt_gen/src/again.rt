@@ -46,10 +46,8 @@ pub fn raised_between(
     program: &Checked,
     draft: &Draft,
 ) -> Result<Numbers, PartRefusal>
-    ensures {
-        let between = instrs_between from until draft.now in
-        IfOk result (λ raised. raised ≡ raised_in (checked_tree program.now) between)
-    }
+    ensures { let between = instrs_between from until draft.now in
+        IfOk result (λ raised. raised ≡ raised_in (checked_tree program.now) between) }
 {
     let alloc = draft.allocator();
     let instrs = draft.code.instrs.as_slice();
@@ -132,9 +130,7 @@ fn mark_all_raised(
     program: &Checked,
     marks: &mut Vec<bool>,
 ) -> Result<(), PartRefusal>
-    ensures {
-        OnOk result (MarksAllRaised program.now instrs.now marks.old.items marks.new.items)
-    }
+    ensures { OnOk result (MarksAllRaised program.now instrs.now marks.old.items marks.new.items) }
 {
     for instr in instrs {
         mark_raised(*instr, program, marks)?;
@@ -216,9 +212,7 @@ pub fn put_again(
     region: u32,
     draft: &mut Draft,
 ) -> Result<(), PartRefusal>
-    ensures puts {
-        OnOk result (PutsReleases region exceptions.now from until draft.old draft.new)
-    }
+    ensures puts { OnOk result (PutsReleases region exceptions.now from until draft.old draft.new) }
     ensures keeps { KeepsFront draft.old.code draft.new.code }
 {
     let alloc = draft.allocator();

@@ -15,11 +15,7 @@ use expr_gen::{Draft, PartRefusal};
 /// control comes.
 #[tactic(auto, using(crate::proofs::Front::keeping_front))]
 #[cycle(item)]
-pub fn put_items(
-    items: &[Statement],
-    around: &Around,
-    draft: &mut Draft,
-) -> Result<(), PartRefusal>
+pub fn put_items(items: &[Statement], around: &Around, draft: &mut Draft) -> Result<(), PartRefusal>
     ensures puts { OnOk result (PutsItems around.now items.now draft.old draft.new) }
     ensures keeps { KeepsFront draft.old.code draft.new.code }
 {
@@ -89,9 +85,7 @@ fn put_some_handler(
     around: &Around,
     draft: &mut Draft,
 ) -> Result<(), PartRefusal>
-    ensures puts {
-        OnOk result (PutsSomeHandler around.now handler.now from comes draft.old draft.new)
-    }
+    ensures puts { OnOk result (PutsSomeHandler around.now handler.now from comes draft.old draft.new) }
     ensures keeps { KeepsFront draft.old.code draft.new.code }
 {
     match handler {
@@ -110,10 +104,8 @@ fn put_region(
     around: &Around,
     draft: &mut Draft,
 ) -> Result<(), PartRefusal>
-    ensures puts {
-        OnOk result
-        (PutsRegion around.now region initialisations.now handler.now draft.old draft.new)
-    }
+    ensures puts { OnOk result
+        (PutsRegion around.now region initialisations.now handler.now draft.old draft.new) }
     ensures keeps { KeepsFront draft.old.code draft.new.code }
 {
     draft.put(Instr::Enter(region))?;

@@ -74,11 +74,7 @@ pub fn put_statement(
 // An action with its handler.
 #[tactic(auto, using(crate::proofs::Front::keeping_front))]
 #[cycle(statement)]
-fn put_guarded(
-    statement: &Statement,
-    around: &Around,
-    draft: &mut Draft,
-) -> Result<(), PartRefusal>
+fn put_guarded(statement: &Statement, around: &Around, draft: &mut Draft) -> Result<(), PartRefusal>
     ensures puts { OnOk result (PutsGuarded around.now statement.now draft.old draft.new) }
     ensures keeps { KeepsFront draft.old.code draft.new.code }
 {
@@ -118,7 +114,13 @@ pub fn put_handler(
     };
     put_rows(handler, span, behind, &around.site, draft)?;
     put_leaving(comes, behind, draft)?;
-    put_handled(handler.alternatives.as_slice(), &handler.otherwise, behind, around, draft)
+    put_handled(
+        handler.alternatives.as_slice(),
+        &handler.otherwise,
+        behind,
+        around,
+        draft,
+    )
 }
 
 // The alternatives of a handler, with ELSE.
@@ -131,10 +133,8 @@ fn put_handled(
     around: &Around,
     draft: &mut Draft,
 ) -> Result<(), PartRefusal>
-    ensures puts {
-        OnOk result
-        (PutsHandled around.now alternatives.now otherwise.now behind draft.old draft.new)
-    }
+    ensures puts { OnOk result
+        (PutsHandled around.now alternatives.now otherwise.now behind draft.old draft.new) }
     ensures keeps { KeepsFront draft.old.code draft.new.code }
 {
     for alternative in alternatives {
@@ -203,7 +203,13 @@ fn put_action(action: &Action, around: &Around, draft: &mut Draft) -> Result<(),
     let behind = draft.target_behind(action_size(action, &around.site))?;
     match action {
         Action::If { choices, otherwise } => {
-            put_choices(choices.as_slice(), otherwise.as_slice(), behind, around, draft)
+            put_choices(
+                choices.as_slice(),
+                otherwise.as_slice(),
+                behind,
+                around,
+                draft,
+            )
         }
         Action::Do { control, actions } => {
             put_do(actions.as_slice(), control, behind, around, draft)
@@ -289,17 +295,31 @@ fn put_receive_case(
     around: &Around,
     draft: &mut Draft,
 ) -> Result<(), PartRefusal>
-    ensures puts {
-        OnOk result
-        (PutsReceiveCase around.now alternatives.now otherwise.now wait.entry draft.old draft.new)
-    }
+    ensures puts { OnOk result
+        (PutsReceiveCase around.now alternatives.now otherwise.now wait.entry draft.old draft.new) }
     ensures keeps { KeepsFront draft.old.code draft.new.code }
 {
     let last = otherwise_size(otherwise, 0, &around.site);
     let nothing = wait.behind.saturating_sub(last);
-    put_receive_wait(alternatives, wait.set, wait.receives, nothing, around, draft)?;
+    put_receive_wait(
+        alternatives,
+        wait.set,
+        wait.receives,
+        nothing,
+        around,
+        draft,
+    )?;
     let chosen = chosen_local(wait.set, around)?;
-    put_receives(alternatives, otherwise, Kept { chosen, behind: wait.behind }, around, draft)
+    put_receives(
+        alternatives,
+        otherwise,
+        Kept {
+            chosen,
+            behind: wait.behind,
+        },
+        around,
+        draft,
+    )
 }
 
 // The scratch local that keeps the number of the chosen alternative, and the place behind all alternatives.
@@ -319,9 +339,7 @@ fn put_choices(
     around: &Around,
     draft: &mut Draft,
 ) -> Result<(), PartRefusal>
-    ensures puts {
-        OnOk result (PutsChoices around.now choices.now otherwise.now behind draft.old draft.new)
-    }
+    ensures puts { OnOk result (PutsChoices around.now choices.now otherwise.now behind draft.old draft.new) }
     ensures keeps { KeepsFront draft.old.code draft.new.code }
 {
     for choice in choices {
@@ -362,9 +380,7 @@ fn put_cases(
     around: &Around,
     draft: &mut Draft,
 ) -> Result<(), PartRefusal>
-    ensures puts {
-        OnOk result (PutsCases around.now alternatives.now otherwise.now behind draft.old draft.new)
-    }
+    ensures puts { OnOk result (PutsCases around.now alternatives.now otherwise.now behind draft.old draft.new) }
     ensures keeps { KeepsFront draft.old.code draft.new.code }
 {
     for alternative in alternatives {
@@ -387,9 +403,7 @@ fn put_do(
     around: &Around,
     draft: &mut Draft,
 ) -> Result<(), PartRefusal>
-    ensures puts {
-        OnOk result (PutsDo around.now control.now actions.now behind draft.old draft.new)
-    }
+    ensures puts { OnOk result (PutsDo around.now control.now actions.now behind draft.old draft.new) }
     ensures keeps { KeepsFront draft.old.code draft.new.code }
 {
     let inside = around.taking(locals_kept(control))?;
@@ -414,14 +428,17 @@ fn put_delays(
     around: &Around,
     draft: &mut Draft,
 ) -> Result<(), PartRefusal>
-    ensures puts {
-        OnOk result (PutsDelays around.now alternatives.now chosen behind draft.old draft.new)
-    }
+    ensures puts { OnOk result (PutsDelays around.now alternatives.now chosen behind draft.old draft.new) }
     ensures keeps { KeepsFront draft.old.code draft.new.code }
 {
     for number in 0..alternatives.len() {
         put_is_chosen(chosen, number, draft)?;
-        put_chosen(alternatives[number].actions.as_slice(), behind, around, draft)?;
+        put_chosen(
+            alternatives[number].actions.as_slice(),
+            behind,
+            around,
+            draft,
+        )?;
     }
     Ok(())
 }
@@ -436,15 +453,18 @@ fn put_receives(
     around: &Around,
     draft: &mut Draft,
 ) -> Result<(), PartRefusal>
-    ensures puts {
-        OnOk result
-        (PutsReceives around.now alternatives.now otherwise.now kept draft.old draft.new)
-    }
+    ensures puts { OnOk result
+        (PutsReceives around.now alternatives.now otherwise.now kept draft.old draft.new) }
     ensures keeps { KeepsFront draft.old.code draft.new.code }
 {
     for number in 0..alternatives.len() {
         put_is_chosen(kept.chosen, number, draft)?;
-        put_chosen(alternatives[number].actions.as_slice(), kept.behind, around, draft)?;
+        put_chosen(
+            alternatives[number].actions.as_slice(),
+            kept.behind,
+            around,
+            draft,
+        )?;
     }
     put_otherwise(otherwise, around, draft)
 }
