@@ -14,7 +14,7 @@ ghost use Rattle.code_gen.specs.Bodies.{site_tree, PutsBoth, AppendsBody, Append
 
 use crate::rows::row_of;
 use checked_program::{Action, Body, Checked, LocalRow, Statement};
-use chill_base::{Item, Scalars};
+use chill_base::Scalars;
 use code_types::Instr;
 use expr_gen::{Draft, PartRefusal, Site, declared_scalars, first_free, put_scalars, uncapped};
 use modes::{Mode, add_lowest};
@@ -51,7 +51,8 @@ fn put_body(site: Site, draft: &mut Draft) -> Result<(), PartRefusal>
     let first = draft.target_behind(0)?;
     put_lowest_values(site.body, draft)?;
     put_inside(site, draft)?;
-    let row = row_of(site, first, draft.code.instrs_from(first))?;
+    let instrs = draft.code.instrs.as_slice();
+    let row = row_of(site, first, &instrs[first as usize..])?;
     draft.code.bodies.push(row)?;
     Ok(())
 }

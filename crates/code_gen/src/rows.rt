@@ -9,6 +9,7 @@ ghost use Rattle.expr_gen.specs.Empty.{empty_code};
 ghost use Rattle.code_gen.specs.Bodies.{site_tree, row_with};
 
 use checked_program::{Body, Checked, Sort};
+use chill_base::Item;
 use code_types::{BodyRow, Instr};
 use expr_gen::{
     PartRefusal, Site, body_of, call_results, first_free, parameter_scalars, uncapped,
