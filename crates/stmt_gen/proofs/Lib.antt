@@ -1,5 +1,5 @@
 pub mod Views
 pub mod Placing
-pub mod Sizes
+pub mod Capping
 pub mod Made
 pub mod Lengths

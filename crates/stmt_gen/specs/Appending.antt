@@ -25,3 +25,11 @@ pub record AppendsBoth (made : List Instr) (rows : List Handler) (old new : Code
   pub instrs : new.instrs ≡ old.instrs ++ made
   pub handlers : new.handlers ≡ old.handlers ++ rows
   pub bodies : new.bodies ≡ old.bodies
+
+-- What stood in the code stands there still. Instructions and handler rows may stand behind it, and nothing else in it is changed.
+pub record KeepsFront (old new : Code) : Type 0 where
+  pub more : List Instr
+  pub rows : List Handler
+  pub instrs : new.instrs ≡ old.instrs ++ more
+  pub handlers : new.handlers ≡ old.handlers ++ rows
+  pub bodies : new.bodies ≡ old.bodies

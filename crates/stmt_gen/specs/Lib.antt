@@ -6,3 +6,4 @@ pub mod JoiningSizes
 pub mod Joining
 pub mod Counting
 pub mod Receiving
+pub mod Puts

@@ -4,9 +4,10 @@ use Rattle.code_types.specs.declared.code.Handler.{Handler}
 use Rattle.checked_program.specs.declared.program.Checked.{Checked}
 use Rattle.checked_program.specs.declared.program.Body.{Body}
 use Rattle.program_trees.specs.ProgramTree.{checked_tree, body_row_tree}
-use Rattle.program_trees.specs.StatementTree.{ActionTree, HandlerNode, no_handler, handler, if_then, case_of, do_loop, begin_end, delay_case, receive_buffers, receive_signals}
+use Rattle.program_trees.specs.StatementTree.{ActionTree, HandlerNode, no_handler, handler, perform, drop_routine, evaluate, put_int, put_text, put_line, start_of, delay, continue_at, send, if_then, case_of, do_loop, begin_end, delay_case, receive_buffers, receive_signals}
 use Rattle.code_scheme.specs.StatementSite.{Site, Standing}
 use Rattle.code_scheme.specs.StatementRows.{own_rows}
+use Rattle.expr_gen.specs.declared.frames.Site.{Site as RustSite}
 use Rattle.stmt_gen.specs.declared.around.Around.{Around}
 
 -- a handler's own rows, for the instructions from one place up to another, where its alternatives begin at a place
@@ -18,9 +19,12 @@ rows_of_handler site from until (handler hs o) target = own_rows site from until
 abbrev pub site_of : Checked → Body → Site
 site_of program body = record { program = checked_tree program; body = body_row_tree body }
 
+abbrev pub site_tree : RustSite → Site
+site_tree site = site_of site.program.now site.body.now
+
 -- where statements stand; the places behind labelled statements are told with the innermost one's last
 abbrev pub standing_of : Around → Standing
-standing_of around = record { site = site_of around.site.program.now around.site.body.now; free = around.free; exits = reverse around.exits.now }
+standing_of around = record { site = site_tree around.site; free = around.free; exits = reverse around.exits.now }
 
 -- an action that holds statements, a modulion aside
 abbrev pub holds_statements : ActionTree → Bool
@@ -32,3 +36,17 @@ holds_statements (delay_case set priority ds) = true
 holds_statements (receive_buffers set rs o) = true
 holds_statements (receive_signals set rs o) = true
 holds_statements a = false
+
+-- an action that calls, asks or puts
+abbrev pub asks : ActionTree → Bool
+asks (perform c) = true
+asks (drop_routine r e) = true
+asks (evaluate e) = true
+asks (put_int e) = true
+asks (put_text e) = true
+asks put_line = true
+asks (start_of t) = true
+asks (delay e priority) = true
+asks (continue_at e) = true
+asks (send sent priority) = true
+asks a = false

@@ -1,8 +1,8 @@
 // Regions: an exception that goes out of one is raised again behind the release of the region.
-ghost use Rattle.std.specs.Prelude.{◌≡◌, ◌-◌, length, take, drop, filter, IfOk, OnOk};
-ghost use Rattle.program_trees.specs.ProgramTree.{checked_tree};
-ghost use Rattle.code_scheme.specs.BodyItems.{raised_in, is_among, raise_again_code, raise_again_rows};
-ghost use Rattle.stmt_gen.specs.Appending.{AppendsBoth};
+ghost use Rattle.std.specs.Prelude.{◌≡◌, filter, IfOk, OnOk};
+ghost use Rattle.code_scheme.specs.BodyItems.{is_among};
+ghost use Rattle.stmt_gen.specs.Appending.{KeepsFront};
+ghost use Rattle.stmt_gen.specs.Puts.{PutsRaisedAgain, raised_inside};
 
 use crate::handlers::put_row;
 use checked_program::Checked;
@@ -42,7 +42,7 @@ pub fn raised_between(
     program: &Checked,
     draft: &Draft,
 ) -> Result<Numbers, PartRefusal>
-    ensures { IfOk result (λ raised. raised ≡ raised_in (checked_tree program.now) (take (until - from) (drop from draft.now.code.instrs))) }
+    ensures { IfOk result (λ raised. raised ≡ raised_inside program.now from until draft.now) }
 {
     let alloc = draft.allocator();
     let mut found = marks(alloc, LANGUAGE.saturating_add(program.exceptions.len()))?;
@@ -144,7 +144,8 @@ pub fn put_again(
     region: u32,
     draft: &mut Draft,
 ) -> Result<(), PartRefusal>
-    ensures appends { OnOk result (AppendsBoth (raise_again_code region exceptions.now) (raise_again_rows from until exceptions.now (length draft.old.code.instrs)) draft.old.code draft.new.code) }
+    ensures puts { OnOk result (PutsRaisedAgain exceptions.now from until region draft.old draft.new) }
+    ensures keeps { KeepsFront draft.old.code draft.new.code }
 {
     let alloc = draft.allocator();
     for exception in exceptions {

@@ -1,11 +1,11 @@
 // Declarations, assignments, and the result of a procedure.
-ghost use Rattle.std.specs.Prelude.{◌≡◌, [], ◌∷◌, length, option_map, IfOk, OnOk};
-ghost use Rattle.program_trees.specs.ExprTree.{expr_tree, received_tree, location_tree};
+ghost use Rattle.std.specs.Prelude.{◌≡◌, [], ◌∷◌, length, IfOk, OnOk};
+ghost use Rattle.program_trees.specs.ExprTree.{received_tree, location_tree};
 ghost use Rattle.code_scheme.specs.Pieces.{capped, bounds_to_test, bounds_of_operator};
-ghost use Rattle.code_scheme.specs.StatementSite.{layout};
-ghost use Rattle.code_scheme.specs.StatementPlain.{offset_of_name, name_code, names_code, name_size, names_size, keeping_code, keeping_size, declare_code, declare_size, set_lowest_code, set_lowest_size, assign_code, assign_size, read_code, read_size, update_code, update_size, set_result_code, set_result_size, return_code, return_size};
-ghost use Rattle.expr_gen.specs.Putting.{Appends};
-ghost use Rattle.stmt_gen.specs.Putting.{standing_of, site_of};
+ghost use Rattle.code_scheme.specs.StatementPlain.{offset_of_name, name_size, names_size, declare_size, set_lowest_size, assign_size, set_result_size};
+ghost use Rattle.expr_gen.specs.Putting.{Keeps};
+ghost use Rattle.expr_gen.specs.Puts.{PutsAll};
+ghost use Rattle.stmt_gen.specs.Puts.{PutsAssign, PutsDeclare, PutsKeeping, PutsNamed, PutsNames, PutsResult, PutsReturn, PutsTarget, PutsUpdate, SetsLowest, SetsOneLowest, change_size, returned};
 
 use crate::around::Around;
 use crate::ways_out::{put_way_out, way_out_size};
@@ -26,7 +26,8 @@ pub fn put_declare(
     around: &Around,
     draft: &mut Draft,
 ) -> Result<(), PartRefusal>
-    ensures appends { OnOk result (Appends (declare_code (standing_of around.now) names.now (received_tree value.now) (length draft.old.code.instrs)) (declare_size names.now (received_tree value.now)) draft.old.code draft.new.code) }
+    ensures puts { OnOk result (PutsDeclare around.now names.now value.now draft.old draft.new) }
+    ensures keeps { Keeps draft.old.code draft.new.code }
 {
     match names {
         [name] => put_only(*name, value, around, draft),
@@ -41,7 +42,8 @@ fn put_only(
     around: &Around,
     draft: &mut Draft,
 ) -> Result<(), PartRefusal>
-    ensures appends { OnOk result (Appends (declare_code (standing_of around.now) (name ∷ []) (received_tree value.now) (length draft.old.code.instrs)) (declare_size (name ∷ []) (received_tree value.now)) draft.old.code draft.new.code) }
+    ensures puts { OnOk result (PutsDeclare around.now (name ∷ []) value.now draft.old draft.new) }
+    ensures keeps { Keeps draft.old.code draft.new.code }
 {
     put_offset_of(name, draft)?;
     put_received(value, &around.site, around.free, draft)?;
@@ -55,7 +57,8 @@ fn put_several(
     around: &Around,
     draft: &mut Draft,
 ) -> Result<(), PartRefusal>
-    ensures appends { OnOk result (Appends (keeping_code (standing_of around.now) names.now (received_tree value.now) (length draft.old.code.instrs)) (keeping_size names.now (received_tree value.now)) draft.old.code draft.new.code) }
+    ensures puts { OnOk result (PutsKeeping around.now names.now value.now draft.old draft.new) }
+    ensures keeps { Keeps draft.old.code draft.new.code }
 {
     let count = value.value.count;
     put_received(value, &around.site, around.free, draft)?;
@@ -70,7 +73,8 @@ fn put_names(
     around: &Around,
     draft: &mut Draft,
 ) -> Result<(), PartRefusal>
-    ensures appends { OnOk result (Appends (names_code (layout (site_of around.now.site.program.now around.now.site.body.now)) around.now.free count names.now) (names_size names.now) draft.old.code draft.new.code) }
+    ensures puts { OnOk result (PutsNames around.now names.now count draft.old draft.new) }
+    ensures keeps { Keeps draft.old.code draft.new.code }
 {
     for name in names {
         put_offset_of(*name, draft)?;
@@ -82,7 +86,8 @@ fn put_names(
 
 // The place of a name, where it is a shared location.
 fn put_offset_of(name: Base, draft: &mut Draft) -> Result<(), PartRefusal>
-    ensures appends { OnOk result (Appends (offset_of_name name) (length (offset_of_name name)) draft.old.code draft.new.code) }
+    ensures puts { OnOk result (PutsAll (offset_of_name name) draft.old draft.new) }
+    ensures keeps { Keeps draft.old.code draft.new.code }
 {
     match name {
         Base::Shared(_) => draft.put(Instr::Push(0)),
@@ -91,13 +96,9 @@ fn put_offset_of(name: Base, draft: &mut Draft) -> Result<(), PartRefusal>
 }
 
 // The value on top is assigned to a name, whose place stands below it.
-fn put_named(
-    name: Base,
-    count: u32,
-    around: &Around,
-    draft: &mut Draft,
-) -> Result<(), PartRefusal>
-    ensures appends { OnOk result (Appends (name_code (layout (site_of around.now.site.program.now around.now.site.body.now)) name count) 1 draft.old.code draft.new.code) }
+fn put_named(name: Base, count: u32, around: &Around, draft: &mut Draft) -> Result<(), PartRefusal>
+    ensures puts { OnOk result (PutsNamed around.now name count draft.old draft.new) }
+    ensures keeps { Keeps draft.old.code draft.new.code }
 {
     match name {
         Base::Shared(location) => draft.put(Instr::Write(location, 0, count)),
@@ -147,7 +148,8 @@ pub fn put_lowest_of(
     around: &Around,
     draft: &mut Draft,
 ) -> Result<(), PartRefusal>
-    ensures appends { OnOk result (Appends (set_lowest_code (layout (site_of around.now.site.program.now around.now.site.body.now)) locals.now value.now) (set_lowest_size locals.now value.now) draft.old.code draft.new.code) }
+    ensures puts { OnOk result (SetsLowest around.now locals.now value.now draft.old draft.new) }
+    ensures keeps { Keeps draft.old.code draft.new.code }
 {
     let count = count_of(value)?;
     for number in locals {
@@ -164,7 +166,8 @@ fn put_lowest(
     around: &Around,
     draft: &mut Draft,
 ) -> Result<(), PartRefusal>
-    ensures appends { OnOk result (count ≡ length value.now → Appends (set_lowest_code (layout (site_of around.now.site.program.now around.now.site.body.now)) (number ∷ []) value.now) (set_lowest_size (number ∷ []) value.now) draft.old.code draft.new.code) }
+    ensures puts { OnOk result (SetsOneLowest around.now number value.now count draft.old draft.new) }
+    ensures keeps { Keeps draft.old.code draft.new.code }
 {
     let local = local_of(around.site.body, number)?;
     put_scalars(value, draft)?;
@@ -196,7 +199,8 @@ pub fn put_assign(
     around: &Around,
     draft: &mut Draft,
 ) -> Result<(), PartRefusal>
-    ensures appends { OnOk result (Appends (assign_code (standing_of around.now) (location_tree target.now) (received_tree value.now) (length draft.old.code.instrs)) (assign_size (location_tree target.now) (received_tree value.now)) draft.old.code draft.new.code) }
+    ensures puts { OnOk result (PutsAssign around.now target.now value.now draft.old draft.new) }
+    ensures keeps { Keeps draft.old.code draft.new.code }
 {
     put_place(target, &around.site, around.free, draft)?;
     put_received(value, &around.site, around.free, draft)?;
@@ -236,7 +240,8 @@ pub fn put_update(
     around: &Around,
     draft: &mut Draft,
 ) -> Result<(), PartRefusal>
-    ensures appends { OnOk result (Appends (update_code (standing_of around.now) (location_tree target.now) change.operator (expr_tree change.value.now) change.bounds (length draft.old.code.instrs)) (update_size (location_tree target.now) change.operator (expr_tree change.value.now) change.bounds) draft.old.code draft.new.code) }
+    ensures puts { OnOk result (PutsUpdate around.now target.now change draft.old draft.new) }
+    ensures keeps { Keeps draft.old.code draft.new.code }
 {
     put_read(target, around, draft)?;
     put_between(
@@ -253,7 +258,8 @@ pub fn put_update(
 
 // The place and the contents of a target.
 fn put_read(target: &Location, around: &Around, draft: &mut Draft) -> Result<(), PartRefusal>
-    ensures appends { OnOk result (Appends (read_code (standing_of around.now) (location_tree target.now) (length draft.old.code.instrs)) (read_size (location_tree target.now)) draft.old.code draft.new.code) }
+    ensures puts { OnOk result (PutsTarget around.now target.now draft.old draft.new) }
+    ensures keeps { Keeps draft.old.code draft.new.code }
 {
     put_place(target, &around.site, around.free, draft)?;
     put_again(target, draft)?;
@@ -262,7 +268,7 @@ fn put_read(target: &Location, around: &Around, draft: &mut Draft) -> Result<(),
 
 /// How many instructions an assignment with an operator has.
 pub fn update_size(target: &Location, change: Change) -> u32
-    ensures { result ≡ capped (update_size (location_tree target.now) change.operator (expr_tree change.value.now) change.bounds) }
+    ensures { result ≡ capped (change_size target.now change) }
 {
     place_size(target)
         .saturating_add(offsets_kept(target))
@@ -276,7 +282,8 @@ pub fn update_size(target: &Location, change: Change) -> u32
 
 /// RESULT: the result is set.
 pub fn put_result(value: &Received, around: &Around, draft: &mut Draft) -> Result<(), PartRefusal>
-    ensures appends { OnOk result (Appends (set_result_code (standing_of around.now) (received_tree value.now) (length draft.old.code.instrs)) (set_result_size (received_tree value.now)) draft.old.code draft.new.code) }
+    ensures puts { OnOk result (PutsResult around.now value.now draft.old draft.new) }
+    ensures keeps { Keeps draft.old.code draft.new.code }
 {
     let body = around.site.body;
     let first = uncapped(declared_scalars(body))?;
@@ -297,7 +304,8 @@ pub fn put_return(
     around: &Around,
     draft: &mut Draft,
 ) -> Result<(), PartRefusal>
-    ensures appends { OnOk result (Appends (return_code (standing_of around.now) (option_map received_tree value.now) (length draft.old.code.instrs)) (return_size (site_of around.now.site.program.now around.now.site.body.now) (option_map received_tree value.now)) draft.old.code draft.new.code) }
+    ensures puts { OnOk result (PutsReturn around.now value.now draft.old draft.new) }
+    ensures keeps { Keeps draft.old.code draft.new.code }
 {
     match value {
         Some(value) => {
@@ -310,7 +318,7 @@ pub fn put_return(
 
 /// How many instructions RETURN has in a body.
 pub fn return_size(value: &Option<Received>, site: &Site) -> u32
-    ensures { result ≡ capped (return_size (site_of site.now.program.now site.now.body.now) (option_map received_tree value.now)) }
+    ensures { result ≡ capped (returned value.now site.now) }
 {
     match value {
         Some(value) => result_size(value).saturating_add(way_out_size(site.body)),

@@ -1,13 +1,9 @@
 // CASE: its selector, which is kept in a scratch local, and the tests of the labels.
-ghost use Rattle.std.specs.Prelude.{◌≡◌, ◌+◌, length, OnOk};
-ghost use Rattle.code_types.specs.declared.instr.Instr.TheVariants as instrs;
-ghost use Rattle.program_trees.specs.ExprTree.{expr_tree};
+ghost use Rattle.std.specs.Prelude.{◌≡◌, length, OnOk};
 ghost use Rattle.code_scheme.specs.Pieces.{capped};
-ghost use Rattle.code_scheme.specs.ExprSizes.{expr_size};
-ghost use Rattle.code_scheme.specs.StatementPlain.{taken_by};
-ghost use Rattle.code_scheme.specs.StatementSize.{label_code, more_labels_code, labels_code, labels_size};
-ghost use Rattle.expr_gen.specs.Putting.{Appends};
-ghost use Rattle.stmt_gen.specs.Putting.{standing_of};
+ghost use Rattle.code_scheme.specs.StatementSize.{label_code, more_labels_code, labels_size};
+ghost use Rattle.expr_gen.specs.Putting.{Keeps};
+ghost use Rattle.stmt_gen.specs.Puts.{PutsLabel, PutsLabels, PutsMoreLabels, PutsSelector};
 
 use crate::around::Around;
 use checked_program::Expr;
@@ -16,12 +12,9 @@ use expr_gen::{Draft, PartRefusal, put_expr};
 use modes::Bounds;
 
 /// The selector, which is kept in the first free scratch local.
-pub fn put_selector(
-    selector: &Expr,
-    around: &Around,
-    draft: &mut Draft,
-) -> Result<(), PartRefusal>
-    ensures appends { OnOk result (Appends (taken_by (standing_of around.now) (expr_tree selector.now) (instrs.SetLocal around.now.free 1) (length draft.old.code.instrs)) (expr_size (expr_tree selector.now) + 1) draft.old.code draft.new.code) }
+pub fn put_selector(selector: &Expr, around: &Around, draft: &mut Draft) -> Result<(), PartRefusal>
+    ensures puts { OnOk result (PutsSelector around.now selector.now draft.old draft.new) }
+    ensures keeps { Keeps draft.old.code draft.new.code }
 {
     put_expr(selector, &around.site, around.free, draft)?;
     draft.put(Instr::SetLocal(around.free, 1))
@@ -29,7 +22,8 @@ pub fn put_selector(
 
 /// Whether one of the labels holds the selector that is kept in this local.
 pub fn put_labels(labels: &[Bounds], kept: u32, draft: &mut Draft) -> Result<(), PartRefusal>
-    ensures appends { OnOk result (Appends (labels_code kept labels.now) (labels_size labels.now) draft.old.code draft.new.code) }
+    ensures puts { OnOk result (PutsLabels kept labels.now draft.old draft.new) }
+    ensures keeps { Keeps draft.old.code draft.new.code }
 {
     match labels {
         [] => draft.put(Instr::Push(0)),
@@ -42,7 +36,8 @@ pub fn put_labels(labels: &[Bounds], kept: u32, draft: &mut Draft) -> Result<(),
 
 // Whether one of further labels does, or what is on top.
 fn put_more_labels(labels: &[Bounds], kept: u32, draft: &mut Draft) -> Result<(), PartRefusal>
-    ensures appends { OnOk result (Appends (more_labels_code kept labels.now) (length (more_labels_code 0 labels.now)) draft.old.code draft.new.code) }
+    ensures puts { OnOk result (PutsMoreLabels kept labels.now draft.old draft.new) }
+    ensures keeps { Keeps draft.old.code draft.new.code }
 {
     for label in labels {
         put_label(*label, kept, draft)?;
@@ -53,7 +48,8 @@ fn put_more_labels(labels: &[Bounds], kept: u32, draft: &mut Draft) -> Result<()
 
 // Whether a label holds the selector that is kept in this local.
 fn put_label(label: Bounds, kept: u32, draft: &mut Draft) -> Result<(), PartRefusal>
-    ensures appends { OnOk result (Appends (label_code kept label) (length (label_code 0 label)) draft.old.code draft.new.code) }
+    ensures puts { OnOk result (PutsLabel kept label draft.old draft.new) }
+    ensures keeps { Keeps draft.old.code draft.new.code }
 {
     draft.put(Instr::Local(kept, 1))?;
     draft.put(Instr::Push(label.low))?;

@@ -1,10 +1,7 @@
 // The rows of a handler.
-ghost use Rattle.std.specs.Prelude.{◌≡◌, ◌+◌, [], ◌∷◌, OnOk};
-ghost use Rattle.program_trees.specs.StatementTree.{handler_tree};
-ghost use Rattle.code_scheme.specs.StatementSize.{handler_size};
-ghost use Rattle.code_scheme.specs.StatementRows.{row_for};
-ghost use Rattle.stmt_gen.specs.Appending.{AppendsRows};
-ghost use Rattle.stmt_gen.specs.Putting.{site_of, rows_of_handler};
+ghost use Rattle.std.specs.Prelude.{OnOk};
+ghost use Rattle.stmt_gen.specs.Appending.{KeepsFront};
+ghost use Rattle.stmt_gen.specs.Puts.{PutsRow, PutsRowsOf};
 
 use crate::again::Span;
 use crate::going_on::go_on;
@@ -23,7 +20,8 @@ pub fn put_rows(
     site: &Site,
     draft: &mut Draft,
 ) -> Result<(), PartRefusal>
-    ensures appends { let tree = handler_tree handler.now in OnOk result (behind ≡ first.target + handler_size (site_of site.now.program.now site.now.body.now) tree → AppendsRows (rows_of_handler (site_of site.now.program.now site.now.body.now) first.from first.until tree first.target) draft.old.code draft.new.code) }
+    ensures puts { OnOk result (PutsRowsOf site.now handler.now first behind draft.old draft.new) }
+    ensures keeps { KeepsFront draft.old.code draft.new.code }
 {
     let mut target = first.target;
     for alternative in handler.alternatives.as_slice() {
@@ -46,14 +44,16 @@ pub fn put_row(
     otherwise: bool,
     draft: &mut Draft,
 ) -> Result<(), PartRefusal>
-    ensures appends { OnOk result (AppendsRows (row_for span.from span.until names otherwise span.target ∷ []) draft.old.code draft.new.code) }
+    ensures puts { OnOk result (PutsRow span names otherwise draft.old draft.new) }
+    ensures keeps { KeepsFront draft.old.code draft.new.code }
 {
-    draft.put_handler(code_types::Handler {
+    draft.code.handlers.push(code_types::Handler {
         from: span.from,
         until: span.until,
         height: 0,
         names,
         otherwise,
         target: span.target,
-    })
+    })?;
+    Ok(())
 }

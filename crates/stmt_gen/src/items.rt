@@ -1,13 +1,8 @@
 // Modules and regions at their places.
-ghost use Rattle.std.specs.Prelude.{◌+◌, false, length, OnOk};
-ghost use Rattle.program_trees.specs.StatementTree.{statement_tree, module_at, statements_of, handler_of};
-ghost use Rattle.code_scheme.specs.StatementGoing.{leave_size};
-ghost use Rattle.code_scheme.specs.StatementSize.{handler_size};
-ghost use Rattle.code_scheme.specs.StatementCode.{handler_code};
-ghost use Rattle.code_scheme.specs.StatementRows.{handler_rows};
-ghost use Rattle.code_scheme.specs.BodyItems.{items_code, items_rows, item_code, item_rows, item_action_code, item_action_rows, region_code, region_rows};
-ghost use Rattle.stmt_gen.specs.Appending.{AppendsAt, AppendsBoth};
-ghost use Rattle.stmt_gen.specs.Putting.{standing_of, site_of};
+ghost use Rattle.std.specs.Prelude.{OnOk};
+ghost use Rattle.program_trees.specs.StatementTree.{handler_of};
+ghost use Rattle.stmt_gen.specs.Appending.{KeepsFront};
+ghost use Rattle.stmt_gen.specs.Puts.{PutsGuard, PutsItem, PutsItems, PutsModule, PutsRegion};
 
 use crate::again::{put_again, raised_between};
 use crate::around::Around;
@@ -20,12 +15,9 @@ use expr_gen::{Draft, PartRefusal};
 /// Appends the code of what the outermost process does: statements, modules and regions in their order, as far as
 /// control comes.
 #[cycle(item)]
-pub fn put_items(
-    items: &[Statement],
-    around: &Around,
-    draft: &mut Draft,
-) -> Result<(), PartRefusal>
-    ensures appends { let tree = statements_of items.now in OnOk result (AppendsBoth (items_code (standing_of around.now) tree (length draft.old.code.instrs)) (items_rows (standing_of around.now) tree (length draft.old.code.instrs)) draft.old.code draft.new.code) }
+pub fn put_items(items: &[Statement], around: &Around, draft: &mut Draft) -> Result<(), PartRefusal>
+    ensures puts { OnOk result (PutsItems around.now items.now draft.old draft.new) }
+    ensures keeps { KeepsFront draft.old.code draft.new.code }
 {
     for item in items {
         put_item(item, around, draft)?;
@@ -40,7 +32,8 @@ pub fn put_items(
 #[tactic(auto, using(crate::proofs::Views::statement_built))]
 #[cycle(item)]
 fn put_item(item: &Statement, around: &Around, draft: &mut Draft) -> Result<(), PartRefusal>
-    ensures appends { let tree = statement_tree item.now in OnOk result (AppendsBoth (item_code (standing_of around.now) tree (length draft.old.code.instrs)) (item_rows (standing_of around.now) tree (length draft.old.code.instrs)) draft.old.code draft.new.code) }
+    ensures puts { OnOk result (PutsItem around.now item.now draft.old draft.new) }
+    ensures keeps { KeepsFront draft.old.code draft.new.code }
 {
     match &*item.action {
         Action::Module { actions } => put_module(actions.as_slice(), &item.handler, around, draft),
@@ -60,7 +53,8 @@ fn put_module(
     around: &Around,
     draft: &mut Draft,
 ) -> Result<(), PartRefusal>
-    ensures appends { let tree = statements_of items.now in let h = handler_of handler.now in OnOk result (AppendsBoth (item_action_code (standing_of around.now) false (module_at tree) h (length draft.old.code.instrs)) (item_action_rows (standing_of around.now) false (module_at tree) h (length draft.old.code.instrs)) draft.old.code draft.new.code) }
+    ensures puts { OnOk result (PutsModule around.now items.now handler.now draft.old draft.new) }
+    ensures keeps { KeepsFront draft.old.code draft.new.code }
 {
     let from = draft.target_behind(0)?;
     put_items(items, around, draft)?;
@@ -75,7 +69,8 @@ fn put_some_handler(
     around: &Around,
     draft: &mut Draft,
 ) -> Result<(), PartRefusal>
-    ensures appends { let h = handler_of handler.now in OnOk result (AppendsAt (handler_code (standing_of around.now) h comes) (leave_size comes (handler_size (site_of around.now.site.program.now around.now.site.body.now) h) + handler_size (site_of around.now.site.program.now around.now.site.body.now) h) (handler_rows (site_of around.now.site.program.now around.now.site.body.now) h comes from) draft.old.code draft.new.code) }
+    ensures puts { OnOk result (PutsGuard around.now (handler_of handler.now) comes from draft.old draft.new) }
+    ensures keeps { KeepsFront draft.old.code draft.new.code }
 {
     match handler {
         Some(handler) => put_handler(handler, from, comes, around, draft),
@@ -92,7 +87,8 @@ fn put_region(
     around: &Around,
     draft: &mut Draft,
 ) -> Result<(), PartRefusal>
-    ensures appends { let tree = statements_of initialisations.now in let h = handler_of handler.now in OnOk result (AppendsBoth (region_code (standing_of around.now) region tree h (length draft.old.code.instrs)) (region_rows (standing_of around.now) region tree h (length draft.old.code.instrs)) draft.old.code draft.new.code) }
+    ensures puts { OnOk result (PutsRegion around.now region initialisations.now handler.now draft.old draft.new) }
+    ensures keeps { KeepsFront draft.old.code draft.new.code }
 {
     draft.put(Instr::Enter(region))?;
     let from = draft.target_behind(0)?;

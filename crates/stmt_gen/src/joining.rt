@@ -1,9 +1,10 @@
 // Joined behind each other, of which one is done: behind each of them control goes on behind all.
-ghost use Rattle.std.specs.Prelude.{◌≡◌, ℕ, ◌+◌, length, OnOk};
+ghost use Rattle.std.specs.Prelude.{◌≡◌, ℕ, OnOk};
 ghost use Rattle.code_scheme.specs.Pieces.{capped};
-ghost use Rattle.code_scheme.specs.StatementGoing.{leave_size, leave_code, joined};
-ghost use Rattle.expr_gen.specs.Putting.{Appends};
+ghost use Rattle.code_scheme.specs.StatementGoing.{leave_size};
 ghost use Rattle.stmt_gen.specs.Joining.{size_before};
+ghost use Rattle.expr_gen.specs.Putting.{Keeps};
+ghost use Rattle.stmt_gen.specs.Puts.{IsJoined, IsNextPlace, PutsLeaving};
 
 use code_types::Instr;
 use expr_gen::{Draft, PartRefusal};
@@ -29,7 +30,7 @@ impl Joined {
 
     /// One part more, of so many instructions without its jump.
     pub fn then(self, size: u32, goes_on: bool) -> Joined
-        ensures { (n rest : ℕ) → size ≡ capped n → capped (size_before result rest) ≡ capped (size_before self (joined n goes_on rest)) }
+        ensures { IsJoined self size goes_on result }
     {
         let before = if size == 0 {
             self
@@ -55,7 +56,8 @@ pub fn leaving_size(goes_on: bool, rest: u32) -> u32
 
 /// Goes behind the parts, where control comes from here and that place is a later one.
 pub fn put_leaving(goes_on: bool, behind: u32, draft: &mut Draft) -> Result<(), PartRefusal>
-    ensures appends { OnOk result ((rest : ℕ) → behind ≡ length draft.old.code.instrs + (leave_size goes_on rest + rest) → Appends (leave_code goes_on rest behind) (leave_size goes_on rest) draft.old.code draft.new.code) }
+    ensures puts { OnOk result (PutsLeaving goes_on behind draft.old draft.new) }
+    ensures keeps { Keeps draft.old.code draft.new.code }
 {
     if goes_on && draft.place() != behind {
         draft.put(Instr::Jump(behind))
@@ -66,7 +68,7 @@ pub fn put_leaving(goes_on: bool, behind: u32, draft: &mut Draft) -> Result<(), 
 
 /// The place behind a part of so many instructions and its jump, where all parts end at another place.
 pub fn next_place(size: u32, goes_on: bool, behind: u32, draft: &Draft) -> u32
-    ensures { (n rest : ℕ) → size ≡ capped n → behind ≡ length draft.now.code.instrs + (n + (leave_size goes_on rest + rest)) → result ≡ length draft.now.code.instrs + (n + leave_size goes_on rest) }
+    ensures { IsNextPlace size goes_on behind draft.now result }
 {
     let end = draft.place_behind(size);
     end.saturating_add(leaving_size(goes_on, behind.saturating_sub(end)))

@@ -1,12 +1,11 @@
 // The controls of DO: what is done before the first turn, and the test before each turn.
-ghost use Rattle.std.specs.Prelude.{◌≡◌, false, length, option_map, OnOk};
-ghost use Rattle.program_trees.specs.ExprTree.{expr_tree, boxed_expr};
+ghost use Rattle.std.specs.Prelude.{◌≡◌, OnOk};
 ghost use Rattle.program_trees.specs.StatementTree.{control_tree};
 ghost use Rattle.code_scheme.specs.Pieces.{capped};
-ghost use Rattle.code_scheme.specs.ExprSizes.{condition_size};
-ghost use Rattle.code_scheme.specs.StatementLoops.{while_code, some_while_code, some_while_size, next_member_code, members_test, members_test_size, before_turns, before_turns_size, turn_test, turn_test_size, locals_kept, control_size};
-ghost use Rattle.expr_gen.specs.Putting.{Appends};
-ghost use Rattle.stmt_gen.specs.Putting.{standing_of};
+ghost use Rattle.code_scheme.specs.StatementLoops.{some_while_size, next_member_code, before_turns_size, turn_test_size, locals_kept, control_size};
+ghost use Rattle.expr_gen.specs.Putting.{Keeps};
+ghost use Rattle.expr_gen.specs.Puts.{PutsAll};
+ghost use Rattle.stmt_gen.specs.Puts.{PutsBeforeTurns, PutsMembersTest, PutsSomeWhile, PutsTurnTest, PutsWhile, some_expr};
 
 use crate::around::Around;
 use crate::steps::{
@@ -26,7 +25,8 @@ pub fn put_before_turns(
     around: &Around,
     draft: &mut Draft,
 ) -> Result<(), PartRefusal>
-    ensures appends { OnOk result (Appends (before_turns (standing_of around.now) (control_tree control.now) behind (length draft.old.code.instrs)) (before_turns_size (control_tree control.now)) draft.old.code draft.new.code) }
+    ensures puts { OnOk result (PutsBeforeTurns around.now control.now behind draft.old draft.new) }
+    ensures keeps { Keeps draft.old.code draft.new.code }
 {
     match control {
         Control::While(_) | Control::Forever => Ok(()),
@@ -44,7 +44,11 @@ pub fn put_before_turns(
         } => {
             let counter = local_of(around.site.body, *counter)?.first;
             put_bounds(start, step, end, around, draft)?;
-            put_first_value(Steps::new(counter, step, *down, around.free)?, behind, draft)
+            put_first_value(
+                Steps::new(counter, step, *down, around.free)?,
+                behind,
+                draft,
+            )
         }
     }
 }
@@ -56,7 +60,8 @@ pub fn put_turn_test(
     around: &Around,
     draft: &mut Draft,
 ) -> Result<(), PartRefusal>
-    ensures appends { OnOk result (Appends (turn_test (standing_of around.now) (control_tree control.now) behind (length draft.old.code.instrs)) (turn_test_size (control_tree control.now)) draft.old.code draft.new.code) }
+    ensures puts { OnOk result (PutsTurnTest around.now control.now behind draft.old draft.new) }
+    ensures keeps { Keeps draft.old.code draft.new.code }
 {
     match control {
         Control::While(condition) => put_while(condition, behind, around, draft),
@@ -79,7 +84,11 @@ pub fn put_turn_test(
             ..
         } => {
             let counter = local_of(around.site.body, *counter)?.first;
-            put_next(Steps::new(counter, step, *down, around.free)?, behind, draft)?;
+            put_next(
+                Steps::new(counter, step, *down, around.free)?,
+                behind,
+                draft,
+            )?;
             put_some_while(condition, behind, &around.taking(steps_kept(step))?, draft)
         }
     }
@@ -140,7 +149,8 @@ fn put_while(
     around: &Around,
     draft: &mut Draft,
 ) -> Result<(), PartRefusal>
-    ensures appends { OnOk result (Appends (while_code (standing_of around.now) (expr_tree condition.now) behind (length draft.old.code.instrs)) (condition_size (expr_tree condition.now) false) draft.old.code draft.new.code) }
+    ensures puts { OnOk result (PutsWhile around.now condition.now behind draft.old draft.new) }
+    ensures keeps { Keeps draft.old.code draft.new.code }
 {
     let branch = Branch {
         when: false,
@@ -156,7 +166,8 @@ fn put_some_while(
     around: &Around,
     draft: &mut Draft,
 ) -> Result<(), PartRefusal>
-    ensures appends { OnOk result (Appends (some_while_code (standing_of around.now) (option_map boxed_expr condition.now) behind (length draft.old.code.instrs)) (some_while_size (option_map boxed_expr condition.now)) draft.old.code draft.new.code) }
+    ensures puts { OnOk result (PutsSomeWhile around.now condition.now behind draft.old draft.new) }
+    ensures keeps { Keeps draft.old.code draft.new.code }
 {
     match condition {
         Some(condition) => put_while(condition, behind, around, draft),
@@ -165,7 +176,7 @@ fn put_some_while(
 }
 
 fn some_while_size(condition: &Option<Box<Expr>>) -> u32
-    ensures { result ≡ capped (some_while_size (option_map boxed_expr condition.now)) }
+    ensures { result ≡ capped (some_while_size (some_expr condition.now)) }
 {
     match condition {
         Some(condition) => condition_size(condition, false),
@@ -182,7 +193,8 @@ fn put_members_test(
     around: &Around,
     draft: &mut Draft,
 ) -> Result<(), PartRefusal>
-    ensures appends { OnOk result (Appends (members_test around.now.free counter low behind) (members_test_size low) draft.old.code draft.new.code) }
+    ensures puts { OnOk result (PutsMembersTest around.now counter low behind draft.old draft.new) }
+    ensures keeps { Keeps draft.old.code draft.new.code }
 {
     draft.put(Instr::Local(around.free, 1))?;
     draft.put(Instr::Card)?;
@@ -191,13 +203,9 @@ fn put_members_test(
 }
 
 // The counter gets the least member of the powerset that is kept in this local, which is taken out of it.
-fn put_next_member(
-    left: u32,
-    counter: u32,
-    low: i64,
-    draft: &mut Draft,
-) -> Result<(), PartRefusal>
-    ensures appends { let made = next_member_code left counter low in OnOk result (Appends made (length made) draft.old.code draft.new.code) }
+fn put_next_member(left: u32, counter: u32, low: i64, draft: &mut Draft) -> Result<(), PartRefusal>
+    ensures puts { OnOk result (PutsAll (next_member_code left counter low) draft.old draft.new) }
+    ensures keeps { Keeps draft.old.code draft.new.code }
 {
     draft.put(Instr::Local(left, 1))?;
     draft.put(Instr::Copy(1))?;

@@ -1,14 +1,13 @@
 // Actions that hold no statements.
-ghost use Rattle.std.specs.Prelude.{◌≡◌, ◌+◌, length, false, OnOk};
-ghost use Rattle.program_trees.specs.ExprTree.{expr_tree, call_tree, start_tree};
-ghost use Rattle.program_trees.specs.StatementTree.{action_tree};
+ghost use Rattle.std.specs.Prelude.{◌≡◌, ◌+◌, OnOk};
+ghost use Rattle.program_trees.specs.ExprTree.{call_tree, start_tree};
 ghost use Rattle.code_scheme.specs.Pieces.{capped};
-ghost use Rattle.code_scheme.specs.ExprSizes.{expr_size, start_size};
-ghost use Rattle.code_scheme.specs.StatementPlain.{perform_code, perform_size, dropped_scalars, drop_code, drop_routine_code, drop_routine_size, taken_by, start_of_code, exit_code, assert_code, assert_size};
-ghost use Rattle.code_scheme.specs.StatementSize.{action_size};
-ghost use Rattle.code_scheme.specs.StatementCode.{action_code};
-ghost use Rattle.expr_gen.specs.Putting.{Appends};
-ghost use Rattle.stmt_gen.specs.Putting.{standing_of, site_of, holds_statements};
+ghost use Rattle.code_scheme.specs.ExprSizes.{start_size};
+ghost use Rattle.code_scheme.specs.StatementPlain.{perform_size, dropped_scalars, drop_code};
+ghost use Rattle.stmt_gen.specs.Putting.{site_tree};
+ghost use Rattle.expr_gen.specs.Putting.{Keeps};
+ghost use Rattle.expr_gen.specs.Puts.{PutsAll};
+ghost use Rattle.stmt_gen.specs.Puts.{IsAskingSize, IsPlainSize, PutsAssert, PutsDropped, PutsDroppedStart, PutsExit, PutsPerform, PutsPlainAction, PutsTaken};
 
 use crate::around::Around;
 use crate::assigning::{
@@ -29,7 +28,8 @@ const ASSERTFAIL: u32 = 3;
 /// Appends the code of an action that holds no statements. A modulion is none.
 #[tactic(auto, using(crate::proofs::Views::statement_built))]
 pub fn put_plain(action: &Action, around: &Around, draft: &mut Draft) -> Result<(), PartRefusal>
-    ensures appends { OnOk result (Appends (action_code (standing_of around.now) (action_tree action.now) (length draft.old.code.instrs)) (action_size (site_of around.now.site.program.now around.now.site.body.now) (action_tree action.now)) draft.old.code draft.new.code) }
+    ensures puts { OnOk result (PutsPlainAction around.now action.now draft.old draft.new) }
+    ensures keeps { Keeps draft.old.code draft.new.code }
 {
     match action {
         Action::Nothing => Ok(()),
@@ -64,7 +64,8 @@ pub fn put_plain(action: &Action, around: &Around, draft: &mut Draft) -> Result<
 // Appends the code of an action that calls, asks or puts.
 #[tactic(auto, using(crate::proofs::Views::statement_built))]
 fn put_asking(action: &Action, around: &Around, draft: &mut Draft) -> Result<(), PartRefusal>
-    ensures appends { OnOk result (Appends (action_code (standing_of around.now) (action_tree action.now) (length draft.old.code.instrs)) (action_size (site_of around.now.site.program.now around.now.site.body.now) (action_tree action.now)) draft.old.code draft.new.code) }
+    ensures puts { OnOk result (PutsPlainAction around.now action.now draft.old draft.new) }
+    ensures keeps { Keeps draft.old.code draft.new.code }
 {
     match action {
         Action::Call(call) => put_dropped_call(call, around, draft),
@@ -87,7 +88,7 @@ fn put_asking(action: &Action, around: &Around, draft: &mut Draft) -> Result<(),
 /// counted elsewhere.
 #[tactic(auto, using(crate::proofs::Views::statement_built))]
 pub fn plain_size(action: &Action, site: &Site) -> u32
-    ensures { holds_statements (action_tree action.now) ≡ false → result ≡ capped (action_size (site_of site.now.program.now site.now.body.now) (action_tree action.now)) }
+    ensures { IsPlainSize site.now action.now result }
 {
     match action {
         Action::Nothing => 0,
@@ -126,7 +127,10 @@ pub fn plain_size(action: &Action, site: &Site) -> u32
 }
 
 // How many instructions an action has that calls, asks or puts.
-fn asking_size(action: &Action, site: &Site) -> u32 {
+#[tactic(auto, using(crate::proofs::Views::statement_built))]
+fn asking_size(action: &Action, site: &Site) -> u32
+    ensures { IsAskingSize site.now action.now result }
+{
     match action {
         Action::Call(call) => dropped_call_size(call, site),
         Action::Routine { routine, argument } => expr_size(argument)
@@ -153,7 +157,7 @@ fn asking_size(action: &Action, site: &Site) -> u32 {
 
 // How many instructions a call has whose result is dropped.
 fn dropped_call_size(call: &Call, site: &Site) -> u32
-    ensures { result ≡ capped (perform_size (site_of site.now.program.now site.now.body.now) (call_tree call.now)) }
+    ensures { result ≡ capped (perform_size (site_tree site.now) (call_tree call.now)) }
 {
     call_size(call).saturating_add(u32::from(dropped_scalars(call, site) > 0))
 }
@@ -168,7 +172,8 @@ fn dropped_start_size(start: &Start) -> u32
 
 // EXIT of the labelled statement that is so many outwards.
 fn put_exit(outwards: u32, around: &Around, draft: &mut Draft) -> Result<(), PartRefusal>
-    ensures appends { OnOk result (Appends (exit_code (standing_of around.now) outwards) 1 draft.old.code draft.new.code) }
+    ensures puts { OnOk result (PutsExit around.now outwards draft.old draft.new) }
+    ensures keeps { Keeps draft.old.code draft.new.code }
 {
     let exits = around.exits;
     let outwards = outwards as usize;
@@ -181,7 +186,8 @@ fn put_exit(outwards: u32, around: &Around, draft: &mut Draft) -> Result<(), Par
 
 // ASSERT.
 fn put_assert(condition: &Expr, around: &Around, draft: &mut Draft) -> Result<(), PartRefusal>
-    ensures appends { OnOk result (Appends (assert_code (standing_of around.now) (expr_tree condition.now) (length draft.old.code.instrs)) (assert_size (expr_tree condition.now)) draft.old.code draft.new.code) }
+    ensures puts { OnOk result (PutsAssert around.now condition.now draft.old draft.new) }
+    ensures keeps { Keeps draft.old.code draft.new.code }
 {
     let size = condition_size(condition, true).saturating_add(1);
     let branch = Branch {
@@ -194,7 +200,8 @@ fn put_assert(condition: &Expr, around: &Around, draft: &mut Draft) -> Result<()
 
 // A call whose result is dropped, where it has one.
 fn put_dropped_call(call: &Call, around: &Around, draft: &mut Draft) -> Result<(), PartRefusal>
-    ensures appends { OnOk result (Appends (perform_code (standing_of around.now) (call_tree call.now) (length draft.old.code.instrs)) (perform_size (site_of around.now.site.program.now around.now.site.body.now) (call_tree call.now)) draft.old.code draft.new.code) }
+    ensures puts { OnOk result (PutsPerform around.now call.now draft.old draft.new) }
+    ensures keeps { Keeps draft.old.code draft.new.code }
 {
     put_call(call, &around.site, around.free, draft)?;
     put_drop(dropped_scalars(call, &around.site), draft)
@@ -202,7 +209,8 @@ fn put_dropped_call(call: &Call, around: &Around, draft: &mut Draft) -> Result<(
 
 // So many scalars are dropped, where there are any.
 fn put_drop(count: u32, draft: &mut Draft) -> Result<(), PartRefusal>
-    ensures appends { OnOk result (Appends (drop_code count) (length (drop_code count)) draft.old.code draft.new.code) }
+    ensures puts { OnOk result (PutsAll (drop_code count) draft.old draft.new) }
+    ensures keeps { Keeps draft.old.code draft.new.code }
 {
     if count > 0 {
         draft.put(Instr::Pop(count))
@@ -213,7 +221,7 @@ fn put_drop(count: u32, draft: &mut Draft) -> Result<(), PartRefusal>
 
 // How many scalars the result of a call has.
 fn dropped_scalars(call: &Call, site: &Site) -> u32
-    ensures { result ≡ dropped_scalars (site_of site.now.program.now site.now.body.now) (call_tree call.now) }
+    ensures { result ≡ dropped_scalars (site_tree site.now) (call_tree call.now) }
 {
     match site.program.bodies.as_slice().get(call.body as usize) {
         Some(callee) => result_scalars(callee),
@@ -228,7 +236,8 @@ fn put_dropped_routine(
     around: &Around,
     draft: &mut Draft,
 ) -> Result<(), PartRefusal>
-    ensures appends { OnOk result (Appends (drop_routine_code (standing_of around.now) routine (expr_tree argument.now) (length draft.old.code.instrs)) (drop_routine_size routine (expr_tree argument.now)) draft.old.code draft.new.code) }
+    ensures puts { OnOk result (PutsDropped around.now routine argument.now draft.old draft.new) }
+    ensures keeps { Keeps draft.old.code draft.new.code }
 {
     put_expr(argument, &around.site, around.free, draft)?;
     put_routine(routine, draft)?;
@@ -242,7 +251,8 @@ fn put_used(
     around: &Around,
     draft: &mut Draft,
 ) -> Result<(), PartRefusal>
-    ensures appends { OnOk result (Appends (taken_by (standing_of around.now) (expr_tree value.now) instr (length draft.old.code.instrs)) (expr_size (expr_tree value.now) + 1) draft.old.code draft.new.code) }
+    ensures puts { OnOk result (PutsTaken around.now value.now instr draft.old draft.new) }
+    ensures keeps { Keeps draft.old.code draft.new.code }
 {
     put_expr(value, &around.site, around.free, draft)?;
     draft.put(instr)
@@ -250,7 +260,8 @@ fn put_used(
 
 // START of a process, whose instance is dropped.
 fn put_dropped_start(start: &Start, around: &Around, draft: &mut Draft) -> Result<(), PartRefusal>
-    ensures appends { OnOk result (Appends (start_of_code (standing_of around.now) (start_tree start.now) (length draft.old.code.instrs)) (start_size (start_tree start.now) + 1) draft.old.code draft.new.code) }
+    ensures puts { OnOk result (PutsDroppedStart around.now start.now draft.old draft.new) }
+    ensures keeps { Keeps draft.old.code draft.new.code }
 {
     put_start(start, &around.site, around.free, draft)?;
     draft.put(Instr::Pop(1))

@@ -1,11 +1,11 @@
 // What processes ask of each other without an answer that the text names.
-ghost use Rattle.std.specs.Prelude.{◌≡◌, length, option_map, OnOk};
-ghost use Rattle.program_trees.specs.ExprTree.{boxed_expr};
+ghost use Rattle.std.specs.Prelude.{◌≡◌, OnOk};
 ghost use Rattle.program_trees.specs.StatementTree.{sent_tree};
 ghost use Rattle.code_scheme.specs.Pieces.{capped};
-ghost use Rattle.code_scheme.specs.StatementPlain.{delay_code, send_code, send_size, receiver_code, receiver_size};
-ghost use Rattle.expr_gen.specs.Putting.{Appends};
-ghost use Rattle.stmt_gen.specs.Putting.{standing_of};
+ghost use Rattle.code_scheme.specs.StatementPlain.{delay_code, send_size, receiver_size};
+ghost use Rattle.expr_gen.specs.Putting.{Keeps};
+ghost use Rattle.expr_gen.specs.Puts.{PutsSome};
+ghost use Rattle.stmt_gen.specs.Puts.{PutsReceiver, PutsSend, some_expr};
 
 use crate::around::Around;
 use checked_program::{Expr, Received, Sent};
@@ -17,7 +17,8 @@ use expr_gen::{
 
 /// DELAY of one event.
 pub fn put_delay(event: u32, priority: u32, draft: &mut Draft) -> Result<(), PartRefusal>
-    ensures appends { OnOk result (Appends (delay_code event priority) 4 draft.old.code draft.new.code) }
+    ensures puts { OnOk result (PutsSome (delay_code event priority) 4 draft.old draft.new) }
+    ensures keeps { Keeps draft.old.code draft.new.code }
 {
     draft.put(Instr::Thing(event))?;
     draft.put(Instr::Push(0))?;
@@ -32,7 +33,8 @@ pub fn put_send(
     around: &Around,
     draft: &mut Draft,
 ) -> Result<(), PartRefusal>
-    ensures appends { OnOk result (Appends (send_code (standing_of around.now) (sent_tree sent.now) priority (length draft.old.code.instrs)) (send_size (sent_tree sent.now)) draft.old.code draft.new.code) }
+    ensures puts { OnOk result (PutsSend around.now sent.now priority draft.old draft.new) }
+    ensures keeps { Keeps draft.old.code draft.new.code }
 {
     match sent {
         Sent::ToBuffer { buffer, value } => {
@@ -59,7 +61,8 @@ fn put_receiver(
     around: &Around,
     draft: &mut Draft,
 ) -> Result<(), PartRefusal>
-    ensures appends { OnOk result (Appends (receiver_code (standing_of around.now) (option_map boxed_expr receiver.now) (length draft.old.code.instrs)) (receiver_size (option_map boxed_expr receiver.now)) draft.old.code draft.new.code) }
+    ensures puts { OnOk result (PutsReceiver around.now receiver.now draft.old draft.new) }
+    ensures keeps { Keeps draft.old.code draft.new.code }
 {
     match receiver {
         Some(receiver) => put_expr(receiver, &around.site, around.free, draft),
@@ -87,7 +90,7 @@ pub fn send_size(sent: &Sent) -> u32
 }
 
 fn receiver_size(receiver: &Option<Box<Expr>>) -> u32
-    ensures { result ≡ capped (receiver_size (option_map boxed_expr receiver.now)) }
+    ensures { result ≡ capped (receiver_size (some_expr receiver.now)) }
 {
     match receiver {
         Some(receiver) => expr_size(receiver),

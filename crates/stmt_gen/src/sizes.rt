@@ -1,13 +1,11 @@
 // How many instructions statements have: what the targets of jumps are found from.
-ghost use Rattle.std.specs.Prelude.{false, ◌≡◌, ℕ, ◌+◌, suc};
-ghost use Rattle.program_trees.specs.StatementTree.{statement_tree, action_tree, handler_tree, statements_of, set_tree};
+ghost use Rattle.std.specs.Prelude.{◌≡◌};
+ghost use Rattle.program_trees.specs.StatementTree.{statement_tree, action_tree, handler_tree, statements_of};
 ghost use Rattle.code_scheme.specs.Pieces.{capped};
-ghost use Rattle.code_scheme.specs.ExprSizes.{condition_size};
-ghost use Rattle.code_scheme.specs.StatementWaits.{has_else, receive_wait_size};
-ghost use Rattle.code_scheme.specs.StatementSize.{statements_size, statement_size, handler_size, handled_size, otherwise_size, action_size, choices_size, cases_size, delays_size, receives_size};
-ghost use Rattle.stmt_gen.specs.Trees.{choice_tree, choices_of, cases_of, delays_of, receives_of, handled_of, else_of};
-ghost use Rattle.stmt_gen.specs.Joining.{size_before};
-ghost use Rattle.stmt_gen.specs.Putting.{site_of};
+ghost use Rattle.code_scheme.specs.StatementSize.{statements_size, statement_size, handler_size, handled_size, action_size, choices_size, cases_size, delays_size, receives_size};
+ghost use Rattle.stmt_gen.specs.Trees.{choices_of, cases_of, delays_of, receives_of, handled_of};
+ghost use Rattle.stmt_gen.specs.Putting.{site_tree};
+ghost use Rattle.stmt_gen.specs.Puts.{IsElseSize, Joins, JoinsAll, all_cases_size, all_receives_size, choice_size, chosen_size, receiving_size};
 
 use crate::cases::labels_size;
 use crate::going_on::{action_goes_on, go_on, goes_on};
@@ -25,7 +23,7 @@ use expr_gen::{Site, condition_size, expr_size};
 /// How many instructions statements have, as far as control comes.
 #[cycle(extent)]
 pub fn statements_size(statements: &[Statement], site: &Site) -> u32
-    ensures { result ≡ capped (statements_size (site_of site.now.program.now site.now.body.now) (statements_of statements.now)) }
+    ensures { result ≡ capped (statements_size (site_tree site.now) (statements_of statements.now)) }
 {
     let mut size = 0u32;
     for statement in statements {
@@ -41,7 +39,7 @@ pub fn statements_size(statements: &[Statement], site: &Site) -> u32
 #[tactic(auto, using(crate::proofs::Views::statement_built))]
 #[cycle(extent)]
 pub fn statement_size(statement: &Statement, site: &Site) -> u32
-    ensures { result ≡ capped (statement_size (site_of site.now.program.now site.now.body.now) (statement_tree statement.now)) }
+    ensures { result ≡ capped (statement_size (site_tree site.now) (statement_tree statement.now)) }
 {
     let size = action_size(&statement.action, site);
     match &statement.handler {
@@ -57,7 +55,7 @@ pub fn statement_size(statement: &Statement, site: &Site) -> u32
 #[tactic(auto, using(crate::proofs::Views::statement_built))]
 #[cycle(extent)]
 pub fn handled_size(handler: &Handler, site: &Site) -> u32
-    ensures { result ≡ capped (handler_size (site_of site.now.program.now site.now.body.now) (handler_tree handler.now)) }
+    ensures { result ≡ capped (handler_size (site_tree site.now) (handler_tree handler.now)) }
 {
     let rest = otherwise_size(&handler.otherwise, 0, site);
     handled_joined(handler.alternatives.as_slice(), site)
@@ -68,7 +66,7 @@ pub fn handled_size(handler: &Handler, site: &Site) -> u32
 /// How many instructions ELSE has, or so many where none is written.
 #[cycle(extent)]
 pub fn otherwise_size(otherwise: &Option<List<Statement>>, none: u32, site: &Site) -> u32
-    ensures { (n : ℕ) → none ≡ capped n → result ≡ capped (otherwise_size (site_of site.now.program.now site.now.body.now) (else_of otherwise.now) n) }
+    ensures { IsElseSize site.now otherwise.now none result }
 {
     match otherwise {
         Some(actions) => statements_size(actions.as_slice(), site),
@@ -79,7 +77,7 @@ pub fn otherwise_size(otherwise: &Option<List<Statement>>, none: u32, site: &Sit
 #[tactic(auto, using(crate::proofs::Views::statement_built))]
 #[cycle(extent)]
 fn handled_joined(alternatives: &[HandlerAlternative], site: &Site) -> Joined
-    ensures { (rest : ℕ) → capped (size_before result rest) ≡ capped (handled_size (site_of site.now.program.now site.now.body.now) (handled_of alternatives.now) rest) }
+    ensures { Joins result (handled_size (site_tree site.now) (handled_of alternatives.now)) }
 {
     let mut joined = Joined::none();
     for alternative in alternatives {
@@ -93,7 +91,7 @@ fn handled_joined(alternatives: &[HandlerAlternative], site: &Site) -> Joined
 #[tactic(auto, using(crate::proofs::Views::statement_built))]
 #[cycle(extent)]
 pub fn action_size(action: &Action, site: &Site) -> u32
-    ensures { result ≡ capped (action_size (site_of site.now.program.now site.now.body.now) (action_tree action.now)) }
+    ensures { result ≡ capped (action_size (site_tree site.now) (action_tree action.now)) }
 {
     match action {
         Action::If { choices, otherwise } => choices_joined(choices.as_slice(), site)
@@ -138,7 +136,7 @@ fn cases_size(
     otherwise: &Option<List<Statement>>,
     site: &Site,
 ) -> u32
-    ensures { result ≡ capped (cases_size (site_of site.now.program.now site.now.body.now) (cases_of alternatives.now) (otherwise_size (site_of site.now.program.now site.now.body.now) (else_of otherwise.now) 1)) }
+    ensures { result ≡ capped (all_cases_size site.now alternatives.now otherwise.now) }
 {
     cases_joined(alternatives, site)
         .then(otherwise_size(otherwise, 1, site), false)
@@ -153,10 +151,13 @@ fn receive_case_size(
     otherwise: &Option<List<Statement>>,
     site: &Site,
 ) -> u32
-    ensures { result ≡ capped (receive_wait_size (set_tree set.now) (receives_of alternatives.now) (has_else (else_of otherwise.now)) + receives_size (site_of site.now.program.now site.now.body.now) (receives_of alternatives.now) (otherwise_size (site_of site.now.program.now site.now.body.now) (else_of otherwise.now) 0)) }
+    ensures { result ≡ capped (receiving_size site.now set.now alternatives.now otherwise.now) }
 {
-    receive_wait_size(alternatives, set, otherwise.is_some())
-        .saturating_add(receives_size(alternatives, otherwise, site))
+    receive_wait_size(alternatives, set, otherwise.is_some()).saturating_add(receives_size(
+        alternatives,
+        otherwise,
+        site,
+    ))
 }
 
 /// How many instructions the alternatives of a RECEIVE CASE have, with ELSE.
@@ -166,7 +167,7 @@ pub fn receives_size(
     otherwise: &Option<List<Statement>>,
     site: &Site,
 ) -> u32
-    ensures { result ≡ capped (receives_size (site_of site.now.program.now site.now.body.now) (receives_of alternatives.now) (otherwise_size (site_of site.now.program.now site.now.body.now) (else_of otherwise.now) 0)) }
+    ensures { result ≡ capped (all_receives_size site.now alternatives.now otherwise.now) }
 {
     receives_joined(alternatives, site)
         .then(otherwise_size(otherwise, 0, site), false)
@@ -176,7 +177,7 @@ pub fn receives_size(
 /// How many instructions actions have that are chosen by a Boolean, without the jump behind them.
 #[cycle(extent)]
 pub fn chosen_size(actions: &[Statement], site: &Site) -> u32
-    ensures { result ≡ capped (suc (statements_size (site_of site.now.program.now site.now.body.now) (statements_of actions.now))) }
+    ensures { result ≡ capped (chosen_size site.now actions.now) }
 {
     statements_size(actions, site).saturating_add(1)
 }
@@ -185,7 +186,7 @@ pub fn chosen_size(actions: &[Statement], site: &Site) -> u32
 #[tactic(auto, using(crate::proofs::Views::statement_built))]
 #[cycle(extent)]
 pub fn choice_size(choice: &Choice, site: &Site) -> u32
-    ensures { let tree = choice_tree choice.now in result ≡ capped (condition_size tree.condition false + statements_size (site_of site.now.program.now site.now.body.now) tree.actions) }
+    ensures { result ≡ capped (choice_size site.now choice.now) }
 {
     condition_size(&choice.condition, false).saturating_add(statements_size(
         choice.actions.as_slice(),
@@ -196,7 +197,7 @@ pub fn choice_size(choice: &Choice, site: &Site) -> u32
 #[tactic(auto, using(crate::proofs::Views::statement_built))]
 #[cycle(extent)]
 fn choices_joined(choices: &[Choice], site: &Site) -> Joined
-    ensures { (rest : ℕ) → capped (size_before result rest) ≡ capped (choices_size (site_of site.now.program.now site.now.body.now) (choices_of choices.now) rest) }
+    ensures { Joins result (choices_size (site_tree site.now) (choices_of choices.now)) }
 {
     let mut joined = Joined::none();
     for choice in choices {
@@ -208,7 +209,7 @@ fn choices_joined(choices: &[Choice], site: &Site) -> Joined
 #[tactic(auto, using(crate::proofs::Views::statement_built))]
 #[cycle(extent)]
 fn cases_joined(alternatives: &[CaseAlternative], site: &Site) -> Joined
-    ensures { (rest : ℕ) → capped (size_before result rest) ≡ capped (cases_size (site_of site.now.program.now site.now.body.now) (cases_of alternatives.now) rest) }
+    ensures { Joins result (cases_size (site_tree site.now) (cases_of alternatives.now)) }
 {
     let mut joined = Joined::none();
     for alternative in alternatives {
@@ -225,7 +226,7 @@ fn cases_joined(alternatives: &[CaseAlternative], site: &Site) -> Joined
 #[tactic(auto, using(crate::proofs::Views::statement_built))]
 #[cycle(extent)]
 fn delays_joined(alternatives: &[DelayAlternative], site: &Site) -> Joined
-    ensures { capped (size_before result 0) ≡ capped (delays_size (site_of site.now.program.now site.now.body.now) (delays_of alternatives.now)) }
+    ensures { JoinsAll result (delays_size (site_tree site.now) (delays_of alternatives.now)) }
 {
     let mut joined = Joined::none();
     for alternative in alternatives {
@@ -238,7 +239,7 @@ fn delays_joined(alternatives: &[DelayAlternative], site: &Site) -> Joined
 #[tactic(auto, using(crate::proofs::Views::statement_built))]
 #[cycle(extent)]
 fn receives_joined(alternatives: &[ReceiveAlternative], site: &Site) -> Joined
-    ensures { (rest : ℕ) → capped (size_before result rest) ≡ capped (receives_size (site_of site.now.program.now site.now.body.now) (receives_of alternatives.now) rest) }
+    ensures { Joins result (receives_size (site_tree site.now) (receives_of alternatives.now)) }
 {
     let mut joined = Joined::none();
     for alternative in alternatives {

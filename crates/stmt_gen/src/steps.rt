@@ -1,11 +1,12 @@
 // DO FOR from a start to an end: what is done before the first turn, and the test before each other turn.
-ghost use Rattle.std.specs.Prelude.{◌≡◌, Some, false, length, option_map, IfOk, OnOk};
-ghost use Rattle.program_trees.specs.ExprTree.{expr_tree, boxed_expr};
+ghost use Rattle.std.specs.Prelude.{◌≡◌, Some, length, IfOk, OnOk};
+ghost use Rattle.program_trees.specs.ExprTree.{expr_tree};
 ghost use Rattle.code_scheme.specs.Pieces.{capped};
-ghost use Rattle.code_scheme.specs.StatementLoops.{steps_with, steps_kept, constant_step, step_of_value, within_code, within_size, step_code, step_size, bounds_code, bounds_size, order_code, before_code, rest_code, nearest_code, nearer_code, near_end_code, moved_end_code, limit_code, first_test_code, by_step, next_code, first_value_code, first_value_size, is_one, forth, back};
-ghost use Rattle.expr_gen.specs.Putting.{Appends};
-ghost use Rattle.stmt_gen.specs.Putting.{standing_of};
+ghost use Rattle.code_scheme.specs.StatementLoops.{steps_kept, constant_step, step_of_value, within_size, order_code, before_code, rest_code, nearest_code, nearer_code, moved_end_code, by_step, next_code, is_one, forth, back};
 ghost use Rattle.stmt_gen.specs.Counting.{step_of, steps_of};
+ghost use Rattle.expr_gen.specs.Putting.{Keeps};
+ghost use Rattle.expr_gen.specs.Puts.{PutsAll, PutsSome};
+ghost use Rattle.stmt_gen.specs.Puts.{IsSteps, PutsFirstTest, PutsFirstValue, PutsLimit, PutsNearEnd, PutsOwnStep, PutsRangeOf, PutsWithin, own_step_size, range_size, some_expr, start_of_turns};
 
 use crate::around::Around;
 use checked_program::{Expr, Operation};
@@ -47,7 +48,7 @@ impl Steps {
         down: bool,
         free: u32,
     ) -> Result<Steps, PartRefusal>
-        ensures { IfOk result (λ steps. steps_of steps ≡ steps_with counter (constant_step (option_map boxed_expr step.now)) down free) }
+        ensures { IfOk result (λ steps. IsSteps steps counter step.now down free) }
     {
         let next = uncapped(free.saturating_add(1))?;
         match constant_step(step) {
@@ -71,7 +72,7 @@ impl Steps {
 
 // The step where it is a constant from 1 on, or 1 where none is written.
 fn constant_step(step: &Option<Box<Expr>>) -> Option<i64>
-    ensures { result ≡ constant_step (option_map boxed_expr step.now) }
+    ensures { result ≡ constant_step (some_expr step.now) }
 {
     match step {
         Some(step) => step_of_value(step),
@@ -94,7 +95,7 @@ fn step_of_value(step: &Expr) -> Option<i64>
 
 /// How many scratch locals a DO FOR with such a step keeps: start and end, and the step where it is no constant.
 pub fn steps_kept(step: &Option<Box<Expr>>) -> u32
-    ensures { result ≡ steps_kept (option_map boxed_expr step.now) }
+    ensures { result ≡ steps_kept (some_expr step.now) }
 {
     match constant_step(step) {
         Some(_) => 2,
@@ -110,7 +111,8 @@ pub fn put_bounds(
     around: &Around,
     draft: &mut Draft,
 ) -> Result<(), PartRefusal>
-    ensures appends { let by = option_map boxed_expr step.now in OnOk result (Appends (bounds_code (standing_of around.now) (expr_tree start.now) by (expr_tree end.now) (length draft.old.code.instrs)) (bounds_size (expr_tree start.now) by (expr_tree end.now)) draft.old.code draft.new.code) }
+    ensures puts { OnOk result (PutsRangeOf around.now start.now step.now end.now draft.old draft.new) }
+    ensures keeps { Keeps draft.old.code draft.new.code }
 {
     put_within(start, INT, around, draft)?;
     put_own_step(step, around, draft)?;
@@ -124,7 +126,8 @@ fn put_own_step(
     around: &Around,
     draft: &mut Draft,
 ) -> Result<(), PartRefusal>
-    ensures appends { let by = option_map boxed_expr step.now in OnOk result (Appends (step_code (standing_of around.now) (constant_step by) by (length draft.old.code.instrs)) (step_size (constant_step by) by) draft.old.code draft.new.code) }
+    ensures puts { OnOk result (PutsOwnStep around.now step.now draft.old draft.new) }
+    ensures keeps { Keeps draft.old.code draft.new.code }
 {
     match constant_step(step) {
         Some(_) => Ok(()),
@@ -137,7 +140,7 @@ fn put_own_step(
 
 /// How many instructions that has.
 pub fn bounds_size(start: &Expr, step: &Option<Box<Expr>>, end: &Expr) -> u32
-    ensures { result ≡ capped (bounds_size (expr_tree start.now) (option_map boxed_expr step.now) (expr_tree end.now)) }
+    ensures { result ≡ capped (range_size start.now step.now end.now) }
 {
     within_size(start, INT)
         .saturating_add(own_step_size(step))
@@ -146,7 +149,7 @@ pub fn bounds_size(start: &Expr, step: &Option<Box<Expr>>, end: &Expr) -> u32
 }
 
 fn own_step_size(step: &Option<Box<Expr>>) -> u32
-    ensures { let by = option_map boxed_expr step.now in result ≡ capped (step_size (constant_step by) by) }
+    ensures { result ≡ capped (own_step_size step.now) }
 {
     match constant_step(step) {
         Some(_) => 0,
@@ -164,7 +167,8 @@ fn put_within(
     around: &Around,
     draft: &mut Draft,
 ) -> Result<(), PartRefusal>
-    ensures appends { OnOk result (Appends (within_code (standing_of around.now) (Some bounds) (expr_tree value.now) (length draft.old.code.instrs)) (within_size (Some bounds) (expr_tree value.now)) draft.old.code draft.new.code) }
+    ensures puts { OnOk result (PutsWithin around.now bounds value.now draft.old draft.new) }
+    ensures keeps { Keeps draft.old.code draft.new.code }
 {
     put_expr(value, &around.site, around.free, draft)?;
     put_check(bounds_to_test(Some(bounds), bounds_of_value(value)), draft)
@@ -179,7 +183,8 @@ fn within_size(value: &Expr, bounds: Bounds) -> u32
 
 /// What DO FOR does before the first turn: the first test, the limit, and the first value.
 pub fn put_first_value(steps: Steps, behind: u32, draft: &mut Draft) -> Result<(), PartRefusal>
-    ensures appends { OnOk result (Appends (first_value_code (steps_of steps) behind (length draft.old.code.instrs)) (first_value_size (steps_of steps)) draft.old.code draft.new.code) }
+    ensures puts { OnOk result (PutsFirstValue steps behind draft.old draft.new) }
+    ensures keeps { Keeps draft.old.code draft.new.code }
 {
     put_first_test(steps, behind, draft)?;
     put_limit(steps, draft)?;
@@ -191,23 +196,18 @@ pub fn put_first_value(steps: Steps, behind: u32, draft: &mut Draft) -> Result<(
 
 /// How many instructions that has.
 pub fn first_value_size(step: &Option<Box<Expr>>) -> u32
-    ensures { result ≡ first_value_size (steps_with 0 (constant_step (option_map boxed_expr step.now)) false 0) }
+    ensures { result ≡ start_of_turns step.now }
 {
     match constant_step(step) {
-        Some(step) => {
-            if step == 1 {
-                8
-            } else {
-                22
-            }
-        }
+        Some(step) => { if step == 1 { 8 } else { 22 } }
         None => 28,
     }
 }
 
 // Past the loop where the start is past the end.
 fn put_first_test(steps: Steps, behind: u32, draft: &mut Draft) -> Result<(), PartRefusal>
-    ensures appends { OnOk result (Appends (first_test_code (steps_of steps) behind (length draft.old.code.instrs)) 5 draft.old.code draft.new.code) }
+    ensures puts { OnOk result (PutsFirstTest steps behind draft.old draft.new) }
+    ensures keeps { Keeps draft.old.code draft.new.code }
 {
     let branch = Branch {
         when: true,
@@ -219,7 +219,8 @@ fn put_first_test(steps: Steps, behind: u32, draft: &mut Draft) -> Result<(), Pa
 
 // Whether what one local has comes before what another one has, or behind it with DOWN.
 fn put_before(down: bool, first: u32, second: u32, draft: &mut Draft) -> Result<(), PartRefusal>
-    ensures appends { OnOk result (Appends (before_code down first second) 3 draft.old.code draft.new.code) }
+    ensures puts { OnOk result (PutsSome (before_code down first second) 3 draft.old draft.new) }
+    ensures keeps { Keeps draft.old.code draft.new.code }
 {
     if down {
         put_order(second, first, draft)
@@ -230,7 +231,8 @@ fn put_before(down: bool, first: u32, second: u32, draft: &mut Draft) -> Result<
 
 // Whether what one local has comes before what another one has.
 fn put_order(first: u32, second: u32, draft: &mut Draft) -> Result<(), PartRefusal>
-    ensures appends { OnOk result (Appends (order_code first second) 3 draft.old.code draft.new.code) }
+    ensures puts { OnOk result (PutsSome (order_code first second) 3 draft.old draft.new) }
+    ensures keeps { Keeps draft.old.code draft.new.code }
 {
     draft.put(Instr::Local(first, 1))?;
     draft.put(Instr::Local(second, 1))?;
@@ -239,7 +241,8 @@ fn put_order(first: u32, second: u32, draft: &mut Draft) -> Result<(), PartRefus
 
 /// The next value, where it doesn't pass the end: where the counter lies before the limit.
 pub fn put_next(steps: Steps, behind: u32, draft: &mut Draft) -> Result<(), PartRefusal>
-    ensures appends { OnOk result (Appends (next_code (steps_of steps) behind) 8 draft.old.code draft.new.code) }
+    ensures puts { OnOk result (PutsSome (next_code (steps_of steps) behind) 8 draft.old draft.new) }
+    ensures keeps { Keeps draft.old.code draft.new.code }
 {
     put_before(steps.down, steps.counter, steps.end, draft)?;
     draft.put(Instr::Unless(behind))?;
@@ -275,7 +278,8 @@ fn back(down: bool) -> Instr
 
 // The end becomes the limit, from which on another step passes the end. With a step of 1 that is the end itself.
 fn put_limit(steps: Steps, draft: &mut Draft) -> Result<(), PartRefusal>
-    ensures appends { OnOk result (Appends (limit_code (steps_of steps) (length draft.old.code.instrs)) (length (limit_code (steps_of steps) 0)) draft.old.code draft.new.code) }
+    ensures puts { OnOk result (PutsLimit steps draft.old draft.new) }
+    ensures keeps { Keeps draft.old.code draft.new.code }
 {
     if is_one(steps.step) {
         return Ok(());
@@ -296,7 +300,8 @@ fn is_one(step: Step) -> bool
 
 // Where the limit wouldn't lie in INT, the end is moved so far that it does.
 fn put_near_end(steps: Steps, draft: &mut Draft) -> Result<(), PartRefusal>
-    ensures appends { OnOk result (Appends (near_end_code (steps_of steps) (length draft.old.code.instrs)) (length (near_end_code (steps_of steps) 0)) draft.old.code draft.new.code) }
+    ensures puts { OnOk result (PutsNearEnd steps draft.old draft.new) }
+    ensures keeps { Keeps draft.old.code draft.new.code }
 {
     put_nearer(steps, draft)?;
     draft.put(Instr::Less(1))?;
@@ -308,7 +313,8 @@ fn put_near_end(steps: Steps, draft: &mut Draft) -> Result<(), PartRefusal>
 
 // The end and the nearest one, the one lowest that comes first where no step leaves INT.
 fn put_nearer(steps: Steps, draft: &mut Draft) -> Result<(), PartRefusal>
-    ensures appends { OnOk result (Appends (nearer_code (steps_of steps)) (length (nearer_code (steps_of steps))) draft.old.code draft.new.code) }
+    ensures puts { OnOk result (PutsAll (nearer_code (steps_of steps)) draft.old draft.new) }
+    ensures keeps { Keeps draft.old.code draft.new.code }
 {
     if steps.down {
         put_nearest(steps, draft)?;
@@ -321,7 +327,8 @@ fn put_nearer(steps: Steps, draft: &mut Draft) -> Result<(), PartRefusal>
 
 // The end whose limit is the first value of INT, or the last one behind DOWN.
 fn put_nearest(steps: Steps, draft: &mut Draft) -> Result<(), PartRefusal>
-    ensures appends { OnOk result (Appends (nearest_code (steps_of steps)) (length (nearest_code (steps_of steps))) draft.old.code draft.new.code) }
+    ensures puts { OnOk result (PutsAll (nearest_code (steps_of steps)) draft.old draft.new) }
+    ensures keeps { Keeps draft.old.code draft.new.code }
 {
     draft.put(Instr::Push(if steps.down { INT.high } else { INT.low }))?;
     put_rest(steps.step, draft)?;
@@ -330,7 +337,8 @@ fn put_nearest(steps: Steps, draft: &mut Draft) -> Result<(), PartRefusal>
 
 // The end is moved towards the start by 1 less than the step.
 fn put_moved_end(steps: Steps, draft: &mut Draft) -> Result<(), PartRefusal>
-    ensures appends { OnOk result (Appends (moved_end_code (steps_of steps)) (length (moved_end_code (steps_of steps))) draft.old.code draft.new.code) }
+    ensures puts { OnOk result (PutsAll (moved_end_code (steps_of steps)) draft.old draft.new) }
+    ensures keeps { Keeps draft.old.code draft.new.code }
 {
     draft.put(Instr::Local(steps.end, 1))?;
     put_rest(steps.step, draft)?;
@@ -340,7 +348,8 @@ fn put_moved_end(steps: Steps, draft: &mut Draft) -> Result<(), PartRefusal>
 
 // 1 less than the step.
 fn put_rest(step: Step, draft: &mut Draft) -> Result<(), PartRefusal>
-    ensures appends { OnOk result (Appends (rest_code (step_of step)) (length (rest_code (step_of step))) draft.old.code draft.new.code) }
+    ensures puts { OnOk result (PutsAll (rest_code (step_of step)) draft.old draft.new) }
+    ensures keeps { Keeps draft.old.code draft.new.code }
 {
     match step {
         Step::Constant(step) => match step.checked_sub(1) {

@@ -1,17 +1,17 @@
 // DELAY CASE and RECEIVE CASE: what comes before their alternatives.
-ghost use Rattle.std.specs.Prelude.{true, ◌≡◌, pos, [], ◌∷◌, map, length, IfOk, OnOk};
+ghost use Rattle.std.specs.Prelude.{◌≡◌, pos, [], ◌∷◌, length, IfOk, OnOk};
 ghost use Rattle.code_types.specs.declared.instr.Instr.TheVariants as instrs;
-ghost use Rattle.program_trees.specs.ProgramTree.{local_row_tree};
 ghost use Rattle.program_trees.specs.StatementTree.{set_tree};
 ghost use Rattle.code_scheme.specs.Pieces.{capped};
-ghost use Rattle.code_scheme.specs.StatementWaits.{set_place_code, set_place_size, set_kept, chosen_in, set_code, set_size, events_code, all_events_code, count_of_events, delay_wait_code, delay_wait_size, first_received, scalars_received, sources_code, receive_instr, nothing_code, receive_wait_code, receive_wait_size, is_chosen_code};
-ghost use Rattle.expr_gen.specs.Putting.{Appends};
-ghost use Rattle.stmt_gen.specs.Trees.{delays_of, receives_of};
-ghost use Rattle.stmt_gen.specs.Putting.{standing_of};
+ghost use Rattle.code_scheme.specs.StatementWaits.{set_place_size, set_kept, chosen_in, set_size, count_of_events, first_received, scalars_received, receive_instr, is_chosen_code};
+ghost use Rattle.stmt_gen.specs.Trees.{delays_of};
 ghost use Rattle.stmt_gen.specs.Receiving.{kind_of, waits_else};
+ghost use Rattle.expr_gen.specs.Putting.{Keeps};
+ghost use Rattle.expr_gen.specs.Puts.{PutsSome};
+ghost use Rattle.stmt_gen.specs.Puts.{PutsAllEvents, PutsDelayWait, PutsEvents, PutsNothing, PutsOneSource, PutsReceiveWait, PutsSet, PutsSetPlace, PutsSources, hearing_size, rows_around, waiting_size};
 
 use crate::around::Around;
-use checked_program::{DelayAlternative, Location, LocalRow, ReceiveAlternative};
+use checked_program::{DelayAlternative, LocalRow, Location, ReceiveAlternative};
 use code_types::Instr;
 use expr_gen::{
     Draft, PartRefusal, keep_place, local_of, offsets_kept, place_size, put_kept, put_place,
@@ -53,7 +53,8 @@ pub fn put_delay_wait(
     around: &Around,
     draft: &mut Draft,
 ) -> Result<(), PartRefusal>
-    ensures appends { OnOk result (Appends (delay_wait_code (standing_of around.now) (set_tree set.now) priority (delays_of alternatives.now) (length draft.old.code.instrs)) (delay_wait_size (set_tree set.now) (delays_of alternatives.now)) draft.old.code draft.new.code) }
+    ensures puts { OnOk result (PutsDelayWait around.now set.now priority alternatives.now draft.old draft.new) }
+    ensures keeps { Keeps draft.old.code draft.new.code }
 {
     let chosen = chosen_local(set, around)?;
     let count = uncapped(count_of_events(alternatives))?;
@@ -66,11 +67,9 @@ pub fn put_delay_wait(
 
 // Each event with the number of its alternative.
 #[tactic(auto, using(crate::proofs::Views::statement_built))]
-fn put_all_events(
-    alternatives: &[DelayAlternative],
-    draft: &mut Draft,
-) -> Result<(), PartRefusal>
-    ensures appends { OnOk result (Appends (all_events_code 0 (delays_of alternatives.now)) (length (all_events_code 0 (delays_of alternatives.now))) draft.old.code draft.new.code) }
+fn put_all_events(alternatives: &[DelayAlternative], draft: &mut Draft) -> Result<(), PartRefusal>
+    ensures puts { OnOk result (PutsAllEvents alternatives.now draft.old draft.new) }
+    ensures keeps { Keeps draft.old.code draft.new.code }
 {
     for number in 0..alternatives.len() {
         put_events(number, alternatives[number].events.as_slice(), draft)?;
@@ -80,7 +79,8 @@ fn put_all_events(
 
 // The events of the alternative of this number.
 fn put_events(number: usize, events: &[u32], draft: &mut Draft) -> Result<(), PartRefusal>
-    ensures appends { OnOk result (Appends (events_code number events.now) (length (events_code 0 events.now)) draft.old.code draft.new.code) }
+    ensures puts { OnOk result (PutsEvents number events.now draft.old draft.new) }
+    ensures keeps { Keeps draft.old.code draft.new.code }
 {
     for event in events {
         draft.put(Instr::Thing(*event))?;
@@ -91,7 +91,8 @@ fn put_events(number: usize, events: &[u32], draft: &mut Draft) -> Result<(), Pa
 
 // The number of an alternative.
 fn put_number(number: usize, draft: &mut Draft) -> Result<(), PartRefusal>
-    ensures appends { OnOk result (Appends (instrs.Push (pos number) ∷ []) 1 draft.old.code draft.new.code) }
+    ensures puts { OnOk result (PutsSome (instrs.Push (pos number) ∷ []) 1 draft.old draft.new) }
+    ensures keeps { Keeps draft.old.code draft.new.code }
 {
     match i64::try_from(number) {
         Ok(number) => draft.put(Instr::Push(number)),
@@ -101,7 +102,7 @@ fn put_number(number: usize, draft: &mut Draft) -> Result<(), PartRefusal>
 
 /// How many instructions a DELAY CASE has up to its alternatives.
 pub fn delay_wait_size(alternatives: &[DelayAlternative], set: &Option<Box<Location>>) -> u32
-    ensures { result ≡ capped (delay_wait_size (set_tree set.now) (delays_of alternatives.now)) }
+    ensures { result ≡ capped (waiting_size set.now alternatives.now) }
 {
     set_place_size(set)
         .saturating_add(count_of_events(alternatives).saturating_mul(2))
@@ -137,7 +138,8 @@ pub fn put_receive_wait(
     around: &Around,
     draft: &mut Draft,
 ) -> Result<(), PartRefusal>
-    ensures appends { OnOk result (Appends (receive_wait_code (standing_of around.now) (kind_of receives) (set_tree set.now) (receives_of alternatives.now) (waits_else receives) otherwise (length draft.old.code.instrs)) (receive_wait_size (set_tree set.now) (receives_of alternatives.now) (waits_else receives)) draft.old.code draft.new.code) }
+    ensures puts { OnOk result (PutsReceiveWait around.now set.now receives alternatives.now otherwise draft.old draft.new) }
+    ensures keeps { Keeps draft.old.code draft.new.code }
 {
     let chosen = chosen_local(set, around)?;
     let count = uncapped(counted(alternatives.len()))?;
@@ -158,7 +160,8 @@ fn put_nothing(
     otherwise: u32,
     draft: &mut Draft,
 ) -> Result<(), PartRefusal>
-    ensures appends { OnOk result (Appends (nothing_code true chosen count otherwise) 4 draft.old.code draft.new.code) }
+    ensures puts { OnOk result (PutsNothing chosen count otherwise draft.old draft.new) }
+    ensures keeps { Keeps draft.old.code draft.new.code }
 {
     draft.put(Instr::Local(chosen, 1))?;
     draft.put(Instr::Push(i64::from(count)))?;
@@ -172,7 +175,7 @@ pub fn receive_wait_size(
     set: &Option<Box<Location>>,
     has_else: bool,
 ) -> u32
-    ensures { result ≡ capped (receive_wait_size (set_tree set.now) (receives_of alternatives.now) has_else) }
+    ensures { result ≡ capped (hearing_size set.now alternatives.now has_else) }
 {
     let nothing = if has_else { 4 } else { 0 };
     set_place_size(set)
@@ -189,7 +192,8 @@ fn put_sources(
     around: &Around,
     draft: &mut Draft,
 ) -> Result<(), PartRefusal>
-    ensures appends { let rows = map local_row_tree around.now.site.body.now.locals in OnOk result (Appends (sources_code rows (receives_of alternatives.now)) (length (sources_code rows (receives_of alternatives.now))) draft.old.code draft.new.code) }
+    ensures puts { OnOk result (PutsSources around.now alternatives.now draft.old draft.new) }
+    ensures keeps { Keeps draft.old.code draft.new.code }
 {
     for alternative in alternatives {
         let received = alternative.received.as_slice();
@@ -205,7 +209,8 @@ fn put_source(
     around: &Around,
     draft: &mut Draft,
 ) -> Result<(), PartRefusal>
-    ensures appends { let rows = map local_row_tree around.now.site.body.now.locals in OnOk result (Appends (instrs.Thing source ∷ instrs.Push (pos (first_received rows received.now)) ∷ instrs.Push (pos (scalars_received rows received.now)) ∷ []) 3 draft.old.code draft.new.code) }
+    ensures puts { OnOk result (PutsOneSource around.now source received.now draft.old draft.new) }
+    ensures keeps { Keeps draft.old.code draft.new.code }
 {
     let first = first_received(received, around)?;
     let count = scalars_received(first, received, around)?;
@@ -216,7 +221,7 @@ fn put_source(
 
 // The first of the locals that get what is received, or 0 where there is none.
 fn first_received(received: &[u32], around: &Around) -> Result<u32, PartRefusal>
-    ensures { IfOk result (λ first. first ≡ first_received (map local_row_tree around.now.site.body.now.locals) received.now) }
+    ensures { IfOk result (λ n. n ≡ first_received (rows_around around.now) received.now) }
 {
     match received {
         [] => Ok(0),
@@ -226,7 +231,7 @@ fn first_received(received: &[u32], around: &Around) -> Result<u32, PartRefusal>
 
 // How many scalars these locals have, which follow each other from this one on, or Unsound where they don't.
 fn scalars_received(first: u32, received: &[u32], around: &Around) -> Result<u32, PartRefusal>
-    ensures { IfOk result (λ count. count ≡ scalars_received (map local_row_tree around.now.site.body.now.locals) received.now) }
+    ensures { IfOk result (λ n. n ≡ scalars_received (rows_around around.now) received.now) }
 {
     let mut count = 0u32;
     for number in received {
@@ -241,7 +246,7 @@ fn scalars_received(first: u32, received: &[u32], around: &Around) -> Result<u32
 
 /// The scratch local that keeps the number of the alternative; the instance stands behind it.
 pub fn chosen_local(set: &Option<Box<Location>>, around: &Around) -> Result<u32, PartRefusal>
-    ensures { IfOk result (λ chosen. chosen ≡ chosen_in around.now.free (set_tree set.now)) }
+    ensures { IfOk result (λ n. n ≡ chosen_in around.now.free (set_tree set.now)) }
 {
     uncapped(around.free.saturating_add(set_kept(set)))
 }
@@ -258,7 +263,8 @@ fn set_kept(set: &Option<Box<Location>>) -> u32
 
 /// Whether the alternative of this number is the one that is kept in this local.
 pub fn put_is_chosen(chosen: u32, number: usize, draft: &mut Draft) -> Result<(), PartRefusal>
-    ensures appends { OnOk result (Appends (is_chosen_code chosen number) 3 draft.old.code draft.new.code) }
+    ensures puts { OnOk result (PutsSome (is_chosen_code chosen number) 3 draft.old draft.new) }
+    ensures keeps { Keeps draft.old.code draft.new.code }
 {
     draft.put(Instr::Local(chosen, 1))?;
     put_number(number, draft)?;
@@ -271,7 +277,8 @@ fn put_set_place(
     around: &Around,
     draft: &mut Draft,
 ) -> Result<(), PartRefusal>
-    ensures appends { OnOk result (Appends (set_place_code (standing_of around.now) (set_tree set.now) (length draft.old.code.instrs)) (set_place_size (set_tree set.now)) draft.old.code draft.new.code) }
+    ensures puts { OnOk result (PutsSetPlace around.now set.now draft.old draft.new) }
+    ensures keeps { Keeps draft.old.code draft.new.code }
 {
     match set {
         Some(location) => {
@@ -298,7 +305,8 @@ fn put_set(
     around: &Around,
     draft: &mut Draft,
 ) -> Result<(), PartRefusal>
-    ensures appends { OnOk result (Appends (set_code (standing_of around.now) (set_tree set.now)) (set_size (set_tree set.now)) draft.old.code draft.new.code) }
+    ensures puts { OnOk result (PutsSet around.now set.now draft.old draft.new) }
+    ensures keeps { Keeps draft.old.code draft.new.code }
 {
     match set {
         Some(location) => {

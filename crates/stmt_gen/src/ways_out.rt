@@ -1,10 +1,12 @@
 // The way out of a body: what a call gives back, or the end of a process.
-ghost use Rattle.std.specs.Prelude.{◌≡◌, map, length, OnOk};
-ghost use Rattle.program_trees.specs.ProgramTree.{body_row_tree, local_row_tree};
+ghost use Rattle.std.specs.Prelude.{◌≡◌, length, OnOk};
+ghost use Rattle.program_trees.specs.ProgramTree.{body_row_tree};
 ghost use Rattle.code_scheme.specs.Pieces.{capped};
 ghost use Rattle.code_scheme.specs.StatementSite.{is_given_back};
-ghost use Rattle.code_scheme.specs.StatementPlain.{entered_by, leave_region, result_code, end_of_call, parameters_code, way_out_code};
-ghost use Rattle.expr_gen.specs.Putting.{Appends};
+ghost use Rattle.code_scheme.specs.StatementPlain.{entered_by, leave_region, result_code, end_of_call, way_out_code};
+ghost use Rattle.expr_gen.specs.Putting.{Keeps};
+ghost use Rattle.expr_gen.specs.Puts.{PutsAll};
+ghost use Rattle.stmt_gen.specs.Puts.{given_back};
 
 use checked_program::{Body, LocalRow, Parameter, Passing, Sort};
 use code_types::Instr;
@@ -19,7 +21,8 @@ pub fn critical_region(body: &Body) -> Option<u32>
 
 /// Appends the way out of a body: a process ends, a call gives back its result and its OUT and INOUT parameters.
 pub fn put_way_out(body: &Body, draft: &mut Draft) -> Result<(), PartRefusal>
-    ensures appends { let made = way_out_code (body_row_tree body.now) in OnOk result (Appends made (length made) draft.old.code draft.new.code) }
+    ensures puts { OnOk result (PutsAll (way_out_code (body_row_tree body.now)) draft.old draft.new) }
+    ensures keeps { Keeps draft.old.code draft.new.code }
 {
     match body.sort {
         Sort::Outermost | Sort::Process => draft.put(Instr::Finish),
@@ -29,19 +32,21 @@ pub fn put_way_out(body: &Body, draft: &mut Draft) -> Result<(), PartRefusal>
 
 // The region is left, and the result and the parameters are given back.
 fn put_return(body: &Body, draft: &mut Draft) -> Result<(), PartRefusal>
-    ensures appends { let made = end_of_call (body_row_tree body.now) in OnOk result (Appends made (length made) draft.old.code draft.new.code) }
+    ensures puts { OnOk result (PutsAll (end_of_call (body_row_tree body.now)) draft.old draft.new) }
+    ensures keeps { Keeps draft.old.code draft.new.code }
 {
     put_leave(critical_region(body), draft)?;
     put_own_result(body, draft)?;
     put_parameters(body.parameters.as_slice(), body.locals.as_slice(), draft)?;
     draft.put(Instr::Return)?;
-    draft.come_with(0);
+    draft.height = 0;
     Ok(())
 }
 
 // A region is left, where there is one.
 fn put_leave(region: Option<u32>, draft: &mut Draft) -> Result<(), PartRefusal>
-    ensures appends { OnOk result (Appends (leave_region region) (length (leave_region region)) draft.old.code draft.new.code) }
+    ensures puts { OnOk result (PutsAll (leave_region region) draft.old draft.new) }
+    ensures keeps { Keeps draft.old.code draft.new.code }
 {
     match region {
         Some(region) => draft.put(Instr::Leave(region)),
@@ -51,7 +56,8 @@ fn put_leave(region: Option<u32>, draft: &mut Draft) -> Result<(), PartRefusal>
 
 // The result of a body, where it has scalars.
 fn put_own_result(body: &Body, draft: &mut Draft) -> Result<(), PartRefusal>
-    ensures appends { let made = result_code (body_row_tree body.now) in OnOk result (Appends made (length made) draft.old.code draft.new.code) }
+    ensures puts { OnOk result (PutsAll (result_code (body_row_tree body.now)) draft.old draft.new) }
+    ensures keeps { Keeps draft.old.code draft.new.code }
 {
     let first = uncapped(declared_scalars(body))?;
     if result_scalars(body) > 0 {
@@ -67,7 +73,8 @@ fn put_parameters(
     locals: &[LocalRow],
     draft: &mut Draft,
 ) -> Result<(), PartRefusal>
-    ensures appends { let made = parameters_code parameters.now (map local_row_tree locals.now) in OnOk result (Appends made (length made) draft.old.code draft.new.code) }
+    ensures puts { OnOk result (PutsAll (given_back parameters.now locals.now) draft.old draft.new) }
+    ensures keeps { Keeps draft.old.code draft.new.code }
 {
     let count = parameters.len().min(locals.len());
     for _turn in 0..count {
@@ -113,7 +120,7 @@ fn return_size(body: &Body) -> u32
 
 #[tactic(auto, using(crate::proofs::Lengths::lengths))]
 fn parameters_size(parameters: &[Parameter], locals: &[LocalRow]) -> u32
-    ensures { result ≡ capped (length (parameters_code parameters.now (map local_row_tree locals.now))) }
+    ensures { result ≡ capped (length (given_back parameters.now locals.now)) }
 {
     let mut size = 0u32;
     for i in 0..parameters.len() {

@@ -50,10 +50,10 @@ leave_capped true (suc rest) = leaves true (capped (suc rest)) (omega arith) ∙
 -- where control comes and the place behind the parts is a later one, there is a jump
 pub jumps : (rest at behind : ℕ) → behind ≡ at + (leave_size true rest + rest) → (at ≡ behind → ⊥) → (leave_code true rest behind ≡ i.Jump behind ∷ []) × (leave_size true rest ≡ 1)
 jumps zero at behind e n = absurd (n (omega (arith, e)))
-jumps (suc rest) at behind e n = (refl , refl)
+jumps (suc rest) at behind e n = (refl, refl)
 
 -- where it is this one, there is none
 pub stays : (g : Bool) (rest at behind : ℕ) → behind ≡ at + (leave_size g rest + rest) → at ≡ behind → (leave_code g rest behind ≡ []) × (leave_size g rest ≡ 0)
-stays false rest at behind e n = (refl , refl)
-stays true zero at behind e n = (refl , refl)
+stays false rest at behind e n = (refl, refl)
+stays true zero at behind e n = (refl, refl)
 stays true (suc rest) at behind e n = absurd (omega (arith, e, n))
