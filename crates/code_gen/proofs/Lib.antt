@@ -1,1 +1,4 @@
 pub mod Faults
+pub mod Heights
+pub mod PlainHeights
+pub mod Appended

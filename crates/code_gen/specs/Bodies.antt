@@ -4,18 +4,8 @@ use Rattle.code_types.specs.declared.code.BodyRow.{BodyRow}
 use Rattle.code_types.specs.declared.code.Code.{Code}
 use Rattle.code_types.specs.declared.instr.Instr.{Instr}
 use Rattle.program_trees.specs.ProgramTree.{CheckedTree, BodyRowTree}
-use Rattle.code_scheme.specs.StatementCode.{CodeAt}
-use Rattle.code_scheme.specs.StatementRows.{RowsAt}
 use Rattle.code_scheme.specs.StatementSite.{Site, parameter_scalars, first_free}
 use Rattle.code_scheme.specs.BodyCode.{results_by, heads_of, greatest_height, most_locals, body_code, body_handlers, body_row, bodies_code, bodies_handlers, body_rows}
-use Rattle.expr_gen.specs.declared.building.Draft.{Draft}
-use Rattle.expr_gen.specs.declared.frames.Site.{Site as RustSite}
-use Rattle.stmt_gen.specs.Appending.{AppendsBoth}
-use Rattle.stmt_gen.specs.Putting.{site_of}
-
--- a body of a program
-abbrev pub site_tree : RustSite → Site
-site_tree site = site_of site.program.now site.body.now
 
 -- the row of a body that has these instructions, the first of them at a place
 abbrev pub row_with : Site → ℕ → List Instr → BodyRow
@@ -27,10 +17,6 @@ row_with site at is = record {
   height = greatest_height (heads_of site.program) 0 0 is;
   listed = site.body.listed;
 }
-
--- instructions and handler rows, from the present place on
-abbrev pub PutsBoth : CodeAt → RowsAt → Draft → Draft → Type 0
-PutsBoth made rows old new = AppendsBoth (made (length old.code.instrs)) (rows (length old.code.instrs)) old.code new.code
 
 -- A body and its row.
 pub record AppendsBody (site : Site) (old new : Code) : Type 0 where

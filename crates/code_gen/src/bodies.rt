@@ -10,7 +10,9 @@ ghost use Rattle.code_scheme.specs.BodyCode.{lowest_value_code, locals_code, low
 ghost use Rattle.code_scheme.specs.StatementPlain.{entered_by};
 ghost use Rattle.std.specs.declared.option.Option.TheVariants.{Some};
 ghost use Rattle.expr_gen.specs.Puts.{PutsAll};
-ghost use Rattle.code_gen.specs.Bodies.{site_tree, PutsBoth, AppendsBody, AppendsBodies};
+ghost use Rattle.stmt_gen.specs.Putting.{site_tree};
+ghost use Rattle.stmt_gen.specs.Puts.{PutsBoth};
+ghost use Rattle.code_gen.specs.Bodies.{AppendsBody, AppendsBodies};
 
 use crate::rows::row_of;
 use checked_program::{Action, Body, Checked, LocalRow, Statement};

@@ -6,7 +6,8 @@ ghost use Rattle.code_types.specs.declared.instr.Instr.TheVariants.{Call};
 ghost use Rattle.code_scheme.specs.Pieces.{capped};
 ghost use Rattle.code_scheme.specs.BodyCode.{results_by, heads_of, height_behind, greatest_height, locals_named, most_locals};
 ghost use Rattle.expr_gen.specs.Empty.{empty_code};
-ghost use Rattle.code_gen.specs.Bodies.{site_tree, row_with};
+ghost use Rattle.stmt_gen.specs.Putting.{site_tree};
+ghost use Rattle.code_gen.specs.Bodies.{row_with};
 
 use checked_program::{Body, Checked, Sort};
 use chill_base::Item;
