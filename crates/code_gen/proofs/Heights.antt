@@ -1,5 +1,5 @@
 -- What the row of a body says, found instruction by instruction.
-use Rattle.std.proofs.Common.{◌≡◌, ℕ, ◌+◌, ◌-◌, ◌<◌, ◌≤◌, max, List, length, get_or, drop, map, Some, refl, sym, ap, ◌∙◌}
+use Rattle.std.proofs.Common.{◌≡◌, ℕ, ◌+◌, ◌-◌, ◌<◌, ◌≤◌, max, List, ◌∷◌, length, get_or, drop, map, Some, add-one, drop-cons, refl, sym, ap, ◌∙◌}
 use Rattle.std.specs.Prelude.{slice_get, option_map}
 use Rattle.std.proofs.lemmas.List.{at_drop_all}
 use Rattle.std.proofs.lemmas.Option.{slice_get-map}
@@ -13,19 +13,21 @@ use Rattle.checked_program.specs.declared.program.Checked.{Checked}
 use Rattle.program_trees.specs.ProgramTree.{BodyRowTree, checked_tree, body_row_tree}
 use Rattle.code_scheme.specs.StatementSite.{parameter_scalars, call_results}
 use Rattle.code_scheme.specs.BodyCode.{head_of, heads_of, height_behind, greatest_height, locals_named, most_locals}
-use Rattle.expr_gen.proofs.Items.{item_at}
 use Rattle.expr_gen.proofs.Rows.{body_found}
 
-pub locals_turn : (n m : ℕ) (xs : List Instr) (k : ℕ) (x : Instr) → k < length xs → x ≡ get_or xs k x → m ≡ max n (locals_named x) → most_locals n (drop k xs) ≡ most_locals m (drop (k + 1) xs)
-locals_turn n m xs k x h e most = ap (most_locals n) (item_at xs k x h e) ∙ ap (λ (j : ℕ). most_locals j (drop (k + 1) xs)) (sym most)
+item_there : (xs : List Instr) (k : ℕ) (d : Instr) → k < length xs → drop k xs ≡ get_or xs k d ∷ drop (k + 1) xs
+item_there xs k d h = rw (add-one, drop-cons xs k d h) refl
+
+pub locals_turn : (n m : ℕ) (xs : List Instr) (k : ℕ) (d : Instr) → k < length xs → m ≡ max n (locals_named (get_or xs k d)) → most_locals n (drop k xs) ≡ most_locals m (drop (k + 1) xs)
+locals_turn n m xs k d h most = ap (most_locals n) (item_there xs k d h) ∙ ap (λ (j : ℕ). most_locals j (drop (k + 1) xs)) (sym most)
 
 pub locals_done : (n : ℕ) (xs : List Instr) (k : ℕ) → length xs ≤ k → most_locals n (drop k xs) ≡ n
 locals_done n xs k h = at_drop_all (most_locals n) xs k h
 
-pub heights_turn : (heads : Code) (h g i m : ℕ) (xs : List Instr) (k : ℕ) (x : Instr) → k < length xs → x ≡ get_or xs k x
-    → i ≡ height_behind heads x h → m ≡ max g i → greatest_height heads h g (drop k xs) ≡ greatest_height heads i m (drop (k + 1) xs)
-heights_turn heads h g i m xs k x there e behind most =
-    ap (greatest_height heads h g) (item_at xs k x there e)
+pub heights_turn : (heads : Code) (h g i m : ℕ) (xs : List Instr) (k : ℕ) (d : Instr) → k < length xs
+    → i ≡ height_behind heads (get_or xs k d) h → m ≡ max g i → greatest_height heads h g (drop k xs) ≡ greatest_height heads i m (drop (k + 1) xs)
+heights_turn heads h g i m xs k d there behind most =
+    ap (greatest_height heads h g) (item_there xs k d there)
     ∙ ap (λ (j : ℕ). greatest_height heads j (max g j) (drop (k + 1) xs)) (sym behind)
     ∙ ap (λ (j : ℕ). greatest_height heads i j (drop (k + 1) xs)) (sym most)
 

@@ -48,7 +48,7 @@ pub fn put_bodies(program: &Checked, draft: &mut Draft) -> Result<(), PartRefusa
 
 // A body and its row.
 fn put_body(site: Site, draft: &mut Draft) -> Result<(), PartRefusal>
-    ensures puts { OnOk result (AppendsBody (site_tree site) draft.old.code draft.new.code) }
+    ensures puts { OnOk result (AppendsBody (site_tree site.entry) draft.old.code draft.new.code) }
 {
     let first = draft.target_behind(0)?;
     put_lowest_values(site.body, draft)?;
@@ -112,7 +112,7 @@ fn are_zeroes(scalars: &[i64]) -> bool
 
 // What a body does, and its way out. A critical procedure enters its region before and leaves it behind.
 fn put_inside(site: Site, draft: &mut Draft) -> Result<(), PartRefusal>
-    ensures puts { let s = site_tree site in let r = entered_by s.body in OnOk result (PutsBoth (doing_code r s) (doing_rows r s) draft.old draft.new) }
+    ensures puts { let s = site_tree site.entry in let r = entered_by s.body in OnOk result (PutsBoth (doing_code r s) (doing_rows r s) draft.old draft.new) }
 {
     let body = site.body;
     match critical_region(body) {
@@ -138,7 +138,7 @@ fn put_some_way_out(body: &Body, draft: &mut Draft) -> Result<(), PartRefusal>
 
 // The statements of a body with their handler.
 fn put_handled(site: Site, draft: &mut Draft) -> Result<(), PartRefusal>
-    ensures puts { let s = site_tree site in OnOk result (PutsBoth (guarded_code s) (guarded_rows s) draft.old draft.new) }
+    ensures puts { let s = site_tree site.entry in OnOk result (PutsBoth (guarded_code s) (guarded_rows s) draft.old draft.new) }
 {
     let from = draft.target_behind(0)?;
     let free = uncapped(first_free(site.body))?;
@@ -196,7 +196,7 @@ fn is_set_lowest(action: &Action) -> bool
 
 // A critical procedure. An exception that it lists is raised again behind the release of the region.
 fn put_critical(site: Site, region: u32, draft: &mut Draft) -> Result<(), PartRefusal>
-    ensures puts { let s = site_tree site in let r = Some region in OnOk result (PutsBoth (doing_code r s) (doing_rows r s) draft.old draft.new) }
+    ensures puts { let s = site_tree site.entry in let r = Some region in OnOk result (PutsBoth (doing_code r s) (doing_rows r s) draft.old draft.new) }
 {
     draft.put(Instr::Enter(region))?;
     let from = draft.target_behind(0)?;

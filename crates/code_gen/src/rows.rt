@@ -1,7 +1,7 @@
 // The row of a body, found from its instructions.
 ghost use Rattle.std.specs.Prelude.{◌≡◌, IfOk};
 ghost use Rattle.program_trees.specs.ProgramTree.{checked_tree, body_row_tree};
-ghost use Rattle.code_types.specs.Places.{pops, pushes};
+ghost use Rattle.code_types.specs.Places.{pops, pushes, height_after};
 ghost use Rattle.code_types.specs.declared.instr.Instr.TheVariants.{Call};
 ghost use Rattle.code_scheme.specs.Pieces.{capped};
 ghost use Rattle.code_scheme.specs.BodyCode.{results_by, heads_of, height_behind, greatest_height, locals_named, most_locals};
@@ -18,7 +18,7 @@ use expr_gen::{
 
 /// The row of a body that has these instructions, the first of them at this place.
 pub fn row_of(site: Site, first: u32, instrs: &[Instr]) -> Result<BodyRow, PartRefusal>
-    ensures { IfOk result (λ row. row ≡ row_with (site_tree site) first instrs.now) }
+    ensures { IfOk result (λ row. row ≡ row_with (site_tree site.entry) first instrs.now) }
 {
     let params = uncapped(parameter_scalars(site.body))?;
     let least = uncapped(first_free(site.body))?;
@@ -91,8 +91,17 @@ fn height_behind(program: &Checked, instr: Instr, height: u32) -> Result<u32, Pa
     match instr {
         Instr::Return => Ok(0),
         Instr::Call(body) => height_behind_call(program, body, height),
-        _ => uncapped(height.saturating_sub(taken(instr)).saturating_add(given(instr))),
+        _ => height_behind_plain(instr, height),
     }
+}
+
+// The height behind an instruction other than Call and Return.
+fn height_behind_plain(instr: Instr, height: u32) -> Result<u32, PartRefusal>
+    ensures { IfOk result (λ behind. behind ≡ height_after empty_code 0 instr height) }
+{
+    let taken = taken(instr);
+    let given = given(instr);
+    uncapped(height.saturating_sub(taken).saturating_add(given))
 }
 
 // The height behind a call, which takes the parameters of its body and gives its results.
