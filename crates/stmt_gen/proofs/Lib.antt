@@ -1,5 +1,11 @@
+pub mod Front
 pub mod Views
 pub mod Placing
 pub mod Capping
 pub mod Made
+pub mod Marks
+pub mod Rows
+pub mod Released
+pub mod Modular
+pub mod Held
 pub mod Lengths

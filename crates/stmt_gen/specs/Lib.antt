@@ -6,4 +6,8 @@ pub mod JoiningSizes
 pub mod Joining
 pub mod Counting
 pub mod Receiving
+pub mod Holding
+pub mod HandlerRows
+pub mod Modulions
+pub mod Marking
 pub mod Puts

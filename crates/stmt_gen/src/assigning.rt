@@ -240,7 +240,7 @@ pub fn put_update(
     around: &Around,
     draft: &mut Draft,
 ) -> Result<(), PartRefusal>
-    ensures puts { OnOk result (PutsUpdate around.now target.now change draft.old draft.new) }
+    ensures puts { OnOk result (PutsUpdate around.now target.now change.entry draft.old draft.new) }
     ensures keeps { Keeps draft.old.code draft.new.code }
 {
     put_read(target, around, draft)?;
@@ -268,7 +268,7 @@ fn put_read(target: &Location, around: &Around, draft: &mut Draft) -> Result<(),
 
 /// How many instructions an assignment with an operator has.
 pub fn update_size(target: &Location, change: Change) -> u32
-    ensures { result ≡ capped (change_size target.now change) }
+    ensures { result ≡ capped (change_size target.now change.entry) }
 {
     place_size(target)
         .saturating_add(offsets_kept(target))

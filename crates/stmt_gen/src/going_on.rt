@@ -41,8 +41,9 @@ fn has_label(labelled: bool, action: &Action) -> bool
     labelled && !is_modulion(action)
 }
 
+/// Whether an action is a modulion.
 #[tactic(auto, using(crate::proofs::Views::statement_built))]
-fn is_modulion(action: &Action) -> bool
+pub fn is_modulion(action: &Action) -> bool
     ensures { result ≡ is_modulion (action_tree action.now) }
 {
     match action {

@@ -1,7 +1,7 @@
 // The rows of a handler.
 ghost use Rattle.std.specs.Prelude.{OnOk};
+ghost use Rattle.stmt_gen.specs.HandlerRows.{PutsRow, PutsRows};
 ghost use Rattle.stmt_gen.specs.Appending.{KeepsFront};
-ghost use Rattle.stmt_gen.specs.Puts.{PutsRow, PutsRowsOf};
 
 use crate::again::Span;
 use crate::going_on::go_on;
@@ -13,6 +13,7 @@ use expr_gen::{Draft, PartRefusal, Site};
 
 /// Appends the rows of a handler, of which the first one's span is known, and the place behind the handler: one row for each
 /// alternative, and one for ELSE.
+#[tactic(auto, using(crate::proofs::Front::keeping_front))]
 pub fn put_rows(
     handler: &Handler,
     first: Span,
@@ -20,11 +21,12 @@ pub fn put_rows(
     site: &Site,
     draft: &mut Draft,
 ) -> Result<(), PartRefusal>
-    ensures puts { OnOk result (PutsRowsOf site.now handler.now first behind draft.old draft.new) }
+    ensures puts { OnOk result (PutsRows site.now handler.now first behind draft.old draft.new) }
     ensures keeps { KeepsFront draft.old.code draft.new.code }
 {
     let mut target = first.target;
-    for alternative in handler.alternatives.as_slice() {
+    let alternatives = handler.alternatives.as_slice();
+    for alternative in alternatives {
         let names = alternative.exceptions.copy()?;
         put_row(first.to(target), names, false, draft)?;
         let actions = alternative.actions.as_slice();
@@ -38,6 +40,7 @@ pub fn put_rows(
 }
 
 /// Appends a row.
+#[tactic(auto, using(crate::proofs::Front::keeping_front))]
 pub fn put_row(
     span: Span,
     names: Numbers,

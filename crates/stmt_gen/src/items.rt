@@ -1,12 +1,11 @@
 // Modules and regions at their places.
 ghost use Rattle.std.specs.Prelude.{OnOk};
-ghost use Rattle.program_trees.specs.StatementTree.{handler_of};
 ghost use Rattle.stmt_gen.specs.Appending.{KeepsFront};
-ghost use Rattle.stmt_gen.specs.Puts.{PutsGuard, PutsItem, PutsItems, PutsModule, PutsRegion};
+ghost use Rattle.stmt_gen.specs.Modulions.{PutsItems, PutsItem, PutsModule, PutsRegion, PutsSomeHandler};
 
 use crate::again::{put_again, raised_between};
 use crate::around::Around;
-use crate::going_on::{go_on, goes_on};
+use crate::going_on::{go_on, goes_on, is_modulion};
 use crate::statements::{put_handler, put_statement, put_statements};
 use checked_program::{Action, Handler, Statement};
 use code_types::Instr;
@@ -14,8 +13,13 @@ use expr_gen::{Draft, PartRefusal};
 
 /// Appends the code of what the outermost process does: statements, modules and regions in their order, as far as
 /// control comes.
+#[tactic(auto, using(crate::proofs::Front::keeping_front))]
 #[cycle(item)]
-pub fn put_items(items: &[Statement], around: &Around, draft: &mut Draft) -> Result<(), PartRefusal>
+pub fn put_items(
+    items: &[Statement],
+    around: &Around,
+    draft: &mut Draft,
+) -> Result<(), PartRefusal>
     ensures puts { OnOk result (PutsItems around.now items.now draft.old draft.new) }
     ensures keeps { KeepsFront draft.old.code draft.new.code }
 {
@@ -29,9 +33,23 @@ pub fn put_items(items: &[Statement], around: &Around, draft: &mut Draft) -> Res
 }
 
 // A modulion with its handler, or a statement.
-#[tactic(auto, using(crate::proofs::Views::statement_built))]
+#[tactic(auto, using(crate::proofs::Front::keeping_front))]
 #[cycle(item)]
 fn put_item(item: &Statement, around: &Around, draft: &mut Draft) -> Result<(), PartRefusal>
+    ensures puts { OnOk result (PutsItem around.now item.now draft.old draft.new) }
+    ensures keeps { KeepsFront draft.old.code draft.new.code }
+{
+    if is_modulion(&item.action) {
+        put_modulion(item, around, draft)
+    } else {
+        put_statement(item, around, draft)
+    }
+}
+
+// A modulion with its handler. What is none is unsound.
+#[tactic(auto, using(crate::proofs::Front::keeping_front))]
+#[cycle(item)]
+fn put_modulion(item: &Statement, around: &Around, draft: &mut Draft) -> Result<(), PartRefusal>
     ensures puts { OnOk result (PutsItem around.now item.now draft.old draft.new) }
     ensures keeps { KeepsFront draft.old.code draft.new.code }
 {
@@ -41,11 +59,12 @@ fn put_item(item: &Statement, around: &Around, draft: &mut Draft) -> Result<(), 
             let initialisations = actions.as_slice();
             put_region(*region, initialisations, &item.handler, around, draft)
         }
-        _ => put_statement(item, around, draft),
+        _ => Err(PartRefusal::Unsound),
     }
 }
 
 // A module with its handler.
+#[tactic(auto, using(crate::proofs::Front::keeping_front))]
 #[cycle(item)]
 fn put_module(
     items: &[Statement],
@@ -62,6 +81,7 @@ fn put_module(
 }
 
 // The handler of what stands from this place up to the present one, where it has one.
+#[tactic(auto, using(crate::proofs::Front::keeping_front))]
 fn put_some_handler(
     handler: &Option<Box<Handler>>,
     from: u32,
@@ -69,7 +89,9 @@ fn put_some_handler(
     around: &Around,
     draft: &mut Draft,
 ) -> Result<(), PartRefusal>
-    ensures puts { OnOk result (PutsGuard around.now (handler_of handler.now) comes from draft.old draft.new) }
+    ensures puts {
+        OnOk result (PutsSomeHandler around.now handler.now from comes draft.old draft.new)
+    }
     ensures keeps { KeepsFront draft.old.code draft.new.code }
 {
     match handler {
@@ -80,6 +102,7 @@ fn put_some_handler(
 
 // The initialisations of a region with its handler. The region is released behind them, also where an exception goes out
 // of them.
+#[tactic(auto, using(crate::proofs::Front::keeping_front))]
 fn put_region(
     region: u32,
     initialisations: &[Statement],
@@ -87,7 +110,10 @@ fn put_region(
     around: &Around,
     draft: &mut Draft,
 ) -> Result<(), PartRefusal>
-    ensures puts { OnOk result (PutsRegion around.now region initialisations.now handler.now draft.old draft.new) }
+    ensures puts {
+        OnOk result
+        (PutsRegion around.now region initialisations.now handler.now draft.old draft.new)
+    }
     ensures keeps { KeepsFront draft.old.code draft.new.code }
 {
     draft.put(Instr::Enter(region))?;

@@ -1,10 +1,11 @@
 // Actions that hold no statements.
-ghost use Rattle.std.specs.Prelude.{◌≡◌, ◌+◌, OnOk};
+ghost use Rattle.std.specs.Prelude.{◌≡◌, ◌+◌, false, OnOk};
 ghost use Rattle.program_trees.specs.ExprTree.{call_tree, start_tree};
+ghost use Rattle.program_trees.specs.StatementTree.{action_tree};
 ghost use Rattle.code_scheme.specs.Pieces.{capped};
 ghost use Rattle.code_scheme.specs.ExprSizes.{start_size};
 ghost use Rattle.code_scheme.specs.StatementPlain.{perform_size, dropped_scalars, drop_code};
-ghost use Rattle.stmt_gen.specs.Putting.{site_tree};
+ghost use Rattle.stmt_gen.specs.Putting.{site_tree, holds_statements};
 ghost use Rattle.expr_gen.specs.Putting.{Keeps};
 ghost use Rattle.expr_gen.specs.Puts.{PutsAll};
 ghost use Rattle.stmt_gen.specs.Puts.{IsAskingSize, IsPlainSize, PutsAssert, PutsDropped, PutsDroppedStart, PutsExit, PutsPerform, PutsPlainAction, PutsTaken};
@@ -29,6 +30,7 @@ const ASSERTFAIL: u32 = 3;
 #[tactic(auto, using(crate::proofs::Views::statement_built))]
 pub fn put_plain(action: &Action, around: &Around, draft: &mut Draft) -> Result<(), PartRefusal>
     ensures puts { OnOk result (PutsPlainAction around.now action.now draft.old draft.new) }
+    ensures plain { OnOk result (holds_statements (action_tree action.now) ≡ false) }
     ensures keeps { Keeps draft.old.code draft.new.code }
 {
     match action {
@@ -65,6 +67,7 @@ pub fn put_plain(action: &Action, around: &Around, draft: &mut Draft) -> Result<
 #[tactic(auto, using(crate::proofs::Views::statement_built))]
 fn put_asking(action: &Action, around: &Around, draft: &mut Draft) -> Result<(), PartRefusal>
     ensures puts { OnOk result (PutsPlainAction around.now action.now draft.old draft.new) }
+    ensures plain { OnOk result (holds_statements (action_tree action.now) ≡ false) }
     ensures keeps { Keeps draft.old.code draft.new.code }
 {
     match action {

@@ -1,7 +1,7 @@
 // Statements: one recursion over them, with the handlers and the alternatives in them.
 ghost use Rattle.std.specs.Prelude.{OnOk};
 ghost use Rattle.stmt_gen.specs.Appending.{KeepsFront};
-ghost use Rattle.stmt_gen.specs.Puts.{PutsAction, PutsCases, PutsChoice, PutsChoices, PutsChosen, PutsDelays, PutsGuarded, PutsHandled, PutsHandler, PutsJoining, PutsLoop, PutsOtherwise, PutsReceiveCase, PutsReceives, PutsStatement, PutsStatements, PutsWaiting};
+ghost use Rattle.stmt_gen.specs.Holding.{PutsStatements, PutsStatement, PutsGuarded, PutsAction, PutsActionTo, PutsHandler, PutsHandled, PutsOtherwise, PutsJoining, PutsChosen, PutsChoice, PutsChoices, PutsCases, PutsDo, PutsDelays, PutsReceives, PutsReceiveCase};
 
 use crate::again::Span;
 use crate::around::{Around, with_exit};
@@ -28,6 +28,7 @@ use expr_gen::{Branch, Draft, PartRefusal, put_condition};
 const RANGEFAIL: u32 = 1;
 
 /// Appends the code of statements, as far as control comes.
+#[tactic(auto, using(crate::proofs::Front::keeping_front))]
 #[cycle(statement)]
 pub fn put_statements(
     statements: &[Statement],
@@ -47,6 +48,7 @@ pub fn put_statements(
 }
 
 /// Appends the code of a statement, whose label encloses its handler too.
+#[tactic(auto, using(crate::proofs::Front::keeping_front))]
 #[cycle(statement)]
 pub fn put_statement(
     statement: &Statement,
@@ -70,9 +72,13 @@ pub fn put_statement(
 }
 
 // An action with its handler.
-#[tactic(auto, using(crate::proofs::Views::statement_built))]
+#[tactic(auto, using(crate::proofs::Front::keeping_front))]
 #[cycle(statement)]
-fn put_guarded(statement: &Statement, around: &Around, draft: &mut Draft) -> Result<(), PartRefusal>
+fn put_guarded(
+    statement: &Statement,
+    around: &Around,
+    draft: &mut Draft,
+) -> Result<(), PartRefusal>
     ensures puts { OnOk result (PutsGuarded around.now statement.now draft.old draft.new) }
     ensures keeps { KeepsFront draft.old.code draft.new.code }
 {
@@ -89,7 +95,7 @@ fn put_guarded(statement: &Statement, around: &Around, draft: &mut Draft) -> Res
 
 /// Appends a handler of what stands from this place up to the present one, and control goes on behind it. It is told
 /// whether control comes from there.
-#[tactic(auto, using(crate::proofs::Views::statement_built))]
+#[tactic(auto, using(crate::proofs::Front::keeping_front))]
 #[cycle(statement)]
 pub fn put_handler(
     handler: &Handler,
@@ -98,7 +104,7 @@ pub fn put_handler(
     around: &Around,
     draft: &mut Draft,
 ) -> Result<(), PartRefusal>
-    ensures puts { OnOk result (PutsHandler around.now handler.now comes from draft.old draft.new) }
+    ensures puts { OnOk result (PutsHandler around.now handler.now from comes draft.old draft.new) }
     ensures keeps { KeepsFront draft.old.code draft.new.code }
 {
     let until = draft.target_behind(0)?;
@@ -112,17 +118,11 @@ pub fn put_handler(
     };
     put_rows(handler, span, behind, &around.site, draft)?;
     put_leaving(comes, behind, draft)?;
-    put_handled(
-        handler.alternatives.as_slice(),
-        &handler.otherwise,
-        behind,
-        around,
-        draft,
-    )
+    put_handled(handler.alternatives.as_slice(), &handler.otherwise, behind, around, draft)
 }
 
 // The alternatives of a handler, with ELSE.
-#[tactic(auto, using(crate::proofs::Views::statement_built))]
+#[tactic(auto, using(crate::proofs::Front::keeping_front))]
 #[cycle(statement)]
 fn put_handled(
     alternatives: &[HandlerAlternative],
@@ -131,7 +131,10 @@ fn put_handled(
     around: &Around,
     draft: &mut Draft,
 ) -> Result<(), PartRefusal>
-    ensures puts { OnOk result (PutsHandled around.now alternatives.now otherwise.now behind draft.old draft.new) }
+    ensures puts {
+        OnOk result
+        (PutsHandled around.now alternatives.now otherwise.now behind draft.old draft.new)
+    }
     ensures keeps { KeepsFront draft.old.code draft.new.code }
 {
     for alternative in alternatives {
@@ -141,6 +144,7 @@ fn put_handled(
 }
 
 // What is done by ELSE, where it is written.
+#[tactic(auto, using(crate::proofs::Front::keeping_front))]
 #[cycle(statement)]
 fn put_otherwise(
     otherwise: &Option<List<Statement>>,
@@ -157,6 +161,7 @@ fn put_otherwise(
 }
 
 // Actions, behind which control goes on at a place.
+#[tactic(auto, using(crate::proofs::Front::keeping_front))]
 #[cycle(statement)]
 fn put_joining(
     actions: &[Statement],
@@ -172,6 +177,7 @@ fn put_joining(
 }
 
 // Actions that are done where the Boolean on top is TRUE, and behind which control goes on at a place.
+#[tactic(auto, using(crate::proofs::Front::keeping_front))]
 #[cycle(statement)]
 fn put_chosen(
     actions: &[Statement],
@@ -188,7 +194,7 @@ fn put_chosen(
 }
 
 // The code of an action.
-#[tactic(auto, using(crate::proofs::Views::statement_built))]
+#[tactic(auto, using(crate::proofs::Front::keeping_front))]
 #[cycle(statement)]
 fn put_action(action: &Action, around: &Around, draft: &mut Draft) -> Result<(), PartRefusal>
     ensures puts { OnOk result (PutsAction around.now action.now draft.old draft.new) }
@@ -197,13 +203,7 @@ fn put_action(action: &Action, around: &Around, draft: &mut Draft) -> Result<(),
     let behind = draft.target_behind(action_size(action, &around.site))?;
     match action {
         Action::If { choices, otherwise } => {
-            put_choices(
-                choices.as_slice(),
-                otherwise.as_slice(),
-                behind,
-                around,
-                draft,
-            )
+            put_choices(choices.as_slice(), otherwise.as_slice(), behind, around, draft)
         }
         Action::Do { control, actions } => {
             put_do(actions.as_slice(), control, behind, around, draft)
@@ -222,7 +222,7 @@ fn put_action(action: &Action, around: &Around, draft: &mut Draft) -> Result<(),
 }
 
 // The code of an action that may wait for one of several, behind which is this place, or of one without statements.
-#[tactic(auto, using(crate::proofs::Views::statement_built))]
+#[tactic(auto, using(crate::proofs::Front::keeping_front))]
 #[cycle(statement)]
 fn put_waiting(
     action: &Action,
@@ -230,7 +230,7 @@ fn put_waiting(
     around: &Around,
     draft: &mut Draft,
 ) -> Result<(), PartRefusal>
-    ensures puts { OnOk result (PutsWaiting around.now action.now behind draft.old draft.new) }
+    ensures puts { OnOk result (PutsActionTo around.now action.now behind draft.old draft.new) }
     ensures keeps { KeepsFront draft.old.code draft.new.code }
 {
     match action {
@@ -280,6 +280,7 @@ struct Wait<'a> {
 }
 
 // A RECEIVE CASE: the wait, the alternatives and ELSE.
+#[tactic(auto, using(crate::proofs::Front::keeping_front))]
 #[cycle(statement)]
 fn put_receive_case(
     alternatives: &[ReceiveAlternative],
@@ -288,30 +289,17 @@ fn put_receive_case(
     around: &Around,
     draft: &mut Draft,
 ) -> Result<(), PartRefusal>
-    ensures puts { OnOk result (PutsReceiveCase around.now wait alternatives.now otherwise.now draft.old draft.new) }
+    ensures puts {
+        OnOk result
+        (PutsReceiveCase around.now alternatives.now otherwise.now wait.entry draft.old draft.new)
+    }
     ensures keeps { KeepsFront draft.old.code draft.new.code }
 {
     let last = otherwise_size(otherwise, 0, &around.site);
     let nothing = wait.behind.saturating_sub(last);
-    put_receive_wait(
-        alternatives,
-        wait.set,
-        wait.receives,
-        nothing,
-        around,
-        draft,
-    )?;
+    put_receive_wait(alternatives, wait.set, wait.receives, nothing, around, draft)?;
     let chosen = chosen_local(wait.set, around)?;
-    put_receives(
-        alternatives,
-        otherwise,
-        Kept {
-            chosen,
-            behind: wait.behind,
-        },
-        around,
-        draft,
-    )
+    put_receives(alternatives, otherwise, Kept { chosen, behind: wait.behind }, around, draft)
 }
 
 // The scratch local that keeps the number of the chosen alternative, and the place behind all alternatives.
@@ -322,7 +310,7 @@ struct Kept {
 }
 
 // The conditions of an IF with their actions, and ELSE.
-#[tactic(auto, using(crate::proofs::Views::statement_built))]
+#[tactic(auto, using(crate::proofs::Front::keeping_front))]
 #[cycle(statement)]
 fn put_choices(
     choices: &[Choice],
@@ -331,7 +319,9 @@ fn put_choices(
     around: &Around,
     draft: &mut Draft,
 ) -> Result<(), PartRefusal>
-    ensures puts { OnOk result (PutsChoices around.now choices.now otherwise.now behind draft.old draft.new) }
+    ensures puts {
+        OnOk result (PutsChoices around.now choices.now otherwise.now behind draft.old draft.new)
+    }
     ensures keeps { KeepsFront draft.old.code draft.new.code }
 {
     for choice in choices {
@@ -341,7 +331,7 @@ fn put_choices(
 }
 
 // A condition, and the actions that are done where it is TRUE.
-#[tactic(auto, using(crate::proofs::Views::statement_built))]
+#[tactic(auto, using(crate::proofs::Front::keeping_front))]
 #[cycle(statement)]
 fn put_choice(
     choice: &Choice,
@@ -363,7 +353,7 @@ fn put_choice(
 }
 
 // The alternatives of a CASE, whose selector is kept. What no label holds raises, where nothing is written for it.
-#[tactic(auto, using(crate::proofs::Views::statement_built))]
+#[tactic(auto, using(crate::proofs::Front::keeping_front))]
 #[cycle(statement)]
 fn put_cases(
     alternatives: &[CaseAlternative],
@@ -372,7 +362,9 @@ fn put_cases(
     around: &Around,
     draft: &mut Draft,
 ) -> Result<(), PartRefusal>
-    ensures puts { OnOk result (PutsCases around.now alternatives.now otherwise.now behind draft.old draft.new) }
+    ensures puts {
+        OnOk result (PutsCases around.now alternatives.now otherwise.now behind draft.old draft.new)
+    }
     ensures keeps { KeepsFront draft.old.code draft.new.code }
 {
     for alternative in alternatives {
@@ -386,6 +378,7 @@ fn put_cases(
 }
 
 // A loop, behind which is this place.
+#[tactic(auto, using(crate::proofs::Front::keeping_front))]
 #[cycle(statement)]
 fn put_do(
     actions: &[Statement],
@@ -394,7 +387,9 @@ fn put_do(
     around: &Around,
     draft: &mut Draft,
 ) -> Result<(), PartRefusal>
-    ensures puts { OnOk result (PutsLoop around.now control.now actions.now behind draft.old draft.new) }
+    ensures puts {
+        OnOk result (PutsDo around.now control.now actions.now behind draft.old draft.new)
+    }
     ensures keeps { KeepsFront draft.old.code draft.new.code }
 {
     let inside = around.taking(locals_kept(control))?;
@@ -410,7 +405,7 @@ fn put_do(
 }
 
 // The alternatives of a DELAY CASE, of which the chosen one's number is kept.
-#[tactic(auto, using(crate::proofs::Views::statement_built))]
+#[tactic(auto, using(crate::proofs::Front::keeping_front))]
 #[cycle(statement)]
 fn put_delays(
     alternatives: &[DelayAlternative],
@@ -419,23 +414,20 @@ fn put_delays(
     around: &Around,
     draft: &mut Draft,
 ) -> Result<(), PartRefusal>
-    ensures puts { OnOk result (PutsDelays around.now alternatives.now chosen behind draft.old draft.new) }
+    ensures puts {
+        OnOk result (PutsDelays around.now alternatives.now chosen behind draft.old draft.new)
+    }
     ensures keeps { KeepsFront draft.old.code draft.new.code }
 {
     for number in 0..alternatives.len() {
         put_is_chosen(chosen, number, draft)?;
-        put_chosen(
-            alternatives[number].actions.as_slice(),
-            behind,
-            around,
-            draft,
-        )?;
+        put_chosen(alternatives[number].actions.as_slice(), behind, around, draft)?;
     }
     Ok(())
 }
 
 // The alternatives of a RECEIVE CASE, of which the chosen one's number is kept, and ELSE.
-#[tactic(auto, using(crate::proofs::Views::statement_built))]
+#[tactic(auto, using(crate::proofs::Front::keeping_front))]
 #[cycle(statement)]
 fn put_receives(
     alternatives: &[ReceiveAlternative],
@@ -444,17 +436,15 @@ fn put_receives(
     around: &Around,
     draft: &mut Draft,
 ) -> Result<(), PartRefusal>
-    ensures puts { OnOk result (PutsReceives around.now alternatives.now otherwise.now kept draft.old draft.new) }
+    ensures puts {
+        OnOk result
+        (PutsReceives around.now alternatives.now otherwise.now kept draft.old draft.new)
+    }
     ensures keeps { KeepsFront draft.old.code draft.new.code }
 {
     for number in 0..alternatives.len() {
         put_is_chosen(kept.chosen, number, draft)?;
-        put_chosen(
-            alternatives[number].actions.as_slice(),
-            kept.behind,
-            around,
-            draft,
-        )?;
+        put_chosen(alternatives[number].actions.as_slice(), kept.behind, around, draft)?;
     }
     put_otherwise(otherwise, around, draft)
 }
