@@ -1,24 +1,34 @@
 -- What is appended for a body, part after part.
-use Rattle.std.proofs.Common.{◌≡◌, ℕ, zero, ◌+◌, ◌-◌, Bool, List, [], ◌∷◌, ◌++◌, length, take, drop, Option, Some, None, refl, sym, ap, subst, ◌∙◌, arith, append_assoc, length-append}
-use Rattle.std.specs.Prelude.{filter}
-use Rattle.std.proofs.lemmas.List.{append-nil}
+use Rattle.std.proofs.Common.{◌≡◌, ℕ, ◌+◌, ◌-◌, ◌<◌, ◌≤◌, min, Bool, List, [], ◌∷◌, ◌++◌, length, take, drop, get_or, map, inl, inr, Option, Some, None, refl, sym, ap, subst, ◌∙◌, arith, append_assoc, length-append, length-drop}
+use Rattle.std.specs.Prelude.{filter, option_map}
+use Rattle.std.specs.declared.alloc.Global.{Global}
+use Rattle.std.specs.declared.rc.Rc.{Rc}
+use Rattle.std.proofs.lemmas.Bool.{cases_lt}
+use Rattle.std.proofs.lemmas.List.{append-nil, at_drop_all, drop-map, take_all}
 use Rattle.std.proofs.Math.Seq.{drop-append_seam, take-append_seam}
 use Rattle.code_types.specs.declared.code.BodyRow.{BodyRow}
 use Rattle.code_types.specs.declared.code.Code.{Code}
 use Rattle.code_types.specs.declared.code.Handler.{Handler}
 use Rattle.code_types.specs.declared.instr.Instr.{Instr}
 use Rattle.code_types.specs.declared.instr.Instr.TheVariants as i
-use Rattle.program_trees.specs.ProgramTree.{CheckedTree, BodyRowTree}
+use Rattle.modes.specs.declared.mode.Mode.{Mode}
+use Rattle.modes.specs.ModeTree.{mode_tree}
+use Rattle.modes.specs.Scalars.{lowest_of}
+use Rattle.checked_program.specs.declared.program.Body.{Body}
+use Rattle.checked_program.specs.declared.program.LocalRow.{LocalRow}
+use Rattle.program_trees.specs.ProgramTree.{CheckedTree, BodyRowTree, LocalRowTree, body_row_tree, local_row_tree, shared_mode}
 use Rattle.program_trees.specs.StatementTree.{StatementNodes, HandlerNode, no_handler}
-use Rattle.code_scheme.specs.StatementSite.{Site, Standing}
+use Rattle.code_scheme.specs.StatementSite.{Site, Standing, declared_scalars}
 use Rattle.code_scheme.specs.StatementGoing.{go_on}
 use Rattle.code_scheme.specs.StatementCode.{CodeAt, handler_code}
 use Rattle.code_scheme.specs.StatementRows.{RowsAt, handler_rows}
 use Rattle.code_scheme.specs.StatementPlain.{entered_by}
 use Rattle.code_scheme.specs.BodyItems.{is_among, raised_in, raise_again_code, raise_again_rows, items_code, items_rows}
-use Rattle.code_scheme.specs.BodyCode.{standing_in, behind_lowest, items_of, guarded_code, guarded_rows, end_code, lowest_code, raised_again, doing_code, doing_rows, body_code, body_handlers, body_row, site_in, bodies_code, bodies_handlers, body_rows, code_of}
+use Rattle.code_scheme.specs.BodyCode.{standing_in, behind_lowest, items_of, guarded_code, guarded_rows, end_code, lowest_value_code, locals_code, lowest_result_code, lowest_code, raised_again, doing_code, doing_rows, body_code, body_handlers, body_row, site_in, bodies_code, bodies_handlers, body_rows, code_of}
 use Rattle.expr_gen.specs.Empty.{empty_code}
 use Rattle.expr_gen.specs.Putting.{Appends, Puts}
+use Rattle.expr_gen.proofs.Appending.{and_then, resized}
+use Rattle.expr_gen.proofs.Items.{item_at}
 use Rattle.stmt_gen.specs.Appending.{AppendsAt, AppendsBoth}
 use Rattle.code_gen.specs.Bodies.{row_with, AppendsBody, AppendsBodies}
 
@@ -39,6 +49,43 @@ both_then {a} {b} {r} {s} {x} {y} {z} p q = record {
 
 pub length_behind : {a : List Instr} {r : List Handler} {x y : Code} → AppendsBoth a r x y → length y.instrs ≡ length x.instrs + length a
 length_behind {a} {r} {x} {y} p = ap length p.instrs ∙ length-append x.instrs a
+
+-- ---- lowest values
+
+-- no more parameters are left out than there are locals
+left_out : (xs : List LocalRow) (k : ℕ) → drop (min k (length xs)) xs ≡ drop k xs
+left_out xs k = elim (cases_lt k (length xs)) [
+  | inl p ↦ (let e : min k (length xs) ≡ k = omega (arith, p) in ap (λ (n : ℕ). drop n xs) e)
+  | inr p ↦ (let e : length xs ≤ min k (length xs) = omega (arith, p) in at_drop_all (λ (ys : List LocalRow). ys) xs (min k (length xs)) e ∙ sym (at_drop_all (λ (ys : List LocalRow). ys) xs k p))
+]
+
+pub rows_left : (xs ys : List LocalRow) (k n : ℕ) → ys ≡ xs → n ≡ min k (length ys) → map local_row_tree (take (length ys - n) (drop n ys)) ≡ drop k (map local_row_tree xs)
+rows_left xs ys k n same count =
+    ap (λ (zs : List LocalRow). map local_row_tree zs) (take_all (length ys - n) (drop n ys) (omega (arith, length-drop n ys)))
+    ∙ ap (λ (m : ℕ). map local_row_tree (drop m ys)) count
+    ∙ ap (λ (zs : List LocalRow). map local_row_tree zs) (left_out ys k ∙ ap (λ (zs : List LocalRow). drop k zs) same)
+    ∙ sym (drop-map local_row_tree k xs)
+
+pub some_lowest : (body : Body) (mode : Rc Mode Global) (m : Mode) (first : ℕ) → body.result ≡ Some mode → m ≡ mode.value → first ≡ declared_scalars (body_row_tree body)
+    → lowest_value_code (lowest_of (mode_tree m)) first ≡ lowest_result_code (body_row_tree body).result (declared_scalars (body_row_tree body))
+some_lowest body mode m first is same count =
+    ap (λ (k : ℕ). lowest_value_code (lowest_of (mode_tree m)) k) count
+    ∙ ap (λ (n : Mode). lowest_value_code (lowest_of (mode_tree n)) (declared_scalars (body_row_tree body))) same
+    ∙ sym (ap (λ (o : Option (Rc Mode Global)). lowest_result_code (option_map shared_mode o) (declared_scalars (body_row_tree body))) is)
+
+pub no_lowest : (body : Body) → body.result ≡ None → [] ≡ lowest_result_code (body_row_tree body).result (declared_scalars (body_row_tree body))
+no_lowest body is = sym (ap (λ (o : Option (Rc Mode Global)). lowest_result_code (option_map shared_mode o) (declared_scalars (body_row_tree body))) is)
+
+pub lowest_told : (b : BodyRowTree) (rows : List LocalRowTree) (rest : List Instr) (n : ℕ) {x y z : Code}
+    → rows ≡ drop (length b.parameters) b.locals → rest ≡ lowest_result_code b.result (declared_scalars b)
+    → Appends (locals_code rows) (length (locals_code rows)) x y → Appends rest n y z → n ≡ length rest
+    → Appends (lowest_code b) (length (lowest_code b)) x z
+lowest_told b rows rest n {x} {y} {z} left last p q many =
+    let all : Appends (locals_code rows ++ rest) (length (locals_code rows ++ rest)) x z =
+    resized (let e : length (locals_code rows) + n ≡ length (locals_code rows ++ rest) = omega (arith, length-append (locals_code rows) rest, many) in e) (and_then p q) in
+    let whole : locals_code rows ++ rest ≡ lowest_code b =
+    ap (λ (rs : List LocalRowTree). locals_code rs ++ rest) left ∙ ap (λ (is : List Instr). locals_code (drop (length b.parameters) b.locals) ++ is) last in
+    subst (λ (is : List Instr). Appends is (length is) x z) whole all
 
 -- ---- the statements of a body with its handler
 
@@ -181,6 +228,16 @@ bodies_done {p} {all} {x} {y} l = record {
   handlers = sym (append-nil y.handlers) ∙ l.handlers;
   bodies = sym (append-nil y.bodies) ∙ l.bodies;
 }
+
+pub bodies_at : (p : CheckedTree) (all : List BodyRowTree) (xs : List Body) (k : ℕ) (it : Body) {x y z : Code} → k < length xs → it ≡ get_or xs k it
+    → BodiesLeft p all (map body_row_tree (drop k xs)) x y → AppendsBody (site_in p (body_row_tree it)) y z
+    → BodiesLeft p all (map body_row_tree (drop (k + 1) xs)) x z
+bodies_at p all xs k it {x} {y} {z} h e l q =
+    bodies_turn (body_row_tree it) (map body_row_tree (drop (k + 1) xs)) (subst (λ (bs : List Body). BodiesLeft p all (map body_row_tree bs) x y) (item_at xs k it h e) l) q
+
+pub bodies_end : (p : CheckedTree) (all : List BodyRowTree) (xs : List Body) (k : ℕ) {x y : Code} → length xs ≤ k
+    → BodiesLeft p all (map body_row_tree (drop k xs)) x y → AppendsBodies p all x y
+bodies_end p all xs k {x} {y} h l = bodies_done (subst (λ (bs : List BodyRowTree). BodiesLeft p all bs x y) (at_drop_all (map body_row_tree) xs k h) l)
 
 -- ---- the code of a program
 

@@ -1,5 +1,5 @@
 // The bodies of a program.
-ghost use Rattle.std.specs.Prelude.{◌≡◌, ◌≤◌, ◌<◌, pos, map, length, OnOk};
+ghost use Rattle.std.specs.Prelude.{◌≡◌, ◌≤◌, ◌<◌, pos, map, drop, length, Some, None, OnOk};
 ghost use Rattle.std.specs.List.{list_all};
 ghost use Rattle.modes.specs.ModeTree.{mode_tree};
 ghost use Rattle.modes.specs.Scalars.{lowest_of};
@@ -8,10 +8,9 @@ ghost use Rattle.program_trees.specs.ProgramTree.{checked_tree, body_row_tree, l
 ghost use Rattle.code_scheme.specs.Pieces.{are_same};
 ghost use Rattle.code_scheme.specs.BodyCode.{lowest_value_code, locals_code, lowest_code, is_set_lowest, sets_lowest, behind_lowest, guarded_code, guarded_rows, end_code, doing_code, doing_rows};
 ghost use Rattle.code_scheme.specs.StatementPlain.{entered_by};
-ghost use Rattle.std.specs.declared.option.Option.TheVariants.{Some};
 ghost use Rattle.expr_gen.specs.Puts.{PutsAll};
 ghost use Rattle.stmt_gen.specs.Putting.{site_tree};
-ghost use Rattle.stmt_gen.specs.Puts.{PutsBoth};
+ghost use Rattle.stmt_gen.specs.Modulions.{PutsBoth};
 ghost use Rattle.code_gen.specs.Bodies.{AppendsBody, AppendsBodies};
 
 use crate::rows::row_of;
@@ -36,14 +35,22 @@ pub fn put_bodies(program: &Checked, draft: &mut Draft) -> Result<(), PartRefusa
     if program.bodies.is_empty() {
         return Err(PartRefusal::Unsound);
     }
-    for body in program.bodies.as_slice() {
-        put_body(Site { program, body }, draft)?;
-    }
+    put_all(program, program.bodies.as_slice(), draft)?;
     if draft.code.instrs.len() < GREATEST_LENGTH {
         Ok(())
     } else {
         Err(PartRefusal::Memory)
     }
+}
+
+// Bodies of a program with their rows, one behind the other.
+fn put_all(program: &Checked, bodies: &[Body], draft: &mut Draft) -> Result<(), PartRefusal>
+    ensures puts { let bs = map body_row_tree bodies.now in OnOk result (AppendsBodies (checked_tree program.now) bs draft.old.code draft.new.code) }
+{
+    for body in bodies {
+        put_body(Site { program, body }, draft)?;
+    }
+    Ok(())
 }
 
 // A body and its row.
@@ -53,10 +60,17 @@ fn put_body(site: Site, draft: &mut Draft) -> Result<(), PartRefusal>
     let first = draft.target_behind(0)?;
     put_lowest_values(site.body, draft)?;
     put_inside(site, draft)?;
-    let instrs = draft.code.instrs.as_slice();
-    let row = row_of(site, first, &instrs[first as usize..])?;
+    let row = row_of(site, first, instrs_from(draft, first))?;
     draft.code.bodies.push(row)?;
     Ok(())
+}
+
+// The instructions of a draft from a place on.
+fn instrs_from(draft: &Draft, first: u32) -> &[Instr]
+    requires { first ≤ length draft.now.code.instrs }
+    ensures { result.now ≡ drop first draft.now.code.instrs }
+{
+    &draft.code.instrs.as_slice()[first as usize..]
 }
 
 // The locals behind the parameters and the result get their lowest values.
@@ -114,15 +128,18 @@ fn are_zeroes(scalars: &[i64]) -> bool
 fn put_inside(site: Site, draft: &mut Draft) -> Result<(), PartRefusal>
     ensures puts { let s = site_tree site.entry in let r = entered_by s.body in OnOk result (PutsBoth (doing_code r s) (doing_rows r s) draft.old draft.new) }
 {
-    let body = site.body;
-    match critical_region(body) {
+    match critical_region(site.body) {
         Some(region) => put_critical(site, region, draft),
-        None if body.critical => Err(PartRefusal::Unsound),
-        None => {
-            put_handled(site, draft)?;
-            put_some_way_out(body, draft)
-        }
+        None => put_plain(site, draft),
     }
+}
+
+// A body that enters no region.
+fn put_plain(site: Site, draft: &mut Draft) -> Result<(), PartRefusal>
+    ensures puts { let s = site_tree site.entry in OnOk result (PutsBoth (doing_code None s) (doing_rows None s) draft.old draft.new) }
+{
+    put_handled(site, draft)?;
+    put_some_way_out(site.body, draft)
 }
 
 // The way out of a body, where control comes to its end.
