@@ -12,9 +12,7 @@ ghost use Rattle.code_gen.specs.Bodies.{row_with};
 use checked_program::{Body, Checked, Sort};
 use chill_base::Item;
 use code_types::{BodyRow, Instr};
-use expr_gen::{
-    PartRefusal, Site, body_of, call_results, first_free, parameter_scalars, uncapped,
-};
+use expr_gen::{PartRefusal, Site, body_of, call_results, first_free, parameter_scalars, uncapped};
 
 /// The row of a body that has these instructions, the first of them at this place.
 pub fn row_of(site: Site, first: u32, instrs: &[Instr]) -> Result<BodyRow, PartRefusal>

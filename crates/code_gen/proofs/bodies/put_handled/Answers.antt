@@ -16,5 +16,7 @@ returns-in-Some c =
     let statements = c.behind_lowest.ensures ∙ ap (λ (ss : List Statement). behind_lowest (statements_of ss)) c.as_slice-statements.ensures in
     let handler = ap handler_tree c.deref.ensures ∙ sym (ap handler_of c.in-Some.is) in
     let comes = c.go_on.ensures ∙ ap (λ (ss : List Statement). go_on (statements_of ss)) c.as_slice-statements.ensures in
-    record { puts = on_ok_weaker c.put_handler.result (λ q. guarded_told (site_tree c.args.site) _ (statements_of c.behind_lowest.result.now) (handler_tree c.deref.result.now) c.go_on.result c.in_ok-from.from _
-    standing statements handler comes from c.in_ok-put_items.ensures.puts.puts q.puts) c.put_handler.ensures.puts }
+    record {
+      puts = on_ok_weaker c.put_handler.result (λ q. guarded_told (site_tree c.args.site) _ (statements_of c.behind_lowest.result.now) (handler_tree c.deref.result.now) c.go_on.result c.in_ok-from.from _
+          standing statements handler comes from c.in_ok-put_items.ensures.puts.puts q.puts) c.put_handler.ensures.puts;
+    }
