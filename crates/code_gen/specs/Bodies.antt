@@ -1,17 +1,30 @@
 -- What the bodies of a program append to a code while it is made.
-use Rattle.std.specs.Prelude.{◌≡◌, List, [], ◌∷◌, ◌++◌, length}
+use Rattle.std.specs.Prelude.{◌≡◌, ℕ, List, [], ◌∷◌, ◌++◌, length}
+use Rattle.code_types.specs.declared.code.BodyRow.{BodyRow}
 use Rattle.code_types.specs.declared.code.Code.{Code}
+use Rattle.code_types.specs.declared.instr.Instr.{Instr}
 use Rattle.program_trees.specs.ProgramTree.{CheckedTree, BodyRowTree}
-use Rattle.code_scheme.specs.StatementSite.{Site}
-use Rattle.code_scheme.specs.BodyCode.{body_code, body_handlers, body_row, bodies_code, bodies_handlers, body_rows}
+use Rattle.code_scheme.specs.StatementSite.{Site, parameter_scalars, first_free}
+use Rattle.code_scheme.specs.BodyCode.{results_by, heads_of, greatest_height, most_locals, body_code, body_handlers, body_row, bodies_code, bodies_handlers, body_rows}
 
--- a body and its row
+-- the row of a body that has these instructions, the first of them at a place
+abbrev pub row_with : Site → ℕ → List Instr → BodyRow
+row_with site at is = record {
+  first = at;
+  params = parameter_scalars site.body;
+  locals = most_locals (first_free site.body) is;
+  results = results_by site.body.sort site.body;
+  height = greatest_height (heads_of site.program) 0 0 is;
+  listed = site.body.listed;
+}
+
+-- A body and its row.
 pub record AppendsBody (site : Site) (old new : Code) : Type 0 where
   pub instrs : new.instrs ≡ old.instrs ++ body_code site (length old.instrs)
   pub handlers : new.handlers ≡ old.handlers ++ body_handlers site (length old.instrs)
   pub bodies : new.bodies ≡ old.bodies ++ body_row site (length old.instrs) ∷ []
 
--- bodies and their rows
+-- Bodies and their rows.
 pub record AppendsBodies (p : CheckedTree) (bs : List BodyRowTree) (old new : Code) : Type 0 where
   pub instrs : new.instrs ≡ old.instrs ++ bodies_code p bs (length old.instrs)
   pub handlers : new.handlers ≡ old.handlers ++ bodies_handlers p bs (length old.instrs)

@@ -1,24 +1,23 @@
 // The bodies of a program.
-ghost use Rattle.std.specs.Prelude.{◌≡◌, ◌<◌, ◌+◌, ℕ, map, length, IfOk, OnOk};
+ghost use Rattle.std.specs.Prelude.{◌≡◌, ◌≤◌, ◌<◌, pos, map, drop, length, Some, None, OnOk};
+ghost use Rattle.std.specs.List.{list_all};
 ghost use Rattle.modes.specs.ModeTree.{mode_tree};
 ghost use Rattle.modes.specs.Scalars.{lowest_of};
-ghost use Rattle.program_trees.specs.StatementTree.{statements_of, statement_tree};
+ghost use Rattle.program_trees.specs.StatementTree.{statements_of, statement_tree, action_tree};
 ghost use Rattle.program_trees.specs.ProgramTree.{checked_tree, body_row_tree, local_row_tree};
-ghost use Rattle.code_scheme.specs.BodyCode.{lowest_value_code, locals_code, lowest_code, behind_lowest, guarded_code as guarded_body_code, guarded_rows, end_code, raised_again, doing_code, doing_rows, body_code, body_handlers, body_row, bodies_code, bodies_handlers, body_rows};
+ghost use Rattle.code_scheme.specs.Pieces.{are_same};
+ghost use Rattle.code_scheme.specs.BodyCode.{lowest_value_code, locals_code, lowest_code, is_set_lowest, sets_lowest, behind_lowest, guarded_code, guarded_rows, end_code, doing_code, doing_rows};
 ghost use Rattle.code_scheme.specs.StatementPlain.{entered_by};
-ghost use Rattle.expr_gen.specs.Putting.{Appends};
-ghost use Rattle.stmt_gen.specs.Appending.{AppendsBoth};
-ghost use Rattle.stmt_gen.specs.Putting.{site_of};
+ghost use Rattle.expr_gen.specs.Puts.{PutsAll};
+ghost use Rattle.stmt_gen.specs.Putting.{site_tree};
+ghost use Rattle.stmt_gen.specs.Modulions.{PutsBoth};
 ghost use Rattle.code_gen.specs.Bodies.{AppendsBody, AppendsBodies};
 
-use crate::rows::{greatest_height, most_locals, results_of};
+use crate::rows::row_of;
 use checked_program::{Action, Body, Checked, LocalRow, Statement};
-use chill_base::{Item, Scalars};
-use code_types::{BodyRow, Instr};
-use expr_gen::{
-    Draft, PartRefusal, Site, declared_scalars, first_free, parameter_scalars, put_scalars,
-    uncapped,
-};
+use chill_base::Scalars;
+use code_types::Instr;
+use expr_gen::{Draft, PartRefusal, Site, declared_scalars, first_free, put_scalars, uncapped};
 use modes::{Mode, add_lowest};
 use stmt_gen::{
     Around, critical_region, go_on, put_again, put_handler, put_items, put_way_out,
@@ -31,14 +30,12 @@ const GREATEST_LENGTH: usize = 4_294_967_295;
 /// Appends the bodies of a program in the order of their numbers. There is no memory for 4,294,967,295 instructions.
 pub fn put_bodies(program: &Checked, draft: &mut Draft) -> Result<(), PartRefusal>
     ensures places { OnOk result (length draft.new.code.instrs < 4294967295) }
-    ensures appends { let p = checked_tree program.now in OnOk result (AppendsBodies p p.bodies draft.old.code draft.new.code) }
+    ensures puts { let p = checked_tree program.now in OnOk result (AppendsBodies p p.bodies draft.old.code draft.new.code) }
 {
     if program.bodies.is_empty() {
         return Err(PartRefusal::Unsound);
     }
-    for body in program.bodies.as_slice() {
-        put_body(Site { program, body }, draft)?;
-    }
+    put_all(program, program.bodies.as_slice(), draft)?;
     if draft.code.instrs.len() < GREATEST_LENGTH {
         Ok(())
     } else {
@@ -46,50 +43,69 @@ pub fn put_bodies(program: &Checked, draft: &mut Draft) -> Result<(), PartRefusa
     }
 }
 
+// Bodies of a program with their rows, one behind the other.
+fn put_all(program: &Checked, bodies: &[Body], draft: &mut Draft) -> Result<(), PartRefusal>
+    ensures puts { let bs = map body_row_tree bodies.now in OnOk result (AppendsBodies (checked_tree program.now) bs draft.old.code draft.new.code) }
+{
+    for body in bodies {
+        put_body(Site { program, body }, draft)?;
+    }
+    Ok(())
+}
+
 // A body and its row.
 fn put_body(site: Site, draft: &mut Draft) -> Result<(), PartRefusal>
-    ensures appends { OnOk result (AppendsBody (site_of site.program.now site.body.now) draft.old.code draft.new.code) }
+    ensures puts { OnOk result (AppendsBody (site_tree site.entry) draft.old.code draft.new.code) }
 {
     let first = draft.target_behind(0)?;
     put_lowest_values(site.body, draft)?;
     put_inside(site, draft)?;
-    let row = row_of(site, first, draft)?;
-    draft.put_body(row)
+    let row = row_of(site, first, instrs_from(draft, first))?;
+    draft.code.bodies.push(row)?;
+    Ok(())
 }
 
-// The row of a body, whose instructions stand from this place on.
-fn row_of(site: Site, first: u32, draft: &Draft) -> Result<BodyRow, PartRefusal> {
-    let instrs = &draft.code.instrs.as_slice()[first as usize..];
-    Ok(BodyRow {
-        first,
-        params: uncapped(parameter_scalars(site.body))?,
-        locals: most_locals(uncapped(first_free(site.body))?, instrs)?,
-        results: results_of(site.body)?,
-        height: greatest_height(site.program, instrs)?,
-        listed: site.body.listed.copy()?,
-    })
+// The instructions of a draft from a place on.
+fn instrs_from(draft: &Draft, first: u32) -> &[Instr]
+    requires { first ≤ length draft.now.code.instrs }
+    ensures { result.now ≡ drop first draft.now.code.instrs }
+{
+    &draft.code.instrs.as_slice()[first as usize..]
 }
 
 // The locals behind the parameters and the result get their lowest values.
 fn put_lowest_values(body: &Body, draft: &mut Draft) -> Result<(), PartRefusal>
-    ensures appends { let made = lowest_code (body_row_tree body.now) in OnOk result (Appends made (length made) draft.old.code draft.new.code) }
+    ensures puts { OnOk result (PutsAll (lowest_code (body_row_tree body.now)) draft.old draft.new) }
 {
-    for local in body.locals.as_slice().iter().skip(body.parameters.len()) {
-        put_lowest_value(&local.mode, local.first, draft)?;
-    }
+    let locals = body.locals.as_slice();
+    let parameters = body.parameters.len().min(locals.len());
+    put_lowest_locals(&locals[parameters..], draft)?;
     match &body.result {
-        Some(mode) => put_lowest_value(mode, uncapped(declared_scalars(body))?, draft),
+        Some(mode) => {
+            let first = uncapped(declared_scalars(body))?;
+            put_lowest_value(mode, first, draft)
+        }
         None => Ok(()),
     }
 }
 
+// These locals get their lowest values.
+fn put_lowest_locals(locals: &[LocalRow], draft: &mut Draft) -> Result<(), PartRefusal>
+    ensures puts { OnOk result (PutsAll (locals_code (map local_row_tree locals.now)) draft.old draft.new) }
+{
+    for local in locals {
+        put_lowest_value(&local.mode, local.first, draft)?;
+    }
+    Ok(())
+}
+
 // The locals from the first on get the lowest value of a mode. They are 0 already.
 fn put_lowest_value(mode: &Mode, first: u32, draft: &mut Draft) -> Result<(), PartRefusal>
-    ensures appends { let made = lowest_value_code (lowest_of (mode_tree mode.now)) first in OnOk result (Appends made (length made) draft.old.code draft.new.code) }
+    ensures puts { OnOk result (PutsAll (lowest_value_code (lowest_of (mode_tree mode.now)) first) draft.old draft.new) }
 {
     let mut lowest = Scalars::new(draft.allocator());
     add_lowest(mode, &mut lowest)?;
-    if lowest.as_slice().iter().all(|scalar| *scalar == 0) {
+    if are_zeroes(lowest.as_slice()) {
         return Ok(());
     }
     let count = uncapped((lowest.len() as u64).min(u32::MAX as u64) as u32)?;
@@ -97,24 +113,38 @@ fn put_lowest_value(mode: &Mode, first: u32, draft: &mut Draft) -> Result<(), Pa
     draft.put(Instr::SetLocal(first, count))
 }
 
-// What a body does, and its way out. A critical procedure enters its region before and leaves it behind.
-fn put_inside(site: Site, draft: &mut Draft) -> Result<(), PartRefusal>
-    ensures appends { let tree = site_of site.program.now site.body.now in let at = length draft.old.code.instrs in OnOk result (AppendsBoth (doing_code (entered_by tree.body) tree at) (doing_rows (entered_by tree.body) tree at) draft.old.code draft.new.code) }
+fn are_zeroes(scalars: &[i64]) -> bool
+    ensures { result ≡ list_all (λ x. are_same x (pos 0)) scalars.now }
 {
-    let body = site.body;
-    match critical_region(body) {
-        Some(region) => put_critical(site, region, draft),
-        None if body.critical => Err(PartRefusal::Unsound),
-        None => {
-            put_handled(site, draft)?;
-            put_some_way_out(body, draft)
+    for scalar in scalars {
+        if *scalar != 0 {
+            return false;
         }
     }
+    true
+}
+
+// What a body does, and its way out. A critical procedure enters its region before and leaves it behind.
+fn put_inside(site: Site, draft: &mut Draft) -> Result<(), PartRefusal>
+    ensures puts { let s = site_tree site.entry in let r = entered_by s.body in OnOk result (PutsBoth (doing_code r s) (doing_rows r s) draft.old draft.new) }
+{
+    match critical_region(site.body) {
+        Some(region) => put_critical(site, region, draft),
+        None => put_plain(site, draft),
+    }
+}
+
+// A body that enters no region.
+fn put_plain(site: Site, draft: &mut Draft) -> Result<(), PartRefusal>
+    ensures puts { let s = site_tree site.entry in OnOk result (PutsBoth (doing_code None s) (doing_rows None s) draft.old draft.new) }
+{
+    put_handled(site, draft)?;
+    put_some_way_out(site.body, draft)
 }
 
 // The way out of a body, where control comes to its end.
 fn put_some_way_out(body: &Body, draft: &mut Draft) -> Result<(), PartRefusal>
-    ensures appends { let made = end_code (body_row_tree body.now) in OnOk result (Appends made (length made) draft.old.code draft.new.code) }
+    ensures puts { OnOk result (PutsAll (end_code (body_row_tree body.now)) draft.old draft.new) }
 {
     if go_on(body.statements.as_slice()) || some_handler_goes_on(&body.handler) {
         put_way_out(body, draft)
@@ -125,12 +155,13 @@ fn put_some_way_out(body: &Body, draft: &mut Draft) -> Result<(), PartRefusal>
 
 // The statements of a body with their handler.
 fn put_handled(site: Site, draft: &mut Draft) -> Result<(), PartRefusal>
-    ensures appends { let tree = site_of site.program.now site.body.now in let at = length draft.old.code.instrs in OnOk result (AppendsBoth (guarded_body_code tree at) (guarded_rows tree at) draft.old.code draft.new.code) }
+    ensures puts { let s = site_tree site.entry in OnOk result (PutsBoth (guarded_code s) (guarded_rows s) draft.old draft.new) }
 {
     let from = draft.target_behind(0)?;
+    let free = uncapped(first_free(site.body))?;
     let around = Around {
         site,
-        free: uncapped(first_free(site.body))?,
+        free,
         exits: &[],
     };
     let statements = site.body.statements.as_slice();
@@ -146,16 +177,44 @@ fn behind_lowest(statements: &[Statement]) -> &[Statement]
     ensures { statements_of result.now ≡ behind_lowest (statements_of statements.now) }
 {
     for i in 0..statements.len() {
-        match &*statements[i].action {
-            Action::Lowest { .. } => {}
-            _ => return &statements[i..],
+        if !sets_lowest(&statements[i]) {
+            return &statements[i..];
         }
     }
     &statements[statements.len()..]
 }
 
+#[tactic(auto, using(stmt_gen::proofs::Views::statement_built))]
+fn sets_lowest(statement: &Statement) -> bool
+    ensures { result ≡ sets_lowest (statement_tree statement.now) }
+{
+    is_set_lowest(&statement.action)
+}
+
+// Whether an action is a declaration without a value.
+#[tactic(auto, using(stmt_gen::proofs::Views::statement_built))]
+fn is_set_lowest(action: &Action) -> bool
+    ensures { result ≡ is_set_lowest (action_tree action.now) }
+{
+    match action {
+        Action::Lowest { .. } => true,
+        Action::Nothing | Action::Declare { .. } | Action::Module { .. } => false,
+        Action::Region { .. } | Action::Assign { .. } | Action::Update { .. } => false,
+        Action::Call(_) | Action::Routine { .. } | Action::Evaluate(_) => false,
+        Action::PutInt(_) | Action::PutText(_) | Action::PutLine => false,
+        Action::Exit { .. } | Action::Return { .. } | Action::Result { .. } => false,
+        Action::Assert(_) | Action::Cause { .. } | Action::Stop | Action::Start(_) => false,
+        Action::Delay { .. } | Action::Continue { .. } | Action::Send { .. } => false,
+        Action::If { .. } | Action::Case { .. } | Action::Do { .. } => false,
+        Action::Begin { .. } | Action::DelayCase { .. } => false,
+        Action::ReceiveBuffers { .. } | Action::ReceiveSignals { .. } => false,
+    }
+}
+
 // A critical procedure. An exception that it lists is raised again behind the release of the region.
-fn put_critical(site: Site, region: u32, draft: &mut Draft) -> Result<(), PartRefusal> {
+fn put_critical(site: Site, region: u32, draft: &mut Draft) -> Result<(), PartRefusal>
+    ensures puts { let s = site_tree site.entry in let r = Some region in OnOk result (PutsBoth (doing_code r s) (doing_rows r s) draft.old draft.new) }
+{
     draft.put(Instr::Enter(region))?;
     let from = draft.target_behind(0)?;
     put_handled(site, draft)?;

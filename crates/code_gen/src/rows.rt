@@ -1,18 +1,42 @@
 // The row of a body, found from its instructions.
-ghost use Rattle.std.specs.Prelude.{◌≡◌, ◌-◌, ◌+◌, length, drop, IfOk};
+ghost use Rattle.std.specs.Prelude.{◌≡◌, IfOk};
 ghost use Rattle.program_trees.specs.ProgramTree.{checked_tree, body_row_tree};
-ghost use Rattle.code_types.specs.Places.{pops, pushes};
+ghost use Rattle.code_types.specs.Places.{pops, pushes, height_after};
+ghost use Rattle.code_types.specs.declared.instr.Instr.TheVariants.{Call};
 ghost use Rattle.code_scheme.specs.Pieces.{capped};
-ghost use Rattle.code_scheme.specs.StatementSite.{parameter_scalars, call_results};
 ghost use Rattle.code_scheme.specs.BodyCode.{results_by, heads_of, height_behind, greatest_height, locals_named, most_locals};
+ghost use Rattle.expr_gen.specs.Empty.{empty_code};
+ghost use Rattle.stmt_gen.specs.Putting.{site_tree};
+ghost use Rattle.code_gen.specs.Bodies.{row_with};
 
 use checked_program::{Body, Checked, Sort};
-use code_types::Instr;
-use expr_gen::{PartRefusal, body_of, call_results, parameter_scalars, uncapped};
+use chill_base::Item;
+use code_types::{BodyRow, Instr};
+use expr_gen::{PartRefusal, Site, body_of, call_results, first_free, parameter_scalars, uncapped};
 
-/// How many scalars a call of the body gives back. A process gives none.
-pub fn results_of(body: &Body) -> Result<u32, PartRefusal>
-    ensures { let tree = body_row_tree body.now in IfOk result (λ results. results ≡ results_by tree.sort tree) }
+/// The row of a body that has these instructions, the first of them at this place.
+pub fn row_of(site: Site, first: u32, instrs: &[Instr]) -> Result<BodyRow, PartRefusal>
+    ensures { IfOk result (λ row. row ≡ row_with (site_tree site.entry) first instrs.now) }
+{
+    let params = uncapped(parameter_scalars(site.body))?;
+    let least = uncapped(first_free(site.body))?;
+    let locals = most_locals(least, instrs)?;
+    let results = results_of(site.body)?;
+    let height = greatest_height(site.program, instrs)?;
+    let listed = site.body.listed.copy()?;
+    Ok(BodyRow {
+        first,
+        params,
+        locals,
+        results,
+        height,
+        listed,
+    })
+}
+
+// How many scalars a call of the body gives back. A process gives none.
+fn results_of(body: &Body) -> Result<u32, PartRefusal>
+    ensures { let tree = body_row_tree body.now in IfOk result (λ n. n ≡ results_by tree.sort tree) }
 {
     match body.sort {
         Sort::Outermost | Sort::Process => Ok(0),
@@ -20,13 +44,14 @@ pub fn results_of(body: &Body) -> Result<u32, PartRefusal>
     }
 }
 
-/// How many locals a body has: as many as its instructions name, and at least so many.
-pub fn most_locals(least: u32, instrs: &[Instr]) -> Result<u32, PartRefusal>
-    ensures { IfOk result (λ locals. locals ≡ most_locals least instrs.now) }
+// How many locals a body has: as many as its instructions name, and at least so many.
+fn most_locals(least: u32, instrs: &[Instr]) -> Result<u32, PartRefusal>
+    ensures { IfOk result (λ most. most ≡ most_locals least instrs.now) }
 {
     let mut most = least;
     for instr in instrs {
-        most = most.max(uncapped(locals_named(*instr))?);
+        let named = uncapped(locals_named(*instr))?;
+        most = most.max(named);
     }
     Ok(most)
 }
@@ -44,9 +69,9 @@ fn locals_named(instr: Instr) -> u32
     }
 }
 
-/// The greatest height of the stack behind some instruction of a body.
-pub fn greatest_height(program: &Checked, instrs: &[Instr]) -> Result<u32, PartRefusal>
-    ensures { IfOk result (λ greatest. greatest ≡ greatest_height (heads_of (checked_tree program.now)) 0 0 instrs.now) }
+// The greatest height of the stack behind some instruction of a body.
+fn greatest_height(program: &Checked, instrs: &[Instr]) -> Result<u32, PartRefusal>
+    ensures { let heads = heads_of (checked_tree program.now) in IfOk result (λ most. most ≡ greatest_height heads 0 0 instrs.now) }
 {
     let mut height = 0u32;
     let mut greatest = 0u32;
@@ -59,29 +84,46 @@ pub fn greatest_height(program: &Checked, instrs: &[Instr]) -> Result<u32, PartR
 
 // The height behind an instruction that finds one. Nothing is on the stack behind a Return.
 fn height_behind(program: &Checked, instr: Instr, height: u32) -> Result<u32, PartRefusal>
-    ensures { IfOk result (λ behind. behind ≡ height_behind (heads_of (checked_tree program.now)) instr height) }
+    ensures { let heads = heads_of (checked_tree program.now) in IfOk result (λ behind. behind ≡ height_behind heads instr height) }
 {
     match instr {
         Instr::Return => Ok(0),
-        Instr::Call(body) => {
-            let callee = body_of(program, body)?;
-            let taken = uncapped(parameter_scalars(callee))?;
-            let given = uncapped(call_results(callee))?;
-            uncapped(height.saturating_sub(taken).saturating_add(given))
-        }
-        _ => uncapped(height.saturating_sub(taken(instr)).saturating_add(given(instr))),
+        Instr::Call(body) => height_behind_call(program, body, height),
+        _ => height_behind_plain(instr, height),
     }
 }
 
+// The height behind an instruction other than Call and Return.
+fn height_behind_plain(instr: Instr, height: u32) -> Result<u32, PartRefusal>
+    ensures { IfOk result (λ behind. behind ≡ height_after empty_code 0 instr height) }
+{
+    let taken = taken(instr);
+    let given = given(instr);
+    uncapped(height.saturating_sub(taken).saturating_add(given))
+}
+
+// The height behind a call, which takes the parameters of its body and gives its results.
+fn height_behind_call(program: &Checked, body: u32, height: u32) -> Result<u32, PartRefusal>
+    ensures { let heads = heads_of (checked_tree program.now) in IfOk result (λ behind. behind ≡ height_behind heads (Call body) height) }
+{
+    let callee = body_of(program, body)?;
+    let taken = uncapped(parameter_scalars(callee))?;
+    let given = uncapped(call_results(callee))?;
+    uncapped(height.saturating_sub(taken).saturating_add(given))
+}
+
 // How many numbers an instruction other than Call and Return takes off the stack.
-fn taken(instr: Instr) -> u32 {
+fn taken(instr: Instr) -> u32
+    ensures { result ≡ capped (pops empty_code 0 instr) }
+{
     match instr {
         Instr::Pop(count) | Instr::SetLocal(_, count) => count,
         Instr::Send(_, count, _) | Instr::Start(_, count) | Instr::PutText(count) => count,
         Instr::Part(_, _, of) => of,
         Instr::SetLocalAt(_, count) | Instr::Write(_, _, count) => count.saturating_add(1),
         Instr::PartAt(_, of) => of.saturating_add(1),
-        Instr::Signal(_, count, to, _) => count.saturating_add(u32::from(to)),
+        Instr::Signal(_, count, true, _) => count.saturating_add(1),
+        Instr::Signal(_, count, false, _) => count,
         Instr::Same(count) | Instr::Less(count) => count.saturating_mul(2),
         Instr::Delay(count, _) => count.saturating_mul(2),
         Instr::Take(count, _) | Instr::Hear(count, _) => count.saturating_mul(3),
@@ -93,12 +135,18 @@ fn taken(instr: Instr) -> u32 {
         Instr::And | Instr::Or | Instr::Xor => 2,
         Instr::BitAnd | Instr::BitOr | Instr::BitXor | Instr::BitMinus => 2,
         Instr::Within | Instr::Has | Instr::Span => 2,
-        _ => 0,
+        Instr::Push(_) | Instr::Copy(_) | Instr::Thing(_) | Instr::Local(_, _) => 0,
+        Instr::Check(_, _) | Instr::This | Instr::GetInt => 0,
+        Instr::Jump(_) | Instr::Again(_) | Instr::Call(_) | Instr::Return => 0,
+        Instr::Enter(_) | Instr::Leave(_) | Instr::Raise(_) | Instr::Continue(_) => 0,
+        Instr::PutLine | Instr::Stop | Instr::Finish => 0,
     }
 }
 
 // How many numbers an instruction other than Call puts onto the stack.
-fn given(instr: Instr) -> u32 {
+fn given(instr: Instr) -> u32
+    ensures { result ≡ pushes empty_code instr }
+{
     match instr {
         Instr::Copy(count) | Instr::Local(_, count) | Instr::LocalAt(_, count) => count,
         Instr::Part(_, count, _) | Instr::PartAt(count, _) | Instr::Read(_, _, count) => count,
@@ -112,6 +160,10 @@ fn given(instr: Instr) -> u32 {
         Instr::BitNot(_) | Instr::Card | Instr::Least | Instr::Most => 1,
         Instr::BitAnd | Instr::BitOr | Instr::BitXor | Instr::BitMinus => 1,
         Instr::Within | Instr::Has | Instr::Span => 1,
-        _ => 0,
+        Instr::Pop(_) | Instr::SetLocal(_, _) | Instr::SetLocalAt(_, _) | Instr::Check(_, _) => 0,
+        Instr::Jump(_) | Instr::Unless(_) | Instr::Again(_) | Instr::Call(_) | Instr::Return => 0,
+        Instr::Enter(_) | Instr::Leave(_) | Instr::Raise(_) | Instr::Write(_, _, _) => 0,
+        Instr::Continue(_) | Instr::Send(_, _, _) | Instr::Signal(_, _, _, _) => 0,
+        Instr::PutInt | Instr::PutText(_) | Instr::PutLine | Instr::Stop | Instr::Finish => 0,
     }
 }
