@@ -10,3 +10,9 @@ pub mod Modular
 pub mod Held
 pub mod Lengths
 pub mod Nodes
+pub mod Extents
+pub mod Assigned
+pub mod Asked
+pub mod GivenBack
+pub mod Dropped
+pub mod Exits

@@ -11,3 +11,4 @@ pub mod HandlerRows
 pub mod Modulions
 pub mod Marking
 pub mod Puts
+pub mod WaysOut

@@ -1,5 +1,5 @@
 -- What each function appends to a draft: the scheme's code of a part of a statement, from the present place on.
-use Rattle.std.specs.Prelude.{◌≡◌, ℕ, suc, ◌+◌, ◌-◌, take, drop, Bool, true, false, List, [], ◌∷◌, ℤ, pos, Option, Some, option_map, map, length}
+use Rattle.std.specs.Prelude.{◌≡◌, ℕ, suc, ◌+◌, ◌-◌, take, drop, Bool, true, false, List, [], ◌∷◌, ℤ, pos, Option, Some, option_map, map, length, if◌then◌else◌}
 use Rattle.std.specs.declared.alloc.Global.{Global}
 use Rattle.std.specs.declared.boxed.Box.{Box}
 use Rattle.modes.specs.declared.mode.Bounds.{Bounds}
@@ -15,6 +15,7 @@ use Rattle.checked_program.specs.declared.expr.Start.{Start}
 use Rattle.checked_program.specs.declared.program.Checked.{Checked}
 use Rattle.checked_program.specs.declared.program.LocalRow.{LocalRow}
 use Rattle.checked_program.specs.declared.program.Parameter.{Parameter}
+use Rattle.checked_program.specs.declared.program.Passing.{Passing}
 use Rattle.checked_program.specs.declared.statement.Action.{Action}
 use Rattle.checked_program.specs.declared.statement.CaseAlternative.{CaseAlternative}
 use Rattle.checked_program.specs.declared.statement.Choice.{Choice}
@@ -30,7 +31,7 @@ use Rattle.program_trees.specs.StatementTree.{action_tree, handler_tree, handler
 use Rattle.program_trees.specs.ProgramTree.{LocalRowTree, local_row_tree, checked_tree}
 use Rattle.code_scheme.specs.Pieces.{Layout, capped, bounds_to_test, bounds_of_operator}
 use Rattle.code_scheme.specs.ExprSizes.{expr_size, start_size, condition_size}
-use Rattle.code_scheme.specs.StatementSite.{Site as SchemeSite, Standing, layout, taking}
+use Rattle.code_scheme.specs.StatementSite.{Site as SchemeSite, Standing, layout, taking, is_given_back}
 use Rattle.code_scheme.specs.StatementGoing.{go_on, leave_size, leave_code, joined}
 use Rattle.code_scheme.specs.StatementPlain.{parameters_code, exit_code, offset_of_name, name_code, names_code, names_size, keeping_code, keeping_size, declare_code, declare_size, set_lowest_code, set_lowest_size, assign_code, assign_size, read_code, read_size, update_code, update_size, set_result_code, set_result_size, return_code, return_size, perform_code, perform_size, drop_routine_code, drop_routine_size, taken_by, start_of_code, assert_code, assert_size, receiver_code, receiver_size, send_code, send_size}
 use Rattle.code_scheme.specs.StatementLoops.{constant_step, steps_with, within_code, within_size, step_code, step_size, bounds_code, bounds_size, first_value_code, first_value_size, first_test_code, limit_code, near_end_code, while_code, some_while_code, some_while_size, members_test, members_test_size, before_turns, before_turns_size, turn_test, turn_test_size, control_size, locals_kept}
@@ -55,7 +56,7 @@ use Rattle.stmt_gen.specs.Appending.{AppendsAt, AppendsRows, AppendsBoth}
 use Rattle.stmt_gen.specs.Constructs.{guarded_code, choice_code, receive_action_code, receive_action_rows}
 use Rattle.stmt_gen.specs.Counting.{steps_of}
 use Rattle.stmt_gen.specs.Joining.{size_before}
-use Rattle.stmt_gen.specs.Putting.{site_tree, standing_of, rows_of_handler, holds_statements, asks}
+use Rattle.stmt_gen.specs.Putting.{site_tree, standing_of, rows_of_handler, holds_statements, chooses, asks}
 use Rattle.stmt_gen.specs.Receiving.{kind_of, waits_else}
 use Rattle.stmt_gen.specs.Trees.{choice_tree, choices_of, cases_of, delays_of, receives_of, handled_of, else_of}
 
@@ -112,14 +113,20 @@ PutsLeaving goes behind old new =
 abbrev pub IsElseSize : Site → SomeStatements → ℕ → ℕ → Type 0
 IsElseSize site o none size = (n : ℕ) → none ≡ capped n → size ≡ capped (otherwise_size (site_tree site) (else_of o) n)
 
--- the alternatives of a CASE and of a RECEIVE CASE, with so many instructions behind them
-abbrev pub IsCasesSize : Site → List CaseAlternative → ℕ → ℕ → Type 0
-IsCasesSize site as' last size = (n : ℕ) → last ≡ capped n → size ≡ capped (cases_size (site_tree site) (cases_of as') n)
+-- alternatives of a handler, a CASE and a RECEIVE CASE, with so many instructions behind the alternatives
+abbrev pub IsHandledSize : Site → List HandlerAlternative → ℕ → ℕ → Type 0
+IsHandledSize site as' last size = (n : ℕ) → last ≡ capped n → size ≡ capped (handled_size (site_tree site) (handled_of as') n)
 
-abbrev pub IsReceivesSize : Site → List ReceiveAlternative → ℕ → ℕ → Type 0
-IsReceivesSize site as' last size = (n : ℕ) → last ≡ capped n → size ≡ capped (receives_size (site_tree site) (receives_of as') n)
+abbrev pub IsCaseSize : Site → Expr → List CaseAlternative → ℕ → ℕ → Type 0
+IsCaseSize site e as' last size =
+    (n : ℕ) → last ≡ capped n → size ≡ capped (expr_size (expr_tree e) + suc (cases_size (site_tree site) (cases_of as') n))
 
--- the same, with ELSE behind them
+abbrev pub IsReceiveSize : Site → SomeLocation → Bool → List ReceiveAlternative → ℕ → ℕ → Type 0
+IsReceiveSize site set has_else as' last size =
+    (n : ℕ) → last ≡ capped n
+    → size ≡ capped (receive_wait_size (set_tree set) (receives_of as') has_else + receives_size (site_tree site) (receives_of as') n)
+
+-- alternatives with ELSE behind them
 abbrev pub all_cases_size : Site → List CaseAlternative → SomeStatements → ℕ
 all_cases_size site as' o = cases_size (site_tree site) (cases_of as') (otherwise_size (site_tree site) (else_of o) 1)
 
@@ -140,6 +147,10 @@ choice_size site c = condition_size (choice_tree c).condition false + statements
 -- of actions without statements
 abbrev pub IsPlainSize : Site → Action → ℕ → Type 0
 IsPlainSize site a size = holds_statements (action_tree a) ≡ false → size ≡ capped (action_size (site_tree site) (action_tree a))
+
+-- of an action that chooses among alternatives
+abbrev pub IsChoosingSize : Site → Action → ℕ → Type 0
+IsChoosingSize site a size = chooses (action_tree a) ≡ true → size ≡ capped (action_size (site_tree site) (action_tree a))
 
 abbrev pub IsAskingSize : Site → Action → ℕ → Type 0
 IsAskingSize site a size = asks (action_tree a) ≡ true → size ≡ capped (action_size (site_tree site) (action_tree a))
@@ -169,6 +180,13 @@ abbrev pub SetsOneLowest : Around → ℕ → List ℤ → ℕ → Draft → Dra
 SetsOneLowest around number xs count old new = count ≡ length xs → SetsLowest around (number ∷ []) xs old new
 
 -- ---- the way out of a body
+
+-- a parameter, where it is passed so that it is given back
+abbrev pub own_back : Passing → LocalRow → List Instr
+own_back passing l = if is_given_back passing then i.Local l.first l.count ∷ [] else []
+
+abbrev pub PutsGivenBack : Passing → LocalRow → Draft → Draft → Type 0
+PutsGivenBack passing l old new = PutsAll (own_back passing l) old new
 
 -- the OUT and INOUT parameters
 abbrev pub given_back : List Parameter → List LocalRow → List Instr

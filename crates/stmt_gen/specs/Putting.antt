@@ -37,6 +37,14 @@ holds_statements (receive_buffers set rs o) = true
 holds_statements (receive_signals set rs o) = true
 holds_statements a = false
 
+-- an action that chooses among alternatives
+abbrev pub chooses : ActionTree → Bool
+chooses (case_of e cs o) = true
+chooses (delay_case set priority ds) = true
+chooses (receive_buffers set rs o) = true
+chooses (receive_signals set rs o) = true
+chooses a = false
+
 -- an action that calls, asks or puts
 abbrev pub asks : ActionTree → Bool
 asks (perform c) = true

@@ -18,7 +18,7 @@ pub struct Around<'a, 'b> {
 impl<'a, 'b> Around<'a, 'b> {
     /// The same place, with the first so many scratch locals taken.
     pub fn taking(&self, count: u32) -> Result<Around<'a, 'b>, PartRefusal>
-        ensures { IfOk result (λ inside. inside ≡ record self.now { free = self.now.free + count }) }
+        ensures { IfOk result (λ it. it ≡ record self.now { free = self.now.free + count }) }
     {
         Ok(Around {
             site: self.site,

@@ -1,4 +1,6 @@
 // Declarations, assignments, and the result of a procedure.
+#![tactic(auto, using(expr_gen::proofs::Appending::keeping, expr_gen::proofs::Rows::local_there))]
+
 ghost use Rattle.std.specs.Prelude.{◌≡◌, [], ◌∷◌, length, IfOk, OnOk};
 ghost use Rattle.program_trees.specs.ExprTree.{received_tree, location_tree};
 ghost use Rattle.code_scheme.specs.Pieces.{capped, bounds_to_test, bounds_of_operator};

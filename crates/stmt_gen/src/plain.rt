@@ -1,4 +1,6 @@
 // Actions that hold no statements.
+#![tactic(auto, using(expr_gen::proofs::Appending::keeping))]
+
 ghost use Rattle.std.specs.Prelude.{◌≡◌, ◌+◌, false, OnOk};
 ghost use Rattle.program_trees.specs.ExprTree.{call_tree, start_tree};
 ghost use Rattle.program_trees.specs.StatementTree.{action_tree};
@@ -27,7 +29,7 @@ use expr_gen::{
 const ASSERTFAIL: u32 = 3;
 
 /// Appends the code of an action that holds no statements. A modulion is none.
-#[tactic(auto, using(crate::proofs::Views::statement_built))]
+#[tactic(auto, using(crate::proofs::Views::statement_built, expr_gen::proofs::Appending::keeping))]
 pub fn put_plain(action: &Action, around: &Around, draft: &mut Draft) -> Result<(), PartRefusal>
     ensures puts { OnOk result (PutsPlainAction around.now action.now draft.old draft.new) }
     ensures plain { OnOk result (holds_statements (action_tree action.now) ≡ false) }
@@ -64,7 +66,7 @@ pub fn put_plain(action: &Action, around: &Around, draft: &mut Draft) -> Result<
 }
 
 // Appends the code of an action that calls, asks or puts.
-#[tactic(auto, using(crate::proofs::Views::statement_built))]
+#[tactic(auto, using(crate::proofs::Views::statement_built, expr_gen::proofs::Appending::keeping))]
 fn put_asking(action: &Action, around: &Around, draft: &mut Draft) -> Result<(), PartRefusal>
     ensures puts { OnOk result (PutsPlainAction around.now action.now draft.old draft.new) }
     ensures plain { OnOk result (holds_statements (action_tree action.now) ≡ false) }
@@ -89,7 +91,7 @@ fn put_asking(action: &Action, around: &Around, draft: &mut Draft) -> Result<(),
 
 /// How many instructions an action that holds no statements has. A modulion counts nothing, and what holds statements is
 /// counted elsewhere.
-#[tactic(auto, using(crate::proofs::Views::statement_built))]
+#[tactic(auto, using(crate::proofs::Views::statement_built, expr_gen::proofs::Appending::keeping))]
 pub fn plain_size(action: &Action, site: &Site) -> u32
     ensures { IsPlainSize site.now action.now result }
 {
@@ -130,7 +132,7 @@ pub fn plain_size(action: &Action, site: &Site) -> u32
 }
 
 // How many instructions an action has that calls, asks or puts.
-#[tactic(auto, using(crate::proofs::Views::statement_built))]
+#[tactic(auto, using(crate::proofs::Views::statement_built, expr_gen::proofs::Appending::keeping))]
 fn asking_size(action: &Action, site: &Site) -> u32
     ensures { IsAskingSize site.now action.now result }
 {

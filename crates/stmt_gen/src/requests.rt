@@ -1,4 +1,6 @@
 // What processes ask of each other without an answer that the text names.
+#![tactic(auto, using(expr_gen::proofs::Appending::keeping))]
+
 ghost use Rattle.std.specs.Prelude.{◌≡◌, OnOk};
 ghost use Rattle.program_trees.specs.StatementTree.{sent_tree};
 ghost use Rattle.code_scheme.specs.Pieces.{capped};

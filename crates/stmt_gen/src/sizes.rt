@@ -5,7 +5,7 @@ ghost use Rattle.code_scheme.specs.Pieces.{capped};
 ghost use Rattle.code_scheme.specs.StatementSize.{statements_size, statement_size, handler_size, handled_size, action_size, choices_size, cases_size, delays_size, receives_size};
 ghost use Rattle.stmt_gen.specs.Trees.{choices_of, cases_of, delays_of, receives_of, handled_of};
 ghost use Rattle.stmt_gen.specs.Putting.{site_tree};
-ghost use Rattle.stmt_gen.specs.Puts.{IsCasesSize, IsElseSize, IsReceivesSize, Joins, JoinsAll, choice_size, chosen_size};
+ghost use Rattle.stmt_gen.specs.Puts.{IsCaseSize, IsChoosingSize, IsElseSize, IsHandledSize, IsReceiveSize, Joins, JoinsAll, choice_size, chosen_size};
 
 use crate::cases::labels_size;
 use crate::going_on::{action_goes_on, go_on, goes_on};
@@ -14,7 +14,7 @@ use crate::loops::control_size;
 use crate::plain::plain_size;
 use crate::waits::{delay_wait_size, receive_wait_size};
 use checked_program::{
-    Action, CaseAlternative, Choice, DelayAlternative, Handler, HandlerAlternative, Location,
+    Action, CaseAlternative, Choice, DelayAlternative, Expr, Handler, HandlerAlternative, Location,
     ReceiveAlternative, Statement,
 };
 use chill_base::List;
@@ -57,13 +57,22 @@ pub fn statement_size(statement: &Statement, site: &Site) -> u32
 pub fn handled_size(handler: &Handler, site: &Site) -> u32
     ensures { result ≡ capped (handler_size (site_tree site.now) (handler_tree handler.now)) }
 {
-    let rest = match &handler.otherwise {
-        Some(actions) => statements_size(actions.as_slice(), site),
-        None => 0,
-    };
-    handled_joined(handler.alternatives.as_slice(), site)
-        .then(rest, false)
-        .size
+    let alternatives = handler.alternatives.as_slice();
+    match &handler.otherwise {
+        Some(actions) => {
+            let last = statements_size(actions.as_slice(), site);
+            alternatives_size(alternatives, last, site)
+        }
+        None => alternatives_size(alternatives, 0, site),
+    }
+}
+
+// How many instructions alternatives of a handler have, with so many behind them.
+#[cycle(extent)]
+fn alternatives_size(alternatives: &[HandlerAlternative], last: u32, site: &Site) -> u32
+    ensures { IsHandledSize site.now alternatives.now last result }
+{
+    handled_joined(alternatives, site).then(last, false).size
 }
 
 #[tactic(auto, using(crate::proofs::Views::statement_built))]
@@ -93,20 +102,47 @@ pub fn action_size(action: &Action, site: &Site) -> u32
             .saturating_add(statements_size(actions.as_slice(), site))
             .saturating_add(u32::from(go_on(actions.as_slice()))),
         Action::Begin { actions } => statements_size(actions.as_slice(), site),
+        Action::Case { .. } | Action::DelayCase { .. } => choosing_size(action, site),
+        Action::ReceiveBuffers { .. } | Action::ReceiveSignals { .. } => choosing_size(
+            action, site,
+        ),
+        Action::Nothing | Action::Declare { .. } | Action::Lowest { .. } => plain_size(
+            action, site,
+        ),
+        Action::Assign { .. } | Action::Update { .. } | Action::Call(_) => plain_size(action, site),
+        Action::Routine { .. } | Action::Evaluate(_) | Action::PutInt(_) => plain_size(
+            action, site,
+        ),
+        Action::PutText(_) | Action::PutLine | Action::Exit { .. } => plain_size(action, site),
+        Action::Return { .. } | Action::Result { .. } => plain_size(action, site),
+        Action::Assert(_) | Action::Cause { .. } | Action::Stop => plain_size(action, site),
+        Action::Start(_) | Action::Delay { .. } | Action::Continue { .. } => plain_size(
+            action, site,
+        ),
+        Action::Send { .. } => plain_size(action, site),
+        Action::Module { .. } | Action::Region { .. } => plain_size(action, site),
+    }
+}
+
+// How many instructions an action has that chooses among alternatives.
+#[tactic(auto, using(crate::proofs::Views::statement_built))]
+#[cycle(extent)]
+fn choosing_size(action: &Action, site: &Site) -> u32
+    ensures { IsChoosingSize site.now action.now result }
+{
+    match action {
         Action::Case {
             selector,
             alternatives,
             otherwise,
-        } => {
-            // what no label holds raises, where nothing is written for it
-            let last = match otherwise {
-                Some(actions) => statements_size(actions.as_slice(), site),
-                None => 1,
-            };
-            expr_size(selector)
-                .saturating_add(1)
-                .saturating_add(cases_size(alternatives.as_slice(), last, site))
-        }
+        } => match otherwise {
+            Some(actions) => {
+                let last = statements_size(actions.as_slice(), site);
+                case_size(alternatives.as_slice(), selector, last, site)
+            }
+            // what no label holds raises
+            None => case_size(alternatives.as_slice(), selector, 1, site),
+        },
         Action::DelayCase {
             set,
             alternatives,
@@ -123,32 +159,50 @@ pub fn action_size(action: &Action, site: &Site) -> u32
             set,
             alternatives,
             otherwise,
-        } => {
-            let last = match otherwise {
-                Some(actions) => statements_size(actions.as_slice(), site),
-                None => 0,
-            };
-            receive_wait_size(alternatives.as_slice(), set, otherwise.is_some())
-                .saturating_add(receives_size(alternatives.as_slice(), last, site))
-        }
-        _ => plain_size(action, site),
+        } => match otherwise {
+            Some(actions) => {
+                let last = statements_size(actions.as_slice(), site);
+                receive_case_size(alternatives.as_slice(), set, true, last, site)
+            }
+            None => receive_case_size(alternatives.as_slice(), set, false, 0, site),
+        },
+        // These choose among none.
+        Action::If { .. } | Action::Do { .. } | Action::Begin { .. } => 0,
+        Action::Nothing | Action::Declare { .. } | Action::Lowest { .. } => 0,
+        Action::Assign { .. } | Action::Update { .. } | Action::Call(_) => 0,
+        Action::Routine { .. } | Action::Evaluate(_) | Action::PutInt(_) => 0,
+        Action::PutText(_) | Action::PutLine | Action::Exit { .. } => 0,
+        Action::Return { .. } | Action::Result { .. } | Action::Assert(_) => 0,
+        Action::Cause { .. } | Action::Stop | Action::Start(_) => 0,
+        Action::Delay { .. } | Action::Continue { .. } | Action::Send { .. } => 0,
+        Action::Module { .. } | Action::Region { .. } => 0,
     }
 }
 
-// How many instructions the alternatives of a CASE have, with so many behind them.
+// How many instructions a CASE has, with so many behind its alternatives.
 #[cycle(extent)]
-fn cases_size(alternatives: &[CaseAlternative], last: u32, site: &Site) -> u32
-    ensures { IsCasesSize site.now alternatives.now last result }
+fn case_size(alternatives: &[CaseAlternative], selector: &Expr, last: u32, site: &Site) -> u32
+    ensures { IsCaseSize site.now selector.now alternatives.now last result }
 {
-    cases_joined(alternatives, site).then(last, false).size
+    expr_size(selector)
+        .saturating_add(1)
+        .saturating_add(cases_joined(alternatives, site).then(last, false).size)
 }
 
-// How many instructions the alternatives of a RECEIVE CASE have, with so many behind them.
+// How many instructions a RECEIVE CASE has, with so many behind its alternatives.
 #[cycle(extent)]
-fn receives_size(alternatives: &[ReceiveAlternative], last: u32, site: &Site) -> u32
-    ensures { IsReceivesSize site.now alternatives.now last result }
+fn receive_case_size(
+    alternatives: &[ReceiveAlternative],
+    set: &Option<Box<Location>>,
+    has_else: bool,
+    last: u32,
+    site: &Site,
+) -> u32
+    ensures { IsReceiveSize site.now set.now has_else alternatives.now last result }
 {
-    receives_joined(alternatives, site).then(last, false).size
+    receive_wait_size(alternatives, set, has_else).saturating_add(
+        receives_joined(alternatives, site).then(last, false).size,
+    )
 }
 
 /// How many instructions actions have that are chosen by a Boolean, without the jump behind them.

@@ -1,12 +1,15 @@
 // The way out of a body: what a call gives back, or the end of a process.
+#![tactic(auto, using(expr_gen::proofs::Appending::keeping))]
+
 ghost use Rattle.std.specs.Prelude.{◌≡◌, length, OnOk};
 ghost use Rattle.program_trees.specs.ProgramTree.{body_row_tree};
 ghost use Rattle.code_scheme.specs.Pieces.{capped};
 ghost use Rattle.code_scheme.specs.StatementSite.{is_given_back};
-ghost use Rattle.code_scheme.specs.StatementPlain.{entered_by, leave_region, result_code, end_of_call, way_out_code};
+ghost use Rattle.code_scheme.specs.StatementPlain.{entered_by, leave_region, end_of_call, way_out_code};
 ghost use Rattle.expr_gen.specs.Putting.{Keeps};
 ghost use Rattle.expr_gen.specs.Puts.{PutsAll};
-ghost use Rattle.stmt_gen.specs.Puts.{given_back};
+ghost use Rattle.stmt_gen.specs.Puts.{PutsGivenBack, given_back};
+ghost use Rattle.stmt_gen.specs.WaysOut.{PutsEnd, PutsOwnResult, PutsParameters, PutsWayOut};
 
 use checked_program::{Body, LocalRow, Parameter, Passing, Sort};
 use code_types::Instr;
@@ -21,7 +24,7 @@ pub fn critical_region(body: &Body) -> Option<u32>
 
 /// Appends the way out of a body: a process ends, a call gives back its result and its OUT and INOUT parameters.
 pub fn put_way_out(body: &Body, draft: &mut Draft) -> Result<(), PartRefusal>
-    ensures puts { OnOk result (PutsAll (way_out_code (body_row_tree body.now)) draft.old draft.new) }
+    ensures puts { OnOk result (PutsWayOut body.now draft.old draft.new) }
     ensures keeps { Keeps draft.old.code draft.new.code }
 {
     match body.sort {
@@ -32,7 +35,7 @@ pub fn put_way_out(body: &Body, draft: &mut Draft) -> Result<(), PartRefusal>
 
 // The region is left, and the result and the parameters are given back.
 fn put_return(body: &Body, draft: &mut Draft) -> Result<(), PartRefusal>
-    ensures puts { OnOk result (PutsAll (end_of_call (body_row_tree body.now)) draft.old draft.new) }
+    ensures puts { OnOk result (PutsEnd body.now draft.old draft.new) }
     ensures keeps { Keeps draft.old.code draft.new.code }
 {
     put_leave(critical_region(body), draft)?;
@@ -56,7 +59,7 @@ fn put_leave(region: Option<u32>, draft: &mut Draft) -> Result<(), PartRefusal>
 
 // The result of a body, where it has scalars.
 fn put_own_result(body: &Body, draft: &mut Draft) -> Result<(), PartRefusal>
-    ensures puts { OnOk result (PutsAll (result_code (body_row_tree body.now)) draft.old draft.new) }
+    ensures puts { OnOk result (PutsOwnResult body.now draft.old draft.new) }
     ensures keeps { Keeps draft.old.code draft.new.code }
 {
     let first = uncapped(declared_scalars(body))?;
@@ -73,17 +76,27 @@ fn put_parameters(
     locals: &[LocalRow],
     draft: &mut Draft,
 ) -> Result<(), PartRefusal>
-    ensures puts { OnOk result (PutsAll (given_back parameters.now locals.now) draft.old draft.new) }
+    ensures puts { OnOk result (PutsParameters parameters.now locals.now draft.old draft.new) }
     ensures keeps { Keeps draft.old.code draft.new.code }
 {
     let count = parameters.len().min(locals.len());
     for _turn in 0..count {
         let i = count - 1 - _turn;
-        if is_given_back(parameters[i].passing) {
-            draft.put(Instr::Local(locals[i].first, locals[i].count))?;
-        }
+        put_given_back(parameters[i].passing, &locals[i], draft)?;
     }
     Ok(())
+}
+
+// A parameter, where a call gives it back.
+fn put_given_back(passing: Passing, local: &LocalRow, draft: &mut Draft) -> Result<(), PartRefusal>
+    ensures puts { OnOk result (PutsGivenBack passing local.now draft.old draft.new) }
+    ensures keeps { Keeps draft.old.code draft.new.code }
+{
+    if is_given_back(passing) {
+        draft.put(Instr::Local(local.first, local.count))
+    } else {
+        Ok(())
+    }
 }
 
 // Whether a call gives a parameter back.
@@ -118,13 +131,13 @@ fn return_size(body: &Body) -> u32
         .saturating_add(1)
 }
 
-#[tactic(auto, using(crate::proofs::Lengths::lengths))]
 fn parameters_size(parameters: &[Parameter], locals: &[LocalRow]) -> u32
     ensures { result ≡ capped (length (given_back parameters.now locals.now)) }
 {
     let mut size = 0u32;
-    for i in 0..parameters.len() {
-        if i < locals.len() && is_given_back(parameters[i].passing) {
+    let count = parameters.len().min(locals.len());
+    for i in 0..count {
+        if is_given_back(parameters[i].passing) {
             size = size.saturating_add(1);
         }
     }

@@ -1,8 +1,10 @@
-use Rattle.std.proofs.Common.{◌≡◌, ◌+◌, ◌-◌, ◌++◌, length, drop, map}
+use Rattle.std.proofs.Common.{◌≡◌, ◌+◌, ◌≤◌, length, drop}
 use Rattle.code_scheme.specs.Pieces.{capped}
-use Rattle.program_trees.specs.ProgramTree.{local_row_tree}
-use Rattle.code_scheme.specs.StatementPlain.{parameters_code}
+use Rattle.stmt_gen.specs.Puts.{given_back}
 use Rattle.stmt_gen.proofs.ways_out.parameters_size.Given as goal
 
 abbrev pub invariant-loop-i : goal.invariant-loop-i
-invariant-loop-i l = capped (l.size + length (parameters_code (drop l.i l.parameters) (map local_row_tree (drop l.i l.locals)))) ≡ capped (length (parameters_code l.parameters (map local_row_tree l.locals)))
+invariant-loop-i l = record {
+  counted : capped (l.size + length (given_back (drop l.i l.parameters) (drop l.i l.locals))) ≡ capped (length (given_back l.parameters l.locals));
+  few : l.size ≤ 4294967295;
+}

@@ -1,11 +1,11 @@
-use Rattle.std.proofs.Common.{◌≡◌, ◌+◌, ◌-◌, ◌++◌, length, drop, map}
-use Rattle.program_trees.specs.ProgramTree.{local_row_tree}
-use Rattle.code_scheme.specs.StatementPlain.{parameters_code}
+use Rattle.std.proofs.Common.{◌-◌, length, drop}
+use Rattle.expr_gen.specs.Putting.{Appends, Keeps}
+use Rattle.stmt_gen.specs.Puts.{given_back}
 use Rattle.stmt_gen.proofs.ways_out.put_parameters.Given as goal
 
-abbrev pub invariant-loop-_turn : goal.invariant-loop-_turn
-invariant-loop-_turn l = record {
-  instrs : l.draft.code.instrs ≡ l.initial.draft.code.instrs ++ parameters_code (drop (l.count - l._turn) l.parameters) (map local_row_tree (drop (l.count - l._turn) l.locals));
-  handlers : l.draft.code.handlers ≡ l.initial.draft.code.handlers;
-  bodies : l.draft.code.bodies ≡ l.initial.draft.code.bodies;
+abbrev pub invariant-loop-turn : goal.invariant-loop-turn
+invariant-loop-turn l = record {
+  made : Appends (given_back (drop (l.count - l._turn) l.parameters) (drop (l.count - l._turn) l.locals)) (length (given_back (drop (l.count - l._turn) l.parameters) (drop (l.count - l._turn) l.locals)))
+      l.initial.draft.code l.draft.code;
+  keeps : Keeps l.initial.draft.code l.draft.code;
 }
