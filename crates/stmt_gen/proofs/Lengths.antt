@@ -1,8 +1,7 @@
 -- How many instructions labels, parameters and the end of a DO FOR have.
-use Rattle.std.proofs.Common.{◌≡◌, ℕ, suc, ◌+◌, Bool, true, false, List, [], ◌∷◌, ◌++◌, length, refl, sym, ap, ◌∙◌, length-append, arith}
+use Rattle.std.proofs.Common.{◌≡◌, ℕ, suc, ◌+◌, Bool, true, false, List, [], ◌∷◌, length, refl, length-append}
 use Rattle.std.specs.Prelude.{if◌then◌else◌}
 use Rattle.modes.specs.declared.mode.Bounds.{Bounds}
-use Rattle.code_types.specs.declared.instr.Instr.{Instr}
 use Rattle.code_types.specs.declared.instr.Instr.TheVariants as i
 use Rattle.checked_program.specs.declared.program.Parameter.{Parameter}
 use Rattle.program_trees.specs.ProgramTree.{LocalRowTree}
@@ -10,7 +9,7 @@ use Rattle.code_scheme.specs.Pieces.{are_same}
 use Rattle.code_scheme.specs.StatementSite.{is_given_back}
 use Rattle.code_scheme.specs.StatementPlain.{parameters_code}
 use Rattle.code_scheme.specs.StatementLoops.{Step, by_constant, by_kept, Steps, rest_code, nearest_code, nearer_code, near_end_code}
-use Rattle.code_scheme.specs.StatementSize.{label_code, more_labels_code, labels_code, labels_size}
+use Rattle.code_scheme.specs.StatementSize.{label_code, more_labels_code, labels_size}
 
 -- a label has as many instructions wherever the selector is kept
 one_or_more : (g : Bool) (k : ℕ) (b : Bounds)

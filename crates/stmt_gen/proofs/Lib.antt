@@ -9,6 +9,9 @@ pub mod Released
 pub mod Modular
 pub mod Held
 pub mod Lengths
+pub mod Controls
+pub mod Labels
+pub mod Waiting
 pub mod Nodes
 pub mod Extents
 pub mod Assigned

@@ -34,7 +34,7 @@ use Rattle.code_scheme.specs.ExprSizes.{expr_size, start_size, condition_size}
 use Rattle.code_scheme.specs.StatementSite.{Site as SchemeSite, Standing, layout, taking, is_given_back}
 use Rattle.code_scheme.specs.StatementGoing.{go_on, leave_size, leave_code, joined}
 use Rattle.code_scheme.specs.StatementPlain.{parameters_code, exit_code, offset_of_name, name_code, names_code, names_size, keeping_code, keeping_size, declare_code, declare_size, set_lowest_code, set_lowest_size, assign_code, assign_size, read_code, read_size, update_code, update_size, set_result_code, set_result_size, return_code, return_size, perform_code, perform_size, drop_routine_code, drop_routine_size, taken_by, start_of_code, assert_code, assert_size, receiver_code, receiver_size, send_code, send_size}
-use Rattle.code_scheme.specs.StatementLoops.{constant_step, steps_with, within_code, within_size, step_code, step_size, bounds_code, bounds_size, first_value_code, first_value_size, first_test_code, limit_code, near_end_code, while_code, some_while_code, some_while_size, members_test, members_test_size, before_turns, before_turns_size, turn_test, turn_test_size, control_size, locals_kept}
+use Rattle.code_scheme.specs.StatementLoops.{constant_step, steps_with, within_code, within_size, step_code, step_size, bounds_code, bounds_size, first_value_code, first_value_size, first_test_code, limit_code, near_end_code, next_code, while_code, some_while_code, some_while_size, members_test, members_test_size, before_turns, before_turns_size, turn_test, turn_test_size, control_size, locals_kept}
 use Rattle.code_scheme.specs.StatementWaits.{nothing_code, set_place_code, set_place_size, set_code, set_size, events_code, all_events_code, delay_wait_code, delay_wait_size, first_received, scalars_received, sources_code, receive_wait_code, receive_wait_size, has_else, chosen_in}
 use Rattle.code_scheme.specs.StatementSize.{label_code, more_labels_code, labels_code, labels_size, turn_back_size, statements_size, statement_size, handler_size, handled_size, otherwise_size, action_size, choices_size, cases_size, delays_size, receives_size}
 use Rattle.code_scheme.specs.StatementCode.{CodeAt, no_code, no_label_code, joining, chosen, loop_code, statements_code, statement_code, handler_code, handled_code, otherwise_code, action_code, choices_code, cases_code, delays_code, receives_code}
@@ -309,6 +309,10 @@ PutsFirstValue steps behind old new = PutsAt (first_value_code (steps_of steps) 
 abbrev pub PutsFirstTest : RustSteps → ℕ → Draft → Draft → Type 0
 PutsFirstTest steps behind old new = PutsAt (first_test_code (steps_of steps) behind) 5 old new
 
+-- the next value, where it doesn't pass the end
+abbrev pub PutsNext : RustSteps → ℕ → Draft → Draft → Type 0
+PutsNext steps behind old new = PutsSome (next_code (steps_of steps) behind) 8 old new
+
 abbrev pub PutsLimit : RustSteps → Draft → Draft → Type 0
 PutsLimit steps old new = PutsAt (limit_code (steps_of steps)) (length (limit_code (steps_of steps) 0)) old new
 
@@ -356,8 +360,9 @@ PutsDelayWait around set priority as' old new =
     PutsAt (delay_wait_code (standing_of around) (set_tree set) priority (delays_of as')) (waiting_size set as') old new
 
 -- to this place where nothing came
-abbrev pub PutsNothing : ℕ → ℕ → ℕ → Draft → Draft → Type 0
-PutsNothing chosen count otherwise old new = PutsSome (nothing_code true chosen count otherwise) 4 old new
+abbrev pub PutsNothing : Bool → ℕ → ℕ → ℕ → Draft → Draft → Type 0
+PutsNothing has_else chosen count otherwise old new =
+    PutsSome (nothing_code has_else chosen count otherwise) (length (nothing_code has_else 0 0 0)) old new
 
 -- what is received, and the locals that get it
 abbrev pub PutsOneSource : Around → ℕ → List ℕ → Draft → Draft → Type 0

@@ -1,4 +1,6 @@
 // CASE: its selector, which is kept in a scratch local, and the tests of the labels.
+#![tactic(auto, using(expr_gen::proofs::Appending::keeping))]
+
 ghost use Rattle.std.specs.Prelude.{◌≡◌, length, OnOk};
 ghost use Rattle.code_scheme.specs.Pieces.{capped};
 ghost use Rattle.code_scheme.specs.StatementSize.{label_code, more_labels_code, labels_size};

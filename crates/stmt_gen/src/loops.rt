@@ -1,4 +1,6 @@
 // The controls of DO: what is done before the first turn, and the test before each turn.
+#![tactic(auto, using(expr_gen::proofs::Appending::keeping))]
+
 ghost use Rattle.std.specs.Prelude.{◌≡◌, OnOk};
 ghost use Rattle.program_trees.specs.StatementTree.{control_tree};
 ghost use Rattle.code_scheme.specs.Pieces.{capped};

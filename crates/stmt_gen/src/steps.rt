@@ -1,12 +1,15 @@
 // DO FOR from a start to an end: what is done before the first turn, and the test before each other turn.
-ghost use Rattle.std.specs.Prelude.{◌≡◌, Some, length, IfOk, OnOk};
-ghost use Rattle.program_trees.specs.ExprTree.{expr_tree};
+#![tactic(auto, using(expr_gen::proofs::Appending::keeping))]
+
+ghost use Rattle.std.specs.Prelude.{◌≡◌, Some, length, IfOk, OnOk, if◌then◌else◌};
+ghost use Rattle.program_trees.specs.ExprTree.{constant, expr_tree};
+ghost use Rattle.scalar_operators.specs.Numbers.{greatest_int, least_int};
 ghost use Rattle.code_scheme.specs.Pieces.{capped};
-ghost use Rattle.code_scheme.specs.StatementLoops.{steps_kept, constant_step, step_of_value, within_size, order_code, before_code, rest_code, nearest_code, nearer_code, moved_end_code, by_step, next_code, is_one, forth, back};
+ghost use Rattle.code_scheme.specs.StatementLoops.{steps_kept, constant_step, step_in, step_of_value, within_size, order_code, before_code, rest_code, nearest_code, nearer_code, moved_end_code, by_step, is_one, forth, back};
 ghost use Rattle.stmt_gen.specs.Counting.{step_of, steps_of};
 ghost use Rattle.expr_gen.specs.Putting.{Keeps};
 ghost use Rattle.expr_gen.specs.Puts.{PutsAll, PutsSome};
-ghost use Rattle.stmt_gen.specs.Puts.{IsSteps, PutsFirstTest, PutsFirstValue, PutsLimit, PutsNearEnd, PutsOwnStep, PutsRangeOf, PutsWithin, own_step_size, range_size, some_expr, start_of_turns};
+ghost use Rattle.stmt_gen.specs.Puts.{IsSteps, PutsFirstTest, PutsFirstValue, PutsLimit, PutsNearEnd, PutsNext, PutsOwnStep, PutsRangeOf, PutsWithin, own_step_size, range_size, some_expr, start_of_turns};
 
 use crate::around::Around;
 use checked_program::{Expr, Operation};
@@ -80,15 +83,26 @@ fn constant_step(step: &Option<Box<Expr>>) -> Option<i64>
     }
 }
 
+// The number of a constant, where it is one from 1 on.
 #[tactic(auto, using(expr_gen::proofs::Views::tree_built))]
 fn step_of_value(step: &Expr) -> Option<i64>
     ensures { result ≡ step_of_value (expr_tree step.now) }
 {
     match &step.operation {
-        Operation::Constant(scalars) => match scalars.as_slice() {
-            [number] if STEPS.low <= *number && *number <= STEPS.high => Some(*number),
-            _ => None,
-        },
+        Operation::Constant(scalars) => step_of_constant(scalars.as_slice()),
+        Operation::This | Operation::Contents(_) | Operation::PartOf { .. } => None,
+        Operation::Receive { .. } | Operation::Start(_) | Operation::Call(_) => None,
+        Operation::Powerset { .. } | Operation::Parts(_) | Operation::Uniform { .. } => None,
+        Operation::Routine { .. } | Operation::GetInt => None,
+        Operation::Prefixed { .. } | Operation::Binary { .. } => None,
+    }
+}
+
+fn step_of_constant(scalars: &[i64]) -> Option<i64>
+    ensures { result ≡ step_in (constant scalars.now) }
+{
+    match scalars {
+        [number] if STEPS.low <= *number && *number <= STEPS.high => Some(*number),
         _ => None,
     }
 }
@@ -241,7 +255,7 @@ fn put_order(first: u32, second: u32, draft: &mut Draft) -> Result<(), PartRefus
 
 /// The next value, where it doesn't pass the end: where the counter lies before the limit.
 pub fn put_next(steps: Steps, behind: u32, draft: &mut Draft) -> Result<(), PartRefusal>
-    ensures puts { OnOk result (PutsSome (next_code (steps_of steps) behind) 8 draft.old draft.new) }
+    ensures puts { OnOk result (PutsNext steps behind draft.old draft.new) }
     ensures keeps { Keeps draft.old.code draft.new.code }
 {
     put_before(steps.down, steps.counter, steps.end, draft)?;
@@ -330,9 +344,16 @@ fn put_nearest(steps: Steps, draft: &mut Draft) -> Result<(), PartRefusal>
     ensures puts { OnOk result (PutsAll (nearest_code (steps_of steps)) draft.old draft.new) }
     ensures keeps { Keeps draft.old.code draft.new.code }
 {
-    draft.put(Instr::Push(if steps.down { INT.high } else { INT.low }))?;
+    draft.put(Instr::Push(first_counted(steps.down)))?;
     put_rest(steps.step, draft)?;
     draft.put(forth(steps.down))
+}
+
+// The first value of INT as one counts: the least, or the greatest with DOWN.
+fn first_counted(down: bool) -> i64
+    ensures { result ≡ (if down then greatest_int else least_int) }
+{
+    if down { INT.high } else { INT.low }
 }
 
 // The end is moved towards the start by 1 less than the step.

@@ -1,9 +1,11 @@
 // DELAY CASE and RECEIVE CASE: what comes before their alternatives.
+#![tactic(auto, using(expr_gen::proofs::Appending::keeping))]
+
 ghost use Rattle.std.specs.Prelude.{◌≡◌, pos, [], ◌∷◌, length, IfOk, OnOk};
 ghost use Rattle.code_types.specs.declared.instr.Instr.TheVariants as instrs;
 ghost use Rattle.program_trees.specs.StatementTree.{set_tree};
 ghost use Rattle.code_scheme.specs.Pieces.{capped};
-ghost use Rattle.code_scheme.specs.StatementWaits.{set_place_size, set_kept, chosen_in, set_size, count_of_events, first_received, scalars_received, receive_instr, is_chosen_code};
+ghost use Rattle.code_scheme.specs.StatementWaits.{set_place_size, set_kept, chosen_in, set_size, count_of_events, first_received, scalars_received, receive_instr, nothing_code, is_chosen_code};
 ghost use Rattle.stmt_gen.specs.Trees.{delays_of};
 ghost use Rattle.stmt_gen.specs.Receiving.{kind_of, waits_else};
 ghost use Rattle.expr_gen.specs.Putting.{Keeps};
@@ -66,7 +68,7 @@ pub fn put_delay_wait(
 }
 
 // Each event with the number of its alternative.
-#[tactic(auto, using(crate::proofs::Views::statement_built))]
+#[tactic(auto, using(crate::proofs::Views::statement_built, expr_gen::proofs::Appending::keeping))]
 fn put_all_events(alternatives: &[DelayAlternative], draft: &mut Draft) -> Result<(), PartRefusal>
     ensures puts { OnOk result (PutsAllEvents alternatives.now draft.old draft.new) }
     ensures keeps { Keeps draft.old.code draft.new.code }
@@ -147,26 +149,29 @@ pub fn put_receive_wait(
     put_sources(alternatives, around, draft)?;
     draft.put(receives.instr(count))?;
     draft.put(Instr::SetLocal(chosen, 2))?;
-    if receives.has_else() {
-        put_nothing(chosen, count, otherwise, draft)?;
-    }
+    put_nothing(receives.has_else(), chosen, count, otherwise, draft)?;
     put_set(set, around, draft)
 }
 
-// To this place where nothing came, of so many sources.
+// To this place where nothing came, of so many sources, if ELSE is written.
 fn put_nothing(
+    has_else: bool,
     chosen: u32,
     count: u32,
     otherwise: u32,
     draft: &mut Draft,
 ) -> Result<(), PartRefusal>
-    ensures puts { OnOk result (PutsNothing chosen count otherwise draft.old draft.new) }
+    ensures puts { OnOk result (PutsNothing has_else chosen count otherwise draft.old draft.new) }
     ensures keeps { Keeps draft.old.code draft.new.code }
 {
-    draft.put(Instr::Local(chosen, 1))?;
-    draft.put(Instr::Push(i64::from(count)))?;
-    draft.put(Instr::Less(1))?;
-    draft.put(Instr::Unless(otherwise))
+    if has_else {
+        draft.put(Instr::Local(chosen, 1))?;
+        put_count(count, draft)?;
+        draft.put(Instr::Less(1))?;
+        draft.put(Instr::Unless(otherwise))
+    } else {
+        Ok(())
+    }
 }
 
 /// How many instructions a RECEIVE CASE has up to its alternatives.
@@ -177,16 +182,22 @@ pub fn receive_wait_size(
 ) -> u32
     ensures { result ≡ capped (hearing_size set.now alternatives.now has_else) }
 {
-    let nothing = if has_else { 4 } else { 0 };
     set_place_size(set)
         .saturating_add(counted(alternatives.len()).saturating_mul(3))
         .saturating_add(2)
-        .saturating_add(nothing)
+        .saturating_add(nothing_size(has_else))
         .saturating_add(set_size(set))
 }
 
+// How many instructions go to ELSE, where it is written.
+fn nothing_size(has_else: bool) -> u32
+    ensures { result ≡ length (nothing_code has_else 0 0 0) }
+{
+    if has_else { 4 } else { 0 }
+}
+
 // What is received, and the locals that get it.
-#[tactic(auto, using(crate::proofs::Views::statement_built))]
+#[tactic(auto, using(crate::proofs::Views::statement_built, expr_gen::proofs::Appending::keeping))]
 fn put_sources(
     alternatives: &[ReceiveAlternative],
     around: &Around,
@@ -215,11 +226,20 @@ fn put_source(
     let first = first_received(received, around)?;
     let count = scalars_received(first, received, around)?;
     draft.put(Instr::Thing(source))?;
-    draft.put(Instr::Push(i64::from(first)))?;
+    put_count(first, draft)?;
+    put_count(count, draft)
+}
+
+// A number of sources, locals or scalars.
+fn put_count(count: u32, draft: &mut Draft) -> Result<(), PartRefusal>
+    ensures puts { OnOk result (PutsSome (instrs.Push (pos count) ∷ []) 1 draft.old draft.new) }
+    ensures keeps { Keeps draft.old.code draft.new.code }
+{
     draft.put(Instr::Push(i64::from(count)))
 }
 
 // The first of the locals that get what is received, or 0 where there is none.
+#[tactic(auto, using(expr_gen::proofs::Rows::local_there))]
 fn first_received(received: &[u32], around: &Around) -> Result<u32, PartRefusal>
     ensures { IfOk result (λ n. n ≡ first_received (rows_around around.now) received.now) }
 {

@@ -1,7 +1,10 @@
-use Rattle.std.proofs.Common.{◌≡◌, ◌+◌, ◌-◌, ◌++◌, length, drop, map}
+use Rattle.std.proofs.Common.{◌≡◌, ◌+◌, ◌≤◌, drop}
 use Rattle.code_scheme.specs.Pieces.{capped}
-use Rattle.code_scheme.specs.StatementSize.{more_labels_code}
+use Rattle.stmt_gen.proofs.Labels.{more_labels_size}
 use Rattle.stmt_gen.proofs.cases.more_labels_size.Given as goal
 
 abbrev pub invariant-loop-label : goal.invariant-loop-label
-invariant-loop-label l = capped (l.size + length (more_labels_code 0 (drop l.label-index l.labels))) ≡ capped (length (more_labels_code 0 l.labels))
+invariant-loop-label l = record {
+  counted : capped (l.size + more_labels_size (drop l.label-index l.labels)) ≡ capped (more_labels_size l.labels);
+  few : l.size ≤ 4294967295;
+}

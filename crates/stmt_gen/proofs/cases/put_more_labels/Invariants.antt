@@ -1,11 +1,14 @@
-use Rattle.std.proofs.Common.{◌≡◌, ◌+◌, ◌-◌, ◌++◌, length, drop, map}
+use Rattle.std.proofs.Common.{drop}
 use Rattle.code_scheme.specs.StatementSize.{more_labels_code}
+use Rattle.expr_gen.specs.Putting.{Keeps}
+use Rattle.expr_gen.proofs.Appending.{StillTo}
+use Rattle.stmt_gen.proofs.Labels.{more_labels_size}
 use Rattle.stmt_gen.proofs.cases.put_more_labels.Given as goal
 
 abbrev pub invariant-loop-label : goal.invariant-loop-label
 invariant-loop-label l = record {
-  instrs : l.draft.code.instrs ++ more_labels_code l.kept (drop l.label-index l.labels) ≡ l.initial.draft.code.instrs ++ more_labels_code l.kept l.labels;
-  length : length l.draft.code.instrs + length (more_labels_code 0 (drop l.label-index l.labels)) ≡ length l.initial.draft.code.instrs + length (more_labels_code 0 l.labels);
-  handlers : l.draft.code.handlers ≡ l.initial.draft.code.handlers;
-  bodies : l.draft.code.bodies ≡ l.initial.draft.code.bodies;
+  left : StillTo (λ at. more_labels_code l.kept l.labels) (more_labels_size l.labels)
+      (λ at. more_labels_code l.kept (drop l.label-index l.labels)) (more_labels_size (drop l.label-index l.labels))
+      l.initial.draft.code l.draft.code;
+  keeps : Keeps l.initial.draft.code l.draft.code;
 }
