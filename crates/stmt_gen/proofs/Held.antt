@@ -725,11 +725,12 @@ delay_node w set priority ds behind {x} {y} {z} there p q =
     let q1 = subst (λ (k : ℕ). AppendsAt (delays_code w (chosen_in w.free set) 0 ds k) (delays_size w.site ds) (delays_rows w.site ds) y z) there q in
     told_as _ _ _ refl refl refl (then_at (without_rows (λ at. delay_wait_code w set priority ds at) p) q1)
 
-pub delay_told : (around : Around) (a : Action) (set : Option (Box Location Global)) (priority : ℕ) (own ds : List DelayAlternative) (kept behind : ℕ) {x y z : Draft}
-    → a ≡ actions.DelayCase set priority own → ds ≡ own → kept ≡ chosen_in around.free (set_tree set)
-    → Appends (delay_wait_code (standing_of around) (set_tree set) priority (delays_of ds) (length x.code.instrs)) (delay_wait_size (set_tree set) (delays_of ds)) x.code y.code
+pub delay_told : (around : Around) (a : Action) (set : Option (Box Location Global)) (priority : ℕ) (own es ds : List DelayAlternative) (kept behind : ℕ) {x y z : Draft}
+    → a ≡ actions.DelayCase set priority own → es ≡ own → ds ≡ own → kept ≡ chosen_in around.free (set_tree set)
+    → Appends (delay_wait_code (standing_of around) (set_tree set) priority (delays_of es) (length x.code.instrs)) (delay_wait_size (set_tree set) (delays_of es)) x.code y.code
     → PutsDelays around ds kept behind y z → PutsActionTo around a behind x z
-delay_told around a set priority own ds kept behind {x} {y} {z} is ds_are kept_is p q =
+delay_told around a set priority own es ds kept behind {x} {y} {z} is es_are ds_are kept_is wait q =
+    let p = subst (λ (v : List DelayAlternative). Appends (delay_wait_code (standing_of around) (set_tree set) priority (delays_of v) (length x.code.instrs)) (delay_wait_size (set_tree set) (delays_of v)) x.code y.code) (es_are ∙ sym ds_are) wait in
     let tree = ap action_tree is ∙ action_tree-DelayCase set priority own ∙ ap (λ (v : List DelayAlternative). delay_case (set_tree set) priority (delays_of v)) (sym ds_are) in
     of_tree around a (delay_case (set_tree set) priority (delays_of ds)) behind tree
     (λ there.

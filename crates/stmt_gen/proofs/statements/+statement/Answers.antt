@@ -1,6 +1,7 @@
-use Rattle.std.proofs.Common.{ℕ, suc, ◌≡◌, ◌≤◌, Bool, true, false, length, refl, sym, ap, ◌∙◌, arith, OnOk}
+use Rattle.std.proofs.Common.{ℕ, ◌+◌, ◌≡◌, ◌≤◌, Bool, true, false, length, refl, sym, ap, ◌∙◌, arith, OnOk}
 use Rattle.std.proofs.lemmas.Result.{on_ok_weaker}
-use Rattle.checked_program.specs.declared.statement.Statement.{out-Statement}
+use Rattle.checked_program.specs.declared.statement.DelayAlternative.{DelayAlternative, out-DelayAlternative}
+use Rattle.checked_program.specs.declared.statement.ReceiveAlternative.{ReceiveAlternative, out-ReceiveAlternative}
 use Rattle.program_trees.specs.StatementTree.{statements_of, statement_tree, action_tree, handler_tree, control_tree, set_tree}
 use Rattle.code_scheme.specs.Pieces.{capped}
 use Rattle.code_scheme.specs.StatementGoing.{go_on, leave_size}
@@ -28,14 +29,14 @@ put_statements-returns-then-not-goes_on-clause-puts t c =
 pub put_statements-returns-clause-puts : goal.put_statements-returns-clause-puts
 put_statements-returns-clause-puts t c = statements_end c.args.around.now c.args.statements.now c.loop-statement.statement-index c.loop-statement-test.false c.loop-statement.invariant.left
 
-pub put_statement-returns-then-not-labelled-clause-puts : goal.put_statement-returns-then-not-labelled-clause-puts
-put_statement-returns-then-not-labelled-clause-puts t c =
-    on_ok_weaker c.put_guarded.result (λ q. unlabelled c.args.around.now c.args.statement.now c.if-not-labelled.true q) c.put_guarded.ensures.puts
+pub put_statement-returns-then-not-statement-clause-puts : goal.put_statement-returns-then-not-statement-clause-puts
+put_statement-returns-then-not-statement-clause-puts t c =
+    on_ok_weaker c.put_guarded.result (λ q. unlabelled c.args.around.now c.args.statement.now c.if-not-statement.true q) c.put_guarded.ensures.puts
 
 pub put_statement-returns-clause-puts : goal.put_statement-returns-clause-puts
 put_statement-returns-clause-puts t c =
     let there = c.in_ok-behind.ensures (statement_size (site_around c.args.around.now) (statement_tree c.args.statement.now)) c.statement_size.ensures in
-    on_ok_weaker c.put_guarded-2.result (λ q. labelled c.args.around.now _ c.args.statement.now c.in_ok-behind.behind c.if-not-labelled.false refl refl (c.deref.ensures.value ∙ c.in_ok-exits.ensures) there q) c.put_guarded-2.ensures.puts
+    on_ok_weaker c.put_guarded-2.result (λ q. labelled c.args.around.now _ c.args.statement.now c.in_ok-behind.behind c.if-not-statement.false refl refl (c.deref.ensures.value ∙ c.in_ok-exits.ensures) there q) c.put_guarded-2.ensures.puts
 
 pub put_guarded-returns-in-Some-clause-puts : goal.put_guarded-returns-in-Some-clause-puts
 put_guarded-returns-in-Some-clause-puts t c =
@@ -119,8 +120,8 @@ put_action-returns-in_default-clause-puts t c =
 
 pub put_waiting-returns-in_ok-chosen-in-DelayCase-clause-puts : goal.put_waiting-returns-in_ok-chosen-in-DelayCase-clause-puts
 put_waiting-returns-in_ok-chosen-in-DelayCase-clause-puts t c =
-    on_ok_weaker c.put_delays.result (λ q. delay_told c.args.around.now c.args.action.now c.in-DelayCase.set c.in-DelayCase.priority c.in-DelayCase.alternatives c.as_slice.result.now c.in_ok-chosen-in-DelayCase.chosen c.args.behind
-    c.in-DelayCase.is c.as_slice.ensures c.in_ok-chosen-in-DelayCase.ensures c.in_ok-put_delay_wait-in-DelayCase.ensures.puts q) c.put_delays.ensures.puts
+    on_ok_weaker c.put_delays.result (λ q. delay_told c.args.around.now c.args.action.now c.in-DelayCase.set c.in-DelayCase.priority c.in-DelayCase.alternatives c.as_slice.result.now c.as_slice-in-DelayCase.result.now c.in_ok-chosen-in-DelayCase.chosen c.args.behind
+    c.in-DelayCase.is c.as_slice.ensures c.as_slice-in-DelayCase.ensures c.in_ok-chosen-in-DelayCase.ensures c.in_ok-put_delay_wait-in-DelayCase.ensures.puts q) c.put_delays.ensures.puts
 
 pub put_waiting-returns-in-ReceiveBuffers-clause-puts : goal.put_waiting-returns-in-ReceiveBuffers-clause-puts
 put_waiting-returns-in-ReceiveBuffers-clause-puts t c =
@@ -163,8 +164,8 @@ put_cases-loop-alternative-init t c = record { left = cases_begin c.args.around.
 
 pub put_cases-loop-alternative-preserved : goal.put_cases-loop-alternative-preserved
 put_cases-loop-alternative-preserved t c = record {
-  left = cases_turn c.args.around.now c.args.alternatives.now c.args.otherwise.now c.loop-alternative.alternative-index c.alternative-item.result c.as_slice.result.now c.as_slice-2.result.now c.args.behind
-      c.loop-alternative-test.true c.alternative-item.is c.as_slice.ensures c.as_slice-2.ensures c.loop-alternative.invariant.left c.in_ok-put_labels.ensures.puts c.in_ok-put_chosen.ensures.puts;
+  left = cases_turn c.args.around.now c.args.alternatives.now c.args.otherwise.now c.loop-alternative.alternative-index c.alternative-item.result c.as_slice.result.now c.as_slice-in-loop-alternative.result.now c.args.behind
+      c.loop-alternative-test.true c.alternative-item.is c.as_slice.ensures c.as_slice-in-loop-alternative.ensures c.loop-alternative.invariant.left c.in_ok-put_labels.ensures.puts c.in_ok-put_chosen.ensures.puts;
   keeps = front_on c.loop-alternative.invariant.keeps (front_on (still_front c.in_ok-put_labels.ensures.keeps) c.in_ok-put_chosen.ensures.keeps);
 }
 
@@ -195,7 +196,7 @@ put_delays-loop-number-init t c = record { left = delays_begin c.args.around.now
 pub put_delays-loop-number-preserved : goal.put_delays-loop-number-preserved
 put_delays-loop-number-preserved t c = record {
   left = delays_turn c.args.around.now c.args.alternatives.now c.args.chosen c.loop-number.number c.index-alternatives-number.result c.as_slice.result.now c.args.behind
-      c.loop-number-test.true c.index-alternatives-number.is c.as_slice.ensures c.loop-number.invariant.left c.in_ok-put_is_chosen.ensures.puts c.in_ok-put_chosen.ensures.puts;
+      c.loop-number-test.true c.index-alternatives-number.is (c.as_slice.ensures ∙ ap (λ (v : DelayAlternative). (out-DelayAlternative v).actions) (sym c.index-alternatives-number.is)) c.loop-number.invariant.left c.in_ok-put_is_chosen.ensures.puts c.in_ok-put_chosen.ensures.puts;
   keeps = front_on c.loop-number.invariant.keeps (front_on (still_front c.in_ok-put_is_chosen.ensures.keeps) c.in_ok-put_chosen.ensures.keeps);
 }
 
@@ -208,7 +209,7 @@ put_receives-loop-number-init t c = record { left = receives_begin c.args.around
 pub put_receives-loop-number-preserved : goal.put_receives-loop-number-preserved
 put_receives-loop-number-preserved t c = record {
   left = receives_turn c.args.around.now c.args.alternatives.now c.args.otherwise.now c.args.kept c.loop-number.number c.index-alternatives-number.result c.as_slice.result.now
-      c.loop-number-test.true c.index-alternatives-number.is c.as_slice.ensures c.loop-number.invariant.left c.in_ok-put_is_chosen.ensures.puts c.in_ok-put_chosen.ensures.puts;
+      c.loop-number-test.true c.index-alternatives-number.is (c.as_slice.ensures ∙ ap (λ (v : ReceiveAlternative). (out-ReceiveAlternative v).actions) (sym c.index-alternatives-number.is)) c.loop-number.invariant.left c.in_ok-put_is_chosen.ensures.puts c.in_ok-put_chosen.ensures.puts;
   keeps = front_on c.loop-number.invariant.keeps (front_on (still_front c.in_ok-put_is_chosen.ensures.keeps) c.in_ok-put_chosen.ensures.keeps);
 }
 
