@@ -4,14 +4,13 @@ ghost use Rattle.std.specs.List.{list_all};
 ghost use Rattle.modes.specs.ModeTree.{mode_tree};
 ghost use Rattle.modes.specs.Scalars.{lowest_of};
 ghost use Rattle.program_trees.specs.StatementTree.{statements_of, statement_tree, action_tree};
-ghost use Rattle.program_trees.specs.ProgramTree.{checked_tree, body_row_tree, local_row_tree};
+ghost use Rattle.program_trees.specs.ProgramTree.{body_row_tree, local_row_tree};
 ghost use Rattle.code_scheme.specs.Pieces.{are_same};
-ghost use Rattle.code_scheme.specs.BodyCode.{lowest_value_code, locals_code, lowest_code, is_set_lowest, sets_lowest, behind_lowest, guarded_code, guarded_rows, end_code, doing_code, doing_rows};
+ghost use Rattle.code_scheme.specs.BodyCode.{lowest_value_code, locals_code, lowest_code, is_set_lowest, sets_lowest, behind_lowest, end_code};
 ghost use Rattle.code_scheme.specs.StatementPlain.{entered_by};
 ghost use Rattle.expr_gen.specs.Puts.{PutsAll};
 ghost use Rattle.stmt_gen.specs.Putting.{site_tree};
-ghost use Rattle.stmt_gen.specs.Modulions.{PutsBoth};
-ghost use Rattle.code_gen.specs.Bodies.{AppendsBody, AppendsBodies};
+ghost use Rattle.code_gen.specs.Bodies.{AppendsBody, PutsBodies, PutsProgram, PutsGuardedBody, PutsDoing};
 
 use crate::rows::row_of;
 use checked_program::{Action, Body, Checked, LocalRow, Statement};
@@ -30,7 +29,7 @@ const GREATEST_LENGTH: usize = 4_294_967_295;
 /// Appends the bodies of a program in the order of their numbers. There is no memory for 4,294,967,295 instructions.
 pub fn put_bodies(program: &Checked, draft: &mut Draft) -> Result<(), PartRefusal>
     ensures places { OnOk result (length draft.new.code.instrs < 4294967295) }
-    ensures puts { let p = checked_tree program.now in OnOk result (AppendsBodies p p.bodies draft.old.code draft.new.code) }
+    ensures puts { OnOk result (PutsProgram program.now draft.old draft.new) }
 {
     if program.bodies.is_empty() {
         return Err(PartRefusal::Unsound);
@@ -45,7 +44,7 @@ pub fn put_bodies(program: &Checked, draft: &mut Draft) -> Result<(), PartRefusa
 
 // Bodies of a program with their rows, one behind the other.
 fn put_all(program: &Checked, bodies: &[Body], draft: &mut Draft) -> Result<(), PartRefusal>
-    ensures puts { let bs = map body_row_tree bodies.now in OnOk result (AppendsBodies (checked_tree program.now) bs draft.old.code draft.new.code) }
+    ensures puts { OnOk result (PutsBodies program.now bodies.now draft.old draft.new) }
 {
     for body in bodies {
         put_body(Site { program, body }, draft)?;
@@ -126,7 +125,7 @@ fn are_zeroes(scalars: &[i64]) -> bool
 
 // What a body does, and its way out. A critical procedure enters its region before and leaves it behind.
 fn put_inside(site: Site, draft: &mut Draft) -> Result<(), PartRefusal>
-    ensures puts { let s = site_tree site.entry in let r = entered_by s.body in OnOk result (PutsBoth (doing_code r s) (doing_rows r s) draft.old draft.new) }
+    ensures puts { OnOk result (PutsDoing (entered_by (site_tree site.entry).body) site.entry draft.old draft.new) }
 {
     match critical_region(site.body) {
         Some(region) => put_critical(site, region, draft),
@@ -136,7 +135,7 @@ fn put_inside(site: Site, draft: &mut Draft) -> Result<(), PartRefusal>
 
 // A body that enters no region.
 fn put_plain(site: Site, draft: &mut Draft) -> Result<(), PartRefusal>
-    ensures puts { let s = site_tree site.entry in OnOk result (PutsBoth (doing_code None s) (doing_rows None s) draft.old draft.new) }
+    ensures puts { OnOk result (PutsDoing None site.entry draft.old draft.new) }
 {
     put_handled(site, draft)?;
     put_some_way_out(site.body, draft)
@@ -155,7 +154,7 @@ fn put_some_way_out(body: &Body, draft: &mut Draft) -> Result<(), PartRefusal>
 
 // The statements of a body with their handler.
 fn put_handled(site: Site, draft: &mut Draft) -> Result<(), PartRefusal>
-    ensures puts { let s = site_tree site.entry in OnOk result (PutsBoth (guarded_code s) (guarded_rows s) draft.old draft.new) }
+    ensures puts { OnOk result (PutsGuardedBody site.entry draft.old draft.new) }
 {
     let from = draft.target_behind(0)?;
     let free = uncapped(first_free(site.body))?;
@@ -213,7 +212,7 @@ fn is_set_lowest(action: &Action) -> bool
 
 // A critical procedure. An exception that it lists is raised again behind the release of the region.
 fn put_critical(site: Site, region: u32, draft: &mut Draft) -> Result<(), PartRefusal>
-    ensures puts { let s = site_tree site.entry in let r = Some region in OnOk result (PutsBoth (doing_code r s) (doing_rows r s) draft.old draft.new) }
+    ensures puts { OnOk result (PutsDoing (Some region) site.entry draft.old draft.new) }
 {
     draft.put(Instr::Enter(region))?;
     let from = draft.target_behind(0)?;
