@@ -11,7 +11,7 @@ use Rattle.code_scheme.specs.BodyCode.{results_by, heads_of, greatest_height, mo
 use Rattle.expr_gen.specs.declared.building.Draft.{Draft}
 use Rattle.expr_gen.specs.declared.frames.Site.{Site as RustSite}
 use Rattle.stmt_gen.specs.Modulions.{PutsBoth}
-use Rattle.stmt_gen.specs.Putting.{site_tree}
+use Rattle.action_gen.specs.Putting.{site_tree}
 
 -- the row of a body that has these instructions, the first of them at a place
 abbrev pub row_with : Site → ℕ → List Instr → BodyRow

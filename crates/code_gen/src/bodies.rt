@@ -9,7 +9,7 @@ ghost use Rattle.code_scheme.specs.Pieces.{are_same};
 ghost use Rattle.code_scheme.specs.BodyCode.{lowest_value_code, locals_code, lowest_code, is_set_lowest, sets_lowest, behind_lowest, end_code};
 ghost use Rattle.code_scheme.specs.StatementPlain.{entered_by};
 ghost use Rattle.expr_gen.specs.Puts.{PutsAll};
-ghost use Rattle.stmt_gen.specs.Putting.{site_tree};
+ghost use Rattle.action_gen.specs.Putting.{site_tree};
 ghost use Rattle.code_gen.specs.Bodies.{AppendsBody, PutsBodies, PutsProgram, PutsGuardedBody, PutsDoing};
 
 use crate::rows::row_of;
@@ -18,10 +18,8 @@ use chill_base::Scalars;
 use code_types::Instr;
 use expr_gen::{Draft, PartRefusal, Site, declared_scalars, first_free, put_scalars, uncapped};
 use modes::{Mode, add_lowest};
-use stmt_gen::{
-    Around, critical_region, go_on, put_again, put_handler, put_items, put_way_out,
-    raised_and_listed, raised_between, some_handler_goes_on,
-};
+use action_gen::{Around, critical_region, put_way_out};
+use stmt_gen::{go_on, put_again, put_handler, put_items, raised_and_listed, raised_between, some_handler_goes_on};
 
 /// So many instructions no code has: their places would be all numbers of 32 bits.
 const GREATEST_LENGTH: usize = 4_294_967_295;

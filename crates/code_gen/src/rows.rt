@@ -6,7 +6,7 @@ ghost use Rattle.code_types.specs.declared.instr.Instr.TheVariants.{Call};
 ghost use Rattle.code_scheme.specs.Pieces.{capped};
 ghost use Rattle.code_scheme.specs.BodyCode.{results_by, heads_of, height_behind, greatest_height, locals_named, most_locals};
 ghost use Rattle.expr_gen.specs.Empty.{empty_code};
-ghost use Rattle.stmt_gen.specs.Putting.{site_tree};
+ghost use Rattle.action_gen.specs.Putting.{site_tree};
 ghost use Rattle.code_gen.specs.Bodies.{row_with};
 
 use checked_program::{Body, Checked, Sort};

@@ -44,16 +44,16 @@ use Rattle.stmt_gen.specs.Appending.{AppendsAt, AppendsRows}
 use Rattle.stmt_gen.specs.Constructs.{guarded_code, choice_code, receive_action_code, receive_action_rows}
 use Rattle.stmt_gen.specs.HandlerRows.{PutsRows}
 use Rattle.stmt_gen.specs.Holding.{site_around, PutsStatements, PutsStatement, PutsGuarded, PutsAction, PutsActionTo, PutsHandler, handled_parts, PutsHandled, PutsOtherwise, joined_size, PutsJoining, PutsChosen, choice_parts, PutsChoice, choices_parts, PutsChoices, cases_parts, PutsCases, loop_parts, PutsDo, PutsDelays, receives_parts, PutsReceives, PutsReceiveCase}
-use Rattle.stmt_gen.specs.Putting.{standing_of, site_of, holds_statements, rows_of_handler}
-use Rattle.stmt_gen.specs.Receiving.{kind_of, waits_else}
-use Rattle.stmt_gen.specs.Trees.{choice_tree, case_tree, delay_tree, handled_tree, receive_tree, choices_of, cases_of, delays_of, receives_of, handled_of, else_of}
+use Rattle.action_gen.specs.Putting.{standing_of, site_of, holds_statements, rows_of_handler}
+use Rattle.action_gen.specs.Receiving.{kind_of, waits_else}
+use Rattle.action_gen.specs.Trees.{choice_tree, case_tree, delay_tree, handled_tree, receive_tree, choices_of, cases_of, delays_of, receives_of, handled_of, else_of}
 use Rattle.stmt_gen.specs.declared.again.Span.{Span}
-use Rattle.stmt_gen.specs.declared.around.Around.{Around}
+use Rattle.action_gen.specs.declared.around.Around.{Around}
 use Rattle.stmt_gen.specs.declared.statements.Kept.{Kept}
 use Rattle.stmt_gen.specs.declared.statements.Wait.{Wait}
 use Rattle.stmt_gen.proofs.Made.{next_statement, last_statement, guarded, unguarded, handling, next_handled, joined_on, chosen_on, next_choice, cased, next_case, waited, next_delay, next_receive}
 use Rattle.stmt_gen.proofs.Placing.{nothing_at, without_rows, then_at, told_as, StillTo, begin, end}
-use Rattle.stmt_gen.proofs.Views.{action_tree-If, action_tree-Case, action_tree-Do, action_tree-Begin, action_tree-DelayCase, action_tree-ReceiveBuffers, action_tree-ReceiveSignals, case_tree-out, choice_tree-out, delay_tree-out, handled_tree-out, receive_tree-out, handler_tree-out, statement_tree-out}
+use Rattle.action_gen.proofs.Views.{action_tree-If, action_tree-Case, action_tree-Do, action_tree-Begin, action_tree-DelayCase, action_tree-ReceiveBuffers, action_tree-ReceiveSignals, case_tree-out, choice_tree-out, delay_tree-out, handled_tree-out, receive_tree-out, handler_tree-out, statement_tree-out}
 
 -- ---- what is appended for nodes
 

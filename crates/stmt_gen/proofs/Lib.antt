@@ -1,5 +1,4 @@
 pub mod Front
-pub mod Views
 pub mod Placing
 pub mod Capping
 pub mod Made
@@ -8,14 +7,3 @@ pub mod Rows
 pub mod Released
 pub mod Modular
 pub mod Held
-pub mod Lengths
-pub mod Controls
-pub mod Labels
-pub mod Waiting
-pub mod Nodes
-pub mod Extents
-pub mod Assigned
-pub mod Asked
-pub mod GivenBack
-pub mod Dropped
-pub mod Exits

@@ -27,10 +27,10 @@ use Rattle.expr_gen.proofs.Items.{item_at}
 use Rattle.stmt_gen.specs.Appending.{AppendsAt, AppendsBoth}
 use Rattle.stmt_gen.specs.Holding.{site_around, PutsStatements, PutsStatement, PutsHandler}
 use Rattle.stmt_gen.specs.Modulions.{PutsReleases, instrs_between, PutsItems, PutsItem, PutsModule, PutsRegion, PutsSomeHandler}
-use Rattle.stmt_gen.specs.Putting.{standing_of}
-use Rattle.stmt_gen.specs.declared.around.Around.{Around}
+use Rattle.action_gen.specs.Putting.{standing_of}
+use Rattle.action_gen.specs.declared.around.Around.{Around}
 use Rattle.stmt_gen.proofs.Placing.{nothing_at, then_at, told_as}
-use Rattle.stmt_gen.proofs.Views.{action_tree-Module, action_tree-Region, statement_tree-out}
+use Rattle.action_gen.proofs.Views.{action_tree-Module, action_tree-Region, statement_tree-out}
 
 -- ---- items one behind the other
 

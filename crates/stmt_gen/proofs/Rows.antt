@@ -17,11 +17,11 @@ use Rattle.expr_gen.specs.declared.frames.Site.{Site as RustSite}
 use Rattle.expr_gen.proofs.Items.{item_at}
 use Rattle.stmt_gen.specs.Appending.{AppendsRows}
 use Rattle.stmt_gen.specs.HandlerRows.{PutsRows}
-use Rattle.stmt_gen.specs.Putting.{site_of, rows_of_handler}
-use Rattle.stmt_gen.specs.Trees.{handled_tree, handled_of, else_of}
+use Rattle.action_gen.specs.Putting.{site_of, rows_of_handler}
+use Rattle.action_gen.specs.Trees.{handled_tree, handled_of, else_of}
 use Rattle.stmt_gen.specs.declared.again.Span.{Span}
 use Rattle.stmt_gen.proofs.Capping.{leave_over}
-use Rattle.stmt_gen.proofs.Views.{handled_tree-out, handler_tree-out}
+use Rattle.action_gen.proofs.Views.{handled_tree-out, handler_tree-out}
 
 -- The rows that are left, of which the first one's target is known, where so much of the code is left up to the place behind.
 pub record RowsTo (site : Site) (all left : HandledNodes) (o : OtherwiseNode) (from until first behind target : ℕ) (old now : Code) : Type 0 where

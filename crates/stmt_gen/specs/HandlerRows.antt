@@ -8,7 +8,7 @@ use Rattle.code_scheme.specs.StatementRows.{row_for}
 use Rattle.expr_gen.specs.declared.building.Draft.{Draft}
 use Rattle.expr_gen.specs.declared.frames.Site.{Site}
 use Rattle.stmt_gen.specs.Appending.{AppendsRows}
-use Rattle.stmt_gen.specs.Putting.{site_of, rows_of_handler}
+use Rattle.action_gen.specs.Putting.{site_of, rows_of_handler}
 use Rattle.stmt_gen.specs.declared.again.Span.{Span}
 
 -- one row

@@ -22,10 +22,10 @@ use Rattle.code_scheme.specs.StatementRows.{RowsAt, statements_rows, statement_r
 use Rattle.expr_gen.specs.declared.building.Draft.{Draft}
 use Rattle.stmt_gen.specs.Appending.{AppendsAt}
 use Rattle.stmt_gen.specs.Constructs.{guarded_code, choice_code, receive_action_code, receive_action_rows}
-use Rattle.stmt_gen.specs.Putting.{standing_of}
-use Rattle.stmt_gen.specs.Receiving.{kind_of, waits_else}
-use Rattle.stmt_gen.specs.Trees.{choice_tree, choices_of, cases_of, delays_of, receives_of, handled_of, else_of}
-use Rattle.stmt_gen.specs.declared.around.Around.{Around}
+use Rattle.action_gen.specs.Putting.{standing_of}
+use Rattle.action_gen.specs.Receiving.{kind_of, waits_else}
+use Rattle.action_gen.specs.Trees.{choice_tree, choices_of, cases_of, delays_of, receives_of, handled_of, else_of}
+use Rattle.action_gen.specs.declared.around.Around.{Around}
 use Rattle.stmt_gen.specs.declared.statements.Kept.{Kept}
 use Rattle.stmt_gen.specs.declared.statements.Wait.{Wait}
 

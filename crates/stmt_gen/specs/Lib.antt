@@ -1,14 +1,9 @@
-pub mod Trees
 pub mod Appending
 pub mod Constructs
-pub mod Putting
 pub mod JoiningSizes
 pub mod Joining
-pub mod Counting
-pub mod Receiving
 pub mod Holding
 pub mod HandlerRows
 pub mod Modulions
 pub mod Marking
 pub mod Puts
-pub mod WaysOut

@@ -15,8 +15,8 @@ use Rattle.code_scheme.specs.BodyItems.{raise_again_code, raise_again_rows, item
 use Rattle.expr_gen.specs.declared.building.Draft.{Draft}
 use Rattle.stmt_gen.specs.Appending.{AppendsAt, AppendsBoth}
 use Rattle.stmt_gen.specs.Holding.{site_around}
-use Rattle.stmt_gen.specs.Putting.{standing_of}
-use Rattle.stmt_gen.specs.declared.around.Around.{Around}
+use Rattle.action_gen.specs.Putting.{standing_of}
+use Rattle.action_gen.specs.declared.around.Around.{Around}
 
 -- instructions and rows behind what a draft has
 abbrev pub PutsBoth : CodeAt → RowsAt → Draft → Draft → Type 0

@@ -2,7 +2,7 @@
 ghost use Rattle.std.specs.Prelude.{◌≡◌};
 ghost use Rattle.program_trees.specs.StatementTree.{action_tree, statement_tree, statements_of, handler_tree, handler_of, control_tree};
 ghost use Rattle.code_scheme.specs.StatementGoing.{go_on, goes_on, handler_goes_on, some_handled_goes_on, action_goes_on, some_choice_goes_on, some_case_goes_on, has_end, has_label, is_modulion};
-ghost use Rattle.stmt_gen.specs.Trees.{choices_of, cases_of, handled_of};
+ghost use Rattle.action_gen.specs.Trees.{choices_of, cases_of, handled_of};
 
 use checked_program::{
     Action, CaseAlternative, Choice, Control, Handler, HandlerAlternative, Statement,
@@ -23,7 +23,7 @@ pub fn go_on(statements: &[Statement]) -> bool
 
 /// Whether control may come behind a statement: behind its action or its handler, or by an EXIT of its label. The name of a
 /// modulion is no label.
-#[tactic(auto, using(crate::proofs::Views::statement_built))]
+#[tactic(auto, using(action_gen::proofs::Views::statement_built))]
 #[cycle(going_on)]
 pub fn goes_on(statement: &Statement) -> bool
     ensures { result ≡ goes_on (statement_tree statement.now) }
@@ -34,7 +34,7 @@ pub fn goes_on(statement: &Statement) -> bool
 }
 
 // Whether control may come behind an action by an EXIT of its label.
-#[tactic(auto, using(crate::proofs::Views::statement_built))]
+#[tactic(auto, using(action_gen::proofs::Views::statement_built))]
 fn has_label(labelled: bool, action: &Action) -> bool
     ensures { result ≡ has_label labelled (action_tree action.now) }
 {
@@ -42,7 +42,7 @@ fn has_label(labelled: bool, action: &Action) -> bool
 }
 
 /// Whether an action is a modulion.
-#[tactic(auto, using(crate::proofs::Views::statement_built))]
+#[tactic(auto, using(action_gen::proofs::Views::statement_built))]
 pub fn is_modulion(action: &Action) -> bool
     ensures { result ≡ is_modulion (action_tree action.now) }
 {
@@ -73,7 +73,7 @@ pub fn some_handler_goes_on(handler: &Option<Box<Handler>>) -> bool
 }
 
 // Whether control may come behind a handler.
-#[tactic(auto, using(crate::proofs::Views::statement_built))]
+#[tactic(auto, using(action_gen::proofs::Views::statement_built))]
 #[cycle(going_on)]
 fn handler_goes_on(handler: &Handler) -> bool
     ensures { result ≡ handler_goes_on (handler_tree handler.now) }
@@ -85,7 +85,7 @@ fn handler_goes_on(handler: &Handler) -> bool
     rest || some_alternative_goes_on(handler.alternatives.as_slice())
 }
 
-#[tactic(auto, using(crate::proofs::Views::statement_built))]
+#[tactic(auto, using(action_gen::proofs::Views::statement_built))]
 #[cycle(going_on)]
 fn some_alternative_goes_on(alternatives: &[HandlerAlternative]) -> bool
     ensures { result ≡ some_handled_goes_on (handled_of alternatives.now) }
@@ -99,7 +99,7 @@ fn some_alternative_goes_on(alternatives: &[HandlerAlternative]) -> bool
 }
 
 /// Whether control may come behind an action, an EXIT of a label aside.
-#[tactic(auto, using(crate::proofs::Views::statement_built))]
+#[tactic(auto, using(action_gen::proofs::Views::statement_built))]
 #[cycle(going_on)]
 pub fn action_goes_on(action: &Action) -> bool
     ensures { result ≡ action_goes_on (action_tree action.now) }
@@ -143,7 +143,7 @@ fn has_end(control: &Control) -> bool
     }
 }
 
-#[tactic(auto, using(crate::proofs::Views::statement_built))]
+#[tactic(auto, using(action_gen::proofs::Views::statement_built))]
 #[cycle(going_on)]
 fn some_choice_goes_on(choices: &[Choice]) -> bool
     ensures { result ≡ some_choice_goes_on (choices_of choices.now) }
@@ -156,7 +156,7 @@ fn some_choice_goes_on(choices: &[Choice]) -> bool
     false
 }
 
-#[tactic(auto, using(crate::proofs::Views::statement_built))]
+#[tactic(auto, using(action_gen::proofs::Views::statement_built))]
 #[cycle(going_on)]
 fn some_case_goes_on(alternatives: &[CaseAlternative]) -> bool
     ensures { result ≡ some_case_goes_on (cases_of alternatives.now) }

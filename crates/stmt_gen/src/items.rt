@@ -4,9 +4,9 @@ ghost use Rattle.stmt_gen.specs.Appending.{KeepsFront};
 ghost use Rattle.stmt_gen.specs.Modulions.{PutsItems, PutsItem, PutsModule, PutsRegion, PutsSomeHandler};
 
 use crate::again::{put_again, raised_between};
-use crate::around::Around;
 use crate::going_on::{go_on, goes_on, is_modulion};
 use crate::statements::{put_handler, put_statement, put_statements};
+use action_gen::Around;
 use checked_program::{Action, Handler, Statement};
 use code_types::Instr;
 use expr_gen::{Draft, PartRefusal};

@@ -3,16 +3,13 @@ ghost use Rattle.std.specs.Prelude.{◌≡◌};
 ghost use Rattle.program_trees.specs.StatementTree.{statement_tree, action_tree, handler_tree, statements_of};
 ghost use Rattle.code_scheme.specs.Pieces.{capped};
 ghost use Rattle.code_scheme.specs.StatementSize.{statements_size, statement_size, handler_size, handled_size, action_size, choices_size, cases_size, delays_size, receives_size};
-ghost use Rattle.stmt_gen.specs.Trees.{choices_of, cases_of, delays_of, receives_of, handled_of};
-ghost use Rattle.stmt_gen.specs.Putting.{site_tree};
+ghost use Rattle.action_gen.specs.Trees.{choices_of, cases_of, delays_of, receives_of, handled_of};
+ghost use Rattle.action_gen.specs.Putting.{site_tree};
 ghost use Rattle.stmt_gen.specs.Puts.{IsCaseSize, IsChoosingSize, IsElseSize, IsHandledSize, IsReceiveSize, Joins, JoinsAll, choice_size, chosen_size};
 
-use crate::cases::labels_size;
 use crate::going_on::{action_goes_on, go_on, goes_on};
 use crate::joining::Joined;
-use crate::loops::control_size;
-use crate::plain::plain_size;
-use crate::waits::{delay_wait_size, receive_wait_size};
+use action_gen::{control_size, delay_wait_size, labels_size, plain_size, receive_wait_size};
 use checked_program::{
     Action, CaseAlternative, Choice, DelayAlternative, Expr, Handler, HandlerAlternative, Location,
     ReceiveAlternative, Statement,
@@ -36,7 +33,7 @@ pub fn statements_size(statements: &[Statement], site: &Site) -> u32
 }
 
 /// How many instructions a statement has, with its handler.
-#[tactic(auto, using(crate::proofs::Views::statement_built))]
+#[tactic(auto, using(action_gen::proofs::Views::statement_built))]
 #[cycle(extent)]
 pub fn statement_size(statement: &Statement, site: &Site) -> u32
     ensures { result ≡ capped (statement_size (site_tree site.now) (statement_tree statement.now)) }
@@ -52,7 +49,7 @@ pub fn statement_size(statement: &Statement, site: &Site) -> u32
 }
 
 /// How many instructions the alternatives of a handler have.
-#[tactic(auto, using(crate::proofs::Views::statement_built))]
+#[tactic(auto, using(action_gen::proofs::Views::statement_built))]
 #[cycle(extent)]
 pub fn handled_size(handler: &Handler, site: &Site) -> u32
     ensures { result ≡ capped (handler_size (site_tree site.now) (handler_tree handler.now)) }
@@ -75,7 +72,7 @@ fn alternatives_size(alternatives: &[HandlerAlternative], last: u32, site: &Site
     handled_joined(alternatives, site).then(last, false).size
 }
 
-#[tactic(auto, using(crate::proofs::Views::statement_built))]
+#[tactic(auto, using(action_gen::proofs::Views::statement_built))]
 #[cycle(extent)]
 fn handled_joined(alternatives: &[HandlerAlternative], site: &Site) -> Joined
     ensures { Joins result (handled_size (site_tree site.now) (handled_of alternatives.now)) }
@@ -89,7 +86,7 @@ fn handled_joined(alternatives: &[HandlerAlternative], site: &Site) -> Joined
 }
 
 /// How many instructions an action has. A modulion counts nothing.
-#[tactic(auto, using(crate::proofs::Views::statement_built))]
+#[tactic(auto, using(action_gen::proofs::Views::statement_built))]
 #[cycle(extent)]
 pub fn action_size(action: &Action, site: &Site) -> u32
     ensures { result ≡ capped (action_size (site_tree site.now) (action_tree action.now)) }
@@ -125,7 +122,7 @@ pub fn action_size(action: &Action, site: &Site) -> u32
 }
 
 // How many instructions an action has that chooses among alternatives.
-#[tactic(auto, using(crate::proofs::Views::statement_built))]
+#[tactic(auto, using(action_gen::proofs::Views::statement_built))]
 #[cycle(extent)]
 fn choosing_size(action: &Action, site: &Site) -> u32
     ensures { IsChoosingSize site.now action.now result }
@@ -214,7 +211,7 @@ pub fn chosen_size(actions: &[Statement], site: &Site) -> u32
 }
 
 /// How many instructions a condition and its actions have, without the jump behind them.
-#[tactic(auto, using(crate::proofs::Views::statement_built))]
+#[tactic(auto, using(action_gen::proofs::Views::statement_built))]
 #[cycle(extent)]
 pub fn choice_size(choice: &Choice, site: &Site) -> u32
     ensures { result ≡ capped (choice_size site.now choice.now) }
@@ -225,7 +222,7 @@ pub fn choice_size(choice: &Choice, site: &Site) -> u32
     ))
 }
 
-#[tactic(auto, using(crate::proofs::Views::statement_built))]
+#[tactic(auto, using(action_gen::proofs::Views::statement_built))]
 #[cycle(extent)]
 fn choices_joined(choices: &[Choice], site: &Site) -> Joined
     ensures { Joins result (choices_size (site_tree site.now) (choices_of choices.now)) }
@@ -237,7 +234,7 @@ fn choices_joined(choices: &[Choice], site: &Site) -> Joined
     joined
 }
 
-#[tactic(auto, using(crate::proofs::Views::statement_built))]
+#[tactic(auto, using(action_gen::proofs::Views::statement_built))]
 #[cycle(extent)]
 fn cases_joined(alternatives: &[CaseAlternative], site: &Site) -> Joined
     ensures { Joins result (cases_size (site_tree site.now) (cases_of alternatives.now)) }
@@ -254,7 +251,7 @@ fn cases_joined(alternatives: &[CaseAlternative], site: &Site) -> Joined
     joined
 }
 
-#[tactic(auto, using(crate::proofs::Views::statement_built))]
+#[tactic(auto, using(action_gen::proofs::Views::statement_built))]
 #[cycle(extent)]
 fn delays_joined(alternatives: &[DelayAlternative], site: &Site) -> Joined
     ensures { JoinsAll result (delays_size (site_tree site.now) (delays_of alternatives.now)) }
@@ -267,7 +264,7 @@ fn delays_joined(alternatives: &[DelayAlternative], site: &Site) -> Joined
     joined
 }
 
-#[tactic(auto, using(crate::proofs::Views::statement_built))]
+#[tactic(auto, using(action_gen::proofs::Views::statement_built))]
 #[cycle(extent)]
 fn receives_joined(alternatives: &[ReceiveAlternative], site: &Site) -> Joined
     ensures { Joins result (receives_size (site_tree site.now) (receives_of alternatives.now)) }

@@ -4,18 +4,14 @@ ghost use Rattle.stmt_gen.specs.Appending.{KeepsFront};
 ghost use Rattle.stmt_gen.specs.Holding.{PutsStatements, PutsStatement, PutsGuarded, PutsAction, PutsActionTo, PutsHandler, PutsHandled, PutsOtherwise, PutsJoining, PutsChosen, PutsChoice, PutsChoices, PutsCases, PutsDo, PutsDelays, PutsReceives, PutsReceiveCase};
 
 use crate::again::Span;
-use crate::around::{Around, with_exit};
-use crate::cases::{put_labels, put_selector};
 use crate::going_on::{action_goes_on, go_on, goes_on};
 use crate::handlers::put_rows;
 use crate::joining::{leaving_size, next_place, put_leaving};
-use crate::loops::{control_size, locals_kept, put_before_turns, put_turn_test};
-use crate::plain::put_plain;
 use crate::sizes::{
     action_size, choice_size, chosen_size, handled_size, otherwise_size, statement_size,
     statements_size,
 };
-use crate::waits::{Receives, chosen_local, put_delay_wait, put_is_chosen, put_receive_wait};
+use action_gen::{Around, Receives, chosen_local, control_size, locals_kept, put_before_turns, put_delay_wait, put_is_chosen, put_labels, put_plain, put_receive_wait, put_selector, put_turn_test, with_exit};
 use checked_program::{
     Action, CaseAlternative, Choice, Control, DelayAlternative, Handler, HandlerAlternative,
     Location, ReceiveAlternative, Statement,

@@ -1,5 +1,5 @@
 use Rattle.std.proofs.Common.{◌≡◌, length, ◌∙◌, refl, ap, arith}
-use Rattle.stmt_gen.specs.Putting.{site_tree}
+use Rattle.action_gen.specs.Putting.{site_tree}
 use Rattle.code_gen.specs.Bodies.{row_with}
 use Rattle.code_gen.proofs.Appended.{length_behind, body_told}
 use Rattle.code_gen.proofs.bodies.put_body.Goals as goal

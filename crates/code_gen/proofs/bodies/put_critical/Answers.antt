@@ -1,6 +1,6 @@
 use Rattle.std.proofs.Common.{◌≡◌, length, ◌∙◌, refl, arith}
 use Rattle.std.proofs.lemmas.Result.{on_ok_weaker}
-use Rattle.stmt_gen.specs.Putting.{site_tree}
+use Rattle.action_gen.specs.Putting.{site_tree}
 use Rattle.code_gen.proofs.Appended.{critical_told}
 use Rattle.code_gen.proofs.bodies.put_critical.Goals as goal
 

@@ -5,7 +5,7 @@ use Rattle.program_trees.specs.StatementTree.{statements_of, handler_tree, handl
 use Rattle.code_scheme.specs.StatementSite.{Standing}
 use Rattle.code_scheme.specs.StatementGoing.{go_on}
 use Rattle.code_scheme.specs.BodyCode.{behind_lowest, standing_in}
-use Rattle.stmt_gen.specs.Putting.{site_tree}
+use Rattle.action_gen.specs.Putting.{site_tree}
 use Rattle.code_gen.proofs.Appended.{guarded_told}
 use Rattle.code_gen.proofs.bodies.put_handled.Goals as goal
 

@@ -2,7 +2,7 @@ use Rattle.std.proofs.Common.{ℕ, Option, ◌∙◌, sym, subst}
 use Rattle.std.specs.Prelude.{OnOk}
 use Rattle.code_scheme.specs.BodyCode.{doing_code, doing_rows}
 use Rattle.stmt_gen.specs.Modulions.{PutsBoth}
-use Rattle.stmt_gen.specs.Putting.{site_tree}
+use Rattle.action_gen.specs.Putting.{site_tree}
 use Rattle.code_gen.proofs.bodies.put_inside.Goals as goal
 
 pub returns-in-Some : goal.returns-in-Some

@@ -1,5 +1,5 @@
 use Rattle.std.proofs.lemmas.Result.{on_ok_weaker}
-use Rattle.stmt_gen.specs.Putting.{site_tree}
+use Rattle.action_gen.specs.Putting.{site_tree}
 use Rattle.code_gen.proofs.Appended.{plain_told}
 use Rattle.code_gen.proofs.bodies.put_plain.Goals as goal
 

@@ -1,5 +1,5 @@
 use Rattle.std.proofs.Common.{◌∙◌, sym, true, false}
-use Rattle.stmt_gen.proofs.Nodes.{handled_goes, choice_goes, case_goes}
+use Rattle.action_gen.proofs.Nodes.{handled_goes, choice_goes, case_goes}
 use Rattle.stmt_gen.proofs.going_on.+going_on.Goals as goal
 
 pub some_alternative_goes_on-returns-then-go_on : goal.some_alternative_goes_on-returns-then-go_on

@@ -1,7 +1,7 @@
 use Rattle.std.proofs.Common.{◌≡◌, drop}
 use Rattle.program_trees.specs.StatementTree.{statements_of}
 use Rattle.code_scheme.specs.StatementGoing.{go_on, some_handled_goes_on, some_choice_goes_on, some_case_goes_on}
-use Rattle.stmt_gen.specs.Trees.{choices_of, cases_of, handled_of}
+use Rattle.action_gen.specs.Trees.{choices_of, cases_of, handled_of}
 use Rattle.stmt_gen.proofs.going_on.+going_on.Given as goal
 
 abbrev pub invariant-go_on-loop-statement : goal.invariant-go_on-loop-statement

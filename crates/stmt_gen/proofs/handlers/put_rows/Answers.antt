@@ -6,7 +6,7 @@ use Rattle.code_scheme.specs.StatementGoing.{go_on, leave_size}
 use Rattle.code_scheme.specs.StatementSize.{statements_size}
 use Rattle.code_scheme.specs.StatementRows.{row_for}
 use Rattle.stmt_gen.specs.Appending.{AppendsRows}
-use Rattle.stmt_gen.specs.Putting.{site_tree}
+use Rattle.action_gen.specs.Putting.{site_tree}
 use Rattle.stmt_gen.specs.declared.again.Span.{Span}
 use Rattle.stmt_gen.proofs.Front.{front_on, front_as}
 use Rattle.stmt_gen.proofs.Rows.{rows_begin, rows_turn, rows_else, rows_end, next_row}

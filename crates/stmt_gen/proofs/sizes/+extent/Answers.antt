@@ -1,10 +1,10 @@
 use Rattle.std.proofs.Common.{◌≤◌, ◌∙◌, ap, List, Option, arith, rules}
 use Rattle.checked_program.specs.declared.statement.Action.TheVariants as actions
 use Rattle.checked_program.specs.declared.statement.Statement.{Statement}
-use Rattle.stmt_gen.proofs.Extents.{last_joined, handled_counted, choices_counted, cases_counted, delays_counted, receives_counted, guarded_counted, if_counted, case_counted, statements_none}
+use Rattle.action_gen.proofs.Extents.{last_joined, handled_counted, choices_counted, cases_counted, delays_counted, receives_counted, guarded_counted, if_counted, case_counted, statements_none}
 use Rattle.code_scheme.specs.StatementSize.{cases_size, receives_size}
-use Rattle.stmt_gen.specs.Putting.{site_tree}
-use Rattle.stmt_gen.specs.Trees.{cases_of, receives_of}
+use Rattle.action_gen.specs.Putting.{site_tree}
+use Rattle.action_gen.specs.Trees.{cases_of, receives_of}
 use Rattle.stmt_gen.proofs.sizes.+extent.Goals as goal
 
 pub statements_size-returns : goal.statements_size-returns

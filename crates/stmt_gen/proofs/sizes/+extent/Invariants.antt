@@ -2,9 +2,9 @@ use Rattle.std.proofs.Common.{◌≡◌, ℕ, ◌+◌, ◌≤◌, drop}
 use Rattle.program_trees.specs.StatementTree.{statements_of}
 use Rattle.code_scheme.specs.Pieces.{capped}
 use Rattle.code_scheme.specs.StatementSize.{statements_size, handled_size, choices_size, cases_size, delays_size, receives_size}
-use Rattle.stmt_gen.specs.Trees.{choices_of, cases_of, delays_of, receives_of, handled_of}
+use Rattle.action_gen.specs.Trees.{choices_of, cases_of, delays_of, receives_of, handled_of}
 use Rattle.stmt_gen.specs.Joining.{size_before}
-use Rattle.stmt_gen.specs.Putting.{site_tree}
+use Rattle.action_gen.specs.Putting.{site_tree}
 use Rattle.stmt_gen.proofs.sizes.+extent.Given as goal
 
 abbrev pub invariant-statements_size-loop-statement : goal.invariant-statements_size-loop-statement
