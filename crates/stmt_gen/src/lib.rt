@@ -1,8 +1,8 @@
-//! The code of statements, handlers and modulions.
+//! The code of statements that hold others, of handlers and of modulions.
 //!
-//! It meets the scheme of `docs/MACHINE.md`, one function for each construct. It stands on the code of
-//! actions without statements in `action_gen`; the code of bodies stands on it. Statements begin and end with nothing on the stack. Code is appended to a
-//! `Draft`, and nothing is mended later.
+//! It meets the scheme of `docs/MACHINE.md`, one function for each construct. It stands on the code of actions in `action_gen`;
+//! the code of bodies stands on it. Statements begin and end with nothing on the stack. Code is appended to a `Draft`, and
+//! nothing is mended later.
 #![tactic(auto)]
 
 mod again;

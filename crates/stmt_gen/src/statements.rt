@@ -11,7 +11,10 @@ use crate::sizes::{
     action_size, choice_size, chosen_size, handled_size, otherwise_size, statement_size,
     statements_size,
 };
-use action_gen::{Around, Receives, chosen_local, control_size, locals_kept, put_before_turns, put_delay_wait, put_is_chosen, put_labels, put_plain, put_receive_wait, put_selector, put_turn_test, with_exit};
+use action_gen::{
+    Around, Receives, chosen_local, control_size, locals_kept, put_before_turns, put_delay_wait,
+    put_is_chosen, put_labels, put_plain, put_receive_wait, put_selector, put_turn_test, with_exit,
+};
 use checked_program::{
     Action, CaseAlternative, Choice, Control, DelayAlternative, Handler, HandlerAlternative,
     Location, ReceiveAlternative, Statement,
