@@ -7,3 +7,4 @@ pub mod Rows
 pub mod Released
 pub mod Modular
 pub mod Held
+pub mod Extents

@@ -32,7 +32,7 @@ returns-in-Some-clause-puts c =
     on_ok_weaker c.put_row-in-Some.result
     (λ q. rows_else c.args.site.now c.args.handler.now c.as_slice-alternatives.result.now c.in-Some.field-0 c.args.first c.args.behind c.loop-alternative.alternative-index c.loop-alternative.target
     c.as_slice-alternatives.ensures c.loop-alternative-test.false c.in-Some.is c.loop-alternative.invariant.left
-    (subst (λ (s : Span). AppendsRows (row_for s.from s.until [] true s.target ∷ []) _ _) c.to-in-Some.ensures (subst (λ (ns : List ℕ). AppendsRows (row_for c.to-in-Some.result.from c.to-in-Some.result.until ns true c.to-in-Some.result.target ∷ []) _ _) c.new.ensures q))) c.put_row-in-Some.ensures.puts
+    (subst (λ (s : Span). AppendsRows (row_for s.from s.until [] true s.target ∷ []) c.loop-alternative.draft.code c.put_row-in-Some.new.draft.code) c.to-in-Some.ensures (subst (λ (ns : List ℕ). AppendsRows (row_for c.to-in-Some.result.from c.to-in-Some.result.until ns true c.to-in-Some.result.target ∷ []) c.loop-alternative.draft.code c.put_row-in-Some.new.draft.code) c.new.ensures q))) c.put_row-in-Some.ensures.puts
 
 pub returns-in-None-clause-puts : goal.returns-in-None-clause-puts
 returns-in-None-clause-puts c =

@@ -1,5 +1,5 @@
 use Rattle.stmt_gen.specs.Appending.{KeepsFront}
-use Rattle.stmt_gen.proofs.Items.{ItemsLeft}
+use Rattle.stmt_gen.proofs.Modular.{ItemsLeft}
 use Rattle.stmt_gen.proofs.items.+item.Given as goal
 
 abbrev pub invariant-put_items-loop-item : goal.invariant-put_items-loop-item

@@ -1,7 +1,7 @@
 use Rattle.std.proofs.Common.{◌≤◌, ◌∙◌, ap, List, Option, arith, rules}
 use Rattle.checked_program.specs.declared.statement.Action.TheVariants as actions
 use Rattle.checked_program.specs.declared.statement.Statement.{Statement}
-use Rattle.action_gen.proofs.Extents.{last_joined, handled_counted, choices_counted, cases_counted, delays_counted, receives_counted, guarded_counted, if_counted, case_counted, statements_none}
+use Rattle.stmt_gen.proofs.Extents.{last_joined, handled_counted, choices_counted, cases_counted, delays_counted, receives_counted, guarded_counted, if_counted, case_counted, statements_none}
 use Rattle.code_scheme.specs.StatementSize.{cases_size, receives_size}
 use Rattle.action_gen.specs.Putting.{site_tree}
 use Rattle.action_gen.specs.Trees.{cases_of, receives_of}
