@@ -8,6 +8,7 @@ mod bodies;
 mod compiling;
 mod facts;
 mod refusal;
+mod rows;
 
 pub use compiling::compile;
 pub use facts::facts_of;

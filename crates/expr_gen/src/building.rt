@@ -3,6 +3,7 @@ ghost use Rattle.std.specs.Prelude.{◌≡◌, ℕ, ◌+◌, length, IfOk, OnOk,
 ghost use Rattle.code_types.specs.declared.instr.Instr.TheVariants.{Call};
 ghost use Rattle.code_scheme.specs.Pieces.{capped};
 ghost use Rattle.expr_gen.specs.Putting.{Puts, Keeps};
+ghost use Rattle.expr_gen.specs.Empty.{empty_code};
 ghost use Rattle.expr_gen.specs.Puts.{IsBehind};
 
 use crate::refusal::PartRefusal;
@@ -34,7 +35,9 @@ pub struct Head {
 
 impl Draft {
     /// No code. It takes no memory.
-    pub fn new(alloc: Global) -> Draft {
+    pub fn new(alloc: Global) -> Draft
+        ensures { result.code ≡ empty_code }
+    {
         Draft {
             code: Code {
                 instrs: List::new(alloc),

@@ -1,8 +1,8 @@
 // Where things stand in the frame of a body: its locals, its result, and the scratch locals behind them.
-ghost use Rattle.std.specs.Prelude.{◌≡◌, Some, slice_get, IfOk, map};
+ghost use Rattle.std.specs.Prelude.{◌≡◌, Some, slice_get, if◌then◌else◌, IfOk, map};
 ghost use Rattle.program_trees.specs.ProgramTree.{body_row_tree, local_row_tree};
 ghost use Rattle.code_scheme.specs.Pieces.{capped};
-ghost use Rattle.code_scheme.specs.StatementSite.{scalars_in, parameter_scalars, declared_scalars, result_scalars, first_free};
+ghost use Rattle.code_scheme.specs.StatementSite.{scalars_in, parameter_scalars, declared_scalars, result_scalars, first_free, is_given_back, call_results};
 
 use crate::refusal::PartRefusal;
 use checked_program::{Body, Checked, LocalRow, Passing};
@@ -80,14 +80,24 @@ pub fn first_free(body: &Body) -> u32
 }
 
 /// How many scalars a call of the body gives back: the result, and the OUT and INOUT parameters.
-pub fn call_results(body: &Body) -> u32 {
+pub fn call_results(body: &Body) -> u32
+    ensures { result ≡ capped (call_results (body_row_tree body.now)) }
+{
+    let parameters = body.parameters.as_slice();
+    let locals = body.locals.as_slice();
     let mut scalars = result_scalars(body);
-    let locals = body.locals.as_slice().iter();
-    for (parameter, local) in body.parameters.as_slice().iter().zip(locals) {
-        match parameter.passing {
-            Passing::In => {}
-            Passing::Out | Passing::InOut => scalars = scalars.saturating_add(local.count),
-        }
+    for i in 0..parameters.len().min(locals.len()) {
+        scalars = scalars.saturating_add(scalars_back(parameters[i].passing, &locals[i]));
     }
     scalars
+}
+
+// How many scalars a call gives back of a parameter.
+fn scalars_back(passing: Passing, local: &LocalRow) -> u32
+    ensures { result ≡ (if is_given_back passing then local.now.count else 0) }
+{
+    match passing {
+        Passing::In => 0,
+        Passing::Out | Passing::InOut => local.count,
+    }
 }

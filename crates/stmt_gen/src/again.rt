@@ -1,9 +1,16 @@
 // Regions: an exception that goes out of one is raised again behind the release of the region.
+ghost use Rattle.std.specs.Prelude.{◌≡◌, ◌+◌, ◌++◌, length, filter, IfOk, OnOk};
+ghost use Rattle.program_trees.specs.ProgramTree.{checked_tree};
+ghost use Rattle.code_scheme.specs.BodyItems.{language_exceptions, raised_in, is_among};
+ghost use Rattle.stmt_gen.specs.Appending.{KeepsFront};
+ghost use Rattle.stmt_gen.specs.Marking.{HasNoMark, MarksBelow, MarksOne, MarksAll, MarksRaised, MarksAllRaised, has_mark, marked_in, where_marked};
+ghost use Rattle.stmt_gen.specs.Modulions.{PutsReleases, instrs_between};
+
 use crate::handlers::put_row;
 use checked_program::Checked;
 use chill_base::{List, Memory, Numbers};
 use code_types::Instr;
-use expr_gen::{Draft, PartRefusal};
+use expr_gen::{Draft, PartRefusal, body_of};
 use std::alloc::Global;
 
 /// How many exceptions the language has. The user's are numbered behind them.
@@ -20,7 +27,9 @@ pub struct Span {
 
 impl Span {
     /// The same instructions with another place of what is done.
-    pub fn to(self, target: u32) -> Span {
+    pub fn to(self, target: u32) -> Span
+        ensures { result ≡ record self { target = target } }
+    {
         Span {
             from: self.from,
             until: self.until,
@@ -36,36 +45,55 @@ pub fn raised_between(
     until: u32,
     program: &Checked,
     draft: &Draft,
-) -> Result<Numbers, PartRefusal> {
+) -> Result<Numbers, PartRefusal>
+    ensures { let between = instrs_between from until draft.now in
+        IfOk result (λ raised. raised ≡ raised_in (checked_tree program.now) between) }
+{
     let alloc = draft.allocator();
-    let mut found = marks(alloc, LANGUAGE.saturating_add(program.exceptions.len()))?;
-    let mut called = marks(alloc, program.bodies.len())?;
-    for number in 0..LANGUAGE {
-        mark(number as u32, &mut found)?;
-    }
     let instrs = draft.code.instrs.as_slice();
-    for place in from as usize..(until as usize).min(instrs.len()) {
-        match instrs[place] {
-            Instr::Raise(exception) => mark(exception, &mut found)?,
-            Instr::Call(body) => mark(body, &mut called)?,
-            _ => {}
-        }
-    }
-    mark_listed(&called, program, &mut found)?;
+    let until = (until as usize).min(instrs.len());
+    let from = (from as usize).min(until);
+    let mut found = language_marks(alloc, count_of_exceptions(program)?)?;
+    mark_all_raised(&instrs[from..until], program, &mut found)?;
     marked(alloc, &found)
 }
 
+// How many exceptions a program has, with those of the language.
+fn count_of_exceptions(program: &Checked) -> Result<usize, Memory>
+    ensures { IfOk result (λ count. count ≡ language_exceptions + length program.now.exceptions) }
+{
+    match program.exceptions.len().checked_add(LANGUAGE) {
+        Some(count) => Ok(count),
+        None => Err(Memory),
+    }
+}
+
+// So many marks, of which those of the language's exceptions are set.
+fn language_marks(alloc: Global, count: usize) -> Result<Vec<bool>, PartRefusal>
+    ensures { IfOk result (λ marks. MarksBelow language_exceptions count marks.items) }
+{
+    let mut found = no_marks(alloc, count)?;
+    for number in 0..LANGUAGE {
+        mark(number as u32, &mut found)?;
+    }
+    Ok(found)
+}
+
 // So many marks, of which none is set.
-fn marks(alloc: Global, count: usize) -> Result<Vec<bool>, Memory> {
+fn no_marks(alloc: Global, count: usize) -> Result<Vec<bool>, Memory>
+    ensures { IfOk result (λ marks. HasNoMark count marks.items) }
+{
     let mut marks = Vec::with_capacity(alloc, count)?;
-    for _ in 0..count {
+    for _turn in 0..count {
         marks.push(false)?;
     }
     Ok(marks)
 }
 
 // The mark of this number is set, or Unsound where there is none.
-fn mark(number: u32, marks: &mut [bool]) -> Result<(), PartRefusal> {
+fn mark(number: u32, marks: &mut Vec<bool>) -> Result<(), PartRefusal>
+    ensures { OnOk result (MarksOne number marks.old.items marks.new.items) }
+{
     let number = number as usize;
     if number < marks.len() {
         marks[number] = true;
@@ -75,69 +103,121 @@ fn mark(number: u32, marks: &mut [bool]) -> Result<(), PartRefusal> {
     }
 }
 
-// The exceptions are marked that the marked bodies list.
-fn mark_listed(called: &[bool], program: &Checked, found: &mut [bool]) -> Result<(), PartRefusal> {
-    for (body, is_called) in program.bodies.as_slice().iter().zip(called) {
-        if *is_called {
-            mark_all(body.listed.as_slice(), found)?;
-        }
+// Each of these exceptions is marked.
+fn mark_all(exceptions: &[u32], marks: &mut Vec<bool>) -> Result<(), PartRefusal>
+    ensures { OnOk result (MarksAll exceptions.now marks.old.items marks.new.items) }
+{
+    for exception in exceptions {
+        mark(*exception, marks)?;
     }
     Ok(())
 }
 
-// Each of these exceptions is marked.
-fn mark_all(exceptions: &[u32], found: &mut [bool]) -> Result<(), PartRefusal> {
-    for exception in exceptions {
-        mark(*exception, found)?;
+// The exceptions are marked that an instruction raises, or the procedure lists that it calls.
+fn mark_raised(instr: Instr, program: &Checked, marks: &mut Vec<bool>) -> Result<(), PartRefusal>
+    ensures { OnOk result (MarksRaised program.now instr marks.old.items marks.new.items) }
+{
+    match instr {
+        Instr::Raise(exception) => mark(exception, marks),
+        Instr::Call(body) => mark_all(body_of(program, body)?.listed.as_slice(), marks),
+        _ => Ok(()),
+    }
+}
+
+// Those of each of these instructions.
+fn mark_all_raised(
+    instrs: &[Instr],
+    program: &Checked,
+    marks: &mut Vec<bool>,
+) -> Result<(), PartRefusal>
+    ensures { OnOk result (MarksAllRaised program.now instrs.now marks.old.items marks.new.items) }
+{
+    for instr in instrs {
+        mark_raised(*instr, program, marks)?;
     }
     Ok(())
 }
 
 // The numbers that are marked, rising.
-fn marked(alloc: Global, marks: &[bool]) -> Result<Numbers, PartRefusal> {
+fn marked(alloc: Global, marks: &[bool]) -> Result<Numbers, PartRefusal>
+    ensures { IfOk result (λ numbers. numbers ≡ marked_in marks.now) }
+{
     let mut numbers = List::new(alloc);
-    for (number, is_marked) in marks.iter().enumerate() {
-        if *is_marked {
-            numbers.push((number as u64).min(u32::MAX as u64) as u32)?;
-        }
+    for number in 0..marks.len() {
+        put_marked(number, marks[number], &mut numbers)?;
     }
     Ok(numbers)
 }
 
-/// Those of the raised exceptions, which rise, that are listed.
+// The number behind the others, where it is marked.
+fn put_marked(number: usize, is_marked: bool, numbers: &mut Numbers) -> Result<(), PartRefusal>
+    ensures { OnOk result (numbers.new ≡ numbers.old ++ where_marked is_marked number) }
+{
+    if is_marked {
+        numbers.push(narrow(number)?)?;
+    }
+    Ok(())
+}
+
+// The number in 32 bits. There is no memory for as many exceptions as need more.
+fn narrow(number: usize) -> Result<u32, Memory>
+    ensures { IfOk result (λ narrow. narrow ≡ number) }
+{
+    match u32::try_from(number) {
+        Ok(number) => Ok(number),
+        Err(_) => Err(Memory),
+    }
+}
+
+/// Those of the raised exceptions that are listed.
 pub fn raised_and_listed(
     raised: &Numbers,
     listed: &Numbers,
     program: &Checked,
-) -> Result<Numbers, PartRefusal> {
+) -> Result<Numbers, PartRefusal>
+    ensures { IfOk result (λ both. both ≡ filter (λ x. is_among x listed.now) raised.now) }
+{
     let alloc = raised.allocator();
-    let mut is_listed = marks(alloc, LANGUAGE.saturating_add(program.exceptions.len()))?;
+    let mut is_listed = no_marks(alloc, count_of_exceptions(program)?)?;
     mark_all(listed.as_slice(), &mut is_listed)?;
-    let mut both = List::new(alloc);
-    for exception in raised.as_slice() {
-        if is_marked(*exception, &is_listed) {
-            both.push(*exception)?;
-        }
-    }
-    Ok(both)
+    those_marked(alloc, raised.as_slice(), &is_listed)
 }
 
-fn is_marked(number: u32, marks: &[bool]) -> bool {
+// Those of the numbers that are marked.
+fn those_marked(alloc: Global, numbers: &[u32], marks: &[bool]) -> Result<Numbers, PartRefusal>
+    ensures { IfOk result (λ those. those ≡ filter (has_mark marks.now) numbers.now) }
+{
+    let mut those = List::new(alloc);
+    for number in numbers {
+        if is_marked(*number, marks) {
+            those.push(*number)?;
+        }
+    }
+    Ok(those)
+}
+
+fn is_marked(number: u32, marks: &[bool]) -> bool
+    ensures { result ≡ has_mark marks.now number }
+{
     (number as usize) < marks.len() && marks[number as usize]
 }
 
 /// Appends, for each of these exceptions, what releases the region and raises it again, with its row for the instructions
 /// from one place up to another.
+#[tactic(auto, using(crate::proofs::Front::keeping_front))]
 pub fn put_again(
     exceptions: &[u32],
     from: u32,
     until: u32,
     region: u32,
     draft: &mut Draft,
-) -> Result<(), PartRefusal> {
+) -> Result<(), PartRefusal>
+    ensures puts { OnOk result (PutsReleases region exceptions.now from until draft.old draft.new) }
+    ensures keeps { KeepsFront draft.old.code draft.new.code }
+{
     let alloc = draft.allocator();
     for exception in exceptions {
-        let target = draft.place();
+        let target = draft.target_behind(0)?;
         let mut names = List::new(alloc);
         names.push(*exception)?;
         put_row(

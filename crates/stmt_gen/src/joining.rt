@@ -1,4 +1,11 @@
 // Joined behind each other, of which one is done: behind each of them control goes on behind all.
+ghost use Rattle.std.specs.Prelude.{◌≡◌, ℕ, OnOk};
+ghost use Rattle.code_scheme.specs.Pieces.{capped};
+ghost use Rattle.code_scheme.specs.StatementGoing.{leave_size};
+ghost use Rattle.stmt_gen.specs.Joining.{size_before};
+ghost use Rattle.expr_gen.specs.Putting.{Keeps};
+ghost use Rattle.stmt_gen.specs.Puts.{IsJoined, IsNextPlace, PutsLeaving};
+
 use code_types::Instr;
 use expr_gen::{Draft, PartRefusal};
 
@@ -12,7 +19,9 @@ pub struct Joined {
 
 impl Joined {
     /// No part.
-    pub fn none() -> Joined {
+    pub fn none() -> Joined
+        ensures { (rest : ℕ) → size_before result rest ≡ rest }
+    {
         Joined {
             size: 0,
             waiting: 0,
@@ -20,7 +29,9 @@ impl Joined {
     }
 
     /// One part more, of so many instructions without its jump.
-    pub fn then(self, size: u32, goes_on: bool) -> Joined {
+    pub fn then(self, size: u32, goes_on: bool) -> Joined
+        ensures { IsJoined self size goes_on result }
+    {
         let before = if size == 0 {
             self
         } else {
@@ -36,17 +47,29 @@ impl Joined {
     }
 }
 
-/// How many instructions go from one place to a later one, where control comes from the first: a jump, or none where it is
-/// there.
-pub fn leaving_size(goes_on: bool, from: u32, behind: u32) -> u32 {
-    if goes_on && from != behind { 1 } else { 0 }
+/// How many instructions lead over so many, where control comes: a jump, or none where there is nothing to lead over.
+pub fn leaving_size(goes_on: bool, rest: u32) -> u32
+    ensures { (n : ℕ) → rest ≡ capped n → result ≡ leave_size goes_on n }
+{
+    if goes_on && rest != 0 { 1 } else { 0 }
 }
 
 /// Goes behind the parts, where control comes from here and that place is a later one.
-pub fn put_leaving(goes_on: bool, behind: u32, draft: &mut Draft) -> Result<(), PartRefusal> {
+pub fn put_leaving(goes_on: bool, behind: u32, draft: &mut Draft) -> Result<(), PartRefusal>
+    ensures puts { OnOk result (PutsLeaving goes_on behind draft.old draft.new) }
+    ensures keeps { Keeps draft.old.code draft.new.code }
+{
     if goes_on && draft.place() != behind {
         draft.put(Instr::Jump(behind))
     } else {
         Ok(())
     }
+}
+
+/// The place behind a part of so many instructions and its jump, where all parts end at another place.
+pub fn next_place(size: u32, goes_on: bool, behind: u32, draft: &Draft) -> u32
+    ensures { IsNextPlace size goes_on behind draft.now result }
+{
+    let end = draft.place_behind(size);
+    end.saturating_add(leaving_size(goes_on, behind.saturating_sub(end)))
 }

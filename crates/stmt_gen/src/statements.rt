@@ -1,20 +1,25 @@
 // Statements: one recursion over them, with the handlers and the alternatives in them.
+ghost use Rattle.std.specs.Prelude.{OnOk};
+ghost use Rattle.stmt_gen.specs.Appending.{KeepsFront};
+ghost use Rattle.stmt_gen.specs.Holding.{PutsStatements, PutsStatement, PutsGuarded, PutsAction, PutsActionTo, PutsHandler, PutsHandled, PutsOtherwise, PutsJoining, PutsChosen, PutsChoice, PutsChoices, PutsCases, PutsDo, PutsDelays, PutsReceives, PutsReceiveCase};
+
 use crate::again::Span;
-use crate::around::{Around, with_exit};
-use crate::cases::{put_labels, put_selector};
 use crate::going_on::{action_goes_on, go_on, goes_on};
 use crate::handlers::put_rows;
-use crate::joining::{leaving_size, put_leaving};
-use crate::loops::{control_size, locals_kept, put_control};
-use crate::plain::put_plain;
+use crate::joining::{leaving_size, next_place, put_leaving};
 use crate::sizes::{
-    action_size, choice_size, chosen_size, handled_size, statement_size, statements_size,
+    action_size, choice_size, chosen_size, handled_size, otherwise_size, statement_size,
+    statements_size,
 };
-use crate::waits::{Receives, chosen_local, put_delay_wait, put_is_chosen, put_receive_wait};
+use action_gen::{
+    Around, Receives, chosen_local, control_size, locals_kept, put_before_turns, put_delay_wait,
+    put_is_chosen, put_labels, put_plain, put_receive_wait, put_selector, put_turn_test, with_exit,
+};
 use checked_program::{
-    Action, CaseAlternative, Choice, Control, DelayAlternative, Handler, ReceiveAlternative,
-    Statement,
+    Action, CaseAlternative, Choice, Control, DelayAlternative, Handler, HandlerAlternative,
+    Location, ReceiveAlternative, Statement,
 };
+use chill_base::List;
 use code_types::Instr;
 use expr_gen::{Branch, Draft, PartRefusal, put_condition};
 
@@ -22,12 +27,16 @@ use expr_gen::{Branch, Draft, PartRefusal, put_condition};
 const RANGEFAIL: u32 = 1;
 
 /// Appends the code of statements, as far as control comes.
+#[tactic(auto, using(crate::proofs::Front::keeping_front))]
 #[cycle(statement)]
 pub fn put_statements(
     statements: &[Statement],
     around: &Around,
     draft: &mut Draft,
-) -> Result<(), PartRefusal> {
+) -> Result<(), PartRefusal>
+    ensures puts { OnOk result (PutsStatements around.now statements.now draft.old draft.new) }
+    ensures keeps { KeepsFront draft.old.code draft.new.code }
+{
     for statement in statements {
         put_statement(statement, around, draft)?;
         if !goes_on(statement) {
@@ -38,33 +47,37 @@ pub fn put_statements(
 }
 
 /// Appends the code of a statement, whose label encloses its handler too.
+#[tactic(auto, using(crate::proofs::Front::keeping_front))]
 #[cycle(statement)]
 pub fn put_statement(
     statement: &Statement,
     around: &Around,
     draft: &mut Draft,
-) -> Result<(), PartRefusal> {
+) -> Result<(), PartRefusal>
+    ensures puts { OnOk result (PutsStatement around.now statement.now draft.old draft.new) }
+    ensures keeps { KeepsFront draft.old.code draft.new.code }
+{
     if !statement.labelled {
-        return put_handled(statement, around, draft);
+        return put_guarded(statement, around, draft);
     }
-    let behind = draft.place_behind(statement_size(statement, &around.site));
+    let behind = draft.target_behind(statement_size(statement, &around.site))?;
     let exits = with_exit(draft.allocator(), around.exits, behind)?;
     let inside = Around {
         site: around.site,
         free: around.free,
         exits: &exits,
     };
-    put_handled(statement, &inside, draft)
+    put_guarded(statement, &inside, draft)
 }
 
 // An action with its handler.
+#[tactic(auto, using(crate::proofs::Front::keeping_front))]
 #[cycle(statement)]
-fn put_handled(
-    statement: &Statement,
-    around: &Around,
-    draft: &mut Draft,
-) -> Result<(), PartRefusal> {
-    let from = draft.place();
+fn put_guarded(statement: &Statement, around: &Around, draft: &mut Draft) -> Result<(), PartRefusal>
+    ensures puts { OnOk result (PutsGuarded around.now statement.now draft.old draft.new) }
+    ensures keeps { KeepsFront draft.old.code draft.new.code }
+{
+    let from = draft.target_behind(0)?;
     put_action(&statement.action, around, draft)?;
     match &statement.handler {
         Some(handler) => {
@@ -77,6 +90,7 @@ fn put_handled(
 
 /// Appends a handler of what stands from this place up to the present one, and control goes on behind it. It is told
 /// whether control comes from there.
+#[tactic(auto, using(crate::proofs::Front::keeping_front))]
 #[cycle(statement)]
 pub fn put_handler(
     handler: &Handler,
@@ -84,68 +98,121 @@ pub fn put_handler(
     comes: bool,
     around: &Around,
     draft: &mut Draft,
-) -> Result<(), PartRefusal> {
-    let until = draft.place();
+) -> Result<(), PartRefusal>
+    ensures puts { OnOk result (PutsHandler around.now handler.now from comes draft.old draft.new) }
+    ensures keeps { KeepsFront draft.old.code draft.new.code }
+{
+    let until = draft.target_behind(0)?;
     let size = handled_size(handler, &around.site);
-    let jump = leaving_size(comes, 0, size);
-    let behind = draft.place_behind(jump.saturating_add(size));
+    let jump = leaving_size(comes, size);
+    let behind = draft.target_behind(jump.saturating_add(size))?;
     let span = Span {
         from,
         until,
-        target: draft.place_behind(jump),
+        target: draft.target_behind(jump)?,
     };
     put_rows(handler, span, behind, &around.site, draft)?;
     put_leaving(comes, behind, draft)?;
-    for alternative in handler.alternatives.as_slice() {
+    put_handled(
+        handler.alternatives.as_slice(),
+        &handler.otherwise,
+        behind,
+        around,
+        draft,
+    )
+}
+
+// The alternatives of a handler, with ELSE.
+#[tactic(auto, using(crate::proofs::Front::keeping_front))]
+#[cycle(statement)]
+fn put_handled(
+    alternatives: &[HandlerAlternative],
+    otherwise: &Option<List<Statement>>,
+    behind: u32,
+    around: &Around,
+    draft: &mut Draft,
+) -> Result<(), PartRefusal>
+    ensures puts { OnOk result
+        (PutsHandled around.now alternatives.now otherwise.now behind draft.old draft.new) }
+    ensures keeps { KeepsFront draft.old.code draft.new.code }
+{
+    for alternative in alternatives {
         put_joining(alternative.actions.as_slice(), behind, around, draft)?;
     }
-    match &handler.otherwise {
+    put_otherwise(otherwise, around, draft)
+}
+
+// What is done by ELSE, where it is written.
+#[tactic(auto, using(crate::proofs::Front::keeping_front))]
+#[cycle(statement)]
+fn put_otherwise(
+    otherwise: &Option<List<Statement>>,
+    around: &Around,
+    draft: &mut Draft,
+) -> Result<(), PartRefusal>
+    ensures puts { OnOk result (PutsOtherwise around.now otherwise.now draft.old draft.new) }
+    ensures keeps { KeepsFront draft.old.code draft.new.code }
+{
+    match otherwise {
         Some(actions) => put_statements(actions.as_slice(), around, draft),
         None => Ok(()),
     }
 }
 
 // Actions, behind which control goes on at a place.
+#[tactic(auto, using(crate::proofs::Front::keeping_front))]
 #[cycle(statement)]
 fn put_joining(
     actions: &[Statement],
     behind: u32,
     around: &Around,
     draft: &mut Draft,
-) -> Result<(), PartRefusal> {
+) -> Result<(), PartRefusal>
+    ensures puts { OnOk result (PutsJoining around.now actions.now behind draft.old draft.new) }
+    ensures keeps { KeepsFront draft.old.code draft.new.code }
+{
     put_statements(actions, around, draft)?;
     put_leaving(go_on(actions), behind, draft)
 }
 
-// The place behind a part, whose size is without the jump that it may have.
-fn next_place(size: u32, goes_on: bool, behind: u32, draft: &Draft) -> u32 {
-    let end = draft.place_behind(size);
-    end.saturating_add(leaving_size(goes_on, end, behind))
-}
-
 // Actions that are done where the Boolean on top is TRUE, and behind which control goes on at a place.
+#[tactic(auto, using(crate::proofs::Front::keeping_front))]
 #[cycle(statement)]
 fn put_chosen(
     actions: &[Statement],
     behind: u32,
     around: &Around,
     draft: &mut Draft,
-) -> Result<(), PartRefusal> {
+) -> Result<(), PartRefusal>
+    ensures puts { OnOk result (PutsChosen around.now actions.now behind draft.old draft.new) }
+    ensures keeps { KeepsFront draft.old.code draft.new.code }
+{
     let size = chosen_size(actions, &around.site);
     draft.put(Instr::Unless(next_place(size, go_on(actions), behind, draft)))?;
     put_joining(actions, behind, around, draft)
 }
 
 // The code of an action.
+#[tactic(auto, using(crate::proofs::Front::keeping_front))]
 #[cycle(statement)]
-fn put_action(action: &Action, around: &Around, draft: &mut Draft) -> Result<(), PartRefusal> {
-    let behind = draft.place_behind(action_size(action, &around.site));
+fn put_action(action: &Action, around: &Around, draft: &mut Draft) -> Result<(), PartRefusal>
+    ensures puts { OnOk result (PutsAction around.now action.now draft.old draft.new) }
+    ensures keeps { KeepsFront draft.old.code draft.new.code }
+{
+    let behind = draft.target_behind(action_size(action, &around.site))?;
     match action {
         Action::If { choices, otherwise } => {
-            put_choices(choices.as_slice(), behind, around, draft)?;
-            put_statements(otherwise.as_slice(), around, draft)
+            put_choices(
+                choices.as_slice(),
+                otherwise.as_slice(),
+                behind,
+                around,
+                draft,
+            )
         }
-        Action::Do { control, actions } => put_do(actions.as_slice(), control, around, draft),
+        Action::Do { control, actions } => {
+            put_do(actions.as_slice(), control, behind, around, draft)
+        }
         Action::Begin { actions } => put_statements(actions.as_slice(), around, draft),
         Action::Case {
             selector,
@@ -153,24 +220,24 @@ fn put_action(action: &Action, around: &Around, draft: &mut Draft) -> Result<(),
             otherwise,
         } => {
             put_selector(selector, around, draft)?;
-            put_alternatives(alternatives.as_slice(), behind, around, draft)?;
-            match otherwise {
-                Some(actions) => put_statements(actions.as_slice(), around, draft),
-                None => draft.put(Instr::Raise(RANGEFAIL)),
-            }
+            put_cases(alternatives.as_slice(), otherwise, behind, around, draft)
         }
         _ => put_waiting(action, behind, around, draft),
     }
 }
 
 // The code of an action that may wait for one of several, behind which is this place, or of one without statements.
+#[tactic(auto, using(crate::proofs::Front::keeping_front))]
 #[cycle(statement)]
 fn put_waiting(
     action: &Action,
     behind: u32,
     around: &Around,
     draft: &mut Draft,
-) -> Result<(), PartRefusal> {
+) -> Result<(), PartRefusal>
+    ensures puts { OnOk result (PutsActionTo around.now action.now behind draft.old draft.new) }
+    ensures keeps { KeepsFront draft.old.code draft.new.code }
+{
     match action {
         Action::DelayCase {
             set,
@@ -178,70 +245,120 @@ fn put_waiting(
             alternatives,
         } => {
             put_delay_wait(alternatives.as_slice(), set, *priority, around, draft)?;
-            let chosen = chosen_local(set, around);
+            let chosen = chosen_local(set, around)?;
             put_delays(alternatives.as_slice(), chosen, behind, around, draft)
         }
         Action::ReceiveBuffers {
             set,
             alternatives,
             otherwise,
+        } => {
+            let wait = Wait {
+                set,
+                receives: Receives::Buffers(otherwise.is_some()),
+                behind,
+            };
+            put_receive_case(alternatives.as_slice(), otherwise, wait, around, draft)
         }
-        | Action::ReceiveSignals {
+        Action::ReceiveSignals {
             set,
             alternatives,
             otherwise,
         } => {
-            let rest = match otherwise {
-                Some(actions) => statements_size(actions.as_slice(), &around.site),
-                None => 0,
-            };
-            let has_else = otherwise.is_some();
-            let receives = match action {
-                Action::ReceiveBuffers { .. } => Receives::Buffers(has_else),
-                _ => Receives::Signals(has_else),
-            };
-            let nothing = behind.saturating_sub(rest);
-            put_receive_wait(
-                alternatives.as_slice(),
+            let wait = Wait {
                 set,
-                receives,
-                nothing,
-                around,
-                draft,
-            )?;
-            let chosen = chosen_local(set, around);
-            put_receives(alternatives.as_slice(), chosen, behind, around, draft)?;
-            match otherwise {
-                Some(actions) => put_statements(actions.as_slice(), around, draft),
-                None => Ok(()),
-            }
+                receives: Receives::Signals(otherwise.is_some()),
+                behind,
+            };
+            put_receive_case(alternatives.as_slice(), otherwise, wait, around, draft)
         }
         _ => put_plain(action, around, draft),
     }
 }
 
-// The conditions of an IF with their actions.
+// What a RECEIVE CASE waits for: the location after SET, which instruction it has, and the place behind it.
+#[derive(Clone, Copy)]
+struct Wait<'a> {
+    set: &'a Option<Box<Location>>,
+    receives: Receives,
+    behind: u32,
+}
+
+// A RECEIVE CASE: the wait, the alternatives and ELSE.
+#[tactic(auto, using(crate::proofs::Front::keeping_front))]
+#[cycle(statement)]
+fn put_receive_case(
+    alternatives: &[ReceiveAlternative],
+    otherwise: &Option<List<Statement>>,
+    wait: Wait,
+    around: &Around,
+    draft: &mut Draft,
+) -> Result<(), PartRefusal>
+    ensures puts { OnOk result
+        (PutsReceiveCase around.now alternatives.now otherwise.now wait.entry draft.old draft.new) }
+    ensures keeps { KeepsFront draft.old.code draft.new.code }
+{
+    let last = otherwise_size(otherwise, 0, &around.site);
+    let nothing = wait.behind.saturating_sub(last);
+    put_receive_wait(
+        alternatives,
+        wait.set,
+        wait.receives,
+        nothing,
+        around,
+        draft,
+    )?;
+    let chosen = chosen_local(wait.set, around)?;
+    put_receives(
+        alternatives,
+        otherwise,
+        Kept {
+            chosen,
+            behind: wait.behind,
+        },
+        around,
+        draft,
+    )
+}
+
+// The scratch local that keeps the number of the chosen alternative, and the place behind all alternatives.
+#[derive(Clone, Copy)]
+struct Kept {
+    chosen: u32,
+    behind: u32,
+}
+
+// The conditions of an IF with their actions, and ELSE.
+#[tactic(auto, using(crate::proofs::Front::keeping_front))]
 #[cycle(statement)]
 fn put_choices(
     choices: &[Choice],
+    otherwise: &[Statement],
     behind: u32,
     around: &Around,
     draft: &mut Draft,
-) -> Result<(), PartRefusal> {
+) -> Result<(), PartRefusal>
+    ensures puts { OnOk result (PutsChoices around.now choices.now otherwise.now behind draft.old draft.new) }
+    ensures keeps { KeepsFront draft.old.code draft.new.code }
+{
     for choice in choices {
         put_choice(choice, behind, around, draft)?;
     }
-    Ok(())
+    put_statements(otherwise, around, draft)
 }
 
 // A condition, and the actions that are done where it is TRUE.
+#[tactic(auto, using(crate::proofs::Front::keeping_front))]
 #[cycle(statement)]
 fn put_choice(
     choice: &Choice,
     behind: u32,
     around: &Around,
     draft: &mut Draft,
-) -> Result<(), PartRefusal> {
+) -> Result<(), PartRefusal>
+    ensures puts { OnOk result (PutsChoice around.now choice.now behind draft.old draft.new) }
+    ensures keeps { KeepsFront draft.old.code draft.new.code }
+{
     let actions = choice.actions.as_slice();
     let size = choice_size(choice, &around.site);
     let branch = Branch {
@@ -252,35 +369,48 @@ fn put_choice(
     put_joining(actions, behind, around, draft)
 }
 
-// The alternatives of a CASE, whose selector is kept.
+// The alternatives of a CASE, whose selector is kept. What no label holds raises, where nothing is written for it.
+#[tactic(auto, using(crate::proofs::Front::keeping_front))]
 #[cycle(statement)]
-fn put_alternatives(
+fn put_cases(
     alternatives: &[CaseAlternative],
+    otherwise: &Option<List<Statement>>,
     behind: u32,
     around: &Around,
     draft: &mut Draft,
-) -> Result<(), PartRefusal> {
+) -> Result<(), PartRefusal>
+    ensures puts { OnOk result (PutsCases around.now alternatives.now otherwise.now behind draft.old draft.new) }
+    ensures keeps { KeepsFront draft.old.code draft.new.code }
+{
     for alternative in alternatives {
         put_labels(alternative.labels.as_slice(), around.free, draft)?;
         put_chosen(alternative.actions.as_slice(), behind, around, draft)?;
     }
-    Ok(())
+    match otherwise {
+        Some(actions) => put_statements(actions.as_slice(), around, draft),
+        None => draft.put(Instr::Raise(RANGEFAIL)),
+    }
 }
 
-// A loop.
+// A loop, behind which is this place.
+#[tactic(auto, using(crate::proofs::Front::keeping_front))]
 #[cycle(statement)]
 fn put_do(
     actions: &[Statement],
     control: &Control,
+    behind: u32,
     around: &Around,
     draft: &mut Draft,
-) -> Result<(), PartRefusal> {
-    let comes = go_on(actions);
-    let turn = statements_size(actions, &around.site).saturating_add(u32::from(comes));
-    let behind = draft.place_behind(control_size(control).saturating_add(turn));
-    let again = put_control(control, behind, around, draft)?;
-    put_statements(actions, &around.taking(locals_kept(control)), draft)?;
-    if comes {
+) -> Result<(), PartRefusal>
+    ensures puts { OnOk result (PutsDo around.now control.now actions.now behind draft.old draft.new) }
+    ensures keeps { KeepsFront draft.old.code draft.new.code }
+{
+    let inside = around.taking(locals_kept(control))?;
+    put_before_turns(control, behind, around, draft)?;
+    let again = draft.target_behind(0)?;
+    put_turn_test(control, behind, around, draft)?;
+    put_statements(actions, &inside, draft)?;
+    if go_on(actions) {
         draft.put(Instr::Again(again))
     } else {
         Ok(())
@@ -288,6 +418,7 @@ fn put_do(
 }
 
 // The alternatives of a DELAY CASE, of which the chosen one's number is kept.
+#[tactic(auto, using(crate::proofs::Front::keeping_front))]
 #[cycle(statement)]
 fn put_delays(
     alternatives: &[DelayAlternative],
@@ -295,30 +426,44 @@ fn put_delays(
     behind: u32,
     around: &Around,
     draft: &mut Draft,
-) -> Result<(), PartRefusal> {
-    let mut number = 0u32;
-    for alternative in alternatives {
+) -> Result<(), PartRefusal>
+    ensures puts { OnOk result (PutsDelays around.now alternatives.now chosen behind draft.old draft.new) }
+    ensures keeps { KeepsFront draft.old.code draft.new.code }
+{
+    for number in 0..alternatives.len() {
         put_is_chosen(chosen, number, draft)?;
-        put_chosen(alternative.actions.as_slice(), behind, around, draft)?;
-        number = number.saturating_add(1);
+        put_chosen(
+            alternatives[number].actions.as_slice(),
+            behind,
+            around,
+            draft,
+        )?;
     }
     Ok(())
 }
 
-// The alternatives of a RECEIVE CASE, of which the chosen one's number is kept.
+// The alternatives of a RECEIVE CASE, of which the chosen one's number is kept, and ELSE.
+#[tactic(auto, using(crate::proofs::Front::keeping_front))]
 #[cycle(statement)]
 fn put_receives(
     alternatives: &[ReceiveAlternative],
-    chosen: u32,
-    behind: u32,
+    otherwise: &Option<List<Statement>>,
+    kept: Kept,
     around: &Around,
     draft: &mut Draft,
-) -> Result<(), PartRefusal> {
-    let mut number = 0u32;
-    for alternative in alternatives {
-        put_is_chosen(chosen, number, draft)?;
-        put_chosen(alternative.actions.as_slice(), behind, around, draft)?;
-        number = number.saturating_add(1);
+) -> Result<(), PartRefusal>
+    ensures puts { OnOk result
+        (PutsReceives around.now alternatives.now otherwise.now kept draft.old draft.new) }
+    ensures keeps { KeepsFront draft.old.code draft.new.code }
+{
+    for number in 0..alternatives.len() {
+        put_is_chosen(kept.chosen, number, draft)?;
+        put_chosen(
+            alternatives[number].actions.as_slice(),
+            kept.behind,
+            around,
+            draft,
+        )?;
     }
-    Ok(())
+    put_otherwise(otherwise, around, draft)
 }

@@ -1,0 +1,12 @@
+pub mod Views
+pub mod Lengths
+pub mod Controls
+pub mod Labels
+pub mod Waiting
+pub mod Nodes
+pub mod Extents
+pub mod Assigned
+pub mod Asked
+pub mod GivenBack
+pub mod Dropped
+pub mod Exits

@@ -1,0 +1,10 @@
+pub mod Front
+pub mod Placing
+pub mod Capping
+pub mod Made
+pub mod Marks
+pub mod Rows
+pub mod Released
+pub mod Modular
+pub mod Held
+pub mod Extents

@@ -1,0 +1,9 @@
+pub mod Appending
+pub mod Constructs
+pub mod JoiningSizes
+pub mod Joining
+pub mod Holding
+pub mod HandlerRows
+pub mod Modulions
+pub mod Marking
+pub mod Puts
