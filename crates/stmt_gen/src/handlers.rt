@@ -21,8 +21,6 @@ pub fn put_rows(
     site: &Site,
     draft: &mut Draft,
 ) -> Result<(), PartRefusal>
-    ensures puts { OnOk result (PutsRows site.now handler.now first behind draft.old draft.new) }
-    ensures keeps { KeepsFront draft.old.code draft.new.code }
 {
     let mut target = first.target;
     let alternatives = handler.alternatives.as_slice();
@@ -47,8 +45,6 @@ pub fn put_row(
     otherwise: bool,
     draft: &mut Draft,
 ) -> Result<(), PartRefusal>
-    ensures puts { OnOk result (PutsRow span names otherwise draft.old draft.new) }
-    ensures keeps { KeepsFront draft.old.code draft.new.code }
 {
     draft.code.handlers.push(code_types::Handler {
         from: span.from,

@@ -16,8 +16,6 @@ use expr_gen::{Draft, PartRefusal};
 #[tactic(auto, using(crate::proofs::Front::keeping_front))]
 #[cycle(item)]
 pub fn put_items(items: &[Statement], around: &Around, draft: &mut Draft) -> Result<(), PartRefusal>
-    ensures puts { OnOk result (PutsItems around.now items.now draft.old draft.new) }
-    ensures keeps { KeepsFront draft.old.code draft.new.code }
 {
     for item in items {
         put_item(item, around, draft)?;
@@ -32,8 +30,6 @@ pub fn put_items(items: &[Statement], around: &Around, draft: &mut Draft) -> Res
 #[tactic(auto, using(crate::proofs::Front::keeping_front))]
 #[cycle(item)]
 fn put_item(item: &Statement, around: &Around, draft: &mut Draft) -> Result<(), PartRefusal>
-    ensures puts { OnOk result (PutsItem around.now item.now draft.old draft.new) }
-    ensures keeps { KeepsFront draft.old.code draft.new.code }
 {
     if is_modulion(&item.action) {
         put_modulion(item, around, draft)
@@ -46,8 +42,6 @@ fn put_item(item: &Statement, around: &Around, draft: &mut Draft) -> Result<(), 
 #[tactic(auto, using(crate::proofs::Front::keeping_front))]
 #[cycle(item)]
 fn put_modulion(item: &Statement, around: &Around, draft: &mut Draft) -> Result<(), PartRefusal>
-    ensures puts { OnOk result (PutsItem around.now item.now draft.old draft.new) }
-    ensures keeps { KeepsFront draft.old.code draft.new.code }
 {
     match &*item.action {
         Action::Module { actions } => put_module(actions.as_slice(), &item.handler, around, draft),
@@ -68,8 +62,6 @@ fn put_module(
     around: &Around,
     draft: &mut Draft,
 ) -> Result<(), PartRefusal>
-    ensures puts { OnOk result (PutsModule around.now items.now handler.now draft.old draft.new) }
-    ensures keeps { KeepsFront draft.old.code draft.new.code }
 {
     let from = draft.target_behind(0)?;
     put_items(items, around, draft)?;
@@ -85,8 +77,6 @@ fn put_some_handler(
     around: &Around,
     draft: &mut Draft,
 ) -> Result<(), PartRefusal>
-    ensures puts { OnOk result (PutsSomeHandler around.now handler.now from comes draft.old draft.new) }
-    ensures keeps { KeepsFront draft.old.code draft.new.code }
 {
     match handler {
         Some(handler) => put_handler(handler, from, comes, around, draft),
@@ -104,9 +94,6 @@ fn put_region(
     around: &Around,
     draft: &mut Draft,
 ) -> Result<(), PartRefusal>
-    ensures puts { OnOk result
-        (PutsRegion around.now region initialisations.now handler.now draft.old draft.new) }
-    ensures keeps { KeepsFront draft.old.code draft.new.code }
 {
     draft.put(Instr::Enter(region))?;
     let from = draft.target_behind(0)?;

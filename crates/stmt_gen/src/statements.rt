@@ -34,8 +34,6 @@ pub fn put_statements(
     around: &Around,
     draft: &mut Draft,
 ) -> Result<(), PartRefusal>
-    ensures puts { OnOk result (PutsStatements around.now statements.now draft.old draft.new) }
-    ensures keeps { KeepsFront draft.old.code draft.new.code }
 {
     for statement in statements {
         put_statement(statement, around, draft)?;
@@ -54,8 +52,6 @@ pub fn put_statement(
     around: &Around,
     draft: &mut Draft,
 ) -> Result<(), PartRefusal>
-    ensures puts { OnOk result (PutsStatement around.now statement.now draft.old draft.new) }
-    ensures keeps { KeepsFront draft.old.code draft.new.code }
 {
     if !statement.labelled {
         return put_guarded(statement, around, draft);
@@ -74,8 +70,6 @@ pub fn put_statement(
 #[tactic(auto, using(crate::proofs::Front::keeping_front))]
 #[cycle(statement)]
 fn put_guarded(statement: &Statement, around: &Around, draft: &mut Draft) -> Result<(), PartRefusal>
-    ensures puts { OnOk result (PutsGuarded around.now statement.now draft.old draft.new) }
-    ensures keeps { KeepsFront draft.old.code draft.new.code }
 {
     let from = draft.target_behind(0)?;
     put_action(&statement.action, around, draft)?;
@@ -99,8 +93,6 @@ pub fn put_handler(
     around: &Around,
     draft: &mut Draft,
 ) -> Result<(), PartRefusal>
-    ensures puts { OnOk result (PutsHandler around.now handler.now from comes draft.old draft.new) }
-    ensures keeps { KeepsFront draft.old.code draft.new.code }
 {
     let until = draft.target_behind(0)?;
     let size = handled_size(handler, &around.site);
@@ -132,9 +124,6 @@ fn put_handled(
     around: &Around,
     draft: &mut Draft,
 ) -> Result<(), PartRefusal>
-    ensures puts { OnOk result
-        (PutsHandled around.now alternatives.now otherwise.now behind draft.old draft.new) }
-    ensures keeps { KeepsFront draft.old.code draft.new.code }
 {
     for alternative in alternatives {
         put_joining(alternative.actions.as_slice(), behind, around, draft)?;
@@ -150,8 +139,6 @@ fn put_otherwise(
     around: &Around,
     draft: &mut Draft,
 ) -> Result<(), PartRefusal>
-    ensures puts { OnOk result (PutsOtherwise around.now otherwise.now draft.old draft.new) }
-    ensures keeps { KeepsFront draft.old.code draft.new.code }
 {
     match otherwise {
         Some(actions) => put_statements(actions.as_slice(), around, draft),
@@ -168,8 +155,6 @@ fn put_joining(
     around: &Around,
     draft: &mut Draft,
 ) -> Result<(), PartRefusal>
-    ensures puts { OnOk result (PutsJoining around.now actions.now behind draft.old draft.new) }
-    ensures keeps { KeepsFront draft.old.code draft.new.code }
 {
     put_statements(actions, around, draft)?;
     put_leaving(go_on(actions), behind, draft)
@@ -184,8 +169,6 @@ fn put_chosen(
     around: &Around,
     draft: &mut Draft,
 ) -> Result<(), PartRefusal>
-    ensures puts { OnOk result (PutsChosen around.now actions.now behind draft.old draft.new) }
-    ensures keeps { KeepsFront draft.old.code draft.new.code }
 {
     let size = chosen_size(actions, &around.site);
     draft.put(Instr::Unless(next_place(size, go_on(actions), behind, draft)))?;
@@ -196,8 +179,6 @@ fn put_chosen(
 #[tactic(auto, using(crate::proofs::Front::keeping_front))]
 #[cycle(statement)]
 fn put_action(action: &Action, around: &Around, draft: &mut Draft) -> Result<(), PartRefusal>
-    ensures puts { OnOk result (PutsAction around.now action.now draft.old draft.new) }
-    ensures keeps { KeepsFront draft.old.code draft.new.code }
 {
     let behind = draft.target_behind(action_size(action, &around.site))?;
     match action {
@@ -235,8 +216,6 @@ fn put_waiting(
     around: &Around,
     draft: &mut Draft,
 ) -> Result<(), PartRefusal>
-    ensures puts { OnOk result (PutsActionTo around.now action.now behind draft.old draft.new) }
-    ensures keeps { KeepsFront draft.old.code draft.new.code }
 {
     match action {
         Action::DelayCase {
@@ -294,9 +273,6 @@ fn put_receive_case(
     around: &Around,
     draft: &mut Draft,
 ) -> Result<(), PartRefusal>
-    ensures puts { OnOk result
-        (PutsReceiveCase around.now alternatives.now otherwise.now wait.entry draft.old draft.new) }
-    ensures keeps { KeepsFront draft.old.code draft.new.code }
 {
     let last = otherwise_size(otherwise, 0, &around.site);
     let nothing = wait.behind.saturating_sub(last);
@@ -338,8 +314,6 @@ fn put_choices(
     around: &Around,
     draft: &mut Draft,
 ) -> Result<(), PartRefusal>
-    ensures puts { OnOk result (PutsChoices around.now choices.now otherwise.now behind draft.old draft.new) }
-    ensures keeps { KeepsFront draft.old.code draft.new.code }
 {
     for choice in choices {
         put_choice(choice, behind, around, draft)?;
@@ -356,8 +330,6 @@ fn put_choice(
     around: &Around,
     draft: &mut Draft,
 ) -> Result<(), PartRefusal>
-    ensures puts { OnOk result (PutsChoice around.now choice.now behind draft.old draft.new) }
-    ensures keeps { KeepsFront draft.old.code draft.new.code }
 {
     let actions = choice.actions.as_slice();
     let size = choice_size(choice, &around.site);
@@ -379,8 +351,6 @@ fn put_cases(
     around: &Around,
     draft: &mut Draft,
 ) -> Result<(), PartRefusal>
-    ensures puts { OnOk result (PutsCases around.now alternatives.now otherwise.now behind draft.old draft.new) }
-    ensures keeps { KeepsFront draft.old.code draft.new.code }
 {
     for alternative in alternatives {
         put_labels(alternative.labels.as_slice(), around.free, draft)?;
@@ -402,8 +372,6 @@ fn put_do(
     around: &Around,
     draft: &mut Draft,
 ) -> Result<(), PartRefusal>
-    ensures puts { OnOk result (PutsDo around.now control.now actions.now behind draft.old draft.new) }
-    ensures keeps { KeepsFront draft.old.code draft.new.code }
 {
     let inside = around.taking(locals_kept(control))?;
     put_before_turns(control, behind, around, draft)?;
@@ -427,8 +395,6 @@ fn put_delays(
     around: &Around,
     draft: &mut Draft,
 ) -> Result<(), PartRefusal>
-    ensures puts { OnOk result (PutsDelays around.now alternatives.now chosen behind draft.old draft.new) }
-    ensures keeps { KeepsFront draft.old.code draft.new.code }
 {
     for number in 0..alternatives.len() {
         put_is_chosen(chosen, number, draft)?;
@@ -452,9 +418,6 @@ fn put_receives(
     around: &Around,
     draft: &mut Draft,
 ) -> Result<(), PartRefusal>
-    ensures puts { OnOk result
-        (PutsReceives around.now alternatives.now otherwise.now kept draft.old draft.new) }
-    ensures keeps { KeepsFront draft.old.code draft.new.code }
 {
     for number in 0..alternatives.len() {
         put_is_chosen(kept.chosen, number, draft)?;
