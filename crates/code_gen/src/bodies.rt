@@ -13,13 +13,16 @@ ghost use Rattle.action_gen.specs.Putting.{site_tree};
 ghost use Rattle.code_gen.specs.Bodies.{AppendsBody, PutsBodies, PutsProgram, PutsGuardedBody, PutsDoing};
 
 use crate::rows::row_of;
+use action_gen::{Around, critical_region, put_way_out};
 use checked_program::{Action, Body, Checked, LocalRow, Statement};
 use chill_base::Scalars;
 use code_types::Instr;
 use expr_gen::{Draft, PartRefusal, Site, declared_scalars, first_free, put_scalars, uncapped};
 use modes::{Mode, add_lowest};
-use action_gen::{Around, critical_region, put_way_out};
-use stmt_gen::{go_on, put_again, put_handler, put_items, raised_and_listed, raised_between, some_handler_goes_on};
+use stmt_gen::{
+    go_on, put_again, put_handler, put_items, raised_and_listed, raised_between,
+    some_handler_goes_on,
+};
 
 /// So many instructions no code has: their places would be all numbers of 32 bits.
 const GREATEST_LENGTH: usize = 4_294_967_295;
@@ -40,8 +43,7 @@ pub fn put_bodies(program: &Checked, draft: &mut Draft) -> Result<(), PartRefusa
 }
 
 // Bodies of a program with their rows, one behind the other.
-fn put_all(program: &Checked, bodies: &[Body], draft: &mut Draft) -> Result<(), PartRefusal>
-{
+fn put_all(program: &Checked, bodies: &[Body], draft: &mut Draft) -> Result<(), PartRefusal> {
     for body in bodies {
         put_body(Site { program, body }, draft)?;
     }
@@ -49,8 +51,7 @@ fn put_all(program: &Checked, bodies: &[Body], draft: &mut Draft) -> Result<(), 
 }
 
 // A body and its row.
-fn put_body(site: Site, draft: &mut Draft) -> Result<(), PartRefusal>
-{
+fn put_body(site: Site, draft: &mut Draft) -> Result<(), PartRefusal> {
     let first = draft.target_behind(0)?;
     put_lowest_values(site.body, draft)?;
     put_inside(site, draft)?;
@@ -68,8 +69,7 @@ fn instrs_from(draft: &Draft, first: u32) -> &[Instr]
 }
 
 // The locals behind the parameters and the result get their lowest values.
-fn put_lowest_values(body: &Body, draft: &mut Draft) -> Result<(), PartRefusal>
-{
+fn put_lowest_values(body: &Body, draft: &mut Draft) -> Result<(), PartRefusal> {
     let locals = body.locals.as_slice();
     let parameters = body.parameters.len().min(locals.len());
     put_lowest_locals(&locals[parameters..], draft)?;
@@ -83,8 +83,7 @@ fn put_lowest_values(body: &Body, draft: &mut Draft) -> Result<(), PartRefusal>
 }
 
 // These locals get their lowest values.
-fn put_lowest_locals(locals: &[LocalRow], draft: &mut Draft) -> Result<(), PartRefusal>
-{
+fn put_lowest_locals(locals: &[LocalRow], draft: &mut Draft) -> Result<(), PartRefusal> {
     for local in locals {
         put_lowest_value(&local.mode, local.first, draft)?;
     }
@@ -92,8 +91,7 @@ fn put_lowest_locals(locals: &[LocalRow], draft: &mut Draft) -> Result<(), PartR
 }
 
 // The locals from the first on get the lowest value of a mode. They are 0 already.
-fn put_lowest_value(mode: &Mode, first: u32, draft: &mut Draft) -> Result<(), PartRefusal>
-{
+fn put_lowest_value(mode: &Mode, first: u32, draft: &mut Draft) -> Result<(), PartRefusal> {
     let mut lowest = Scalars::new(draft.allocator());
     add_lowest(mode, &mut lowest)?;
     if are_zeroes(lowest.as_slice()) {
@@ -116,8 +114,7 @@ fn are_zeroes(scalars: &[i64]) -> bool
 }
 
 // What a body does, and its way out. A critical procedure enters its region before and leaves it behind.
-fn put_inside(site: Site, draft: &mut Draft) -> Result<(), PartRefusal>
-{
+fn put_inside(site: Site, draft: &mut Draft) -> Result<(), PartRefusal> {
     match critical_region(site.body) {
         Some(region) => put_critical(site, region, draft),
         None => put_plain(site, draft),
@@ -125,15 +122,13 @@ fn put_inside(site: Site, draft: &mut Draft) -> Result<(), PartRefusal>
 }
 
 // A body that enters no region.
-fn put_plain(site: Site, draft: &mut Draft) -> Result<(), PartRefusal>
-{
+fn put_plain(site: Site, draft: &mut Draft) -> Result<(), PartRefusal> {
     put_handled(site, draft)?;
     put_some_way_out(site.body, draft)
 }
 
 // The way out of a body, where control comes to its end.
-fn put_some_way_out(body: &Body, draft: &mut Draft) -> Result<(), PartRefusal>
-{
+fn put_some_way_out(body: &Body, draft: &mut Draft) -> Result<(), PartRefusal> {
     if go_on(body.statements.as_slice()) || some_handler_goes_on(&body.handler) {
         put_way_out(body, draft)
     } else {
@@ -142,8 +137,7 @@ fn put_some_way_out(body: &Body, draft: &mut Draft) -> Result<(), PartRefusal>
 }
 
 // The statements of a body with their handler.
-fn put_handled(site: Site, draft: &mut Draft) -> Result<(), PartRefusal>
-{
+fn put_handled(site: Site, draft: &mut Draft) -> Result<(), PartRefusal> {
     let from = draft.target_behind(0)?;
     let free = uncapped(first_free(site.body))?;
     let around = Around {
@@ -199,8 +193,7 @@ fn is_set_lowest(action: &Action) -> bool
 }
 
 // A critical procedure. An exception that it lists is raised again behind the release of the region.
-fn put_critical(site: Site, region: u32, draft: &mut Draft) -> Result<(), PartRefusal>
-{
+fn put_critical(site: Site, region: u32, draft: &mut Draft) -> Result<(), PartRefusal> {
     draft.put(Instr::Enter(region))?;
     let from = draft.target_behind(0)?;
     put_handled(site, draft)?;

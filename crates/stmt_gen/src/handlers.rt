@@ -20,8 +20,7 @@ pub fn put_rows(
     behind: u32,
     site: &Site,
     draft: &mut Draft,
-) -> Result<(), PartRefusal>
-{
+) -> Result<(), PartRefusal> {
     let mut target = first.target;
     let alternatives = handler.alternatives.as_slice();
     for alternative in alternatives {
@@ -44,8 +43,7 @@ pub fn put_row(
     names: Numbers,
     otherwise: bool,
     draft: &mut Draft,
-) -> Result<(), PartRefusal>
-{
+) -> Result<(), PartRefusal> {
     draft.code.handlers.push(code_types::Handler {
         from: span.from,
         until: span.until,

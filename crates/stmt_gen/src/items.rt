@@ -15,8 +15,11 @@ use expr_gen::{Draft, PartRefusal};
 /// control comes.
 #[tactic(auto, using(crate::proofs::Front::keeping_front))]
 #[cycle(item)]
-pub fn put_items(items: &[Statement], around: &Around, draft: &mut Draft) -> Result<(), PartRefusal>
-{
+pub fn put_items(
+    items: &[Statement],
+    around: &Around,
+    draft: &mut Draft,
+) -> Result<(), PartRefusal> {
     for item in items {
         put_item(item, around, draft)?;
         if !goes_on(item) {
@@ -29,8 +32,7 @@ pub fn put_items(items: &[Statement], around: &Around, draft: &mut Draft) -> Res
 // A modulion with its handler, or a statement.
 #[tactic(auto, using(crate::proofs::Front::keeping_front))]
 #[cycle(item)]
-fn put_item(item: &Statement, around: &Around, draft: &mut Draft) -> Result<(), PartRefusal>
-{
+fn put_item(item: &Statement, around: &Around, draft: &mut Draft) -> Result<(), PartRefusal> {
     if is_modulion(&item.action) {
         put_modulion(item, around, draft)
     } else {
@@ -41,8 +43,7 @@ fn put_item(item: &Statement, around: &Around, draft: &mut Draft) -> Result<(), 
 // A modulion with its handler. What is none is unsound.
 #[tactic(auto, using(crate::proofs::Front::keeping_front))]
 #[cycle(item)]
-fn put_modulion(item: &Statement, around: &Around, draft: &mut Draft) -> Result<(), PartRefusal>
-{
+fn put_modulion(item: &Statement, around: &Around, draft: &mut Draft) -> Result<(), PartRefusal> {
     match &*item.action {
         Action::Module { actions } => put_module(actions.as_slice(), &item.handler, around, draft),
         Action::Region { region, actions } => {
@@ -61,8 +62,7 @@ fn put_module(
     handler: &Option<Box<Handler>>,
     around: &Around,
     draft: &mut Draft,
-) -> Result<(), PartRefusal>
-{
+) -> Result<(), PartRefusal> {
     let from = draft.target_behind(0)?;
     put_items(items, around, draft)?;
     put_some_handler(handler, from, go_on(items), around, draft)
@@ -76,8 +76,7 @@ fn put_some_handler(
     comes: bool,
     around: &Around,
     draft: &mut Draft,
-) -> Result<(), PartRefusal>
-{
+) -> Result<(), PartRefusal> {
     match handler {
         Some(handler) => put_handler(handler, from, comes, around, draft),
         None => Ok(()),
@@ -93,8 +92,7 @@ fn put_region(
     handler: &Option<Box<Handler>>,
     around: &Around,
     draft: &mut Draft,
-) -> Result<(), PartRefusal>
-{
+) -> Result<(), PartRefusal> {
     draft.put(Instr::Enter(region))?;
     let from = draft.target_behind(0)?;
     put_statements(initialisations, around, draft)?;

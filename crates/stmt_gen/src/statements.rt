@@ -33,8 +33,7 @@ pub fn put_statements(
     statements: &[Statement],
     around: &Around,
     draft: &mut Draft,
-) -> Result<(), PartRefusal>
-{
+) -> Result<(), PartRefusal> {
     for statement in statements {
         put_statement(statement, around, draft)?;
         if !goes_on(statement) {
@@ -51,8 +50,7 @@ pub fn put_statement(
     statement: &Statement,
     around: &Around,
     draft: &mut Draft,
-) -> Result<(), PartRefusal>
-{
+) -> Result<(), PartRefusal> {
     if !statement.labelled {
         return put_guarded(statement, around, draft);
     }
@@ -69,8 +67,11 @@ pub fn put_statement(
 // An action with its handler.
 #[tactic(auto, using(crate::proofs::Front::keeping_front))]
 #[cycle(statement)]
-fn put_guarded(statement: &Statement, around: &Around, draft: &mut Draft) -> Result<(), PartRefusal>
-{
+fn put_guarded(
+    statement: &Statement,
+    around: &Around,
+    draft: &mut Draft,
+) -> Result<(), PartRefusal> {
     let from = draft.target_behind(0)?;
     put_action(&statement.action, around, draft)?;
     match &statement.handler {
@@ -92,8 +93,7 @@ pub fn put_handler(
     comes: bool,
     around: &Around,
     draft: &mut Draft,
-) -> Result<(), PartRefusal>
-{
+) -> Result<(), PartRefusal> {
     let until = draft.target_behind(0)?;
     let size = handled_size(handler, &around.site);
     let jump = leaving_size(comes, size);
@@ -123,8 +123,7 @@ fn put_handled(
     behind: u32,
     around: &Around,
     draft: &mut Draft,
-) -> Result<(), PartRefusal>
-{
+) -> Result<(), PartRefusal> {
     for alternative in alternatives {
         put_joining(alternative.actions.as_slice(), behind, around, draft)?;
     }
@@ -138,8 +137,7 @@ fn put_otherwise(
     otherwise: &Option<List<Statement>>,
     around: &Around,
     draft: &mut Draft,
-) -> Result<(), PartRefusal>
-{
+) -> Result<(), PartRefusal> {
     match otherwise {
         Some(actions) => put_statements(actions.as_slice(), around, draft),
         None => Ok(()),
@@ -154,8 +152,7 @@ fn put_joining(
     behind: u32,
     around: &Around,
     draft: &mut Draft,
-) -> Result<(), PartRefusal>
-{
+) -> Result<(), PartRefusal> {
     put_statements(actions, around, draft)?;
     put_leaving(go_on(actions), behind, draft)
 }
@@ -168,8 +165,7 @@ fn put_chosen(
     behind: u32,
     around: &Around,
     draft: &mut Draft,
-) -> Result<(), PartRefusal>
-{
+) -> Result<(), PartRefusal> {
     let size = chosen_size(actions, &around.site);
     draft.put(Instr::Unless(next_place(size, go_on(actions), behind, draft)))?;
     put_joining(actions, behind, around, draft)
@@ -178,8 +174,7 @@ fn put_chosen(
 // The code of an action.
 #[tactic(auto, using(crate::proofs::Front::keeping_front))]
 #[cycle(statement)]
-fn put_action(action: &Action, around: &Around, draft: &mut Draft) -> Result<(), PartRefusal>
-{
+fn put_action(action: &Action, around: &Around, draft: &mut Draft) -> Result<(), PartRefusal> {
     let behind = draft.target_behind(action_size(action, &around.site))?;
     match action {
         Action::If { choices, otherwise } => {
@@ -215,8 +210,7 @@ fn put_waiting(
     behind: u32,
     around: &Around,
     draft: &mut Draft,
-) -> Result<(), PartRefusal>
-{
+) -> Result<(), PartRefusal> {
     match action {
         Action::DelayCase {
             set,
@@ -272,8 +266,7 @@ fn put_receive_case(
     wait: Wait,
     around: &Around,
     draft: &mut Draft,
-) -> Result<(), PartRefusal>
-{
+) -> Result<(), PartRefusal> {
     let last = otherwise_size(otherwise, 0, &around.site);
     let nothing = wait.behind.saturating_sub(last);
     put_receive_wait(
@@ -313,8 +306,7 @@ fn put_choices(
     behind: u32,
     around: &Around,
     draft: &mut Draft,
-) -> Result<(), PartRefusal>
-{
+) -> Result<(), PartRefusal> {
     for choice in choices {
         put_choice(choice, behind, around, draft)?;
     }
@@ -329,8 +321,7 @@ fn put_choice(
     behind: u32,
     around: &Around,
     draft: &mut Draft,
-) -> Result<(), PartRefusal>
-{
+) -> Result<(), PartRefusal> {
     let actions = choice.actions.as_slice();
     let size = choice_size(choice, &around.site);
     let branch = Branch {
@@ -350,8 +341,7 @@ fn put_cases(
     behind: u32,
     around: &Around,
     draft: &mut Draft,
-) -> Result<(), PartRefusal>
-{
+) -> Result<(), PartRefusal> {
     for alternative in alternatives {
         put_labels(alternative.labels.as_slice(), around.free, draft)?;
         put_chosen(alternative.actions.as_slice(), behind, around, draft)?;
@@ -371,8 +361,7 @@ fn put_do(
     behind: u32,
     around: &Around,
     draft: &mut Draft,
-) -> Result<(), PartRefusal>
-{
+) -> Result<(), PartRefusal> {
     let inside = around.taking(locals_kept(control))?;
     put_before_turns(control, behind, around, draft)?;
     let again = draft.target_behind(0)?;
@@ -394,8 +383,7 @@ fn put_delays(
     behind: u32,
     around: &Around,
     draft: &mut Draft,
-) -> Result<(), PartRefusal>
-{
+) -> Result<(), PartRefusal> {
     for number in 0..alternatives.len() {
         put_is_chosen(chosen, number, draft)?;
         put_chosen(
@@ -417,8 +405,7 @@ fn put_receives(
     kept: Kept,
     around: &Around,
     draft: &mut Draft,
-) -> Result<(), PartRefusal>
-{
+) -> Result<(), PartRefusal> {
     for number in 0..alternatives.len() {
         put_is_chosen(kept.chosen, number, draft)?;
         put_chosen(
