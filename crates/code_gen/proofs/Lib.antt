@@ -1,5 +1,3 @@
 pub mod Faults
 pub mod Heights
 pub mod PlainHeights
-pub mod Appended
-pub mod Lawful

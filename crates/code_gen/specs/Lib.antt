@@ -1,4 +1,3 @@
 pub mod Lowest
 pub mod Facts
 pub mod Bodies
-pub mod Compiled

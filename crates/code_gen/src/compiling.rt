@@ -1,9 +1,5 @@
 // The code of a program.
-ghost use Rattle.std.specs.Prelude.{◌≡◌, ◌<◌, ◌↔◌, [], length, IfOk, IsErrOf};
-ghost use Rattle.program_trees.specs.ProgramTree.{checked_tree};
-ghost use Rattle.code_scheme.specs.BodyCode.{code_of};
-ghost use Rattle.scheme_heights.specs.Things.{AreGiven};
-ghost use Rattle.code_gen.specs.Compiled.{AgreesFor, TalksFor, StandsFor};
+ghost use Rattle.std.specs.Prelude.{◌<◌, ◌↔◌, length, IfOk, IsErrOf};
 
 use crate::bodies::put_bodies;
 use crate::refusal::{CodeRefusal, refusal_of};
@@ -16,8 +12,7 @@ use std::alloc::Global;
 const GREATEST_SIZE: u32 = 65_536;
 
 /// The code of a program. `CodeTooLong` comes exactly where the size of the text is above 65,536. Each place in a code is a
-/// number of 32 bits, as is the one behind it. The code is that of the scheme. So it names what its waits are for by Thing alone;
-/// and where the program may be compiled, it agrees, and has the text's talks for arguments and answers that fit.
+/// number of 32 bits, as is the one behind it.
 pub fn compile(alloc: Global, program: &Checked) -> Result<Code, CodeRefusal>
     ensures too_long { IsErrOf result CodeRefusal.CodeTooLong ↔ 65536 < program.now.size }
     ensures places { IfOk result (λ code. length code.instrs < 4294967295) }
