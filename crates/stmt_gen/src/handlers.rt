@@ -20,7 +20,10 @@ pub fn put_rows(
     behind: u32,
     site: &Site,
     draft: &mut Draft,
-) -> Result<(), PartRefusal> {
+) -> Result<(), PartRefusal>
+    ensures puts { OnOk result (PutsRows site.now handler.now first behind draft.old draft.new) }
+    ensures keeps { KeepsFront draft.old.code draft.new.code }
+{
     let mut target = first.target;
     let alternatives = handler.alternatives.as_slice();
     for alternative in alternatives {
@@ -43,7 +46,10 @@ pub fn put_row(
     names: Numbers,
     otherwise: bool,
     draft: &mut Draft,
-) -> Result<(), PartRefusal> {
+) -> Result<(), PartRefusal>
+    ensures puts { OnOk result (PutsRow span names otherwise draft.old draft.new) }
+    ensures keeps { KeepsFront draft.old.code draft.new.code }
+{
     draft.code.handlers.push(code_types::Handler {
         from: span.from,
         until: span.until,

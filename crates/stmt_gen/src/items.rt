@@ -1,7 +1,4 @@
 // Modules and regions at their places.
-ghost use Rattle.std.specs.Prelude.{OnOk};
-ghost use Rattle.stmt_gen.specs.Appending.{KeepsFront};
-ghost use Rattle.stmt_gen.specs.Modulions.{PutsItems, PutsItem, PutsModule, PutsRegion, PutsSomeHandler};
 
 use crate::again::{put_again, raised_between};
 use crate::going_on::{go_on, goes_on, is_modulion};
@@ -13,7 +10,6 @@ use expr_gen::{Draft, PartRefusal};
 
 /// Appends the code of what the outermost process does: statements, modules and regions in their order, as far as
 /// control comes.
-#[tactic(auto, using(crate::proofs::Front::keeping_front))]
 #[cycle(item)]
 pub fn put_items(
     items: &[Statement],
@@ -30,7 +26,6 @@ pub fn put_items(
 }
 
 // A modulion with its handler, or a statement.
-#[tactic(auto, using(crate::proofs::Front::keeping_front))]
 #[cycle(item)]
 fn put_item(item: &Statement, around: &Around, draft: &mut Draft) -> Result<(), PartRefusal> {
     if is_modulion(&item.action) {
@@ -41,7 +36,6 @@ fn put_item(item: &Statement, around: &Around, draft: &mut Draft) -> Result<(), 
 }
 
 // A modulion with its handler. What is none is unsound.
-#[tactic(auto, using(crate::proofs::Front::keeping_front))]
 #[cycle(item)]
 fn put_modulion(item: &Statement, around: &Around, draft: &mut Draft) -> Result<(), PartRefusal> {
     match &*item.action {
@@ -55,7 +49,6 @@ fn put_modulion(item: &Statement, around: &Around, draft: &mut Draft) -> Result<
 }
 
 // A module with its handler.
-#[tactic(auto, using(crate::proofs::Front::keeping_front))]
 #[cycle(item)]
 fn put_module(
     items: &[Statement],
@@ -69,7 +62,6 @@ fn put_module(
 }
 
 // The handler of what stands from this place up to the present one, where it has one.
-#[tactic(auto, using(crate::proofs::Front::keeping_front))]
 fn put_some_handler(
     handler: &Option<Box<Handler>>,
     from: u32,
@@ -85,7 +77,6 @@ fn put_some_handler(
 
 // The initialisations of a region with its handler. The region is released behind them, also where an exception goes out
 // of them.
-#[tactic(auto, using(crate::proofs::Front::keeping_front))]
 fn put_region(
     region: u32,
     initialisations: &[Statement],

@@ -1,7 +1,4 @@
 // Statements: one recursion over them, with the handlers and the alternatives in them.
-ghost use Rattle.std.specs.Prelude.{OnOk};
-ghost use Rattle.stmt_gen.specs.Appending.{KeepsFront};
-ghost use Rattle.stmt_gen.specs.Holding.{PutsStatements, PutsStatement, PutsGuarded, PutsAction, PutsActionTo, PutsHandler, PutsHandled, PutsOtherwise, PutsJoining, PutsChosen, PutsChoice, PutsChoices, PutsCases, PutsDo, PutsDelays, PutsReceives, PutsReceiveCase};
 
 use crate::again::Span;
 use crate::going_on::{action_goes_on, go_on, goes_on};
@@ -27,7 +24,6 @@ use expr_gen::{Branch, Draft, PartRefusal, put_condition};
 const RANGEFAIL: u32 = 1;
 
 /// Appends the code of statements, as far as control comes.
-#[tactic(auto, using(crate::proofs::Front::keeping_front))]
 #[cycle(statement)]
 pub fn put_statements(
     statements: &[Statement],
@@ -44,7 +40,6 @@ pub fn put_statements(
 }
 
 /// Appends the code of a statement, whose label encloses its handler too.
-#[tactic(auto, using(crate::proofs::Front::keeping_front))]
 #[cycle(statement)]
 pub fn put_statement(
     statement: &Statement,
@@ -65,7 +60,6 @@ pub fn put_statement(
 }
 
 // An action with its handler.
-#[tactic(auto, using(crate::proofs::Front::keeping_front))]
 #[cycle(statement)]
 fn put_guarded(
     statement: &Statement,
@@ -85,7 +79,6 @@ fn put_guarded(
 
 /// Appends a handler of what stands from this place up to the present one, and control goes on behind it. It is told
 /// whether control comes from there.
-#[tactic(auto, using(crate::proofs::Front::keeping_front))]
 #[cycle(statement)]
 pub fn put_handler(
     handler: &Handler,
@@ -105,21 +98,17 @@ pub fn put_handler(
     };
     put_rows(handler, span, behind, &around.site, draft)?;
     put_leaving(comes, behind, draft)?;
-    put_handled(
-        handler.alternatives.as_slice(),
-        &handler.otherwise,
-        behind,
-        around,
-        draft,
-    )
+    put_handled(handler.alternatives.as_slice(), behind, around, draft)?;
+    match &handler.otherwise {
+        Some(actions) => put_statements(actions.as_slice(), around, draft),
+        None => Ok(()),
+    }
 }
 
-// The alternatives of a handler, with ELSE.
-#[tactic(auto, using(crate::proofs::Front::keeping_front))]
+// The alternatives of a handler. ELSE is left to who holds the handler, whose depth bounds both.
 #[cycle(statement)]
 fn put_handled(
     alternatives: &[HandlerAlternative],
-    otherwise: &Option<List<Statement>>,
     behind: u32,
     around: &Around,
     draft: &mut Draft,
@@ -127,25 +116,10 @@ fn put_handled(
     for alternative in alternatives {
         put_joining(alternative.actions.as_slice(), behind, around, draft)?;
     }
-    put_otherwise(otherwise, around, draft)
-}
-
-// What is done by ELSE, where it is written.
-#[tactic(auto, using(crate::proofs::Front::keeping_front))]
-#[cycle(statement)]
-fn put_otherwise(
-    otherwise: &Option<List<Statement>>,
-    around: &Around,
-    draft: &mut Draft,
-) -> Result<(), PartRefusal> {
-    match otherwise {
-        Some(actions) => put_statements(actions.as_slice(), around, draft),
-        None => Ok(()),
-    }
+    Ok(())
 }
 
 // Actions, behind which control goes on at a place.
-#[tactic(auto, using(crate::proofs::Front::keeping_front))]
 #[cycle(statement)]
 fn put_joining(
     actions: &[Statement],
@@ -158,7 +132,6 @@ fn put_joining(
 }
 
 // Actions that are done where the Boolean on top is TRUE, and behind which control goes on at a place.
-#[tactic(auto, using(crate::proofs::Front::keeping_front))]
 #[cycle(statement)]
 fn put_chosen(
     actions: &[Statement],
@@ -172,19 +145,13 @@ fn put_chosen(
 }
 
 // The code of an action.
-#[tactic(auto, using(crate::proofs::Front::keeping_front))]
 #[cycle(statement)]
 fn put_action(action: &Action, around: &Around, draft: &mut Draft) -> Result<(), PartRefusal> {
     let behind = draft.target_behind(action_size(action, &around.site))?;
     match action {
         Action::If { choices, otherwise } => {
-            put_choices(
-                choices.as_slice(),
-                otherwise.as_slice(),
-                behind,
-                around,
-                draft,
-            )
+            put_choices(choices.as_slice(), behind, around, draft)?;
+            put_statements(otherwise.as_slice(), around, draft)
         }
         Action::Do { control, actions } => {
             put_do(actions.as_slice(), control, behind, around, draft)
@@ -196,14 +163,17 @@ fn put_action(action: &Action, around: &Around, draft: &mut Draft) -> Result<(),
             otherwise,
         } => {
             put_selector(selector, around, draft)?;
-            put_cases(alternatives.as_slice(), otherwise, behind, around, draft)
+            put_cases(alternatives.as_slice(), behind, around, draft)?;
+            match otherwise {
+                Some(actions) => put_statements(actions.as_slice(), around, draft),
+                None => draft.put(Instr::Raise(RANGEFAIL)),
+            }
         }
         _ => put_waiting(action, behind, around, draft),
     }
 }
 
 // The code of an action that may wait for one of several, behind which is this place, or of one without statements.
-#[tactic(auto, using(crate::proofs::Front::keeping_front))]
 #[cycle(statement)]
 fn put_waiting(
     action: &Action,
@@ -231,7 +201,11 @@ fn put_waiting(
                 receives: Receives::Buffers(otherwise.is_some()),
                 behind,
             };
-            put_receive_case(alternatives.as_slice(), otherwise, wait, around, draft)
+            put_receive_case(alternatives.as_slice(), otherwise, wait, around, draft)?;
+            match otherwise {
+                Some(actions) => put_statements(actions.as_slice(), around, draft),
+                None => Ok(()),
+            }
         }
         Action::ReceiveSignals {
             set,
@@ -243,7 +217,11 @@ fn put_waiting(
                 receives: Receives::Signals(otherwise.is_some()),
                 behind,
             };
-            put_receive_case(alternatives.as_slice(), otherwise, wait, around, draft)
+            put_receive_case(alternatives.as_slice(), otherwise, wait, around, draft)?;
+            match otherwise {
+                Some(actions) => put_statements(actions.as_slice(), around, draft),
+                None => Ok(()),
+            }
         }
         _ => put_plain(action, around, draft),
     }
@@ -257,8 +235,7 @@ struct Wait<'a> {
     behind: u32,
 }
 
-// A RECEIVE CASE: the wait, the alternatives and ELSE.
-#[tactic(auto, using(crate::proofs::Front::keeping_front))]
+// A RECEIVE CASE: the wait and the alternatives. ELSE is left to who holds the action.
 #[cycle(statement)]
 fn put_receive_case(
     alternatives: &[ReceiveAlternative],
@@ -280,7 +257,6 @@ fn put_receive_case(
     let chosen = chosen_local(wait.set, around)?;
     put_receives(
         alternatives,
-        otherwise,
         Kept {
             chosen,
             behind: wait.behind,
@@ -297,12 +273,10 @@ struct Kept {
     behind: u32,
 }
 
-// The conditions of an IF with their actions, and ELSE.
-#[tactic(auto, using(crate::proofs::Front::keeping_front))]
+// The conditions of an IF with their actions.
 #[cycle(statement)]
 fn put_choices(
     choices: &[Choice],
-    otherwise: &[Statement],
     behind: u32,
     around: &Around,
     draft: &mut Draft,
@@ -310,11 +284,10 @@ fn put_choices(
     for choice in choices {
         put_choice(choice, behind, around, draft)?;
     }
-    put_statements(otherwise, around, draft)
+    Ok(())
 }
 
 // A condition, and the actions that are done where it is TRUE.
-#[tactic(auto, using(crate::proofs::Front::keeping_front))]
 #[cycle(statement)]
 fn put_choice(
     choice: &Choice,
@@ -332,12 +305,10 @@ fn put_choice(
     put_joining(actions, behind, around, draft)
 }
 
-// The alternatives of a CASE, whose selector is kept. What no label holds raises, where nothing is written for it.
-#[tactic(auto, using(crate::proofs::Front::keeping_front))]
+// The alternatives of a CASE, whose selector is kept.
 #[cycle(statement)]
 fn put_cases(
     alternatives: &[CaseAlternative],
-    otherwise: &Option<List<Statement>>,
     behind: u32,
     around: &Around,
     draft: &mut Draft,
@@ -346,14 +317,10 @@ fn put_cases(
         put_labels(alternative.labels.as_slice(), around.free, draft)?;
         put_chosen(alternative.actions.as_slice(), behind, around, draft)?;
     }
-    match otherwise {
-        Some(actions) => put_statements(actions.as_slice(), around, draft),
-        None => draft.put(Instr::Raise(RANGEFAIL)),
-    }
+    Ok(())
 }
 
 // A loop, behind which is this place.
-#[tactic(auto, using(crate::proofs::Front::keeping_front))]
 #[cycle(statement)]
 fn put_do(
     actions: &[Statement],
@@ -375,7 +342,6 @@ fn put_do(
 }
 
 // The alternatives of a DELAY CASE, of which the chosen one's number is kept.
-#[tactic(auto, using(crate::proofs::Front::keeping_front))]
 #[cycle(statement)]
 fn put_delays(
     alternatives: &[DelayAlternative],
@@ -396,12 +362,10 @@ fn put_delays(
     Ok(())
 }
 
-// The alternatives of a RECEIVE CASE, of which the chosen one's number is kept, and ELSE.
-#[tactic(auto, using(crate::proofs::Front::keeping_front))]
+// The alternatives of a RECEIVE CASE, of which the chosen one's number is kept.
 #[cycle(statement)]
 fn put_receives(
     alternatives: &[ReceiveAlternative],
-    otherwise: &Option<List<Statement>>,
     kept: Kept,
     around: &Around,
     draft: &mut Draft,
@@ -415,5 +379,5 @@ fn put_receives(
             draft,
         )?;
     }
-    put_otherwise(otherwise, around, draft)
+    Ok(())
 }
