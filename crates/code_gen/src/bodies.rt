@@ -165,7 +165,7 @@ fn behind_lowest(statements: &[Statement]) -> &[Statement]
     &statements[statements.len()..]
 }
 
-#[tactic(auto, using(stmt_gen::proofs::Views::statement_built))]
+#[tactic(auto, using(action_gen::proofs::Views::statement_built))]
 fn sets_lowest(statement: &Statement) -> bool
     ensures { result ≡ sets_lowest (statement_tree statement.now) }
 {
@@ -173,7 +173,7 @@ fn sets_lowest(statement: &Statement) -> bool
 }
 
 // Whether an action is a declaration without a value.
-#[tactic(auto, using(stmt_gen::proofs::Views::statement_built))]
+#[tactic(auto, using(action_gen::proofs::Views::statement_built))]
 fn is_set_lowest(action: &Action) -> bool
     ensures { result ≡ is_set_lowest (action_tree action.now) }
 {
