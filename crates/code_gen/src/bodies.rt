@@ -61,11 +61,10 @@ fn put_body(site: Site, draft: &mut Draft) -> Result<(), PartRefusal> {
 }
 
 // The instructions of a draft from a place on.
-fn instrs_from(draft: &Draft, first: u32) -> &[Instr]
-    requires { first ≤ length draft.now.code.instrs }
-    ensures { result.now ≡ drop first draft.now.code.instrs }
-{
-    &draft.code.instrs.as_slice()[first as usize..]
+fn instrs_from(draft: &Draft, first: u32) -> &[Instr] {
+    let instrs = draft.code.instrs.as_slice();
+    let first = (first as usize).min(instrs.len());
+    &instrs[first..]
 }
 
 // The locals behind the parameters and the result get their lowest values.
