@@ -1,6 +1,6 @@
 -- What calls, requests and other actions without statements append, part after part.
-use Rattle.std.proofs.Common.{◌≡◌, ℕ, ◌+◌, ◌-◌, ◌<◌, Bool, true, false, List, [], ◌∷◌, ◌++◌, length, get_or, reverse, refl, sym, ap, subst, ◌∙◌, arith, Option, Some, None}
-use Rattle.std.proofs.lemmas.List.{get_or-reverse}
+use Rattle.std.proofs.Common.{◌≡◌, ℕ, ◌+◌, ◌-◌, ◌<◌, ◌≤◌, Bool, true, false, List, [], ◌∷◌, ◌++◌, length, get_or, reverse, refl, sym, ap, subst, ◌∙◌, arith, Option, Some, None}
+use Rattle.std.proofs.lemmas.List.{get_or-reverse, get_or_past, length-reverse}
 use Rattle.code_types.specs.declared.code.Code.{Code}
 use Rattle.code_types.specs.declared.instr.Instr.{Instr}
 use Rattle.code_types.specs.declared.instr.Instr.TheVariants as i
@@ -13,6 +13,7 @@ use Rattle.checked_program.specs.declared.expr.Received.{Received}
 use Rattle.checked_program.specs.declared.statement.Action.{Action}
 use Rattle.checked_program.specs.declared.statement.Action.TheVariants as actions
 use Rattle.checked_program.specs.declared.statement.Sent.{Sent}
+use Rattle.checked_program.specs.declared.statement.Statement.{Statement}
 use Rattle.checked_program.specs.declared.statement.Sent.TheVariants as sents
 use Rattle.program_trees.specs.ExprTree.{ExprTree, ReceivedTree, ReceivedNodes, CallTree, count_of, expr_tree, received_count, received_tree, received_of, boxed_expr}
 use Rattle.program_trees.specs.StatementTree.{ActionTree, action_tree, SentTree, to_buffer, signal, sent_tree}
@@ -26,7 +27,7 @@ use Rattle.code_scheme.specs.StatementCode.{action_code}
 use Rattle.expr_gen.specs.Putting.{Appends}
 use Rattle.expr_gen.proofs.Appending.{and_then, resized, nothing}
 use Rattle.expr_gen.proofs.Made.{moved, count_is}
-use Rattle.action_gen.proofs.Views.{action_tree-Nothing, action_tree-Evaluate, action_tree-PutText}
+use Rattle.action_gen.proofs.Views.{action_tree-Nothing, action_tree-Module, action_tree-Region, action_tree-Evaluate, action_tree-PutText}
 
 -- a call, whose result is dropped
 pub perform_told : (w : Standing) (c : CallTree) (n : ℕ) {x y z : Code} → n ≡ dropped_scalars w.site c
@@ -52,6 +53,9 @@ assert_told w e target {x} {y} {z} is p q =
 -- the place of a label that is so many outwards
 pub exit_at : (exits : List ℕ) (k : ℕ) → k < length exits → get_or exits (length exits - 1 - k) 0 ≡ get_or (reverse exits) k 0
 exit_at exits k h = sym (get_or-reverse exits k 0 h)
+
+pub no_exit : (exits : List ℕ) (k : ℕ) → length exits ≤ k → 0 ≡ get_or (reverse exits) k 0
+no_exit exits k h = sym (get_or_past (reverse exits) k 0 (omega (arith, length-reverse exits, h)))
 
 -- ---- SEND
 
@@ -100,6 +104,17 @@ pub nothing_told : (w : Standing) (a : Action) (x : Code) → a ≡ actions.Noth
     → Appends (action_code w (action_tree a) (length x.instrs)) (action_size w.site (action_tree a)) x x
 nothing_told w a x is =
     subst (λ (t : ActionTree). Appends (action_code w t (length x.instrs)) (action_size w.site t) x x) (sym (ap action_tree is ∙ action_tree-Nothing)) (nothing x)
+
+-- a modulion's code stands in bodies of its own
+pub module_told : (w : Standing) (a : Action) (ss : List Statement) (x : Code) → a ≡ actions.Module ss
+    → Appends (action_code w (action_tree a) (length x.instrs)) (action_size w.site (action_tree a)) x x
+module_told w a ss x is =
+    subst (λ (t : ActionTree). Appends (action_code w t (length x.instrs)) (action_size w.site t) x x) (sym (ap action_tree is ∙ action_tree-Module ss)) (nothing x)
+
+pub region_told : (w : Standing) (a : Action) (r : ℕ) (ss : List Statement) (x : Code) → a ≡ actions.Region r ss
+    → Appends (action_code w (action_tree a) (length x.instrs)) (action_size w.site (action_tree a)) x x
+region_told w a r ss x is =
+    subst (λ (t : ActionTree). Appends (action_code w t (length x.instrs)) (action_size w.site t) x x) (sym (ap action_tree is ∙ action_tree-Region r ss)) (nothing x)
 
 pub evaluate_told : (w : Standing) (a : Action) (e : Box Expr Global) (u v : Expr) {x z : Code} → a ≡ actions.Evaluate e → u ≡ e.value → v ≡ e.value
     → Appends (taken_by w (expr_tree u) (i.Pop (out-Expr v).count) (length x.instrs)) (expr_size (expr_tree u) + 1) x z

@@ -10,3 +10,4 @@ pub mod Asked
 pub mod GivenBack
 pub mod Dropped
 pub mod Exits
+pub mod Counted

@@ -1,9 +1,10 @@
 -- What is appended for DELAY CASE and RECEIVE CASE before their alternatives.
-use Rattle.std.proofs.Common.{◌≡◌, ℕ, suc, ◌+◌, ◌*◌, ◌≤◌, ◌<◌, Bool, true, List, [], ◌∷◌, ◌++◌, pos, length, Option, Some, None, refl, ap, subst, ◌∙◌, arith, length-append, get_or, drop, add-one, drop-cons}
-use Rattle.std.specs.Prelude.{map, slice_get}
+use Rattle.std.proofs.Common.{◌≡◌, ℕ, suc, ◌+◌, ◌*◌, ◌≤◌, ◌<◌, Bool, true, List, [], ◌∷◌, ◌++◌, pos, length, Option, Some, None, refl, sym, ap, subst, ◌∙◌, arith, length-append, get_or, drop, add-one, drop-cons}
+use Rattle.std.specs.Prelude.{map, option_map, slice_get}
 use Rattle.std.specs.declared.alloc.Global.{Global}
 use Rattle.std.specs.declared.boxed.Box.{Box}
 use Rattle.std.proofs.lemmas.List.{at_drop_all}
+use Rattle.std.proofs.lemmas.Option.{slice_get-map}
 use Rattle.code_types.specs.declared.code.Code.{Code}
 use Rattle.code_types.specs.declared.instr.Instr.{Instr}
 use Rattle.code_types.specs.declared.instr.Instr.TheVariants as i
@@ -159,14 +160,19 @@ sources_done rows xs k h p =
     done p (at_drop_all (λ (ys : List ReceiveAlternative). sources_code rows (receives_of ys)) xs k h) (at_drop_all (λ (ys : List ReceiveAlternative). length (sources_code rows (receives_of ys))) xs k h)
 
 -- the scalars of the locals that get what is received
-pub scalars_turn : (rows : List LocalRow) (xs : List ℕ) (k it : ℕ) (row : LocalRow) (count new all : ℕ) → k < length xs → it ≡ get_or xs k 0 → slice_get rows it ≡ Some row
-    → new ≡ count + row.count
-    → count + scalars_received (map local_row_tree rows) (drop k xs) ≡ all → new + scalars_received (map local_row_tree rows) (drop (k + 1) xs) ≡ all
-scalars_turn rows xs k it row count new all h e f g p =
-    let own : scalars_of_row (slice_get (map local_row_tree rows) it) ≡ row.count = ap scalars_of_row (local_found rows it row f) in
-    let there : scalars_received (map local_row_tree rows) (drop k xs) ≡ scalars_of_row (slice_get (map local_row_tree rows) it) + scalars_received (map local_row_tree rows) (drop (k + 1) xs) =
-    ap (λ (ks : List ℕ). scalars_received (map local_row_tree rows) ks) (number_at xs k it h e) in
-    omega (arith, own, there, g, p)
+pub scalars_there : (rows : List LocalRow) (k : ℕ) (row : LocalRow) → slice_get rows k ≡ Some row → row.count ≡ scalars_of_row (slice_get (map local_row_tree rows) k)
+scalars_there rows k row e = sym (ap scalars_of_row (local_found rows k row e))
+
+pub scalars_nowhere : (rows : List LocalRow) (k : ℕ) → slice_get rows k ≡ None → 0 ≡ scalars_of_row (slice_get (map local_row_tree rows) k)
+scalars_nowhere rows k e = sym (ap scalars_of_row (slice_get-map local_row_tree rows k ∙ ap (option_map local_row_tree) e))
+
+pub scalars_turn : (rows : List LocalRowTree) (xs : List ℕ) (k it own count new all : ℕ) → k < length xs → it ≡ get_or xs k 0 → own ≡ scalars_of_row (slice_get rows it)
+    → new ≡ count + own
+    → count + scalars_received rows (drop k xs) ≡ all → new + scalars_received rows (drop (k + 1) xs) ≡ all
+scalars_turn rows xs k it own count new all h e f g p =
+    let there : scalars_received rows (drop k xs) ≡ scalars_of_row (slice_get rows it) + scalars_received rows (drop (k + 1) xs) =
+    ap (λ (ks : List ℕ). scalars_received rows ks) (number_at xs k it h e) in
+    omega (arith, f, there, g, p)
 
 pub scalars_done : (rows : List LocalRowTree) (xs : List ℕ) (k count all : ℕ) → length xs ≤ k → count + scalars_received rows (drop k xs) ≡ all → count ≡ all
 scalars_done rows xs k count all h p =

@@ -1,12 +1,12 @@
 -- What a DO FOR counts by.
-use Rattle.std.specs.Prelude.{ℕ}
+use Rattle.std.specs.Prelude.{ℕ, pos}
 use Rattle.code_scheme.specs.StatementLoops.{Step, by_constant, by_kept, Steps}
 use Rattle.action_gen.specs.declared.steps.Step.{Step as RustStep}
 use Rattle.action_gen.specs.declared.steps.Step.TheVariants.{Constant, Kept}
 use Rattle.action_gen.specs.declared.steps.Steps.{Steps as RustSteps}
 
 abbrev pub step_of : RustStep → Step
-step_of (Constant d) = by_constant d
+step_of (Constant n) = by_constant (pos n)
 step_of (Kept k) = by_kept k
 
 abbrev pub steps_of : RustSteps → Steps

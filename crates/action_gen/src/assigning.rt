@@ -1,5 +1,5 @@
 // Declarations, assignments, and the result of a procedure.
-#![tactic(auto, using(expr_gen::proofs::Appending::keeping, expr_gen::proofs::Rows::local_there))]
+#![tactic(auto, using(expr_gen::proofs::Appending::keeping))]
 
 ghost use Rattle.std.specs.Prelude.{◌≡◌, [], ◌∷◌, length, IfOk, OnOk};
 ghost use Rattle.program_trees.specs.ExprTree.{received_tree, location_tree};
@@ -15,9 +15,9 @@ use checked_program::{Base, Binary, Expr, Location, Received};
 use code_types::Instr;
 use expr_gen::{
     Draft, PartRefusal, Site, bounds_of_operator, bounds_to_test, check_size, declared_scalars,
-    expr_size, local_of, offsets_kept, place_size, put_again, put_behind, put_between, put_check,
-    put_contents, put_expr, put_place, put_received, put_scalars, put_store, received_size,
-    result_scalars, scalars_size, size_behind, size_between, uncapped,
+    expr_size, first_of_local, offsets_kept, place_size, put_again, put_behind, put_between,
+    put_check, put_contents, put_expr, put_place, put_received, put_scalars, put_store,
+    received_size, result_scalars, scalars_size, size_behind, size_between, uncapped,
 };
 use modes::Bounds;
 
@@ -105,8 +105,8 @@ fn put_named(name: Base, count: u32, around: &Around, draft: &mut Draft) -> Resu
     match name {
         Base::Shared(location) => draft.put(Instr::Write(location, 0, count)),
         Base::Local(number) => {
-            let local = local_of(around.site.body, number)?;
-            draft.put(Instr::SetLocal(local.first, count))
+            let first = first_of_local(around.site.body, number);
+            draft.put(Instr::SetLocal(first, count))
         }
     }
 }
@@ -171,9 +171,9 @@ fn put_lowest(
     ensures puts { OnOk result (SetsOneLowest around.now number value.now count draft.old draft.new) }
     ensures keeps { Keeps draft.old.code draft.new.code }
 {
-    let local = local_of(around.site.body, number)?;
+    let first = first_of_local(around.site.body, number);
     put_scalars(value, draft)?;
-    draft.put(Instr::SetLocal(local.first, count))
+    draft.put(Instr::SetLocal(first, count))
 }
 
 /// How many instructions a declaration without a value has.

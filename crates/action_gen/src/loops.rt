@@ -16,8 +16,8 @@ use crate::steps::{
 use checked_program::{Control, Expr};
 use code_types::Instr;
 use expr_gen::{
-    Branch, Draft, PartRefusal, condition_size, expr_size, local_of, member_size, put_condition,
-    put_expr, put_member,
+    Branch, Draft, PartRefusal, condition_size, expr_size, first_of_local, member_size,
+    put_condition, put_expr, put_member,
 };
 
 /// What a DO does before its turns, behind which is this place.
@@ -44,7 +44,7 @@ pub fn put_before_turns(
             down,
             ..
         } => {
-            let counter = local_of(around.site.body, *counter)?.first;
+            let counter = first_of_local(around.site.body, *counter);
             put_bounds(start, step, end, around, draft)?;
             put_first_value(
                 Steps::new(counter, step, *down, around.free)?,
@@ -74,7 +74,7 @@ pub fn put_turn_test(
             condition,
             ..
         } => {
-            let counter = local_of(around.site.body, *counter)?.first;
+            let counter = first_of_local(around.site.body, *counter);
             put_members_test(counter, *low, behind, around, draft)?;
             put_some_while(condition, behind, &around.taking(1)?, draft)
         }
@@ -85,7 +85,7 @@ pub fn put_turn_test(
             condition,
             ..
         } => {
-            let counter = local_of(around.site.body, *counter)?.first;
+            let counter = first_of_local(around.site.body, *counter);
             put_next(
                 Steps::new(counter, step, *down, around.free)?,
                 behind,

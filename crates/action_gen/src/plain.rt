@@ -1,13 +1,13 @@
 // Actions that hold no statements.
 #![tactic(auto, using(expr_gen::proofs::Appending::keeping))]
 
-ghost use Rattle.std.specs.Prelude.{◌≡◌, ◌+◌, false, OnOk};
+ghost use Rattle.std.specs.Prelude.{◌≡◌, ◌+◌, true, false, reverse, slice_index_or, OnOk};
 ghost use Rattle.program_trees.specs.ExprTree.{call_tree, start_tree};
 ghost use Rattle.program_trees.specs.StatementTree.{action_tree};
 ghost use Rattle.code_scheme.specs.Pieces.{capped};
 ghost use Rattle.code_scheme.specs.ExprSizes.{start_size};
 ghost use Rattle.code_scheme.specs.StatementPlain.{perform_size, dropped_scalars, drop_code};
-ghost use Rattle.action_gen.specs.Putting.{site_tree, holds_statements};
+ghost use Rattle.action_gen.specs.Putting.{site_tree, holds_statements, asks};
 ghost use Rattle.expr_gen.specs.Putting.{Keeps};
 ghost use Rattle.expr_gen.specs.Puts.{PutsAll};
 ghost use Rattle.action_gen.specs.Puts.{IsAskingSize, IsPlainSize, PutsAssert, PutsDropped, PutsDroppedStart, PutsExit, PutsPerform, PutsPlainAction, PutsTaken};
@@ -28,11 +28,12 @@ use expr_gen::{
 /// The number of ASSERTFAIL.
 const ASSERTFAIL: u32 = 3;
 
-/// Appends the code of an action that holds no statements. A modulion is none.
+/// Appends the code of an action that holds no statements. A modulion's code stands in bodies of its own, and what holds
+/// statements is put elsewhere.
 #[tactic(auto, using(crate::proofs::Views::statement_built, expr_gen::proofs::Appending::keeping))]
 pub fn put_plain(action: &Action, around: &Around, draft: &mut Draft) -> Result<(), PartRefusal>
-    ensures puts { OnOk result (PutsPlainAction around.now action.now draft.old draft.new) }
-    ensures plain { OnOk result (holds_statements (action_tree action.now) ≡ false) }
+    ensures puts { holds_statements (action_tree action.now) ≡ false
+        → OnOk result (PutsPlainAction around.now action.now draft.old draft.new) }
     ensures keeps { Keeps draft.old.code draft.new.code }
 {
     match action {
@@ -61,15 +62,31 @@ pub fn put_plain(action: &Action, around: &Around, draft: &mut Draft) -> Result<
         Action::Assert(condition) => put_assert(condition, around, draft),
         Action::Cause { exception } => draft.put(Instr::Raise(*exception)),
         Action::Stop => draft.put(Instr::Stop),
-        _ => put_asking(action, around, draft),
+        Action::Call(_) | Action::Routine { .. } | Action::Evaluate(_) => {
+            put_asking(action, around, draft)
+        }
+        Action::PutInt(_) | Action::PutText(_) | Action::PutLine => {
+            put_asking(action, around, draft)
+        }
+        Action::Start(_) | Action::Delay { .. } | Action::Continue { .. } | Action::Send { .. } => {
+            put_asking(action, around, draft)
+        }
+        Action::Module { .. } => Ok(()),
+        Action::Region { .. } => Ok(()),
+        // These hold statements.
+        Action::If { .. } | Action::Case { .. } | Action::Do { .. } | Action::Begin { .. } => Ok(
+            (),
+        ),
+        Action::DelayCase { .. } => Ok(()),
+        Action::ReceiveBuffers { .. } | Action::ReceiveSignals { .. } => Ok(()),
     }
 }
 
 // Appends the code of an action that calls, asks or puts.
 #[tactic(auto, using(crate::proofs::Views::statement_built, expr_gen::proofs::Appending::keeping))]
 fn put_asking(action: &Action, around: &Around, draft: &mut Draft) -> Result<(), PartRefusal>
-    ensures puts { OnOk result (PutsPlainAction around.now action.now draft.old draft.new) }
-    ensures plain { OnOk result (holds_statements (action_tree action.now) ≡ false) }
+    ensures puts { asks (action_tree action.now) ≡ true
+        → OnOk result (PutsPlainAction around.now action.now draft.old draft.new) }
     ensures keeps { Keeps draft.old.code draft.new.code }
 {
     match action {
@@ -85,7 +102,15 @@ fn put_asking(action: &Action, around: &Around, draft: &mut Draft) -> Result<(),
         Action::Delay { event, priority } => put_delay(*event, *priority, draft),
         Action::Continue { event } => draft.put(Instr::Continue(*event)),
         Action::Send { sent, priority } => put_send(sent, *priority, around, draft),
-        _ => Err(PartRefusal::Unsound),
+        // These neither call nor ask nor put.
+        Action::Nothing | Action::Declare { .. } | Action::Lowest { .. } => Ok(()),
+        Action::Assign { .. } | Action::Update { .. } | Action::Assert(_) => Ok(()),
+        Action::Exit { .. } | Action::Return { .. } | Action::Result { .. } => Ok(()),
+        Action::Cause { .. } | Action::Stop => Ok(()),
+        Action::Module { .. } | Action::Region { .. } | Action::Begin { .. } => Ok(()),
+        Action::If { .. } | Action::Case { .. } | Action::Do { .. } => Ok(()),
+        Action::DelayCase { .. } => Ok(()),
+        Action::ReceiveBuffers { .. } | Action::ReceiveSignals { .. } => Ok(()),
     }
 }
 
@@ -180,12 +205,18 @@ fn put_exit(outwards: u32, around: &Around, draft: &mut Draft) -> Result<(), Par
     ensures puts { OnOk result (PutsExit around.now outwards draft.old draft.new) }
     ensures keeps { Keeps draft.old.code draft.new.code }
 {
-    let exits = around.exits;
+    draft.put(Instr::Jump(place_behind(outwards, around.exits)))
+}
+
+// The place behind the labelled statement that is so many outwards, or 0 where there is none.
+fn place_behind(outwards: u32, exits: &[u32]) -> u32
+    ensures { result ≡ slice_index_or (reverse exits.now) outwards 0 }
+{
     let outwards = outwards as usize;
     if outwards < exits.len() {
-        draft.put(Instr::Jump(exits[exits.len() - 1 - outwards]))
+        exits[exits.len() - 1 - outwards]
     } else {
-        Err(PartRefusal::Unsound)
+        0
     }
 }
 

@@ -1,11 +1,11 @@
 // DO FOR from a start to an end: what is done before the first turn, and the test before each other turn.
 #![tactic(auto, using(expr_gen::proofs::Appending::keeping))]
 
-ghost use Rattle.std.specs.Prelude.{◌≡◌, Some, length, IfOk, OnOk, if◌then◌else◌};
+ghost use Rattle.std.specs.Prelude.{◌≡◌, Some, pos, option_map, length, IfOk, OnOk, if◌then◌else◌};
 ghost use Rattle.program_trees.specs.ExprTree.{constant, expr_tree};
 ghost use Rattle.scalar_operators.specs.Numbers.{greatest_int, least_int};
 ghost use Rattle.code_scheme.specs.Pieces.{capped};
-ghost use Rattle.code_scheme.specs.StatementLoops.{steps_kept, constant_step, step_in, step_of_value, within_size, order_code, before_code, rest_code, nearest_code, nearer_code, moved_end_code, by_step, is_one, forth, back};
+ghost use Rattle.code_scheme.specs.StatementLoops.{steps_kept, constant_step, step_in, where_step, step_of_value, within_size, order_code, before_code, rest_code, nearest_code, nearer_code, moved_end_code, by_step, is_one, forth, back};
 ghost use Rattle.action_gen.specs.Counting.{step_of, steps_of};
 ghost use Rattle.expr_gen.specs.Putting.{Keeps};
 ghost use Rattle.expr_gen.specs.Puts.{PutsAll, PutsSome};
@@ -26,10 +26,10 @@ const STEPS: Bounds = Bounds {
     high: 2147483647,
 };
 
-/// The step of a DO FOR: a constant, or what a scratch local keeps.
+/// The step of a DO FOR: a constant from 1 on, or what a scratch local keeps.
 #[derive(Clone, Copy)]
 pub enum Step {
-    Constant(i64),
+    Constant(u32),
     Kept(u32),
 }
 
@@ -74,8 +74,8 @@ impl Steps {
 }
 
 // The step where it is a constant from 1 on, or 1 where none is written.
-fn constant_step(step: &Option<Box<Expr>>) -> Option<i64>
-    ensures { result ≡ constant_step (some_expr step.now) }
+fn constant_step(step: &Option<Box<Expr>>) -> Option<u32>
+    ensures { option_map pos result ≡ constant_step (some_expr step.now) }
 {
     match step {
         Some(step) => step_of_value(step),
@@ -85,8 +85,8 @@ fn constant_step(step: &Option<Box<Expr>>) -> Option<i64>
 
 // The number of a constant, where it is one from 1 on.
 #[tactic(auto, using(expr_gen::proofs::Views::tree_built))]
-fn step_of_value(step: &Expr) -> Option<i64>
-    ensures { result ≡ step_of_value (expr_tree step.now) }
+fn step_of_value(step: &Expr) -> Option<u32>
+    ensures { option_map pos result ≡ step_of_value (expr_tree step.now) }
 {
     match &step.operation {
         Operation::Constant(scalars) => step_of_constant(scalars.as_slice()),
@@ -98,12 +98,32 @@ fn step_of_value(step: &Expr) -> Option<i64>
     }
 }
 
-fn step_of_constant(scalars: &[i64]) -> Option<i64>
-    ensures { result ≡ step_in (constant scalars.now) }
+fn step_of_constant(scalars: &[i64]) -> Option<u32>
+    ensures { option_map pos result ≡ step_in (constant scalars.now) }
 {
     match scalars {
-        [number] if STEPS.low <= *number && *number <= STEPS.high => Some(*number),
+        [number] => step_of_number(*number),
         _ => None,
+    }
+}
+
+fn step_of_number(number: i64) -> Option<u32>
+    ensures { option_map pos result ≡ where_step number }
+{
+    match u32::try_from(number) {
+        Ok(number) => where_step(number),
+        Err(_) => None,
+    }
+}
+
+// The number, where it is a step.
+fn where_step(number: u32) -> Option<u32>
+    ensures { option_map pos result ≡ where_step (pos number) }
+{
+    if 1 <= number && number <= 2147483647 {
+        Some(number)
+    } else {
+        None
     }
 }
 
@@ -271,7 +291,7 @@ fn by_step(step: Step) -> Instr
     ensures { result ≡ by_step (step_of step) }
 {
     match step {
-        Step::Constant(step) => Instr::Push(step),
+        Step::Constant(step) => Instr::Push(i64::from(step)),
         Step::Kept(local) => Instr::Local(local, 1),
     }
 }
@@ -373,10 +393,7 @@ fn put_rest(step: Step, draft: &mut Draft) -> Result<(), PartRefusal>
     ensures keeps { Keeps draft.old.code draft.new.code }
 {
     match step {
-        Step::Constant(step) => match step.checked_sub(1) {
-            Some(rest) => draft.put(Instr::Push(rest)),
-            None => Err(PartRefusal::Unsound),
-        },
+        Step::Constant(step) => draft.put(Instr::Push(i64::from(step) - 1)),
         Step::Kept(local) => {
             draft.put(Instr::Local(local, 1))?;
             draft.put(Instr::Push(1))?;

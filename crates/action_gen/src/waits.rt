@@ -1,11 +1,12 @@
 // DELAY CASE and RECEIVE CASE: what comes before their alternatives.
 #![tactic(auto, using(expr_gen::proofs::Appending::keeping))]
 
-ghost use Rattle.std.specs.Prelude.{◌≡◌, pos, [], ◌∷◌, length, IfOk, OnOk};
+ghost use Rattle.std.specs.Prelude.{◌≡◌, pos, [], ◌∷◌, length, slice_get, IfOk, OnOk};
 ghost use Rattle.code_types.specs.declared.instr.Instr.TheVariants as instrs;
+ghost use Rattle.program_trees.specs.ProgramTree.{body_row_tree};
 ghost use Rattle.program_trees.specs.StatementTree.{set_tree};
 ghost use Rattle.code_scheme.specs.Pieces.{capped};
-ghost use Rattle.code_scheme.specs.StatementWaits.{set_place_size, set_kept, chosen_in, set_size, count_of_events, first_received, scalars_received, receive_instr, nothing_code, is_chosen_code};
+ghost use Rattle.code_scheme.specs.StatementWaits.{set_place_size, set_kept, chosen_in, set_size, count_of_events, first_received, scalars_of_row, scalars_received, receive_instr, nothing_code, is_chosen_code};
 ghost use Rattle.action_gen.specs.Trees.{delays_of};
 ghost use Rattle.action_gen.specs.Receiving.{kind_of, waits_else};
 ghost use Rattle.expr_gen.specs.Putting.{Keeps};
@@ -13,11 +14,11 @@ ghost use Rattle.expr_gen.specs.Puts.{PutsSome};
 ghost use Rattle.action_gen.specs.Puts.{PutsAllEvents, PutsDelayWait, PutsEvents, PutsNothing, PutsOneSource, PutsReceiveWait, PutsSet, PutsSetPlace, PutsSources, hearing_size, rows_around, waiting_size};
 
 use crate::around::Around;
-use checked_program::{DelayAlternative, LocalRow, Location, ReceiveAlternative};
+use checked_program::{Body, DelayAlternative, LocalRow, Location, ReceiveAlternative};
 use code_types::Instr;
 use expr_gen::{
-    Draft, PartRefusal, keep_place, local_of, offsets_kept, place_size, put_kept, put_place,
-    put_store, uncapped,
+    Draft, PartRefusal, first_of_local, keep_place, offsets_kept, place_size, put_kept, put_place,
+    put_store, sum, uncapped,
 };
 
 /// Which instruction a RECEIVE CASE has, and whether ELSE is written.
@@ -223,10 +224,9 @@ fn put_source(
     ensures puts { OnOk result (PutsOneSource around.now source received.now draft.old draft.new) }
     ensures keeps { Keeps draft.old.code draft.new.code }
 {
-    let first = first_received(received, around)?;
-    let count = scalars_received(first, received, around)?;
+    let count = scalars_received(received, around)?;
     draft.put(Instr::Thing(source))?;
-    put_count(first, draft)?;
+    put_count(first_received(received, around), draft)?;
     put_count(count, draft)
 }
 
@@ -238,30 +238,35 @@ fn put_count(count: u32, draft: &mut Draft) -> Result<(), PartRefusal>
     draft.put(Instr::Push(i64::from(count)))
 }
 
-// The first of the locals that get what is received, or 0 where there is none.
-#[tactic(auto, using(expr_gen::proofs::Rows::local_there))]
-fn first_received(received: &[u32], around: &Around) -> Result<u32, PartRefusal>
-    ensures { IfOk result (λ n. n ≡ first_received (rows_around around.now) received.now) }
+// The first scalar of the locals that get what is received, or 0 where there is none.
+fn first_received(received: &[u32], around: &Around) -> u32
+    ensures { result ≡ first_received (rows_around around.now) received.now }
 {
     match received {
-        [] => Ok(0),
-        [number, ..] => Ok(local_of(around.site.body, *number)?.first),
+        [] => 0,
+        [number, ..] => first_of_local(around.site.body, *number),
     }
 }
 
-// How many scalars these locals have, which follow each other from this one on, or Unsound where they don't.
-fn scalars_received(first: u32, received: &[u32], around: &Around) -> Result<u32, PartRefusal>
+// How many scalars these locals have.
+fn scalars_received(received: &[u32], around: &Around) -> Result<u32, PartRefusal>
     ensures { IfOk result (λ n. n ≡ scalars_received (rows_around around.now) received.now) }
 {
     let mut count = 0u32;
     for number in received {
-        let local = local_of(around.site.body, *number)?;
-        if local.first != first.saturating_add(count) {
-            return Err(PartRefusal::Unsound);
-        }
-        count = uncapped(count.saturating_add(local.count))?;
+        count = sum(count, scalars_of_local(around.site.body, *number))?;
     }
     Ok(count)
+}
+
+// How many scalars the local of this number has; none where there is no such local.
+fn scalars_of_local(body: &Body, number: u32) -> u32
+    ensures { result ≡ scalars_of_row (slice_get (body_row_tree body.now).locals number) }
+{
+    match body.locals.as_slice().get(number as usize) {
+        Some(local) => local.count,
+        None => 0,
+    }
 }
 
 /// The scratch local that keeps the number of the alternative; the instance stands behind it.

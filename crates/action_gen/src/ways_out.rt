@@ -42,7 +42,6 @@ fn put_return(body: &Body, draft: &mut Draft) -> Result<(), PartRefusal>
     put_own_result(body, draft)?;
     put_parameters(body.parameters.as_slice(), body.locals.as_slice(), draft)?;
     draft.put(Instr::Return)?;
-    draft.height = 0;
     Ok(())
 }
 

@@ -133,8 +133,9 @@ journal_by said contents watchers sources left before behind command ran status 
   is_task = is_task;
   text = text;
   told = told;
-  program = ran.built.value.program.checked.value;
+  program = ran.built.value.program;
   code = ran.built.value.code;
+  given = refl;
   held = refl;
   run = is;
   reported = reported;

@@ -5,7 +5,7 @@ use Rattle.checked_program.specs.declared.program.Checked.{Checked}
 use Rattle.code_types.specs.declared.code.Code.{Code}
 use Rattle.diagnostics.specs.declared.diagnostic.Diagnostic.{Diagnostic}
 use Rattle.rules_model.specs.Diagnoses.{Diagnoses, IsShort, too_long, no_token, too_deep, no_program}
-use Rattle.text_to_code.specs.Telling.{IsAccepted, IsUnread, IsCanonicalOf, Breaks, Refuses, broken, misnamed, breaks, later, Tells}
+use Rattle.text_to_code.specs.Telling.{HasCode, IsUnread, IsCanonicalOf, Breaks, Refuses, broken, misnamed, breaks, later, Tells}
 use Rattle.text_to_code.specs.declared.told.Told.{Told}
 use Rattle.text_to_code.specs.declared.told.Told.TheVariants as tellings
 use Rattle.std.specs.declared.option.Option.{Option}
@@ -75,8 +75,8 @@ reading-long text read (inr front) long = omega (arith, long, ap length front, l
 Refuses-short : (text read : List ℕ) (told : List Diagnostic) → read ≡ text → Refuses read told → Refuses text told
 Refuses-short text read told same refuses = subst (λ (t : List ℕ). Refuses t told) same refuses
 
-Accepted-reading : (text read : List ℕ) (program : Checked) (code : Code) → IsReadingOf text read → IsAccepted read program code → IsAccepted text program code
-Accepted-reading text read program code of accepted = subst (λ (t : List ℕ). IsAccepted t program code) (reading-short text read of accepted.resolved.has.short) accepted
+Code-reading : (text read : List ℕ) (program : Checked) (code : Code) → IsReadingOf text read → HasCode read program code → HasCode text program code
+Code-reading text read program code of has_code = subst (λ (t : List ℕ). HasCode t program code) (reading-short text read of has_code.resolved.has.short) has_code
 
 Diagnoses-short : (text read : List ℕ) (told : Diagnostic) → IsReadingOf text read → IsShort read → Diagnoses read told → Diagnoses text told
 Diagnoses-short text read told of short r = subst (λ (t : List ℕ). Diagnoses t told) (reading-short text read of short) r
@@ -101,7 +101,7 @@ Refuses-reading text read told of (later resolved may) = Refuses-short text read
 
 pub Tells-reading : (text read : List ℕ) (told : Told) → IsReadingOf text read → Tells read told → Tells text told
 Tells-reading text read (tellings.Refused told) of tells = Refuses-reading text read told of tells
-Tells-reading text read (tellings.Accepted built) of tells = Accepted-reading text read built.value.program.checked.value built.value.code of tells
+Tells-reading text read (tellings.Accepted built) of tells = Code-reading text read built.value.program.checked.value built.value.code of tells
 
 pub Unread-reading : (text read : List ℕ) (told : List Diagnostic) → IsReadingOf text read → IsUnread read told → IsUnread text told
 Unread-reading text read told of unread =

@@ -11,14 +11,14 @@ use Rattle.checked_program.specs.declared.program.Checked.{Checked}
 use Rattle.code_gen.specs.Facts.{facts_of, HasNoLayout}
 use Rattle.code_types.specs.declared.code.Code.{Code}
 use Rattle.code_types.specs.Runs.{Suits}
-use Rattle.expr_gen.specs.declared.refusal.PartRefusal.{PartRefusal}
-use Rattle.expr_gen.specs.declared.refusal.PartRefusal.TheVariants.{Unsound}
+use Rattle.code_gen.specs.declared.refusal.FactsRefusal.{FactsRefusal}
+use Rattle.code_gen.specs.declared.refusal.FactsRefusal.TheVariants.{NoLayout}
 use Rattle.kernel_base.specs.declared.facts.Facts.{Facts}
 use Rattle.kernel_base.specs.Facts.{IsSound}
 use Rattle.outside_ports.specs.Faults.{Rose}
 use Rattle.outside_ports.specs.Library.{Contents}
 use Rattle.serial_run.specs.Driven.{IsDriven}
-use Rattle.text_to_code.specs.Telling.{IsAccepted, Tells}
+use Rattle.text_to_code.specs.Telling.{HasCode, Tells}
 use Rattle.text_to_code.specs.declared.build.Built.{Built}
 use Rattle.text_to_code.specs.declared.told.Told.{Told}
 use Rattle.text_to_code.specs.declared.told.Told.TheVariants as tellings
@@ -122,12 +122,12 @@ is_read_input true told input is long = refl
 is_read_input false told input is long = absurd (let no : ⊥ = omega (arith, ap length is, long) in no)
 
 -- the plan for an input that is too long
-pub too_long_for : (units : ℕ) (text : List ℕ) (program : Checked) (code : Code) (feed : Option (List ℕ)) (input : List ℕ) → IsAccepted text program code
+pub too_long_for : (units : ℕ) (text : List ℕ) (program : Checked) (code : Code) (feed : Option (List ℕ)) (input : List ℕ) → HasCode text program code
     → MatchBool program.reads_input (IsInputRead feed input) (input ≡ []) → 1048576 < length input
     → IsRunning (Run units) × ReadsInput text × IsInputTooLong feed
-too_long_for units text program code feed input accepted is long = (
+too_long_for units text program code feed input has_code is long = (
   tt,
-  record { program = program; code = code; accepted = accepted; reads = is_read_input program.reads_input feed input is long },
+  record { program = program; code = code; has_code = has_code; reads = is_read_input program.reads_input feed input is long },
   too_long_input program.reads_input feed input is long,
 )
 
@@ -140,24 +140,24 @@ input_for program feed left input is short untouched =
 -- a program with such facts is ready for a run
 pub ready_for : (units : ℕ) (text : List ℕ) (feed left : Option (List ℕ)) (ready : Ready) (input : List ℕ)
     → AreFactsOf ready.built.value.program.checked.value input units ready.facts → IsInputOf ready.built.value.program.checked.value feed left input
-    → IsAccepted text ready.built.value.program.checked.value ready.built.value.code
+    → HasCode text ready.built.value.program.checked.value ready.built.value.code
     → IsReadyFor (Build (Run units)) text feed left ready
-ready_for units text feed left ready input are reads accepted =
-    record { units = units; is_task = refl; accepted = accepted; input = input; reads = reads; facts = are }
+ready_for units text feed left ready input are reads has_code =
+    record { units = units; is_task = refl; has_code = has_code; input = input; reads = reads; facts = are }
 
 -- one without facts isn't run
 pub unfounded_for : (units : ℕ) (text : List ℕ) (program : Checked) (code : Code) (feed left : Option (List ℕ)) (input : List ℕ) (told : List Diagnostic)
-    → IsAccepted text program code → IsInputOf program feed left input → HasNoFacts program input units → IsNotBuilt told
+    → HasCode text program code → IsInputOf program feed left input → HasNoFacts program input units → IsNotBuilt told
     → IsRefusedFor (Run units) text feed left told
-unfounded_for units text program code feed left input told accepted reads none is =
+unfounded_for units text program code feed left input told has_code reads none is =
     inr (record {
       program = program;
       code = code;
-      accepted = accepted;
+      has_code = has_code;
       input = input;
       reads = reads;
       cause = unfounded none;
-      not_of_text = is_run program code input units (unfounded none);
+      not_of_well_elaborated = is_run text program code input units has_code (unfounded none);
       is = is;
     })
 
@@ -168,9 +168,9 @@ unsound_facts program other input units facts said same are exact unsound = inr 
     let told : IsTrue said = exact.1 (subst IsSound (sym (are ∙ ap (λ (p : Checked). facts_of p input units) same)) sound) in
     let never : ⊥ = cc in never)
 
-pub no_layouts : {T : Type 0} (program other : Checked) (input : List ℕ) (units : ℕ) (refusal : PartRefusal) → other ≡ program → refusal ≡ Unsound
-    → (IsErrOf {T = T} (Err refusal) Unsound → Any HasNoLayout other.locations) → HasNoFacts program input units
-no_layouts program other input units refusal same is unsound = inl (subst (λ (p : Checked). Any HasNoLayout p.locations) same (unsound (ap (λ (e : PartRefusal). Err e) is)))
+pub no_layouts : {T : Type 0} (program other : Checked) (input : List ℕ) (units : ℕ) (refusal : FactsRefusal) → other ≡ program → refusal ≡ NoLayout
+    → (IsErrOf {T = T} (Err refusal) NoLayout → Any HasNoLayout other.locations) → HasNoFacts program input units
+no_layouts program other input units refusal same is unsound = inl (subst (λ (p : Checked). Any HasNoLayout p.locations) same (unsound (ap (λ (e : FactsRefusal). Err e) is)))
 
 -- a plan for a run is one for the task that it was made for
 run_plan : (task : Task) (units : ℕ) (text : List ℕ) (feed left : Option (List ℕ)) (plan : Plan) → task ≡ Build (Run units) → IsBuildPlan (Run units) text feed left plan → IsPlanFor task text feed left plan
@@ -187,11 +187,11 @@ completed task text feed left ready attempt (plans.Refused told) is ran after =
     run_plan task is.units text feed left (plans.Refused told) is.is_task (inr (record {
       program = program;
       code = ready.built.value.code;
-      accepted = is.accepted;
+      has_code = is.has_code;
       input = is.input;
       reads = is.reads;
       cause = cause;
-      not_of_text = is_run program ready.built.value.code is.input is.units cause;
+      not_of_well_elaborated = is_run text program ready.built.value.code is.input is.units is.has_code cause;
       is = after.1;
     }))
 completed task text feed left ready attempt plans.Accepted is ran after = absurd after
@@ -205,13 +205,13 @@ completed task text feed left ready attempt (plans.Ran one) is ran after =
     subst (λ (f : Facts). IsDriven ready.built.value.code f one.driven.value) is.facts.are (subst (IsAttempt ready.built.value.code ready.facts) after.0 ran) in
     run_plan task is.units text feed left (plans.Ran one) is.is_task
     (subst (λ (b : Built). IsRunFor (Run is.units) text b.program.checked.value b.code feed left one.driven.value) (sym after.1) (record {
-      accepted = is.accepted;
+      has_code = is.has_code;
       input = is.input;
       reads = is.reads;
       sound = sound;
       run = run;
-      of_text = run_of_text program ready.built.value.code is.input is.units one.driven.value.events sound run.run;
-      same_runs = has_text_runs program ready.built.value.code;
+      of_text = run_of_text text program ready.built.value.code is.input is.units one.driven.value.events sound run.run is.has_code;
+      same_runs = has_text_runs text program ready.built.value.code is.has_code;
     }))
 
 pub ok-plan-completed : (command : Command) (contents : List ℕ → Contents) (feed left : Option (List ℕ)) (ready : Ready) (plan : Plan) → IsStageOf command contents feed left (stages.Ready ready) → Completes ready plan
@@ -225,12 +225,12 @@ pub ok-completes : {E : Type 0} (ready : Ready) (attempt : Attempt) (made : Resu
 ok-completes ready attempt (Ok plan) ran is = record { attempt = attempt; ran = ran; is = is }
 ok-completes ready attempt (Err e) ran is = tt
 
--- what is accepted has a program, and one that reads input where that one does
-has_program : (text : List ℕ) (built : Built) → IsAccepted text built.program.checked.value built.code → HasProgram text
-has_program text built accepted = record { program = built.program.checked.value; code = built.code; accepted = accepted }
+-- a text with such a code has a program, and one that reads input where that one does
+has_program : (text : List ℕ) (built : Built) → HasCode text built.program.checked.value built.code → HasProgram text
+has_program text built has_code = record { program = built.program.checked.value; code = built.code; has_code = has_code }
 
-reads_accepted : (text : List ℕ) (built : Built) → IsAccepted text built.program.checked.value built.code → built.program.checked.value.reads_input ≡ true → ReadsInput text
-reads_accepted text built accepted reads = record { program = built.program.checked.value; code = built.code; accepted = accepted; reads = reads }
+reads_with : (text : List ℕ) (built : Built) → HasCode text built.program.checked.value built.code → built.program.checked.value.reads_input ≡ true → ReadsInput text
+reads_with text built has_code reads = record { program = built.program.checked.value; code = built.code; has_code = has_code; reads = reads }
 
 -- ---- how far a text comes of which something is told
 
@@ -244,10 +244,13 @@ stage-accepted purpose feed told built is same text tells = (same, has_program t
 
 pub stage-listed : (purpose : Purpose) (feed : Option (List ℕ)) (told : Told) (built : Box Built) → told ≡ tellings.Accepted built → purpose ≡ Listing
     → (text : List ℕ) → Tells text told → IsStageFor (Build purpose) text feed feed (stages.Decided (plans.Listed built))
-stage-listed purpose feed told built is same text tells = (same, subst (Tells text) is tells)
+stage-listed purpose feed told built is same text tells =
+    let has_code : HasCode text built.value.program.checked.value built.value.code = subst (Tells text) is tells in
+    let code : Code = built.value.code in
+    (same, record { has_code = has_code; same_runs = has_text_runs text built.value.program.checked.value code has_code })
 
 pub ok-stage-run : (purpose : Purpose) (units : ℕ) (feed left : Option (List ℕ)) (told : Told) (built : Box Built) (made : Result Stage ReadRefusal) → told ≡ tellings.Accepted built → purpose ≡ Run units
-    → IfOk made (λ stage. (text : List ℕ) → IsAccepted text built.value.program.checked.value built.value.code → IsStageFor (Build (Run units)) text feed left stage)
+    → IfOk made (λ stage. (text : List ℕ) → HasCode text built.value.program.checked.value built.value.code → IsStageFor (Build (Run units)) text feed left stage)
     → IfOk made (λ stage. (text : List ℕ) → Tells text told → IsStageFor (Build purpose) text feed left stage)
 ok-stage-run purpose units feed left told built (Ok stage) is same runs =
     λ text tells. subst (λ (p : Purpose). IsStageFor (Build p) text feed left stage) (sym same) (runs text (subst (Tells text) is tells))
@@ -256,4 +259,4 @@ ok-stage-run purpose units feed left told built (Err e) is same runs = tt
 pub reads_run : (told : Told) (built : Box Built) (made : Result Stage ReadRefusal) → told ≡ tellings.Accepted built
     → (IsErrOf made refusals.Fault → built.value.program.checked.value.reads_input ≡ true)
     → IsErrOf made refusals.Fault → (text : List ℕ) → Tells text told → ReadsInput text
-reads_run told built made is reads fault text tells = reads_accepted text built.value (subst (Tells text) is tells) (reads fault)
+reads_run told built made is reads fault text tells = reads_with text built.value (subst (Tells text) is tells) (reads fault)

@@ -4,7 +4,7 @@ use Rattle.std.specs.List.{flat_map}
 use Rattle.std.specs.declared.option.Option.{Option}
 use Rattle.std.specs.declared.result.Result.{Result}
 use Rattle.std.specs.Io.KnownBytes.{Appends, Keeps}
-use Rattle.checked_program.specs.declared.program.Checked.{Checked}
+use Rattle.elaborate.specs.declared.program.Program.{Program}
 use Rattle.code_types.specs.declared.code.Code.{Code}
 use Rattle.diagnostics.specs.declared.diagnostic.Diagnostic.{Diagnostic}
 use Rattle.kernel_base.specs.declared.ends.Over.{Over}
@@ -32,20 +32,22 @@ use Rattle.chill_top.specs.declared.top.Outcome.{Outcome}
 
 -- an outcome without a run
 abbrev pub without_run : ℕ → Outcome
-without_run status = record { status = status; over = None; events = []; code = None; machines = []; dropped = [] }
+without_run status = record { status = status; over = None; events = []; program = None; code = None; machines = []; dropped = [] }
 
--- the outcome of a plan with a status, and with the watchers that were dropped: its run and its code, where it has them
+-- the outcome of a plan with a status, and with the watchers that were dropped: its run, its program and its code, where it has
+-- them
 abbrev pub outcome_with : Plan → ℕ → List ℕ → Outcome
 outcome_with plans.Usage status dropped = without_run status
 outcome_with (plans.Refused told) status dropped = without_run status
 outcome_with plans.Accepted status dropped = without_run status
-outcome_with (plans.Listed built) status dropped = record { status = status; over = None; events = []; code = Some built.value.code; machines = []; dropped = [] }
+outcome_with (plans.Listed built) status dropped = record { status = status; over = None; events = []; program = Some built.value.program; code = Some built.value.code; machines = []; dropped = [] }
 outcome_with (plans.Formatted canonical) status dropped = without_run status
 outcome_with plans.InputTooLong status dropped = without_run status
 outcome_with (plans.Ran ran) status dropped = record {
   status = status;
   over = Some ran.driven.value.over;
   events = ran.driven.value.events;
+  program = Some ran.built.value.program;
   code = Some ran.built.value.code;
   machines = ran.driven.value.machines;
   dropped = dropped;
@@ -174,10 +176,11 @@ IsReported before behind status of_run out err = ((status ≡ of_run) × Wrote b
 abbrev pub events_shown : Option Command → List Event → Option (List Event)
 events_shown said events = if watch_of said then Some events else None
 
--- The journal of an outcome: the text of the command has a program, whose code the outcome holds, and the events are a run of that
+-- The journal of an outcome: the outcome holds a program for the text of the command, and its code, and the events are a run of that
 -- code to its end, from the facts of that program with its input and the budget; the machines stand where the events leave them.
--- The texts that were written are the output of the events, and their report with the names of that program. Where that code is
--- the text's, the events are a run of the text, and the runs of the code are those of the text, `run (of_text, same_runs)`.
+-- The texts that were written are the output of the events, and their report with the names of that program. Where that
+-- program is well elaborated, the events are a run of the program's meaning, and the runs of the code are those of that meaning,
+-- `run (of_text, same_runs)`.
 pub record IsJournal (said : Option Command) (contents : List ℕ → Contents) (watchers : List Watching) (sources left : Sources) (before behind : Sinks) (outcome : Outcome) (over : Over) : Type 0 where
   pub command : Command
   pub named : said ≡ Some command
@@ -185,12 +188,13 @@ pub record IsJournal (said : Option Command) (contents : List ℕ → Contents) 
   pub is_task : task_of command ≡ Build (Run units)
   pub text : List ℕ
   pub told : IsTextBy command contents text
-  pub program : Checked
+  pub program : Program
   pub code : Code
+  pub given : outcome.program ≡ Some program
   pub held : outcome.code ≡ Some code
-  pub run : IsRunOf units text program code sources.input left.input (record { events = outcome.events; machines = outcome.machines; over = over })
+  pub run : IsRunOf units text program.checked.value code sources.input left.input (record { events = outcome.events; machines = outcome.machines; over = over })
   pub reported : IsReported before behind outcome.status (status_of_run over outcome.events) (output_of outcome.events)
-      (report_of program outcome.events over ++ told_by (events_shown said outcome.events) watchers)
+      (report_of program.checked.value outcome.events over ++ told_by (events_shown said outcome.events) watchers)
 
 -- the diagnostics of a text that is refused under a task, and what is left of the input
 abbrev pub IsRefusedUnder : Task → List ℕ → Option (List ℕ) → Option (List ℕ) → List Diagnostic → Type 0

@@ -19,13 +19,14 @@ use Rattle.outside_ports.specs.Library.{Contents}
 use Rattle.program_trees.specs.ProgramTree.{checked_tree}
 use Rattle.serial_run.specs.declared.serial.Driven.{Driven}
 use Rattle.serial_run.specs.Driven.{IsDriven}
-use Rattle.text_to_code.specs.Telling.{IsAccepted, IsUnread, IsCanonicalOf, Refuses}
+use Rattle.text_to_code.specs.Building.{IsWellElaborated}
+use Rattle.text_to_code.specs.Telling.{HasCode, IsUnread, IsCanonicalOf, Refuses}
 use Rattle.text_to_code.specs.declared.build.Built.{Built}
 use Rattle.word_reader.specs.declared.command.Command.{Command}
 use Rattle.world_model.specs.Journal.{output_of}
 use Rattle.chill_top.specs.Commands.{task_of, IsTextBy, IsRunning}
 use Rattle.chill_top.specs.Runs.{IsAttempt, status_of_run}
-use Rattle.chill_top.specs.TextRuns.{HasTextRuns, IsBudget, IsCodeOfText, IsRunOfText}
+use Rattle.chill_top.specs.TextRuns.{HasTextRuns, IsBudget, IsRunOfText}
 use Rattle.chill_top.specs.declared.run.Attempt.{Attempt}
 use Rattle.chill_top.specs.declared.run.Attempt.TheVariants as attempts
 use Rattle.chill_top.specs.declared.plan.Plan.{Plan}
@@ -55,17 +56,17 @@ pub record IsInputOf (program : Checked) (feed left : Option (List ℕ)) (input 
   pub short : length input ≤ 1048576
   pub untouched : program.reads_input ≡ false → left ≡ feed
 
--- a text is accepted, with some program and its code
+-- a text has some program and its code
 pub record HasProgram (text : List ℕ) : Type 0 where
   pub program : Checked
   pub code : Code
-  pub accepted : IsAccepted text program code
+  pub has_code : HasCode text program code
 
--- a text is accepted, and its program reads input
+-- a text has a program that reads input, and its code
 pub record ReadsInput (text : List ℕ) : Type 0 where
   pub program : Checked
   pub code : Code
-  pub accepted : IsAccepted text program code
+  pub has_code : HasCode text program code
   pub reads : program.reads_input ≡ true
 
 -- ---- runs
@@ -75,16 +76,16 @@ pub record AreFactsOf (program : Checked) (input : List ℕ) (units : ℕ) (fact
   pub are : facts ≡ facts_of program input units
   pub sound : IsSound facts
 
--- A run of the code of a text from the facts of its program. Where the code is the text's, it is a run of the text, and from all
--- facts of the program the code has the runs of the text.
+-- A run of the code of a text from the facts of its program. Where the program is well elaborated, the events are a run of the
+-- program's meaning, and from all facts of the program the code has the runs of that meaning.
 pub record IsRunOf (units : ℕ) (text : List ℕ) (program : Checked) (code : Code) (feed left : Option (List ℕ)) (driven : Driven) : Type 0 where
-  pub accepted : IsAccepted text program code
+  pub has_code : HasCode text program code
   pub input : List ℕ
   pub reads : IsInputOf program feed left input
   pub sound : IsSound (facts_of program input units)
   pub run : IsDriven code (facts_of program input units) driven
-  pub of_text : IsCodeOfText program code → IsRunOfText (checked_tree program) (facts_of program input units) driven.events
-  pub same_runs : IsCodeOfText program code → HasTextRuns program code
+  pub of_text : IsWellElaborated program → IsRunOfText (checked_tree program) (facts_of program input units) driven.events
+  pub same_runs : IsWellElaborated program → HasTextRuns program code
 
 -- the same for a purpose
 abbrev pub IsRunFor : Purpose → List ℕ → Checked → Code → Option (List ℕ) → Option (List ℕ) → Driven → Type 0
@@ -96,7 +97,7 @@ IsRunFor Listing text program code feed left driven = ⊥
 abbrev pub HasNoFacts : Checked → List ℕ → ℕ → Type 0
 HasNoFacts program input units = Any HasNoLayout program.locations ⊎ (IsSound (facts_of program input units) → ⊥)
 
--- why an accepted text isn't run: each is a fault of this compiler, and none of the text
+-- why a text with such a code isn't run: each is a fault of this compiler, and none of the text
 pub data IsUnrun (program : Checked) (code : Code) (input : List ℕ) (units : ℕ) : Type 0 where
   unfounded : HasNoFacts program input units → IsUnrun program code input units
   unsuited : (Suits code (facts_of program input units) → ⊥) → IsUnrun program code input units
@@ -105,15 +106,15 @@ pub data IsUnrun (program : Checked) (code : Code) (input : List ℕ) (units : �
 abbrev pub IsNotBuilt : List Diagnostic → Type 0
 IsNotBuilt told = told ≡ plain first_place rules.B1 ∷ []
 
--- An accepted text isn't run, and is told so. With a budget that there may be this comes of no code that is the text's.
+-- A text with a code isn't run, and is told so. With a budget that there may be this comes of no program that is well elaborated.
 pub record TellsUnrun (units : ℕ) (text : List ℕ) (feed left : Option (List ℕ)) (told : List Diagnostic) : Type 0 where
   pub program : Checked
   pub code : Code
-  pub accepted : IsAccepted text program code
+  pub has_code : HasCode text program code
   pub input : List ℕ
   pub reads : IsInputOf program feed left input
   pub cause : IsUnrun program code input units
-  pub not_of_text : IsBudget units → IsCodeOfText program code → ⊥
+  pub not_of_well_elaborated : IsBudget units → IsWellElaborated program → ⊥
   pub is : IsNotBuilt told
 
 -- the same for a purpose
@@ -138,12 +139,17 @@ IsFormatPlan text (plans.Ran ran) = ⊥
 abbrev pub IsRefusedFor : Purpose → List ℕ → Option (List ℕ) → Option (List ℕ) → List Diagnostic → Type 0
 IsRefusedFor purpose text feed left told = (Refuses text told × (left ≡ feed)) ⊎ TellsUnrunFor purpose text feed left told
 
+-- the listing of a text with its code: where its program is well elaborated, the code has the runs of the program
+pub record IsListingOf (text : List ℕ) (program : Checked) (code : Code) : Type 0 where
+  pub has_code : HasCode text program code
+  pub same_runs : IsWellElaborated program → HasTextRuns program code
+
 -- the plan for a text that is built for a purpose
 abbrev pub IsBuildPlan : Purpose → List ℕ → Option (List ℕ) → Option (List ℕ) → Plan → Type 0
 IsBuildPlan purpose text feed left plans.Usage = ⊥
 IsBuildPlan purpose text feed left (plans.Refused told) = IsRefusedFor purpose text feed left told
 IsBuildPlan purpose text feed left plans.Accepted = (purpose ≡ Check) × HasProgram text
-IsBuildPlan purpose text feed left (plans.Listed built) = (purpose ≡ Listing) × IsAccepted text built.value.program.checked.value built.value.code
+IsBuildPlan purpose text feed left (plans.Listed built) = (purpose ≡ Listing) × IsListingOf text built.value.program.checked.value built.value.code
 IsBuildPlan purpose text feed left (plans.Formatted canonical) = ⊥
 IsBuildPlan purpose text feed left plans.InputTooLong = IsRunning purpose × ReadsInput text × IsInputTooLong feed
 IsBuildPlan purpose text feed left (plans.Ran ran) = IsRunFor purpose text ran.built.value.program.checked.value ran.built.value.code feed left ran.driven.value
@@ -157,7 +163,7 @@ IsPlanFor (Build purpose) text feed left plan = IsBuildPlan purpose text feed le
 pub record IsReadyFor (task : Task) (text : List ℕ) (feed left : Option (List ℕ)) (ready : Ready) : Type 0 where
   pub units : ℕ
   pub is_task : task ≡ Build (Run units)
-  pub accepted : IsAccepted text ready.built.value.program.checked.value ready.built.value.code
+  pub has_code : HasCode text ready.built.value.program.checked.value ready.built.value.code
   pub input : List ℕ
   pub reads : IsInputOf ready.built.value.program.checked.value feed left input
   pub facts : AreFactsOf ready.built.value.program.checked.value input units ready.facts

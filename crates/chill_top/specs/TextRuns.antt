@@ -1,10 +1,9 @@
--- Where a code is that of its program's text, its journals are runs of the text.
+-- Where a program is well elaborated, the journals of its code are runs of the text.
 use Rattle.std.specs.Prelude.{◌≡◌, ◌↔◌, ℕ, ◌≤◌, List, ◌∷◌, ◌++◌, Some}
 use Rattle.checked_program.specs.declared.program.Checked.{Checked}
 use Rattle.code_gen.specs.Facts.{facts_of}
 use Rattle.code_types.specs.declared.code.Code.{Code}
 use Rattle.code_types.specs.Runs.{IsCodeRun}
-use Rattle.facts_laws.specs.Laws.{IsTypedProgram}
 use Rattle.kernel_base.specs.declared.event.Event.{Event}
 use Rattle.kernel_base.specs.declared.facts.Facts.{Facts}
 use Rattle.program_trees.specs.ProgramTree.{CheckedTree, checked_tree}
@@ -12,15 +11,8 @@ use Rattle.region_laws.specs.Laws.{IsByOccupant}
 use Rattle.source_meaning.specs.Fitting.{IsFitting}
 use Rattle.source_meaning.specs.Runs.{IsSourceRun}
 use Rattle.text_laws.specs.Journals.{KeepsValues}
-use Rattle.text_laws.specs.Laws.{HasFittingTalks}
 use Rattle.world_model.specs.Journal.{Birth, born_of, answers_of}
 use Rattle.world_model.specs.World.{world_of}
-
--- The program is typed, and the code has the text's talks wherever arguments and answers fit. No call gives this yet: the first is
--- owed of what elaborates programs, the second of what compiles them.
-pub record IsCodeOfText (program : Checked) (code : Code) : Type 0 where
-  pub typed : IsTypedProgram program
-  pub talks : HasFittingTalks (checked_tree program) code
 
 -- a budget that there may be
 pub record IsBudget (units : ℕ) : Type 0 where

@@ -7,7 +7,7 @@ ghost use Rattle.chill_top.specs.Plan.{AreFactsOf, HasNoFacts, IsFormatPlan, IsS
 ghost use Rattle.chill_top.specs.Reading.{IsInputRead, IsReadingOf};
 ghost use Rattle.chill_top.specs.declared.task.Task.TheVariants as tasks;
 ghost use Rattle.chill_top.specs.declared.task.Purpose.TheVariants as purposes;
-ghost use Rattle.text_to_code.specs.Telling.{IsAccepted, Tells};
+ghost use Rattle.text_to_code.specs.Telling.{HasCode, Tells};
 
 use crate::input::{MAX_INPUT, read_input};
 use crate::plan::{Plan, Ready, Stage};
@@ -15,8 +15,7 @@ use crate::read::ReadRefusal;
 use crate::source::read_source;
 use crate::task::{Purpose, Task, task_of};
 use chill_base::{Memory, Text};
-use code_gen::facts_of;
-use expr_gen::PartRefusal;
+use code_gen::{FactsRefusal, facts_of};
 use kernel_base::Facts;
 use outside_ports::{Feed, Library};
 use sound_facts::are_sound;
@@ -54,8 +53,8 @@ fn facts_for(alloc: Global, built: &Built, input: Text, units: u64) -> Result<Op
                 Ok(None)
             }
         }
-        Err(PartRefusal::Memory) => Err(Memory),
-        Err(PartRefusal::Unsound) => Ok(None),
+        Err(FactsRefusal::Memory) => Err(Memory),
+        Err(FactsRefusal::NoLayout) => Ok(None),
     }
 }
 
@@ -67,7 +66,7 @@ fn stage_for_run<I: Feed>(
     feed: &mut I,
 ) -> Result<Stage, ReadRefusal>
     ensures stage { IfOk result (λ stage. (text : List ℕ)
-        → IsAccepted text built.value.program.checked.value built.value.code
+        → HasCode text built.value.program.checked.value built.value.code
         → IsStageFor (tasks.Build (purposes.Run units)) text (I.bytes feed.old) (I.bytes feed.new) stage) }
     ensures stays { OnOk result (I.faults feed.new ≡ I.faults feed.old) }
     ensures fault { IsErrOf result ReadRefusal.Fault → Rose (I.faults feed.old) (I.faults feed.new) }

@@ -20,6 +20,7 @@ use crate::watching::show;
 use crate::write::write_all;
 use chill_base::{Memory, Numbers};
 use code_guard::Guarded;
+use elaborate::Program;
 use kernel_base::{Events, Over};
 use outside_ports::{Feed, Gate, Library, Sink, Watcher};
 use serial_run::Machines;
@@ -38,7 +39,9 @@ pub struct Outcome {
     pub over: Option<Over>,
     /// The journal of the run.
     pub events: Events,
-    /// The code that was run or listed.
+    /// The program that was run or listed.
+    pub program: Option<Program>,
+    /// Its code.
     pub code: Option<Guarded>,
     /// The machines that ran it, as the run left them.
     pub machines: Machines,
@@ -306,6 +309,7 @@ fn outcome_of(alloc: Global, plan: Plan, status: u8, dropped: Numbers) -> Outcom
                 status,
                 over: Some(driven.over),
                 events: driven.events,
+                program: Some(built.program),
                 code: Some(built.code),
                 machines: driven.machines,
                 dropped,
@@ -317,6 +321,7 @@ fn outcome_of(alloc: Global, plan: Plan, status: u8, dropped: Numbers) -> Outcom
                 status,
                 over: None,
                 events: Events::new(alloc),
+                program: Some(built.program),
                 code: Some(built.code),
                 machines: Machines::new(alloc),
                 dropped: Numbers::new(alloc),
@@ -335,6 +340,7 @@ fn without_run(alloc: Global, status: u8) -> Outcome
         status,
         over: None,
         events: Events::new(alloc),
+        program: None,
         code: None,
         machines: Machines::new(alloc),
         dropped: Numbers::new(alloc),

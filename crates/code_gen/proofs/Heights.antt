@@ -1,5 +1,5 @@
 -- What the row of a body says, found instruction by instruction.
-use Rattle.std.proofs.Common.{◌≡◌, ℕ, ◌+◌, ◌-◌, ◌<◌, ◌≤◌, max, List, ◌∷◌, length, get_or, drop, map, Some, add-one, drop-cons, refl, sym, ap, ◌∙◌}
+use Rattle.std.proofs.Common.{◌≡◌, ℕ, ◌+◌, ◌-◌, ◌<◌, ◌≤◌, max, List, ◌∷◌, length, get_or, drop, map, Some, None, arith, add-one, drop-cons, refl, sym, ap, ◌∙◌}
 use Rattle.std.specs.Prelude.{slice_get, option_map}
 use Rattle.std.proofs.lemmas.List.{at_drop_all}
 use Rattle.std.proofs.lemmas.Option.{slice_get-map}
@@ -45,3 +45,10 @@ call_height p b body h taken given e t g =
     ap (λ o. h - params_of o + results_of o) (head_found p b body e)
     ∙ ap (λ (j : ℕ). h - j + call_results (body_row_tree body)) (sym t)
     ∙ ap (λ (j : ℕ). h - taken + j) (sym g)
+
+pub no_call_height : (p : Checked) (b h : ℕ) → slice_get p.bodies b ≡ None → height_behind (heads_of (checked_tree p)) (Call b) h ≡ h
+no_call_height p b h e =
+    let none : slice_get (heads_of (checked_tree p)).bodies b ≡ None =
+    slice_get-map head_of (map body_row_tree p.bodies) b ∙ ap (option_map head_of) (slice_get-map body_row_tree p.bodies b ∙ ap (option_map body_row_tree) e) in
+    let same : h - 0 + 0 ≡ h = omega arith in
+    ap (λ o. h - params_of o + results_of o) none ∙ same

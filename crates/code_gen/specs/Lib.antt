@@ -1,3 +1,4 @@
 pub mod Lowest
 pub mod Facts
 pub mod Bodies
+pub mod Compiled

@@ -30,10 +30,8 @@ const GREATEST_LENGTH: usize = 4_294_967_295;
 /// Appends the bodies of a program in the order of their numbers. There is no memory for 4,294,967,295 instructions.
 pub fn put_bodies(program: &Checked, draft: &mut Draft) -> Result<(), PartRefusal>
     ensures places { OnOk result (length draft.new.code.instrs < 4294967295) }
+    ensures puts { OnOk result (PutsProgram program.now draft.old draft.new) }
 {
-    if program.bodies.is_empty() {
-        return Err(PartRefusal::Unsound);
-    }
     put_all(program, program.bodies.as_slice(), draft)?;
     if draft.code.instrs.len() < GREATEST_LENGTH {
         Ok(())
@@ -43,7 +41,9 @@ pub fn put_bodies(program: &Checked, draft: &mut Draft) -> Result<(), PartRefusa
 }
 
 // Bodies of a program with their rows, one behind the other.
-fn put_all(program: &Checked, bodies: &[Body], draft: &mut Draft) -> Result<(), PartRefusal> {
+fn put_all(program: &Checked, bodies: &[Body], draft: &mut Draft) -> Result<(), PartRefusal>
+    ensures puts { OnOk result (PutsBodies program.now bodies.now draft.old draft.new) }
+{
     for body in bodies {
         put_body(Site { program, body }, draft)?;
     }
@@ -51,7 +51,9 @@ fn put_all(program: &Checked, bodies: &[Body], draft: &mut Draft) -> Result<(), 
 }
 
 // A body and its row.
-fn put_body(site: Site, draft: &mut Draft) -> Result<(), PartRefusal> {
+fn put_body(site: Site, draft: &mut Draft) -> Result<(), PartRefusal>
+    ensures puts { OnOk result (AppendsBody (site_tree site.entry) draft.old.code draft.new.code) }
+{
     let first = draft.target_behind(0)?;
     put_lowest_values(site.body, draft)?;
     put_inside(site, draft)?;
@@ -61,14 +63,17 @@ fn put_body(site: Site, draft: &mut Draft) -> Result<(), PartRefusal> {
 }
 
 // The instructions of a draft from a place on.
-fn instrs_from(draft: &Draft, first: u32) -> &[Instr] {
-    let instrs = draft.code.instrs.as_slice();
-    let first = (first as usize).min(instrs.len());
-    &instrs[first..]
+fn instrs_from(draft: &Draft, first: u32) -> &[Instr]
+    requires { first ≤ length draft.now.code.instrs }
+    ensures { result.now ≡ drop first draft.now.code.instrs }
+{
+    &draft.code.instrs.as_slice()[first as usize..]
 }
 
 // The locals behind the parameters and the result get their lowest values.
-fn put_lowest_values(body: &Body, draft: &mut Draft) -> Result<(), PartRefusal> {
+fn put_lowest_values(body: &Body, draft: &mut Draft) -> Result<(), PartRefusal>
+    ensures puts { OnOk result (PutsAll (lowest_code (body_row_tree body.now)) draft.old draft.new) }
+{
     let locals = body.locals.as_slice();
     let parameters = body.parameters.len().min(locals.len());
     put_lowest_locals(&locals[parameters..], draft)?;
@@ -82,7 +87,9 @@ fn put_lowest_values(body: &Body, draft: &mut Draft) -> Result<(), PartRefusal> 
 }
 
 // These locals get their lowest values.
-fn put_lowest_locals(locals: &[LocalRow], draft: &mut Draft) -> Result<(), PartRefusal> {
+fn put_lowest_locals(locals: &[LocalRow], draft: &mut Draft) -> Result<(), PartRefusal>
+    ensures puts { OnOk result (PutsAll (locals_code (map local_row_tree locals.now)) draft.old draft.new) }
+{
     for local in locals {
         put_lowest_value(&local.mode, local.first, draft)?;
     }
@@ -90,7 +97,9 @@ fn put_lowest_locals(locals: &[LocalRow], draft: &mut Draft) -> Result<(), PartR
 }
 
 // The locals from the first on get the lowest value of a mode. They are 0 already.
-fn put_lowest_value(mode: &Mode, first: u32, draft: &mut Draft) -> Result<(), PartRefusal> {
+fn put_lowest_value(mode: &Mode, first: u32, draft: &mut Draft) -> Result<(), PartRefusal>
+    ensures puts { OnOk result (PutsAll (lowest_value_code (lowest_of (mode_tree mode.now)) first) draft.old draft.new) }
+{
     let mut lowest = Scalars::new(draft.allocator());
     add_lowest(mode, &mut lowest)?;
     if are_zeroes(lowest.as_slice()) {
@@ -113,7 +122,9 @@ fn are_zeroes(scalars: &[i64]) -> bool
 }
 
 // What a body does, and its way out. A critical procedure enters its region before and leaves it behind.
-fn put_inside(site: Site, draft: &mut Draft) -> Result<(), PartRefusal> {
+fn put_inside(site: Site, draft: &mut Draft) -> Result<(), PartRefusal>
+    ensures puts { OnOk result (PutsDoing (entered_by (site_tree site.entry).body) site.entry draft.old draft.new) }
+{
     match critical_region(site.body) {
         Some(region) => put_critical(site, region, draft),
         None => put_plain(site, draft),
@@ -121,13 +132,17 @@ fn put_inside(site: Site, draft: &mut Draft) -> Result<(), PartRefusal> {
 }
 
 // A body that enters no region.
-fn put_plain(site: Site, draft: &mut Draft) -> Result<(), PartRefusal> {
+fn put_plain(site: Site, draft: &mut Draft) -> Result<(), PartRefusal>
+    ensures puts { OnOk result (PutsDoing None site.entry draft.old draft.new) }
+{
     put_handled(site, draft)?;
     put_some_way_out(site.body, draft)
 }
 
 // The way out of a body, where control comes to its end.
-fn put_some_way_out(body: &Body, draft: &mut Draft) -> Result<(), PartRefusal> {
+fn put_some_way_out(body: &Body, draft: &mut Draft) -> Result<(), PartRefusal>
+    ensures puts { OnOk result (PutsAll (end_code (body_row_tree body.now)) draft.old draft.new) }
+{
     if go_on(body.statements.as_slice()) || some_handler_goes_on(&body.handler) {
         put_way_out(body, draft)
     } else {
@@ -136,7 +151,9 @@ fn put_some_way_out(body: &Body, draft: &mut Draft) -> Result<(), PartRefusal> {
 }
 
 // The statements of a body with their handler.
-fn put_handled(site: Site, draft: &mut Draft) -> Result<(), PartRefusal> {
+fn put_handled(site: Site, draft: &mut Draft) -> Result<(), PartRefusal>
+    ensures puts { OnOk result (PutsGuardedBody site.entry draft.old draft.new) }
+{
     let from = draft.target_behind(0)?;
     let free = uncapped(first_free(site.body))?;
     let around = Around {
@@ -192,13 +209,15 @@ fn is_set_lowest(action: &Action) -> bool
 }
 
 // A critical procedure. An exception that it lists is raised again behind the release of the region.
-fn put_critical(site: Site, region: u32, draft: &mut Draft) -> Result<(), PartRefusal> {
+fn put_critical(site: Site, region: u32, draft: &mut Draft) -> Result<(), PartRefusal>
+    ensures puts { OnOk result (PutsDoing (Some region) site.entry draft.old draft.new) }
+{
     draft.put(Instr::Enter(region))?;
     let from = draft.target_behind(0)?;
     put_handled(site, draft)?;
     let until = draft.target_behind(0)?;
     put_some_way_out(site.body, draft)?;
     let raised = raised_between(from, until, site.program, draft)?;
-    let listed = raised_and_listed(&raised, &site.body.listed, site.program)?;
+    let listed = raised_and_listed(&raised, &site.body.listed)?;
     put_again(listed.as_slice(), from, until, region, draft)
 }

@@ -7,25 +7,25 @@ ghost use Rattle.code_gen.specs.Facts as facts;
 ghost use Rattle.code_gen.specs.Facts.{HasNoLayout, mode_of};
 ghost use Rattle.code_gen.specs.Lowest as lowest;
 
+use crate::refusal::FactsRefusal;
 use checked_program::{Body, BufferRow, Checked, EventRow, LocationRow, SignalRow, Sort};
 use chill_base::{Layout, Layouts, Lengths, List, Memory, Text};
-use expr_gen::PartRefusal;
 use kernel_base::{Facts, Value, Values};
 use layout_map::{LayoutRefusal, layout};
 use modes::{Field, Mode, number_of_values};
 use std::alloc::Global;
 
-/// The facts of a program with an input and a budget. The number of a process is that of its body. Unsound comes only
-/// where a location has no layout, which no program has that breaks no rule.
+/// The facts of a program with an input and a budget. The number of a process is that of its body. There are none
+/// only where a location has no layout: a program that breaks no rule has no such location.
 pub fn facts_of(
     alloc: Global,
     program: &Checked,
     input: Text,
     units: u64,
-) -> Result<Facts, PartRefusal>
+) -> Result<Facts, FactsRefusal>
     ensures given { IfOk result (λ f. (f.input ≡ input) × (f.units ≡ units)) }
     ensures facts { IfOk result (λ f. f ≡ facts.facts_of program.now input units) }
-    ensures unsound { IsErrOf result PartRefusal.Unsound → Any HasNoLayout program.now.locations }
+    ensures no_layout { IsErrOf result FactsRefusal.NoLayout → Any HasNoLayout program.now.locations }
 {
     let store = values_of(alloc, program.locations.as_slice())?;
     let layouts = layouts_of(alloc, program.locations.as_slice())?;
@@ -121,9 +121,9 @@ fn lowest_of_field(alloc: Global, field: &Field) -> Result<Value, Memory>
 }
 
 // The layout of each location.
-fn layouts_of(alloc: Global, locations: &[LocationRow]) -> Result<Layouts, PartRefusal>
+fn layouts_of(alloc: Global, locations: &[LocationRow]) -> Result<Layouts, FactsRefusal>
     ensures layouts { IfOk result (λ layouts. layouts ≡ map (λ row. spots_of (mode_of row)) locations.now) }
-    ensures unsound { IsErrOf result PartRefusal.Unsound → Any HasNoLayout locations.now }
+    ensures no_layout { IsErrOf result FactsRefusal.NoLayout → Any HasNoLayout locations.now }
 {
     let mut layouts = List::new(alloc);
     for location in locations {
@@ -133,15 +133,15 @@ fn layouts_of(alloc: Global, locations: &[LocationRow]) -> Result<Layouts, PartR
 }
 
 // The layout of a location.
-fn layout_of(alloc: Global, location: &LocationRow) -> Result<Layout, PartRefusal>
+fn layout_of(alloc: Global, location: &LocationRow) -> Result<Layout, FactsRefusal>
     ensures layout { IfOk result (λ layout. layout ≡ spots_of (mode_of location.now)) }
-    ensures unsound { IsErrOf result PartRefusal.Unsound → HasNoLayout location.now }
+    ensures no_layout { IsErrOf result FactsRefusal.NoLayout → HasNoLayout location.now }
 {
     match layout(alloc, &location.mode) {
         Ok(laid) => Ok(laid),
-        Err(LayoutRefusal::Memory) => Err(PartRefusal::Memory),
+        Err(LayoutRefusal::Memory) => Err(FactsRefusal::Memory),
         Err(LayoutRefusal::Overlap { .. } | LayoutRefusal::Impossible { .. }) => {
-            Err(PartRefusal::Unsound)
+            Err(FactsRefusal::NoLayout)
         }
     }
 }

@@ -12,4 +12,4 @@ mod rows;
 
 pub use compiling::compile;
 pub use facts::facts_of;
-pub use refusal::CodeRefusal;
+pub use refusal::{CodeRefusal, FactsRefusal};

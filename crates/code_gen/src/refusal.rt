@@ -1,6 +1,7 @@
-// Why a program has no code.
+// Why a program has no code or no facts.
 ghost use Rattle.std.specs.Prelude.{◌≢◌};
 
+use chill_base::Memory;
 use expr_gen::PartRefusal;
 
 /// Why a program has no code.
@@ -10,8 +11,6 @@ pub enum CodeRefusal {
     CodeTooLong,
     /// No memory was to be had.
     Memory,
-    /// It isn't a program that breaks no rule: it names what isn't there, or has a part where none can stand.
-    Unsound,
 }
 
 /// Why a program has no code of which a part has none.
@@ -20,6 +19,26 @@ pub fn refusal_of(refusal: PartRefusal) -> CodeRefusal
 {
     match refusal {
         PartRefusal::Memory => CodeRefusal::Memory,
-        PartRefusal::Unsound => CodeRefusal::Unsound,
+    }
+}
+
+/// Why a program has no facts.
+#[derive(Clone, Copy, Debug, PartialEq, Eq)]
+pub enum FactsRefusal {
+    /// A location has no layout.
+    NoLayout,
+    /// No memory was to be had.
+    Memory,
+}
+
+impl From<Memory> for FactsRefusal {
+    ghost use Rattle.code_gen.specs.declared.refusal.FactsRefusal.TheVariants.{Memory};
+
+    ghost from_gives = { λ _ e. e ≡ Memory };
+
+    ghost use Rattle.std.specs.Prelude.{◌≡◌};
+
+    fn from(_: Memory) -> FactsRefusal {
+        FactsRefusal::Memory
     }
 }

@@ -1,9 +1,10 @@
 // The row of a body, found from its instructions.
-ghost use Rattle.std.specs.Prelude.{◌≡◌, IfOk};
+ghost use Rattle.std.specs.Prelude.{◌≡◌, ◌+◌, ◌-◌, IfOk};
 ghost use Rattle.program_trees.specs.ProgramTree.{checked_tree, body_row_tree};
 ghost use Rattle.code_types.specs.Places.{pops, pushes, height_after};
 ghost use Rattle.code_types.specs.declared.instr.Instr.TheVariants.{Call};
 ghost use Rattle.code_scheme.specs.Pieces.{capped};
+ghost use Rattle.code_scheme.specs.StatementSite.{parameter_scalars, call_results};
 ghost use Rattle.code_scheme.specs.BodyCode.{results_by, heads_of, height_behind, greatest_height, locals_named, most_locals};
 ghost use Rattle.expr_gen.specs.Empty.{empty_code};
 ghost use Rattle.action_gen.specs.Putting.{site_tree};
@@ -12,7 +13,7 @@ ghost use Rattle.code_gen.specs.Bodies.{row_with};
 use checked_program::{Body, Checked, Sort};
 use chill_base::Item;
 use code_types::{BodyRow, Instr};
-use expr_gen::{PartRefusal, Site, body_of, call_results, first_free, parameter_scalars, uncapped};
+use expr_gen::{PartRefusal, Site, call_results, first_free, parameter_scalars, uncapped};
 
 /// The row of a body that has these instructions, the first of them at this place.
 pub fn row_of(site: Site, first: u32, instrs: &[Instr]) -> Result<BodyRow, PartRefusal>
@@ -102,11 +103,21 @@ fn height_behind_plain(instr: Instr, height: u32) -> Result<u32, PartRefusal>
     uncapped(height.saturating_sub(taken).saturating_add(given))
 }
 
-// The height behind a call, which takes the parameters of its body and gives its results.
+// The height behind a call; one of no body leaves it.
 fn height_behind_call(program: &Checked, body: u32, height: u32) -> Result<u32, PartRefusal>
     ensures { let heads = heads_of (checked_tree program.now) in IfOk result (λ behind. behind ≡ height_behind heads (Call body) height) }
 {
-    let callee = body_of(program, body)?;
+    match program.bodies.as_slice().get(body as usize) {
+        Some(callee) => height_over(callee, height),
+        None => Ok(height),
+    }
+}
+
+// The height behind a call of this body, which takes its parameters and gives its results.
+fn height_over(callee: &Body, height: u32) -> Result<u32, PartRefusal>
+    ensures { let tree = body_row_tree callee.now in
+        IfOk result (λ behind. behind ≡ height - parameter_scalars tree + call_results tree) }
+{
     let taken = uncapped(parameter_scalars(callee))?;
     let given = uncapped(call_results(callee))?;
     uncapped(height.saturating_sub(taken).saturating_add(given))

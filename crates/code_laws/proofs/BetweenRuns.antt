@@ -15,13 +15,15 @@ use Rattle.checked_program.specs.declared.expr.Routine.TheVariants.{Number, Abso
 use Rattle.scalar_operators.specs.Numbers.{is_between, is_int, where_true, truth_number, truth_of, int_result, magnitude, comes_before, least_int, greatest_int}
 use Rattle.scalar_operators.specs.Powersets.{members_of, has_member, numbers_up, offsets, first_of_list, last_of_list}
 use Rattle.scalar_operators.specs.Members.{offsets_of}
+use Rattle.code_types.specs.declared.instr.Instr.{Instr}
 use Rattle.code_types.specs.declared.instr.Instr.TheVariants as i
 use Rattle.code_types.specs.Actions.{Pushes, GoesTo, result_or, member_or_empty, truth as truth_action}
 use Rattle.code_types.specs.Steps.{Run}
 use Rattle.source_meaning.specs.Store.{Store}
 use Rattle.source_meaning.specs.Operators.{sole_number, is_true, one, truth, Yields, yields_or, in_int, takes_second, prefix_value, member_at, routine_value}
 use Rattle.source_meaning.specs.ExprMeaning.{as_computed}
-use Rattle.code_scheme.specs.Pieces.{bounds_to_test, are_same, member_code, offset_code, member_or_none, between_code, between_size, prefix_code, routine_code}
+use Rattle.code_scheme.specs.Pieces.{capped_number, bounds_to_test, are_same, member_code, offset_code, member_or_none, between_code, between_size, prefix_code, routine_code}
+use Rattle.code_scheme.proofs.Lemmas.{capped_as}
 use Rattle.follow_laws.specs.Follows.{HasAt, Around, here, Holds, GetsTo, Follows, always, HoldsWith, on_top, IsLong, run_by}
 use Rattle.code_laws.specs.InRange.{AreMembers, OperandsFit}
 use Rattle.code_laws.specs.OwnBounds.{lies_in}
@@ -155,7 +157,21 @@ outside_is b x = by_tests (int_lt x b.low) (int_le x b.low) (int_lt x (b.high +�
 abbrev pub member_or_far : Bounds → ℤ → ℤ
 member_or_far b x = if not (is_between b.low b.high x) then b.low +ℤ pos 32 else x
 
-none_run : (w : Around) (b : Bounds) (x : ℤ) (at : ℕ) (base locals : List ℤ) (s : Session) → HasAt w.code.instrs at (member_or_none (Some b) at)
+-- the test with the two numbers as they are: those of members fit
+abbrev far_code : Bounds → ℕ → List Instr
+far_code b at =
+    i.Copy 1 ∷ i.Push b.low ∷ i.Less 1 ∷ i.Copy 2 ∷ i.Pop 1 ∷ i.Push (b.high +ℤ pos 1) ∷ i.Less 1 ∷ i.Not ∷ i.Or ∷ i.Unless (at + 12) ∷ i.Pop 1 ∷ i.Push (b.low +ℤ pos 32) ∷ []
+
+far_code_is : (b : Bounds) (at : ℕ) → AreMembers b → member_or_none (Some b) at ≡ far_code b at
+far_code_is b at are =
+    let low = (both_true (int_le least_int b.low) (int_le b.low greatest_int) are.0.0).1 in
+    let high = (both_true (int_le least_int b.high) (int_le b.high greatest_int) are.0.1).1 in
+    let above : capped_number (b.high +ℤ pos 1) ≡ b.high +ℤ pos 1 = capped_as (b.high +ℤ pos 1) (grind (arith, ints, high)) in
+    let far : capped_number (b.low +ℤ pos 32) ≡ b.low +ℤ pos 32 = capped_as (b.low +ℤ pos 32) (grind (arith, ints, low)) in
+    ap (λ (k : ℤ). i.Copy 1 ∷ i.Push b.low ∷ i.Less 1 ∷ i.Copy 2 ∷ i.Pop 1 ∷ i.Push k ∷ i.Less 1 ∷ i.Not ∷ i.Or ∷ i.Unless (at + 12) ∷ i.Pop 1 ∷ i.Push (capped_number (b.low +ℤ pos 32)) ∷ []) above
+    ∙ ap (λ (k : ℤ). i.Copy 1 ∷ i.Push b.low ∷ i.Less 1 ∷ i.Copy 2 ∷ i.Pop 1 ∷ i.Push (b.high +ℤ pos 1) ∷ i.Less 1 ∷ i.Not ∷ i.Or ∷ i.Unless (at + 12) ∷ i.Pop 1 ∷ i.Push k ∷ []) far
+
+none_run : (w : Around) (b : Bounds) (x : ℤ) (at : ℕ) (base locals : List ℤ) (s : Session) → HasAt w.code.instrs at (far_code b at)
     → GetsTo w.code (here w at (base ++ one x) locals s) (here w (at + 12) (base ++ one (member_or_far b x)) locals s)
 none_run w b x at base locals s has =
     let c1 : Bool = comes_before (one x) (one b.low) in
@@ -244,7 +260,7 @@ in_run w b own x at base locals s are lies has = by_test (bounds_to_test (Some b
         let same : b ≡ t = tested_is b own t is in
         let h2 : HasAt w.code.instrs at (member_or_none (Some b) at ++ offset_code b.low) = subst (λ (c : Bounds). HasAt w.code.instrs at (member_or_none (Some c) at ++ offset_code b.low)) (sym same) h in
         let far = far_offset b x are in
-        gets_then (none_run w b x at base locals s (has_front w.code.instrs at (member_or_none (Some b) at) (offset_code b.low) h2))
+        gets_then (none_run w b x at base locals s (subst (λ (is : List Instr). HasAt w.code.instrs at is) (far_code_is b at are) (has_front w.code.instrs at (member_or_none (Some b) at) (offset_code b.low) h2)))
         (gets_then (offset_run w b.low (member_or_far b x) (at + 12) base locals s far.0 (has_back w.code.instrs at (at + 12) (member_or_none (Some b) at) (offset_code b.low) refl h2))
         (renamed w (at + 12 + length (offset_code b.low)) (at + length (member_or_none (Some t) 0 ++ offset_code b.low)) (base ++ one (member_or_far b x -ℤ b.low)) (base ++ one (offset_in b x)) locals s (omega (arith, length-append (member_or_none (Some t) 0) (offset_code b.low))) (ap (λ (k : ℤ). base ++ one k) far.1)))
 

@@ -22,7 +22,7 @@ use Rattle.source_meaning.specs.Operators.{sole_number, one, offset_within, empt
 use Rattle.source_meaning.specs.ExprMeaning.{Calls, Setting, CopyOut, Passed, takens, all_copied_out, call_with, call_mean, arguments_mean, place_mean, or_rangefail, read_at, as_computed, tested, expr_mean, operation_mean, received_mean, all_received_mean, offset_mean, members_mean}
 use Rattle.source_meaning.specs.BodyMeaning.{Bodies, calls_in}
 use Rattle.source_meaning.specs.Fitting.{has_instances}
-use Rattle.code_scheme.specs.Pieces.{Layout, copies_code, check_code, bounds_to_test, bounds_of_value, between_code, between_size, behind_code, behind_size, prefix_code, routine_code, member_code, has_index, first_of_parts, needs_offset, contents_code, contents_at, pushes, tested_in, offsets_kept, keep_code, kept_code, copies_out, kept_behind, lowest_in_row, rows_of}
+use Rattle.code_scheme.specs.Pieces.{Layout, copies_code, check_code, bounds_to_test, bounds_of_value, between_code, between_size, behind_code, behind_size, prefix_code, routine_code, member_code, has_index, first_of_parts, needs_offset, contents_code, contents_at, pushes, tested_in, offsets_kept, keep_code, kept_code, copies_out, kept_behind, lowest_in_row, lowest_as, rows_of}
 use Rattle.code_scheme.specs.ExprSizes.{sum_size, expr_size, operation_size, place_size, indices_size, received_size, received_sizes, members_size, copies_out_size, arguments_size}
 use Rattle.code_scheme.specs.ExprCode.{counts_of, sum_code, cut_code, member_offset, expr_code, operation_code, place_code, indices_code, received_code, received_codes, members_code, arguments_code}
 use Rattle.follow_laws.specs.Follows.{HasAt, Around, scalars_in, free_in, keeping, here, Holds, GetsTo, Follows, always, HoldsWith, on_top, IsLong, Gives}
@@ -34,6 +34,7 @@ use Rattle.code_laws.specs.Expressions.{Suited, NamesIn, calls_at, ExprLaw}
 use Rattle.follow_laws.proofs.Running.{has_front, has_back, gets_then, after, follows_then, follows_then_is, comes, forgetting}
 use Rattle.follow_laws.proofs.Requesting.{none_takes, value_by}
 use Rattle.follow_laws.proofs.Instructions.{pushes_by, puts_on, renamed, offset_on, index_by}
+use Rattle.code_scheme.proofs.Lemmas.{fitted_length, fitted_all}
 use Rattle.code_laws.proofs.Sizes.{copies_from_length, between_length, expr_length, received_length, all_length, place_length, indices_length, arguments_length, AreFrom, all_from, first_from, others_from, place_by, where_length, pushes_length, contents_length}
 use Rattle.code_laws.proofs.Values.{both_true, IsWithin, offset_found, repeated_length, copies_of, scalars_run, pushes_run}
 use Rattle.code_laws.proofs.OperatorRuns.{held, behind_runs}
@@ -462,14 +463,14 @@ mutual
       let p : ℕ = at + (place_size l + (offsets_kept l + n)) in
       let place : List Instr = place_code lay free l at in
       let keep : List Instr = keep_code l free in
-      let values : List Instr = pushes (lowest_in_row (slice_get all k)) in
+      let values : List Instr = pushes (lowest_as n (slice_get all k)) in
       let rest : List Instr = arguments_code lay all (k + 1) (free + offsets_kept l) as' p in
       let lows : List ℤ = lowest_of row.mode in
-      let lows_is : lowest_in_row (slice_get all k) ≡ lows = ap (λ (o : Option LocalRowTree). lowest_in_row o) (first_from all rows fits.2 k row from fits.4) in
       let long : length lows ≡ n = fits.6.1 ∙ sym fits.6.0 in
+      let lows_is : lowest_as n (slice_get all k) ≡ lows = ap (λ (o : Option LocalRowTree). lowest_as n o) (first_from all rows fits.2 k row from fits.4) ∙ fitted_all n lows long in
       let place_long : length place ≡ place_size l = place_by (has_index ls) (needs_offset b ls) (indices_code lay free true ls at) (indices_size true ls) (indices_length lay free true ls of n at fits.5.0.3) in
       let keep_long : length keep ≡ offsets_kept l = where_length l (i.SetLocal free 1 ∷ []) 1 refl in
-      let values_long : length values ≡ n = pushes_length (lowest_in_row (slice_get all k)) ∙ (ap (λ (x : List ℤ). length x) lows_is ∙ long) in
+      let values_long : length values ≡ n = pushes_length (lowest_as n (slice_get all k)) ∙ fitted_length n (lowest_in_row (slice_get all k)) in
       let head = has_front w.code.instrs at (place ++ (keep ++ values)) rest has in
       let has1 = has_back w.code.instrs at at1 place (keep ++ values) (ap (λ (j : ℕ). at + j) place_long) head in
       let has2 = has_back w.code.instrs at1 at2 keep values (ap (λ (j : ℕ). at1 + j) keep_long) has1 in

@@ -11,7 +11,8 @@ use Rattle.program_trees.specs.ExprTree.{ExprTree, expr, OperationTree, constant
 use Rattle.program_trees.specs.ProgramTree.{LocalRowTree, BodyRowTree}
 use Rattle.code_types.specs.declared.instr.Instr.{Instr}
 use Rattle.code_types.specs.declared.instr.Instr.TheVariants as i
-use Rattle.code_scheme.specs.Pieces.{Layout, pushes, copies_from, copies_code, check_code, bounds_to_test, tested, tested_in, tested_out, tested_back, bounds_of_value, member_code, offset_code, member_or_none, between_code, between_size, behind_code, behind_size, prefix_code, routine_code, has_index, first_of_parts, needs_offset, has_offset, contents_code, store_code, where_offset, offsets_kept, keep_code, kept_code, under_code, copy_out_code, copies_out, kept_behind, lowest_in_row, rows_of}
+use Rattle.code_scheme.specs.Pieces.{Layout, pushes, copies_from, copies_code, check_code, bounds_to_test, tested, tested_in, tested_out, tested_back, bounds_of_value, member_code, offset_code, member_or_none, between_code, between_size, behind_code, behind_size, prefix_code, routine_code, has_index, first_of_parts, needs_offset, has_offset, contents_code, store_code, where_offset, offsets_kept, keep_code, kept_code, under_code, copy_out_code, copies_out, kept_behind, lowest_in_row, lowest_as, rows_of}
+use Rattle.code_scheme.proofs.Lemmas.{fitted_length}
 use Rattle.code_scheme.specs.ExprSizes.{sum_size, copy_out_size, copies_out_size, expr_size, operation_size, place_size, indices_size, received_size, received_sizes, members_size, start_size, call_size, arguments_size}
 use Rattle.code_scheme.specs.ExprCode.{counts_of, member_offset, sum_code, cut_code, expr_code, operation_code, place_code, indices_code, received_code, received_codes, members_code, start_code, call_code, arguments_code}
 use Rattle.code_laws.specs.InRange.{FitsExpr, FitsOperation, FitsReceived, FitsAll, FitsParts, FitsRanges, FitsLocation, FitsStart, FitsCall, FitsArguments}
@@ -205,8 +206,8 @@ mutual
       let row : LocalRowTree = fits.0 in
       let p : ℕ = at + (place_size l + (offsets_kept l + n)) in
       let rest : List Instr = arguments_code lay all (k + 1) (kept + offsets_kept l) as' p in
-      let values : List Instr = pushes (lowest_in_row (slice_get all k)) in
-      let long : length values ≡ n = pushes_length (lowest_in_row (slice_get all k)) ∙ (ap (λ (o : Option LocalRowTree). length (lowest_in_row o)) (first_from all rows fits.2 k row from fits.4) ∙ (fits.6.1 ∙ sym fits.6.0)) in
+      let values : List Instr = pushes (lowest_as n (slice_get all k)) in
+      let long : length values ≡ n = pushes_length (lowest_as n (slice_get all k)) ∙ fitted_length n (lowest_in_row (slice_get all k)) in
       omega (arith, length-append (place_code lay kept l at ++ (keep_code l kept ++ values)) rest, length-append (place_code lay kept l at) (keep_code l kept ++ values), length-append (keep_code l kept) values, long, place_by (has_index qs) (needs_offset b qs) (indices_code lay kept true qs at) (indices_size true qs) (indices_length lay kept true qs fits.5.0.0 n at fits.5.0.3), kept_by (has_offset l) (i.SetLocal kept 1 ∷ []) refl, arguments_length lay as' all fits.2 (k + 1) (kept + offsets_kept l) fits.1 p (others_from all rows fits.2 k row from fits.4) fits.7)
   arguments_length lay (inout_argument l taken bounds as') all rows k kept ps at from fits =
       let row : LocalRowTree = fits.0 in

@@ -7,7 +7,7 @@ use Rattle.std.proofs.Math.Nat.{mul-le-mul}
 use Rattle.code_types.specs.declared.instr.Instr.{Instr}
 use Rattle.code_types.specs.declared.instr.Instr.TheVariants as i
 use Rattle.program_trees.specs.ExprTree.{PartNodes, no_parts, field, element}
-use Rattle.code_scheme.specs.Pieces.{capped, copies_from, copies_code, run_code, are_same, run_ended, run_behind, scalars_from, member_code, has_index}
+use Rattle.code_scheme.specs.Pieces.{capped, capped_number, fitted, copies_from, copies_code, run_code, are_same, run_ended, run_behind, scalars_from, member_code, has_index}
 use Rattle.code_scheme.specs.ExprSizes.{indices_size}
 
 -- ---- copies
@@ -91,3 +91,21 @@ member_capped zero = refl
 member_capped (suc n) =
     let k : capped (suc n) ≡ suc (capped (suc n) - 1) = omega arith in
     ap (λ (m : ℕ). length (member_code (pos m))) k ∙ (two_behind (capped (suc n) - 1) ∙ sym (two_behind n))
+
+-- ---- as many scalars as are asked for
+
+pub fitted_length : (n : ℕ) (xs : List ℤ) → length (fitted n xs) ≡ n
+fitted_length zero xs = refl
+fitted_length (suc n) [] = ap suc (fitted_length n [])
+fitted_length (suc n) (x ∷ xs) = ap suc (fitted_length n xs)
+
+-- where there are so many, they are those
+pub fitted_all : (n : ℕ) (xs : List ℤ) → length xs ≡ n → fitted n xs ≡ xs
+fitted_all zero [] e = refl
+fitted_all zero (x ∷ xs) e = absurd (let no : ⊥ = cc in no)
+fitted_all (suc n) [] e = absurd (let no : ⊥ = cc in no)
+fitted_all (suc n) (x ∷ xs) e = ap (λ (ys : List ℤ). x ∷ ys) (fitted_all n xs (omega (arith, e)))
+
+-- a number that fits is held as it is
+pub capped_as : (x : ℤ) → int_le x (pos 9223372036854775807) ≡ true → capped_number x ≡ x
+capped_as x e = rw e refl

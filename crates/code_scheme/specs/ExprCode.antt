@@ -5,7 +5,7 @@ use Rattle.code_types.specs.declared.instr.Instr.TheVariants as i
 use Rattle.modes.specs.declared.mode.Bounds.{Bounds}
 use Rattle.program_trees.specs.ExprTree.{ExprTree, expr, OperationTree, constant, own_instance, contents, part_of, receive, start, call, powerset, parts, uniform, routine, get_int, prefixed, binary, ReceivedTree, received, ReceivedNodes, no_received, more_received, PartNodes, no_parts, field, element, RangeNodes, no_ranges, one_member, members, LocationTree, location, StartTree, started, CallTree, called, ArgumentNodes, no_arguments, in_argument, out_argument, inout_argument, count_of, received_count}
 use Rattle.program_trees.specs.ProgramTree.{LocalRowTree}
-use Rattle.code_scheme.specs.Pieces.{Layout, pushes, scalars_code, copies_code, check_code, tested, tested_in, bounds_of_value, member_code, between_code, between_size, behind_code, behind_size, prefix_code, routine_code, branch_code, decided_by, straight, turned, has_index, first_of_parts, needs_offset, contents_code, offsets_kept, keep_code, kept_code, copies_out, kept_behind, lowest_in_row, rows_of}
+use Rattle.code_scheme.specs.Pieces.{Layout, pushes, scalars_code, copies_code, check_code, tested, tested_in, bounds_of_value, member_code, between_code, between_size, behind_code, behind_size, prefix_code, routine_code, branch_code, decided_by, straight, turned, has_index, first_of_parts, needs_offset, contents_code, offsets_kept, keep_code, kept_code, copies_out, kept_behind, lowest_as, rows_of}
 use Rattle.code_scheme.specs.ExprSizes.{expr_size, operation_size, place_size, received_size, sum_size, is_not, by_decided, condition_size}
 
 -- how many scalars values have together
@@ -100,7 +100,7 @@ abbrev mutual
   arguments_code lay rows k kept (in_argument r as') at =
       received_code lay kept r at ++ arguments_code lay rows (k + 1) kept as' (at + received_size r)
   arguments_code lay rows k kept (out_argument (location b ps n) bounds as') at =
-      (place_code lay kept (location b ps n) at ++ (keep_code (location b ps n) kept ++ pushes (lowest_in_row (slice_get rows k)))) ++
+      (place_code lay kept (location b ps n) at ++ (keep_code (location b ps n) kept ++ pushes (lowest_as n (slice_get rows k)))) ++
       arguments_code lay rows (k + 1) (kept + offsets_kept (location b ps n)) as' (at + (place_size (location b ps n) + (offsets_kept (location b ps n) + n)))
   arguments_code lay rows k kept (inout_argument l taken bounds as') at =
       (place_code lay kept l at ++

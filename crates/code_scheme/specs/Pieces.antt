@@ -29,6 +29,10 @@ layout_in program body = record { program = program; rows = body.locals }
 abbrev pub capped : ℕ → ℕ
 capped n = min n 4294967295
 
+-- a number of 64 bits: one that is greater is held as the greatest
+abbrev pub capped_number : ℤ → ℤ
+capped_number x = if int_le x (pos 9223372036854775807) then x else pos 9223372036854775807
+
 -- ---- scalars and copies
 
 abbrev pub pushes : List ℤ → List Instr
@@ -138,7 +142,7 @@ offset_code low = if are_same low (pos 0) then [] else i.Push low ∷ i.Sub ∷ 
 abbrev pub member_or_none : Option Bounds → ℕ → List Instr
 member_or_none None at = []
 member_or_none (Some b) at =
-    i.Copy 1 ∷ i.Push b.low ∷ i.Less 1 ∷ i.Copy 2 ∷ i.Pop 1 ∷ i.Push (b.high +ℤ pos 1) ∷ i.Less 1 ∷ i.Not ∷ i.Or ∷ i.Unless (at + 12) ∷ i.Pop 1 ∷ i.Push (b.low +ℤ pos 32) ∷ []
+    i.Copy 1 ∷ i.Push b.low ∷ i.Less 1 ∷ i.Copy 2 ∷ i.Pop 1 ∷ i.Push (capped_number (b.high +ℤ pos 1)) ∷ i.Less 1 ∷ i.Not ∷ i.Or ∷ i.Unless (at + 12) ∷ i.Pop 1 ∷ i.Push (capped_number (b.low +ℤ pos 32)) ∷ []
 
 -- what stands between two operands, from a place on: the first lies in its own bounds, and the second has so many instructions
 abbrev pub between_code : Binary → Option Bounds → ℕ → ℕ → List Instr
@@ -333,6 +337,16 @@ kept_behind (inout_argument l taken bounds as') kept = kept_behind as' (kept + o
 abbrev pub lowest_in_row : Option LocalRowTree → List ℤ
 lowest_in_row None = []
 lowest_in_row (Some row) = lowest_of row.mode
+
+-- so many scalars: the first ones, and 0 behind them where there are fewer
+abbrev pub fitted : ℕ → List ℤ → List ℤ
+fitted zero xs = []
+fitted (suc n) [] = pos 0 ∷ fitted n []
+fitted (suc n) (x ∷ xs) = x ∷ fitted n xs
+
+-- the lowest value of a parameter whose argument has so many scalars, as it has in each program that breaks no rule
+abbrev pub lowest_as : ℕ → Option LocalRowTree → List ℤ
+lowest_as n row = fitted n (lowest_in_row row)
 
 abbrev pub rows_of : Option BodyRowTree → List LocalRowTree
 rows_of None = []

@@ -1,4 +1,7 @@
 // The modes, classes and values of all definitions, each evaluated once, behind those that it depends on.
+ghost use Rattle.std.specs.Prelude.{IfOk};
+ghost use Rattle.constant_operators.specs.Plain.{IsPlain};
+
 use chill_base::{List, Memory, Pos, Scalars};
 use chill_tree::tree::{Name, Tree};
 use definition_origins::{Origin, Origins, Predefined, number_at, origins, places};
@@ -102,7 +105,10 @@ impl<'a> Drop for Evaluation<'a> {
     }
 }
 
-fn plain_modes(alloc: Global) -> Result<Plain, Memory> {
+#[tactic(auto, using(modes::proofs::ModeViews::mode_built))]
+fn plain_modes(alloc: Global) -> Result<Plain, Memory>
+    ensures { IfOk result IsPlain }
+{
     Ok(Plain {
         int: Rc::new(alloc, Mode::Int)?,
         bool: Rc::new(alloc, Mode::Bool)?,
@@ -125,7 +131,9 @@ impl<'a> Evaluation<'a> {
         alloc: Global,
         tree: &'a Tree,
         names: &'a Names,
-    ) -> Result<Evaluation<'a>, Memory> {
+    ) -> Result<Evaluation<'a>, Memory>
+        ensures { IfOk result (λ e. IsPlain e.plain) }
+    {
         let origins = origins(alloc, tree)?;
         let mut entries = Vec::new(alloc);
         for _ in origins.as_slice() {

@@ -1,4 +1,11 @@
 // What is known of an expression.
+ghost use Rattle.std.specs.Prelude.{◌≡◌, not, Some, None, option_map};
+ghost use Rattle.modes.specs.ModeTree.{mode_tree, class_tree};
+ghost use Rattle.modes.specs.Bounds.{values_of};
+ghost use Rattle.checks_model.specs.Told.{holds_of};
+ghost use Rattle.checks_model.specs.Alike.{goes_with};
+ghost use Rattle.constant_operators.specs.Known.{Holds};
+
 use chill_base::Scalars;
 use class_operators::goes;
 use modes::{Bounds, Class, Mode, bounds, number_of_values};
@@ -60,7 +67,9 @@ impl Known {
     }
 
     /// What has the form of a constant, and uses what isn't known.
-    pub fn unknown_constant() -> Known {
+    pub fn unknown_constant() -> Known
+        ensures { Holds None None result }
+    {
         Known {
             class: None,
             value: None,
@@ -85,7 +94,9 @@ impl Known {
     }
 
     /// A constant of a class, whose value isn't known.
-    pub fn constant_of_class(class: Class) -> Known {
+    pub fn constant_of_class(class: Class) -> Known
+        ensures { Holds (Some (class_tree class)) None result }
+    {
         Known {
             class: Some(class),
             value: None,
@@ -95,7 +106,9 @@ impl Known {
     }
 
     /// A constant.
-    pub fn constant(class: Class, value: Scalars) -> Known {
+    pub fn constant(class: Class, value: Scalars) -> Known
+        ensures { Holds (Some (class_tree class)) (Some value) result }
+    {
         Known {
             class: Some(class),
             value: Some(value),
@@ -123,7 +136,9 @@ impl Known {
     }
 
     /// Whether its class is there and doesn't go with a mode.
-    pub fn goes_not_with(&self, mode: &Mode) -> bool {
+    pub fn goes_not_with(&self, mode: &Mode) -> bool
+        ensures { result ≡ holds_of (λ c. not (goes_with c (mode_tree mode.now))) (option_map class_tree self.now.class) }
+    {
         match &self.class {
             None => false,
             Some(class) => !goes(class, mode),
@@ -140,6 +155,8 @@ impl Known {
 }
 
 /// How many members a powerset of a mode's values may have.
-pub fn member_count(member: &Mode) -> u64 {
+pub fn member_count(member: &Mode) -> u64
+    ensures { result ≡ values_of (mode_tree member.now) }
+{
     number_of_values(member)
 }

@@ -1,4 +1,10 @@
 // What is known of literals, and of names of constants.
+ghost use Rattle.std.specs.Prelude.{◌<◌, ◌^◌, Some, IfOk, length, pos};
+ghost use Rattle.modes.specs.ModeTree.{derived, int, char, chars};
+ghost use Rattle.checks_model.specs.ValueTrees as trees;
+ghost use Rattle.constant_operators.specs.Known.{IsKnownConstant, text_value};
+ghost use Rattle.constant_operators.specs.Plain.{IsPlain};
+
 use crate::evaluation::Evaluation;
 use crate::known::Known;
 use chill_base::{Item, Memory, Scalars, Text};
@@ -10,13 +16,17 @@ use std::rc::Rc;
 
 impl<'a> Evaluation<'a> {
     /// A number of INT.
-    pub fn int(&self, number: i64) -> Result<Known, Memory> {
+    pub fn int(&self, number: i64) -> Result<Known, Memory>
+        ensures { IsPlain self.now.plain → IfOk result (IsKnownConstant (Some (derived int)) (Some (trees.number number))) }
+    {
         let class = Class::Derived(self.plain.int.clone()?);
         Ok(Known::constant(class, single(self.alloc, number)?))
     }
 
     /// A character.
-    pub fn character(&self, value: u8) -> Result<Known, Memory> {
+    pub fn character(&self, value: u8) -> Result<Known, Memory>
+        ensures { IsPlain self.now.plain → IfOk result (IsKnownConstant (Some (derived char)) (Some (trees.number (pos value)))) }
+    {
         let class = Class::Derived(self.plain.char.clone()?);
         Ok(Known::constant(class, single(self.alloc, i64::from(value))?))
     }

@@ -1,4 +1,11 @@
 // Predefined routines in constants (Z.200, chapter on values).
+ghost use Rattle.std.specs.Prelude.{Option, IfOk, IsTrue};
+ghost use Rattle.modes.specs.ModeTree.{ClassTree};
+ghost use Rattle.class_operators.specs.Predefined.{predefined_tree};
+ghost use Rattle.checks_model.specs.ValueTrees.{ValueTree};
+ghost use Rattle.checks_model.specs.Constants as constants;
+ghost use Rattle.constant_operators.specs.Known.{IsKnown, IsComputed, routine_misfits, routine_raises, routine_class, routine_value};
+
 use crate::evaluation::Evaluation;
 use crate::known::Known;
 use crate::operators::{Computed, with_value};
@@ -10,7 +17,10 @@ use definition_origins::{Origin, Predefined};
 
 impl<'a> Evaluation<'a> {
     /// What comes of a routine of one value, which is a constant.
-    pub fn computed_routine(&self, own: Predefined, arg: &Known) -> Result<Computed, Memory> {
+    pub fn computed_routine(&self, own: Predefined, arg: &Known) -> Result<Computed, Memory>
+        ensures { (c : Option ClassTree) (v : Option ValueTree) → IsKnown c v arg.now → IsTrue (constants.is_value_routine (predefined_tree own)) →
+            IfOk result (IsComputed (routine_misfits (predefined_tree own) c) (routine_raises (predefined_tree own) c v) (routine_class (predefined_tree own) c) (routine_value (predefined_tree own) c v)) }
+    {
         let Some(of) = &arg.class else {
             return Ok(Computed::Known(Known::unknown_constant()));
         };

@@ -1,8 +1,8 @@
 -- Of the offsets below a number, those that are members: as loops find them, and one offset further.
-use Rattle.std.proofs.Common.{◌≡◌, ℕ, zero, suc, ◌+◌, ◌<◌, ◌≤◌, true, false, Bool, Option, Some, None, refl, ap, sym, ◌∙◌, inl, inr, arith}
-use Rattle.std.specs.Prelude.{◌&&◌, ◌||◌, not, if◌then◌else◌}
+use Rattle.std.proofs.Common.{◌≡◌, ℕ, zero, suc, ◌+◌, ◌<◌, ◌≤◌, true, false, Bool, Some, None, refl, inl, inr, arith}
+use Rattle.std.specs.Prelude.{if◌then◌else◌}
 use Rattle.std.proofs.lemmas.Bool.{cases_lt}
-use Rattle.constant_values.specs.Sets.{count_below, or_last, least_below, greatest_below, included_below}
+use Rattle.constant_values.specs.Sets.{count_below, least_below, included_below}
 
 count_more : (b : Bool) (m n : ℕ) → m ≤ n → m + (if b then 1 else 0) ≤ suc n
 count_more true m n few = omega (arith, few)

@@ -1,2 +1,9 @@
 pub mod SetWords
 pub mod Below
+pub mod Offsets
+pub mod MemberSets
+pub mod ShapeValues
+pub mod AlikeValues
+pub mod SetOperators
+pub mod OperandValues
+pub mod RoutineValues

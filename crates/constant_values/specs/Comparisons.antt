@@ -1,5 +1,5 @@
 -- Operators on numbers, and comparisons of any values, by how these stand to each other.
-use Rattle.std.specs.Prelude.{Bool, true, false, ◌||◌, not, if◌then◌else◌, List, Option, Some, ℤ}
+use Rattle.std.specs.Prelude.{Bool, false, ◌||◌, not, if◌then◌else◌, List, Option, Some, ℤ}
 use Rattle.chill_tree.specs.declared.tree.expr.Operator.{Operator}
 use Rattle.chill_tree.specs.declared.tree.expr.Operator.TheVariants as ops
 use Rattle.scalar_operators.specs.Numbers.{truth_of}

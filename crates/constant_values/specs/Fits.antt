@@ -1,6 +1,6 @@
 -- Which values are values of a mode, and of a class: by how they are built and how many parts they have. Whether a number lies
 -- in its mode's bounds is asked elsewhere.
-use Rattle.std.specs.Prelude.{ℕ, suc, Bool, true, false, ◌&&◌, ◌||◌, ◌==◌, length, Option, Some, None, option_and_then}
+use Rattle.std.specs.Prelude.{ℕ, suc, Bool, true, false, ◌&&◌, ◌||◌, ◌==◌, nat_le, length, Option, Some, None, option_and_then}
 use Rattle.modes.specs.ModeTree.{ModeTree, char, ClassTree, value, derived, null, nothing}
 use Rattle.modes.specs.Form.{FormTree, form_of, of_powerset, of_chars, of_array, of_structure}
 use Rattle.modes.specs.Bounds.{values_of}
@@ -17,8 +17,12 @@ count_values (more_values v vs) = suc (count_values vs)
 abbrev pub takes_number : FormTree → Bool
 takes_number f = is_discrete f || is_instance f
 
+-- at most as many members as INT has values
+abbrev pub few_members : ℕ → Bool
+few_members count = nat_le count 4294967296
+
 abbrev pub takes_members : ℕ → FormTree → Bool
-takes_members count (of_powerset m) = count == values_of m
+takes_members count (of_powerset m) = (count == values_of m) && few_members count
 takes_members count _ = false
 
 abbrev pub takes_parts : ℕ → FormTree → Bool

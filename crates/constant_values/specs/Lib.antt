@@ -1,3 +1,4 @@
 pub mod Fits
 pub mod Comparisons
 pub mod Sets
+pub mod Operands

@@ -4,6 +4,7 @@
 //! It stands on `number_operators`, and on `class_operators`, whose operands it takes; it knows no names.
 #![tactic(auto)]
 
+mod forms;
 mod numbers;
 mod operators;
 mod routines;

@@ -1,7 +1,8 @@
 // Powersets of constants, each as a list of numbers that tell of 32 members each (Z.200, chapter on powersets).
-ghost use Rattle.std.specs.Prelude.{◌≡◌, ◌-ℤ◌, IfOk};
+ghost use Rattle.std.specs.Prelude.{◌≡◌, ◌-ℤ◌, min, IfOk};
 ghost use Rattle.modes.specs.Scalars.{numbers_of};
-ghost use Rattle.scalar_operators.specs.Members.{has_member_at, has_offset_of, no_members};
+ghost use Rattle.scalar_operators.specs.Powersets.{complement_in};
+ghost use Rattle.scalar_operators.specs.Members.{by_pairs, complement_of, has_member_at, has_offset_of, no_members};
 ghost use Rattle.constant_values.specs.Sets.{word_operator, count_below, least_below, greatest_below, included_below, same_below};
 
 use chill_base::{Memory, Scalars};
@@ -42,7 +43,9 @@ pub fn combined_sets(
     operator: Operator,
     left: &Scalars,
     right: &Scalars,
-) -> Result<Scalars, Memory> {
+) -> Result<Scalars, Memory>
+    ensures { IfOk result (λ r. r ≡ by_pairs (word_operator operator) left.now right.now) }
+{
     let mut found = Scalars::new(alloc);
     let theirs = right.as_slice();
     for (place, one) in left.as_slice().iter().enumerate() {
@@ -55,12 +58,16 @@ pub fn combined_sets(
 }
 
 // The members, of so many, that a number of a powerset lacks.
-fn missing(size: u64, own: i64) -> i64 {
+fn missing(size: u64, own: i64) -> i64
+    ensures { result ≡ complement_in (min size 32) own }
+{
     missing_members(size.min(32) as u32, own)
 }
 
 /// The powerset of all members, of so many, that a powerset lacks.
-pub fn complement(alloc: Global, set: &Scalars, size: u64) -> Result<Scalars, Memory> {
+pub fn complement(alloc: Global, set: &Scalars, size: u64) -> Result<Scalars, Memory>
+    ensures { IfOk result (λ r. r ≡ complement_of size set.now) }
+{
     let mut found = Scalars::new(alloc);
     let mut left = size;
     for own in set.as_slice() {

@@ -13,8 +13,6 @@ mod page;
 #[cfg(test)]
 mod played;
 #[cfg(test)]
-mod played_rows;
-#[cfg(test)]
 mod print_actions;
 #[cfg(test)]
 mod print_controls;

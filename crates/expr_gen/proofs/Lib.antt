@@ -6,3 +6,5 @@ pub mod Copies
 pub mod Items
 pub mod Told
 pub mod Deciding
+pub mod Sums
+pub mod Fitting

@@ -24,7 +24,7 @@ use Rattle.checked_program.specs.declared.expr.Received.{Received, out-Received}
 use Rattle.checked_program.specs.declared.expr.Start.{Start, out-Start}
 use Rattle.program_trees.specs.ExprTree.{ExprTree, expr, root_bounds, expr_tree, operation_tree, boxed_expr, count_of, received_count, constant, own_instance, contents, part_of, receive, start, call, powerset, parts, uniform, routine, get_int, prefixed, binary, ReceivedTree, received, received_tree, received_of, LocationTree, location, location_tree, StartTree, started, start_tree, CallTree, called, call_tree, RangeTree, alone, between, range_of, range_tree, ArgumentTree, argument_tree, PartNodes, PartTree, one_element, part_tree}
 use Rattle.program_trees.specs.ProgramTree.{LocalRowTree}
-use Rattle.code_scheme.specs.Pieces.{Layout, capped, pushes, lowest_in_row, scalars_code, copies_code, check_code, tested, tested_in, tested_out, tested_back, under_code, store_code, copy_out_code, bounds_of_value, member_code, between_code, between_size, behind_code, behind_size, prefix_code, routine_code, has_index, first_of_parts, needs_offset, has_offset, contents_code, offsets_kept, location_scalars, keep_code, kept_code, copies_out, kept_behind, rows_of}
+use Rattle.code_scheme.specs.Pieces.{Layout, capped, pushes, lowest_as, scalars_code, copies_code, check_code, tested, tested_in, tested_out, tested_back, under_code, store_code, copy_out_code, bounds_of_value, member_code, between_code, between_size, behind_code, behind_size, prefix_code, routine_code, has_index, first_of_parts, needs_offset, has_offset, contents_code, offsets_kept, location_scalars, keep_code, kept_code, copies_out, kept_behind, rows_of}
 use Rattle.code_scheme.specs.ExprSizes.{expr_size, place_size, indices_size, received_size, received_sizes, members_size, start_size, call_size, arguments_size, copies_out_size, copy_out_size, sum_size}
 use Rattle.code_scheme.specs.ExprCode.{expr_code, place_code, indices_code, received_code, received_codes, members_code, start_code, call_code, arguments_code, counts_of, cut_code, receive_code, sum_code}
 use Rattle.expr_gen.specs.Copies.{copied}
@@ -246,12 +246,12 @@ in_told lay rows k free at {x} {z} a r is p =
 pub out_told : (lay : Layout) (rows : List LocalRowTree) (k free : ℕ) {x y1 y2 z : Code} (a : Argument) (l : Location) (bounds : Option Bounds) → a ≡ arguments.Out l bounds
     → Appends (place_code lay free (location_tree l) (length x.instrs)) (place_size (location_tree l)) x y1
     → Appends (keep_code (location_tree l) free) (offsets_kept (location_tree l)) y1 y2
-    → Appends (pushes (lowest_in_row (slice_get rows k))) (out-Location l).count y2 z
+    → Appends (pushes (lowest_as (out-Location l).count (slice_get rows k))) (out-Location l).count y2 z
     → Appends (argument_code lay rows k free (argument_tree a) (length x.instrs)) (argument_size (argument_tree a)) x z
 out_told lay rows k free {x} {y1} {y2} {z} a l bounds is p q r =
     let count : (out-Location l).count ≡ location_scalars (location_tree l) = sym (ap location_scalars (location_tree-out l)) in
     subst (λ (t : ArgumentTree). Appends (argument_code lay rows k free t (length x.instrs)) (argument_size t) x z) (sym (ap argument_tree is ∙ argument_tree-Out l bounds))
-    (and_then p (and_then q (resized count r)))
+    (and_then p (and_then q (subst (λ (n : ℕ). Appends (pushes (lowest_as n (slice_get rows k))) n y2 z) count r)))
 
 pub inout_told : (lay : Layout) (rows : List LocalRowTree) (k free : ℕ) {x y1 y2 y3 y4 z : Code} (a : Argument) (l : Location) (taken_by bounds test : Option Bounds) → a ≡ arguments.InOut l taken_by bounds → test ≡ tested_in taken_by bounds
     → Appends (place_code lay free (location_tree l) (length x.instrs)) (place_size (location_tree l)) x y1

@@ -1,5 +1,5 @@
 -- What each function appends to a draft: the scheme's code of a part, from the present place on.
-use Rattle.std.specs.Prelude.{◌≡◌, ℕ, ◌+◌, Bool, true, List, [], ◌∷◌, ℤ, pos, Option, Some, length, slice_get, if◌then◌else◌}
+use Rattle.std.specs.Prelude.{◌≡◌, ℕ, ◌+◌, Bool, true, List, [], ◌∷◌, ℤ, pos, Option, length, map, slice_get, if◌then◌else◌}
 use Rattle.code_types.specs.declared.instr.Instr.{Instr}
 use Rattle.code_types.specs.declared.instr.Instr.TheVariants as i
 use Rattle.modes.specs.declared.mode.Bounds.{Bounds}
@@ -15,11 +15,10 @@ use Rattle.checked_program.specs.declared.expr.Range.{Range}
 use Rattle.checked_program.specs.declared.expr.Received.{Received}
 use Rattle.checked_program.specs.declared.expr.Start.{Start}
 use Rattle.checked_program.specs.declared.program.Body.{Body}
-use Rattle.checked_program.specs.declared.program.Checked.{Checked}
+use Rattle.checked_program.specs.declared.program.LocalRow.{LocalRow}
 use Rattle.program_trees.specs.ExprTree.{expr_tree, part_tree, received_tree, received_of, range_tree, argument_tree, location_tree, start_tree, call_tree}
-use Rattle.program_trees.specs.ProgramTree.{BodyRowTree, checked_tree, body_row_tree}
-use Rattle.code_scheme.specs.Pieces.{Layout, layout_in, capped, pushes, lowest_in_row, between_code, between_size, behind_code, behind_size, member_or_none, branch_code, branch_size, run_ended, again_code, has_index, first_of_parts, member_code, first_in, contents_at, contents_code, store_at, store_code, under_code, offsets_kept, keep_code, kept_code, copies_out}
-use Rattle.code_scheme.specs.StatementSite.{first_free}
+use Rattle.program_trees.specs.ProgramTree.{body_row_tree, local_row_tree}
+use Rattle.code_scheme.specs.Pieces.{Layout, capped, pushes, fitted, lowest_as, between_code, between_size, behind_code, behind_size, member_or_none, branch_code, branch_size, run_ended, again_code, has_index, first_of_parts, member_code, first_in, contents_at, contents_code, store_at, store_code, under_code, offsets_kept, keep_code, kept_code, copies_out}
 use Rattle.code_scheme.specs.ExprSizes.{expr_size, place_size, indices_size, received_size, received_sizes, members_size, start_size, call_size, arguments_size, copies_out_size, condition_size}
 use Rattle.code_scheme.specs.ExprCode.{expr_code, place_code, indices_code, received_code, received_codes, members_code, start_code, call_code, arguments_code, cut_code, condition_code, first_target}
 use Rattle.expr_gen.specs.declared.building.Draft.{Draft}
@@ -48,12 +47,6 @@ abbrev pub lay_of : Site → Layout
 lay_of site = layout_of site.program.now site.body.now
 
 -- ---- values
-
--- an expression of the body of this number, with all its scratch locals
-abbrev pub PutsIn : Checked → ℕ → Expr → Draft → Draft → Type 0
-PutsIn program body e old new =
-    (row : BodyRowTree) → slice_get (checked_tree program).bodies body ≡ Some row
-    → PutsAt (expr_code (layout_in (checked_tree program) row) (first_free row) (expr_tree e)) (expr_size (expr_tree e)) old new
 
 abbrev pub PutsExpr : Site → ℕ → Expr → Draft → Draft → Type 0
 PutsExpr site free e old new = PutsAt (expr_code (lay_of site) free (expr_tree e)) (expr_size (expr_tree e)) old new
@@ -93,15 +86,15 @@ PutsRange site free b r old new = PutsAt (range_code (lay_of site) free b (range
 abbrev pub PutsCall : Site → ℕ → Call → Draft → Draft → Type 0
 PutsCall site free c old new = PutsAt (call_code (lay_of site) free (call_tree c)) (call_size (call_tree c)) old new
 
--- the arguments of a call
-abbrev pub Gives : Site → ℕ → Body → List Argument → Draft → Draft → Type 0
-Gives site free callee as' old new =
-    PutsAt (arguments_code (lay_of site) (body_row_tree callee).locals 0 free (arguments_of as')) (arguments_size (arguments_of as')) old new
+-- the arguments of a call of a procedure with these locals
+abbrev pub Gives : Site → ℕ → List LocalRow → List Argument → Draft → Draft → Type 0
+Gives site free locals as' old new =
+    PutsAt (arguments_code (lay_of site) (map local_row_tree locals) 0 free (arguments_of as')) (arguments_size (arguments_of as')) old new
 
 -- an argument, for its parameter
 abbrev pub PutsFor : Site → ℕ → Taker → Argument → Draft → Draft → Type 0
 PutsFor site free taker a old new =
-    PutsAt (argument_code (lay_of site) (body_row_tree taker.callee.now).locals taker.parameter free (argument_tree a)) (argument_size (argument_tree a)) old new
+    PutsAt (argument_code (lay_of site) (map local_row_tree taker.locals.now) taker.parameter free (argument_tree a)) (argument_size (argument_tree a)) old new
 
 -- ---- operators
 
@@ -148,9 +141,9 @@ PutsTurn there elements count old new = PutsSome (turn_code there elements count
 abbrev pub source_code : ℕ → ℕ → ℕ → List Instr
 source_code buffer first count = i.Thing buffer ∷ i.Push (pos first) ∷ i.Push (pos count) ∷ []
 
--- each of these scalars, pushed by itself
-abbrev pub PutsEach : List ℤ → Draft → Draft → Type 0
-PutsEach xs old new = PutsSome (pushes xs) (length xs) old new
+-- so many scalars, each pushed by itself
+abbrev pub PutsFitted : ℕ → List ℤ → Draft → Draft → Type 0
+PutsFitted count xs old new = PutsSome (pushes (fitted count xs)) count old new
 
 -- a run of a scalar that another one ends
 abbrev pub PutsEnded : ℤ → ℕ → ℤ → Draft → Draft → Type 0
@@ -190,10 +183,9 @@ PutsKept l kept old new = PutsSome (kept_code (location_tree l) kept) (offsets_k
 abbrev pub PutsUnder : Location → ℕ → ℕ → Draft → Draft → Type 0
 PutsUnder l kept free old new = PutsSome (under_code (location_tree l) kept free) (length (under_code (location_tree l) 0 0)) old new
 
--- the lowest value of a parameter, of so many scalars
-abbrev pub PutsLowest : Body → ℕ → ℕ → Draft → Draft → Type 0
-PutsLowest callee parameter count old new =
-    PutsSome (pushes (lowest_in_row (slice_get (body_row_tree callee).locals parameter))) count old new
+-- the lowest value of a parameter, as so many scalars
+abbrev pub PutsLowest : List LocalRow → ℕ → ℕ → Draft → Draft → Type 0
+PutsLowest locals parameter count old new = PutsSome (pushes (lowest_as count (slice_get (map local_row_tree locals) parameter))) count old new
 
 abbrev pub PutsBack : Site → List Argument → ℕ → ℕ → Draft → Draft → Type 0
 PutsBack site as' kept free old new =

@@ -9,7 +9,7 @@ use Rattle.checked_program.specs.declared.expr.Part.{Part}
 use Rattle.checked_program.specs.declared.expr.Range.{Range}
 use Rattle.program_trees.specs.ExprTree.{ExprTree, count_of, PartNodes, RangeNodes, ArgumentNodes, part_nodes, range_nodes, argument_nodes, part_tree, range_tree, argument_tree, PartTree, one_field, one_element, ArgumentTree, taken, given, both, RangeTree, alone, between}
 use Rattle.program_trees.specs.ProgramTree.{LocalRowTree}
-use Rattle.code_scheme.specs.Pieces.{Layout, pushes, lowest_in_row, check_code, tested_in, tested_out, tested_back, contents_code, keep_code, kept_code, offsets_kept, copy_out_code, location_scalars, between_code, between_size, bounds_of_value, behind_code, behind_size, straight, turned, branch_code, branch_size}
+use Rattle.code_scheme.specs.Pieces.{Layout, pushes, lowest_as, check_code, tested_in, tested_out, tested_back, contents_code, keep_code, kept_code, offsets_kept, copy_out_code, location_scalars, between_code, between_size, bounds_of_value, behind_code, behind_size, straight, turned, branch_code, branch_size}
 use Rattle.code_scheme.specs.ExprSizes.{expr_size, received_size, place_size, copy_out_size, sum_size}
 use Rattle.code_scheme.specs.ExprCode.{expr_code, received_code, place_code, member_offset, sum_code}
 
@@ -36,7 +36,7 @@ range_size (between e f) = expr_size e + (1 + (expr_size f + 3))
 
 abbrev pub argument_code : Layout → List LocalRowTree → ℕ → ℕ → ArgumentTree → ℕ → List Instr
 argument_code lay rows k kept (taken r) at = received_code lay kept r at
-argument_code lay rows k kept (given l bounds) at = place_code lay kept l at ++ (keep_code l kept ++ pushes (lowest_in_row (slice_get rows k)))
+argument_code lay rows k kept (given l bounds) at = place_code lay kept l at ++ (keep_code l kept ++ pushes (lowest_as (location_scalars l) (slice_get rows k)))
 argument_code lay rows k kept (both l taken_by bounds) at =
     place_code lay kept l at ++ (keep_code l kept ++ (kept_code l kept ++ (contents_code lay l ++ check_code (tested_in taken_by bounds))))
 

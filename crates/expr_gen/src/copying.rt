@@ -1,24 +1,27 @@
 // OUT and INOUT arguments: places that are kept over a call, the lowest values that go in, and what is copied out.
 #![tactic(auto, using(crate::proofs::Appending::keeping))]
 
-ghost use Rattle.std.specs.Prelude.{◌≡◌, ◌+◌, length, slice_get, OnOk};
+ghost use Rattle.std.specs.Prelude.{◌≡◌, ◌+◌, pos, length, slice_get, get_or, map, IfOk, OnOk};
+ghost use Rattle.modes.specs.ModeTree.{mode_tree};
+ghost use Rattle.modes.specs.Scalars.{lowest_of};
 ghost use Rattle.program_trees.specs.ExprTree.{argument_tree, location_tree};
-ghost use Rattle.program_trees.specs.ProgramTree.{body_row_tree};
-ghost use Rattle.code_scheme.specs.Pieces.{pushes, lowest_in_row, offsets_kept, keep_code, kept_code, under_code, tested_in, copies_out};
+ghost use Rattle.program_trees.specs.ProgramTree.{local_row_tree};
+ghost use Rattle.code_scheme.specs.Pieces.{lowest_in_row, offsets_kept, keep_code, kept_code, under_code, tested_in, copies_out};
 ghost use Rattle.code_scheme.specs.ExprSizes.{copies_out_size, copy_out_size};
 ghost use Rattle.expr_gen.specs.Trees.{arguments_of, places_kept, copy_out, copying_size};
 ghost use Rattle.expr_gen.specs.Putting.{Appends, Keeps, layout_of};
-ghost use Rattle.expr_gen.specs.Puts.{PutsEach, PutsKeep, PutsKept, PutsUnder, PutsLowest, PutsBack, PutsOneBack};
+ghost use Rattle.expr_gen.specs.Puts.{PutsFitted, PutsKeep, PutsKept, PutsUnder, PutsLowest, PutsBack, PutsOneBack};
 
 use crate::bounds::{INT, bounds_to_test};
 use crate::building::{Draft, sum};
-use crate::frames::{Site, local_of};
+use crate::frames::Site;
 use crate::locations::{check_size, has_offset, put_check, put_store};
 use crate::refusal::PartRefusal;
-use checked_program::{Argument, Body, Location};
+use checked_program::{Argument, LocalRow, Location};
 use chill_base::Scalars;
 use code_types::Instr;
-use modes::{Bounds, add_lowest};
+use modes::{Bounds, Mode, add_lowest};
+use std::alloc::Global;
 
 /// How many scratch locals an argument keeps over the call: one for a place with an offset.
 #[tactic(auto, using(crate::proofs::Views::tree_built, crate::proofs::Appending::keeping))]
@@ -62,34 +65,61 @@ pub fn put_kept(target: &Location, kept: u32, draft: &mut Draft) -> Result<(), P
     }
 }
 
-/// The lowest value of a parameter, with as many scalars as its argument has, or Unsound.
-#[tactic(auto, using(crate::proofs::Rows::local_there, crate::proofs::Appending::keeping))]
+/// The lowest value of the parameter of this number, as so many scalars: its argument has as many.
 pub fn put_lowest(
-    callee: &Body,
+    locals: &[LocalRow],
     parameter: u32,
     count: u32,
     draft: &mut Draft,
 ) -> Result<(), PartRefusal>
-    ensures puts { OnOk result (PutsLowest callee.now parameter count draft.old draft.new) }
+    ensures puts { OnOk result (PutsLowest locals.now parameter count draft.old draft.new) }
     ensures keeps { Keeps draft.old.code draft.new.code }
 {
-    let mut lowest = Scalars::new(draft.allocator());
-    add_lowest(&local_of(callee, parameter)?.mode, &mut lowest)?;
-    if lowest.len() != count as usize {
-        return Err(PartRefusal::Unsound);
-    }
-    put_each(lowest.as_slice(), draft)
+    let lowest = lowest_of(draft.allocator(), locals, parameter)?;
+    put_fitted(lowest.as_slice(), count, draft)
 }
 
-// Each of these scalars, pushed by itself: the size of a call goes by their number alone.
-fn put_each(scalars: &[i64], draft: &mut Draft) -> Result<(), PartRefusal>
-    ensures puts { OnOk result (PutsEach scalars.now draft.old draft.new) }
+// The lowest value of the local of this number; no scalars where there is none.
+fn lowest_of(alloc: Global, locals: &[LocalRow], number: u32) -> Result<Scalars, PartRefusal>
+    ensures { let rows = map local_row_tree locals.now in
+        IfOk result (λ lowest. lowest ≡ lowest_in_row (slice_get rows number)) }
+{
+    match locals.get(number as usize) {
+        Some(local) => lowest_scalars(alloc, &local.mode),
+        None => Ok(Scalars::new(alloc)),
+    }
+}
+
+// The lowest value of a mode.
+fn lowest_scalars(alloc: Global, mode: &Mode) -> Result<Scalars, PartRefusal>
+    ensures { IfOk result (λ lowest. lowest ≡ lowest_of (mode_tree mode.now)) }
+{
+    let mut lowest = Scalars::new(alloc);
+    add_lowest(mode, &mut lowest)?;
+    Ok(lowest)
+}
+
+// So many scalars, each pushed by itself, 0 for each that isn't there: the size of a call goes by their number alone.
+fn put_fitted(scalars: &[i64], count: u32, draft: &mut Draft) -> Result<(), PartRefusal>
+    ensures puts { OnOk result (PutsFitted count scalars.now draft.old draft.new) }
     ensures keeps { Keeps draft.old.code draft.new.code }
 {
-    for scalar in scalars {
-        draft.put(Instr::Push(*scalar))?;
+    for number in 0..count {
+        draft.put(Instr::Push(scalar_at(scalars, number)))?;
     }
     Ok(())
+}
+
+// The scalar of this number, or 0.
+fn scalar_at(scalars: &[i64], number: u32) -> i64
+    ensures { result ≡ get_or scalars.now number (pos 0) }
+{
+    let number = number as usize;
+    if number < scalars.len() {
+        scalars[number]
+    } else {
+        0
+    }
 }
 
 /// Copies out what a call gave back, where the places of its arguments are kept from one scratch local up to another,

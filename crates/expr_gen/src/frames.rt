@@ -1,10 +1,9 @@
 // Where things stand in the frame of a body: its locals, its result, and the scratch locals behind them.
-ghost use Rattle.std.specs.Prelude.{◌≡◌, Some, slice_get, if◌then◌else◌, IfOk, map};
-ghost use Rattle.program_trees.specs.ProgramTree.{body_row_tree, local_row_tree};
-ghost use Rattle.code_scheme.specs.Pieces.{capped};
+ghost use Rattle.std.specs.Prelude.{◌≡◌, slice_get, if◌then◌else◌, map};
+ghost use Rattle.program_trees.specs.ProgramTree.{checked_tree, body_row_tree, local_row_tree};
+ghost use Rattle.code_scheme.specs.Pieces.{capped, first_in, rows_of};
 ghost use Rattle.code_scheme.specs.StatementSite.{scalars_in, parameter_scalars, declared_scalars, result_scalars, first_free, is_given_back, call_results};
 
-use crate::refusal::PartRefusal;
 use checked_program::{Body, Checked, LocalRow, Passing};
 use modes::number_of_scalars;
 
@@ -15,23 +14,23 @@ pub struct Site<'a> {
     pub body: &'a Body,
 }
 
-/// The body of this number, or Unsound where there is none.
-pub fn body_of(program: &Checked, number: u32) -> Result<&Body, PartRefusal>
-    ensures { IfOk result (λ body. slice_get program.now.bodies number ≡ Some body.now) }
+/// The locals of the body of this number; none where there is no such body.
+pub fn locals_of(program: &Checked, number: u32) -> &[LocalRow]
+    ensures { map local_row_tree result.now ≡ rows_of (slice_get (checked_tree program.now).bodies number) }
 {
     match program.bodies.as_slice().get(number as usize) {
-        Some(body) => Ok(body),
-        None => Err(PartRefusal::Unsound),
+        Some(body) => body.locals.as_slice(),
+        None => &[],
     }
 }
 
-/// The local of this number of a body, or Unsound where there is none.
-pub fn local_of(body: &Body, number: u32) -> Result<&LocalRow, PartRefusal>
-    ensures { IfOk result (λ local. slice_get body.now.locals number ≡ Some local.now) }
+/// The first scalar of the local of this number; 0 where there is no such local.
+pub fn first_of_local(body: &Body, number: u32) -> u32
+    ensures { result ≡ first_in (slice_get (body_row_tree body.now).locals number) }
 {
     match body.locals.as_slice().get(number as usize) {
-        Some(local) => Ok(local),
-        None => Err(PartRefusal::Unsound),
+        Some(local) => local.first,
+        None => 0,
     }
 }
 

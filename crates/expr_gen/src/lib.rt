@@ -18,11 +18,11 @@ mod sizes;
 mod values;
 
 pub use bounds::{INT, bounds_of_operator, bounds_of_value, bounds_to_test};
-pub use building::{Draft, Head, sum, uncapped};
+pub use building::{Draft, sum, uncapped};
 pub use conditions::{Branch, branch_size, condition_size, put_branch, put_condition};
 pub use copying::{keep_place, offsets_kept, put_kept, put_under};
 pub use frames::{
-    Site, body_of, call_results, declared_scalars, first_free, local_of, parameter_scalars,
+    Site, call_results, declared_scalars, first_free, first_of_local, parameter_scalars,
     result_scalars,
 };
 pub use locations::{
@@ -36,5 +36,5 @@ pub use refusal::PartRefusal;
 pub use repeating::{put_scalars, scalars_size};
 pub use sizes::{call_size, expr_size, place_size, received_size, received_sizes};
 pub use values::{
-    expr_code, put_all_received, put_call, put_expr, put_place, put_received, put_start, scalars_of,
+    put_all_received, put_call, put_expr, put_place, put_received, put_start, scalars_of,
 };

@@ -12,7 +12,7 @@ ghost use Rattle.expr_gen.specs.Putting.{Appends, Keeps, layout_of};
 ghost use Rattle.expr_gen.specs.Puts.{PutsAll, PutsAgain, PutsRead, PutsWrite, PutsContents, PutsLocal, PutsStore, PutsSetLocal, first_scalar};
 
 use crate::building::{Draft, uncapped};
-use crate::frames::{Site, local_of};
+use crate::frames::{Site, first_of_local};
 use crate::refusal::PartRefusal;
 use checked_program::{Base, Body, Location, Part};
 use code_types::Instr;
@@ -135,12 +135,10 @@ fn put_local(
 }
 
 // The first scalar of a part of a local, without its indices.
-#[tactic(auto, using(crate::proofs::Rows::local_there))]
 fn first_at(number: u32, parts: &[Part], body: &Body) -> Result<u32, PartRefusal>
     ensures { IfOk result (λ first. first ≡ first_scalar body.now number parts.now) }
 {
-    let local = local_of(body, number)?;
-    uncapped(local.first.saturating_add(first_of_parts(parts)))
+    uncapped(first_of_local(body, number).saturating_add(first_of_parts(parts)))
 }
 
 /// Assigns the value on top to a location, whose place stands below it.

@@ -1,10 +1,10 @@
 // Operators and routines: what stands between and behind their operands.
 #![tactic(auto, using(crate::proofs::Appending::keeping))]
 
-ghost use Rattle.std.specs.Prelude.{◌≡◌, ℕ, [], ◌∷◌, length, IfOk, OnOk, ◌+ℤ◌};
+ghost use Rattle.std.specs.Prelude.{◌≡◌, ℕ, [], ◌∷◌, length, pos, OnOk, ◌+ℤ◌};
 ghost use Rattle.code_types.specs.declared.instr.Instr.TheVariants as code;
 ghost use Rattle.checked_program.specs.declared.expr.Binary.TheVariants as binaries;
-ghost use Rattle.code_scheme.specs.Pieces.{capped, between_code, between_size, behind_code, behind_size, prefix_code, routine_code, member_code, offset_code, member_or_none, swap_code, properly_code, bounds_to_test};
+ghost use Rattle.code_scheme.specs.Pieces.{capped, capped_number, between_code, between_size, behind_code, behind_size, prefix_code, routine_code, member_code, offset_code, member_or_none, swap_code, properly_code, bounds_to_test};
 ghost use Rattle.expr_gen.specs.Putting.{Appends, Keeps};
 ghost use Rattle.expr_gen.specs.Puts.{PutsAll, PutsSome, PutsBetween, PutsOffset, PutsMember, PutsIsBelow, PutsNoneAbove, PutsUnlessInside, PutsDiffer, PutsBehind};
 
@@ -84,8 +84,8 @@ fn put_member_or_none(bounds: Bounds, draft: &mut Draft) -> Result<(), PartRefus
     ensures keeps { Keeps draft.old.code draft.new.code }
 {
     let inside = draft.target_behind(12)?;
-    let above = plus(bounds.high, 1)?;
-    let none = plus(bounds.low, 32)?;
+    let above = plus(bounds.high, 1);
+    let none = plus(bounds.low, 32);
     put_is_below(bounds.low, draft)?;
     put_is_none_above(above, draft)?;
     put_unless_inside(inside, none, draft)
@@ -124,14 +124,11 @@ fn put_unless_inside(inside: u32, none: i64, draft: &mut Draft) -> Result<(), Pa
     draft.put(Instr::Push(none))
 }
 
-// The sum of a bound and a number. The bounds of members lie in INT.
-fn plus(bound: i64, number: i64) -> Result<i64, PartRefusal>
-    ensures { IfOk result (λ sum. sum ≡ bound +ℤ number) }
+// The sum of a bound and a number, which fits where the bounds are those of members.
+fn plus(bound: i64, number: u32) -> i64
+    ensures { result ≡ capped_number (bound +ℤ pos number) }
 {
-    match bound.checked_add(number) {
-        Some(sum) => Ok(sum),
-        None => Err(PartRefusal::Unsound),
-    }
+    bound.saturating_add(i64::from(number))
 }
 
 // The offset of the number on top from the least member.

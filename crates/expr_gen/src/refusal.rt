@@ -4,8 +4,6 @@ use chill_base::Memory;
 /// Why a part of a program has no code.
 #[derive(Clone, Copy, Debug, PartialEq, Eq)]
 pub enum PartRefusal {
-    /// The part is of no program that breaks no rule: it names a body, a parameter or a local that isn't there.
-    Unsound,
     /// No memory was to be had.
     Memory,
 }

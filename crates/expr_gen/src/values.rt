@@ -11,12 +11,12 @@ ghost use Rattle.code_scheme.specs.ExprSizes.{expr_size, place_size, indices_siz
 ghost use Rattle.code_scheme.specs.ExprCode.{expr_code, place_code, indices_code, received_code, received_codes, members_code, start_code, call_code, arguments_code, sum_code, cut_code, receive_code, counts_of};
 ghost use Rattle.expr_gen.specs.Trees.{index_code, index_size, parts_of, ranges_of, arguments_of, argument_code, argument_size, range_code, range_size};
 ghost use Rattle.expr_gen.specs.Putting.{Appends, Puts, Keeps, layout_of};
-ghost use Rattle.expr_gen.specs.Puts.{PutsAll, PutsSome, PutsIn, PutsExpr, PutsCut, PutsIndices, PutsIndex, PutsPlace, PutsReceived, PutsAllReceived, PutsStart, PutsPowerset, PutsRange, PutsCall, Gives, PutsFor, PutsSpan, source_code};
+ghost use Rattle.expr_gen.specs.Puts.{PutsAll, PutsSome, PutsExpr, PutsCut, PutsIndices, PutsIndex, PutsPlace, PutsReceived, PutsAllReceived, PutsStart, PutsPowerset, PutsRange, PutsCall, Gives, PutsFor, PutsSpan, source_code};
 
 use crate::bounds::{bounds_of_value, tested};
 use crate::building::{Draft, sum, uncapped};
 use crate::copying::{keep_place, places_kept, put_copies_out, put_kept, put_lowest, tested_in};
-use crate::frames::{Site, body_of, call_results, first_free, parameter_scalars};
+use crate::frames::{Site, locals_of};
 use crate::locations::{
     first_of_parts, has_index, has_offset, is_still_first, put_check, put_contents,
 };
@@ -25,26 +25,10 @@ use crate::refusal::PartRefusal;
 use crate::repeating::{put_copies, put_scalars};
 use crate::sizes::expr_size;
 use checked_program::{
-    Argument, Body, Call, Checked, Expr, Location, Operation, Part, Range, Received, Start,
+    Argument, Call, Expr, LocalRow, Location, Operation, Part, Range, Received, Start,
 };
 use code_types::Instr;
 use modes::Bounds;
-
-/// Appends the code of an expression of the body of this number, which may use every scratch local of the body.
-pub fn expr_code(
-    expr: &Expr,
-    program: &Checked,
-    body: u32,
-    draft: &mut Draft,
-) -> Result<(), PartRefusal>
-    ensures there { OnOk result (body < length program.now.bodies) }
-    ensures puts { OnOk result (PutsIn program.now body expr.now draft.old draft.new) }
-    ensures keeps { Keeps draft.old.code draft.new.code }
-{
-    let body = body_of(program, body)?;
-    let site = Site { program, body };
-    put_expr(expr, &site, uncapped(first_free(body))?, draft)
-}
 
 /// Appends the code of an expression, which leaves its value on the stack.
 #[tactic(auto, using(crate::proofs::Appending::keeping))]
@@ -355,41 +339,41 @@ pub fn put_call(call: &Call, site: &Site, free: u32, draft: &mut Draft) -> Resul
     ensures puts { OnOk result (PutsCall site.now free call.now draft.old draft.new) }
     ensures keeps { Keeps draft.old.code draft.new.code }
 {
-    let callee = body_of(site.program, call.body)?;
+    let locals = locals_of(site.program, call.body);
     let arguments = call.arguments.as_slice();
-    let kept = put_arguments(arguments, callee, site, free, draft)?;
-    draft.put_call(call.body, parameter_scalars(callee), call_results(callee))?;
+    let kept = put_arguments(arguments, locals, site, free, draft)?;
+    draft.put(Instr::Call(call.body))?;
     put_copies_out(arguments, site, free, kept, draft)
 }
 
-// The arguments of a call, and the scratch local behind the places that are kept.
+// The arguments of a call of a procedure with these locals, and the scratch local behind the places that are kept.
 #[tactic(auto, using(crate::proofs::Appending::keeping))]
 #[cycle(value)]
 fn put_arguments(
     arguments: &[Argument],
-    callee: &Body,
+    locals: &[LocalRow],
     site: &Site,
     free: u32,
     draft: &mut Draft,
 ) -> Result<u32, PartRefusal>
-    ensures puts { OnOk result (Gives site.now free callee.now arguments.now draft.old draft.new) }
+    ensures puts { OnOk result (Gives site.now free locals.now arguments.now draft.old draft.new) }
     ensures keeps { Keeps draft.old.code draft.new.code }
     ensures kept { IfOk result (λ kept. kept ≡ kept_behind (arguments_of arguments.now) free) }
 {
     let mut kept = free;
     let mut parameter = 0u32;
     for argument in arguments {
-        put_argument(argument, Taker { callee, parameter }, site, kept, draft)?;
+        put_argument(argument, Taker { locals, parameter }, site, kept, draft)?;
         kept = sum(kept, places_kept(argument))?;
         parameter = sum(parameter, 1)?;
     }
     Ok(kept)
 }
 
-// The parameter of a procedure that an argument is for.
+// The parameter that an argument is for, of a procedure with these locals.
 #[derive(Clone, Copy)]
 struct Taker<'a> {
-    callee: &'a Body,
+    locals: &'a [LocalRow],
     parameter: u32,
 }
 
@@ -411,7 +395,7 @@ fn put_argument(
         Argument::Out { target, .. } => {
             put_place(target, site, free, draft)?;
             keep_place(target, free, draft)?;
-            put_lowest(taker.callee, taker.parameter, target.count, draft)
+            put_lowest(taker.locals, taker.parameter, target.count, draft)
         }
         Argument::InOut {
             target,

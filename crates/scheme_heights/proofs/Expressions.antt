@@ -10,7 +10,8 @@ use Rattle.code_types.specs.declared.code.Code.{Code}
 use Rattle.code_types.specs.Places.{params_of, results_of}
 use Rattle.program_trees.specs.ExprTree.{ExprTree, expr, OperationTree, constant, own_instance, contents, part_of, receive, start, call, powerset, parts, uniform, routine, get_int, prefixed, binary, ReceivedTree, received, ReceivedNodes, no_received, more_received, PartNodes, no_parts, field, element, RangeNodes, no_ranges, one_member, members, LocationTree, location, StartTree, started, CallTree, called, ArgumentNodes, no_arguments, in_argument, out_argument, inout_argument, count_of, received_count, location_count}
 use Rattle.program_trees.specs.ProgramTree.{LocalRowTree, BodyRowTree, CheckedTree}
-use Rattle.code_scheme.specs.Pieces.{Layout, pushes, copies_from, copies_code, check_code, tested, tested_in, bounds_of_value, prefix_code, routine_code, has_index, contents_code, offsets_kept, keep_code, kept_code, copies_out, kept_behind, lowest_in_row, rows_of}
+use Rattle.code_scheme.specs.Pieces.{Layout, pushes, copies_from, copies_code, check_code, tested, tested_in, bounds_of_value, prefix_code, routine_code, has_index, contents_code, offsets_kept, keep_code, kept_code, copies_out, kept_behind, lowest_in_row, lowest_as, rows_of}
+use Rattle.code_scheme.proofs.Lemmas.{fitted_length}
 use Rattle.code_scheme.specs.ExprSizes.{expr_size, operation_size, place_size, indices_size, received_size, received_sizes, members_size, start_size, call_size, arguments_size, copies_out_size}
 use Rattle.code_scheme.specs.ExprCode.{counts_of, expr_code, operation_code, place_code, indices_code, received_code, received_codes, members_code, start_code, call_code, arguments_code}
 use Rattle.code_scheme.specs.StatementSite.{parameter_scalars, call_results}
@@ -176,8 +177,9 @@ mutual
       let o = offsets_kept l in
       let p = at + place_size l in
       let q = p + o in
-      let values : List ℤ = lowest_in_row (slice_get rows k) in
-      let lowest = sized n (length-map values i.Push ∙ fits.1) (ends (ap (λ (x : ℕ). height + x) fits.1) (pushes_stretch (heads_of lay.program) body q height values)) in
+      let values : List ℤ = lowest_as n (slice_get rows k) in
+      let many : length values ≡ n = fitted_length n (lowest_in_row (slice_get rows k)) in
+      let lowest = sized n (length-map values i.Push ∙ many) (ends (ap (λ (x : ℕ). height + x) many) (pushes_stretch (heads_of lay.program) body q height values)) in
       let behind = join (heads_of lay.program) body p (height + o) (keep_code l kept) (pushes values) o n height (height + n) q (o + n) refl refl (keep_stretch (heads_of lay.program) body p height l kept) lowest in
       let first = join (heads_of lay.program) body at height (place_code lay kept l at) _ (place_size l) (o + n) (height + o) (height + n) p (place_size l + (o + n)) refl refl (place_stretch (heads_of lay.program) body at height lay kept b ps n (has_index ps) refl (λ some. first_indices lay body kept ps fits.0 some at height)) behind in
       join (heads_of lay.program) body at height _ _ (place_size l + (o + n)) (arguments_size as') (height + n) (height + (n + argument_scalars as')) (at + (place_size l + (o + n))) _ refl refl first

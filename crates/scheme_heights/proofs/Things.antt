@@ -14,7 +14,7 @@ use Rattle.code_types.specs.declared.instr.Instr.{Instr}
 use Rattle.code_types.specs.declared.instr.Instr.TheVariants as i
 use Rattle.program_trees.specs.ExprTree.{ExprTree, expr, OperationTree, constant, own_instance, contents, part_of, receive, start, call, powerset, parts, uniform, routine, get_int, prefixed, binary, ReceivedTree, received, ReceivedNodes, no_received, more_received, PartNodes, no_parts, field, element, RangeNodes, no_ranges, one_member, members, LocationTree, location, StartTree, started, CallTree, called, ArgumentNodes, no_arguments, in_argument, out_argument, inout_argument, count_of, received_count}
 use Rattle.program_trees.specs.ProgramTree.{LocalRowTree}
-use Rattle.code_scheme.specs.Pieces.{Layout, pushes, copies_from, copies_code, run_code, are_same, scalars_from, scalars_code, check_code, tested, tested_in, tested_out, tested_back, bounds_of_value, member_code, offset_code, member_or_none, bounds_to_test, between_code, between_size, behind_code, prefix_code, routine_code, branch_code, has_index, first_of_parts, first_at, needs_offset, contents_code, store_code, where_offset, has_offset, again_code, keep_code, kept_code, under_code, copy_out_code, copies_out, offsets_kept, kept_behind, lowest_in_row, rows_of}
+use Rattle.code_scheme.specs.Pieces.{Layout, pushes, copies_from, copies_code, run_code, are_same, scalars_from, scalars_code, check_code, tested, tested_in, tested_out, tested_back, bounds_of_value, member_code, offset_code, member_or_none, bounds_to_test, between_code, between_size, behind_code, prefix_code, routine_code, branch_code, has_index, first_of_parts, first_at, needs_offset, contents_code, store_code, where_offset, has_offset, again_code, keep_code, kept_code, under_code, copy_out_code, copies_out, offsets_kept, kept_behind, lowest_as, rows_of}
 use Rattle.code_scheme.specs.ExprSizes.{expr_size, place_size, received_size, sum_size}
 use Rattle.code_scheme.specs.ExprCode.{counts_of, sum_code, cut_code, member_offset, expr_code, operation_code, place_code, indices_code, received_code, received_codes, members_code, start_code, call_code, arguments_code}
 use Rattle.scheme_heights.specs.Things.{ArePairs, AreTriples, IsGiven, AreGiven}
@@ -247,7 +247,7 @@ mutual
   arguments_given lay rows k kept no_arguments at = none_given
   arguments_given lay rows k kept (in_argument r as') at = both_given _ _ (received_given lay kept r at) (arguments_given lay rows (k + 1) kept as' (at + received_size r))
   arguments_given lay rows k kept (out_argument (location b ps n) bounds as') at =
-      both_given _ _ (both_given _ _ (place_given_if lay kept b ps n at (indices_given lay kept true ps at)) (both_given _ _ (keep_given (location b ps n) kept) (pushes_given (lowest_in_row (slice_get rows k)))))
+      both_given _ _ (both_given _ _ (place_given_if lay kept b ps n at (indices_given lay kept true ps at)) (both_given _ _ (keep_given (location b ps n) kept) (pushes_given (lowest_as n (slice_get rows k)))))
       (arguments_given lay rows (k + 1) (kept + offsets_kept (location b ps n)) as' (at + (place_size (location b ps n) + (offsets_kept (location b ps n) + n))))
   arguments_given lay rows k kept (inout_argument l taken bounds as') at =
       both_given _ _ (both_given _ _ (place_given lay kept l at) (both_given _ _ (keep_given l kept) (both_given _ _ (kept_given l kept) (both_given _ _ (contents_given lay l) (check_given (tested_in taken bounds))))))

@@ -22,8 +22,8 @@ use Rattle.checked_program.specs.declared.statement.Handler.{Handler as CheckedH
 use Rattle.checked_program.specs.declared.statement.HandlerAlternative.{HandlerAlternative, out-HandlerAlternative}
 use Rattle.checked_program.specs.declared.statement.ReceiveAlternative.{ReceiveAlternative, out-ReceiveAlternative}
 use Rattle.checked_program.specs.declared.statement.Statement.{Statement, out-Statement}
-use Rattle.program_trees.specs.ExprTree.{ExprTree, expr_tree, boxed_expr, LocationTree}
-use Rattle.program_trees.specs.StatementTree.{StatementTree, statement, ActionTree, do_nothing, declare, set_lowest, module_at, region_at, assign, update, perform, drop_routine, evaluate, put_int, put_text, put_line, exit_from, return_with, set_result, assert_that, cause, stop, start_of, delay, continue_at, send, if_then, case_of, do_loop, begin_end, delay_case, receive_buffers, receive_signals, StatementNodes, no_statements, more_statements, ChoiceNodes, no_choices, more_choices, CaseNodes, no_cases, more_cases, DelayNodes, no_delays, more_delays, ReceiveNodes, no_receives, more_receives, OtherwiseNode, no_otherwise, otherwise, HandledNodes, no_handled, more_handled, HandlerNode, no_handler, handler, ControlTree, ChoiceTree, CaseTree, NumbersTree, ReceiveTree, statement_tree, action_tree, handler_tree, statements_of, handler_of, control_tree, set_tree}
+use Rattle.program_trees.specs.ExprTree.{ExprTree, expr_tree, LocationTree}
+use Rattle.program_trees.specs.StatementTree.{StatementTree, statement, ActionTree, do_nothing, declare, set_lowest, module_at, region_at, assign, update, perform, drop_routine, evaluate, put_int, put_text, put_line, exit_from, return_with, set_result, assert_that, cause, stop, start_of, delay, continue_at, send, if_then, case_of, do_loop, begin_end, delay_case, receive_buffers, receive_signals, StatementNodes, more_statements, ChoiceNodes, more_choices, CaseNodes, more_cases, DelayNodes, more_delays, ReceiveNodes, more_receives, OtherwiseNode, otherwise, HandledNodes, more_handled, HandlerNode, handler, ControlTree, ChoiceTree, CaseTree, NumbersTree, ReceiveTree, statement_tree, action_tree, handler_tree, statements_of, handler_of, control_tree, set_tree}
 use Rattle.code_scheme.specs.Pieces.{capped}
 use Rattle.code_scheme.specs.ExprSizes.{expr_size, condition_size}
 use Rattle.code_scheme.specs.ExprCode.{condition_code}
@@ -34,16 +34,16 @@ use Rattle.code_scheme.specs.StatementLoops.{before_turns, before_turns_size, tu
 use Rattle.code_scheme.specs.StatementWaits.{Receives, from_buffers, of_signals, has_else, chosen_in, delay_wait_code, delay_wait_size, receive_wait_code, receive_wait_size, is_chosen_code}
 use Rattle.code_scheme.specs.StatementSize.{labels_code, labels_size, turn_back_size, statements_size, statement_size, handler_size, handled_size, otherwise_size, action_size, choices_size, cases_size, delays_size, receives_size}
 use Rattle.code_scheme.specs.StatementCode.{CodeAt, no_code, no_label_code, joining, chosen, loop_code, turn_back_code, statements_code, statement_code, handler_code, handled_code, otherwise_code, action_code, choices_code, cases_code, delays_code, receives_code}
-use Rattle.code_scheme.specs.StatementRows.{RowsAt, no_rows, own_rows, statements_rows, statement_rows, handler_rows, handled_rows, otherwise_rows, action_rows, choices_rows, cases_rows, delays_rows, receives_rows}
+use Rattle.code_scheme.specs.StatementRows.{RowsAt, own_rows, statements_rows, statement_rows, handler_rows, handled_rows, otherwise_rows, action_rows, choices_rows, cases_rows, delays_rows, receives_rows}
 use Rattle.expr_gen.specs.declared.building.Draft.{Draft}
 use Rattle.expr_gen.specs.declared.frames.Site.{Site as RustSite}
 use Rattle.expr_gen.specs.Putting.{Appends}
 use Rattle.expr_gen.proofs.Appending.{nothing, and_then}
 use Rattle.expr_gen.proofs.Items.{item_at}
-use Rattle.stmt_gen.specs.Appending.{AppendsAt, AppendsRows}
+use Rattle.stmt_gen.specs.Appending.{AppendsAt, AppendsRows, StillTo}
 use Rattle.stmt_gen.specs.Constructs.{guarded_code, choice_code, receive_action_code, receive_action_rows}
 use Rattle.stmt_gen.specs.HandlerRows.{PutsRows}
-use Rattle.stmt_gen.specs.Holding.{site_around, PutsStatements, PutsStatement, PutsGuarded, PutsAction, PutsActionTo, PutsHandler, handled_parts, PutsHandled, PutsOtherwise, joined_size, PutsJoining, PutsChosen, choice_parts, PutsChoice, choices_parts, PutsChoices, cases_parts, PutsCases, loop_parts, PutsDo, PutsDelays, receives_parts, PutsReceives, PutsReceiveCase}
+use Rattle.stmt_gen.specs.Holding.{site_around, PutsStatements, PutsStatement, PutsGuarded, PutsAction, PutsActionTo, PutsHandler, handled_parts, PutsHandled, PutsJoining, PutsChosen, choice_parts, PutsChoice, choices_parts, PutsChoices, cases_parts, PutsCases, PutsDo, PutsDelays, receives_parts, PutsReceives, PutsReceiveCase}
 use Rattle.action_gen.specs.Putting.{standing_of, site_of, holds_statements, rows_of_handler}
 use Rattle.action_gen.specs.Receiving.{kind_of, waits_else}
 use Rattle.action_gen.specs.Trees.{choice_tree, case_tree, delay_tree, handled_tree, receive_tree, choices_of, cases_of, delays_of, receives_of, handled_of, else_of}
@@ -52,7 +52,7 @@ use Rattle.action_gen.specs.declared.around.Around.{Around}
 use Rattle.stmt_gen.specs.declared.statements.Kept.{Kept}
 use Rattle.stmt_gen.specs.declared.statements.Wait.{Wait}
 use Rattle.stmt_gen.proofs.Made.{next_statement, last_statement, guarded, unguarded, handling, next_handled, joined_on, chosen_on, next_choice, cased, next_case, waited, next_delay, next_receive}
-use Rattle.stmt_gen.proofs.Placing.{nothing_at, without_rows, then_at, told_as, StillTo, begin, end}
+use Rattle.stmt_gen.proofs.Placing.{nothing_at, without_rows, then_at, told_as, still_as, before_still, begin, end}
 use Rattle.action_gen.proofs.Views.{action_tree-If, action_tree-Case, action_tree-Do, action_tree-Begin, action_tree-DelayCase, action_tree-ReceiveBuffers, action_tree-ReceiveSignals, case_tree-out, choice_tree-out, delay_tree-out, handled_tree-out, receive_tree-out, handler_tree-out, statement_tree-out}
 
 -- ---- what is appended for nodes
@@ -75,6 +75,14 @@ AtHandler w h comes from x y =
 
 abbrev AtOtherwise : Standing → OtherwiseNode → CodeAt → ℕ → Code → Code → Type 0
 AtOtherwise w o none n x y = AppendsAt (otherwise_code w o none) (otherwise_size w.site o n) (otherwise_rows w.site o) x y
+
+-- what is done by ELSE, where it is written
+pub record PutsOtherwise (around : Around) (o : Option (List Statement)) (old new : Draft) : Type 0 where
+  pub puts : AtOtherwise (standing_of around) (else_of o) no_code 0 old.code new.code
+
+-- what is done where no label of a CASE holds its selector
+pub record PutsUnlabelled (around : Around) (o : Option (List Statement)) (old new : Draft) : Type 0 where
+  pub puts : AtOtherwise (standing_of around) (else_of o) no_label_code 1 old.code new.code
 
 -- sums of places
 behind_after : (x y first rest behind : ℕ) → behind ≡ x + (first + rest) → y ≡ x + first → behind ≡ y + rest
@@ -219,14 +227,14 @@ handler_node w hs o comes from until target behind {u} {x} {y} {z} until_is targ
     (subst (λ (k : ℕ). AppendsRows (own_rows w.site from (length u.instrs) hs o k) u x) target_is (subst (λ (k : ℕ). AppendsRows (own_rows w.site from k hs o target) u x) until_is own))
     over (rest place)
 
-pub handler_told : (around : Around) (h : CheckedHandler) (hs : List HandlerAlternative) (o : Option (List Statement)) (first : Span) (comes : Bool) (behind : ℕ) {u x y z : Draft}
+pub handler_told : (around : Around) (h : CheckedHandler) (hs : List HandlerAlternative) (o : Option (List Statement)) (first : Span) (comes : Bool) (behind : ℕ) {u x y v z : Draft}
     → hs ≡ (out-Handler h).alternatives → o ≡ (out-Handler h).otherwise
     → first.until ≡ length u.code.instrs → first.target ≡ length u.code.instrs + leave_size comes (handler_size (site_around around) (handler_tree h))
     → behind ≡ length u.code.instrs + (leave_size comes (handler_size (site_around around) (handler_tree h)) + handler_size (site_around around) (handler_tree h))
     → PutsRows around.site h first behind u x
     → ((rest : ℕ) → behind ≡ length x.code.instrs + (leave_size comes rest + rest) → Appends (leave_code comes rest behind) (leave_size comes rest) x.code y.code)
-    → PutsHandled around hs o behind y z → PutsHandler around h first.from comes u z
-handler_told around h hs o first comes behind {u} {x} {y} {z} hs_is o_is until target is rows jump rest =
+    → PutsHandled around hs behind y v → PutsOtherwise around o v z → PutsHandler around h first.from comes u z
+handler_told around h hs o first comes behind {u} {x} {y} {v} {z} hs_is o_is until target is rows jump rest last =
     let tree : handler_tree h ≡ handler (handled_of hs) (else_of o) = handler_tree-out h ∙ ap (λ (v : List HandlerAlternative). handler (handled_of v) (else_of (out-Handler h).otherwise)) (sym hs_is)
     ∙ ap (λ (v : Option (List Statement)). handler (handled_of hs) (else_of v)) (sym o_is) in
     record {
@@ -234,7 +242,7 @@ handler_told around h hs o first comes behind {u} {x} {y} {z} hs_is o_is until t
           → behind ≡ length u.code.instrs + (leave_size comes (handler_size (site_around around) t) + handler_size (site_around around) t)
           → (behind ≡ first.target + handler_size (site_around around) t → AppendsRows (rows_of_handler (site_around around) first.from first.until t first.target) u.code x.code)
           → AtHandler (standing_of around) t comes first.from u.code z.code) (sym tree)
-          (λ target_is is_there own. handler_node (standing_of around) (handled_of hs) (else_of o) comes first.from first.until first.target behind until target_is is_there own jump rest.puts) target is rows.puts;
+          (λ target_is is_there own. handler_node (standing_of around) (handled_of hs) (else_of o) comes first.from first.until first.target behind until target_is is_there own jump (λ place. end (rest.puts o place) last.puts)) target is rows.puts;
     }
 
 abbrev LeftHandled : Standing → HandledNodes → OtherwiseNode → ℕ → HandledNodes → Code → Code → Type 0
@@ -242,11 +250,11 @@ LeftHandled w all o behind hs x y =
     StillTo (handled_code w all behind (otherwise_size w.site o 0) (otherwise_code w o no_code)) (handled_size w.site all (otherwise_size w.site o 0)) (handled_rows w.site all (otherwise_size w.site o 0) (otherwise_rows w.site o))
     (handled_code w hs behind (otherwise_size w.site o 0) (otherwise_code w o no_code)) (handled_size w.site hs (otherwise_size w.site o 0)) (handled_rows w.site hs (otherwise_size w.site o 0) (otherwise_rows w.site o)) x y
 
-pub record HandledLeft (around : Around) (hs : List HandlerAlternative) (o : Option (List Statement)) (k behind : ℕ) (old now : Draft) : Type 0 where
-  pub left : behind ≡ length old.code.instrs + handled_parts around hs o → LeftHandled (standing_of around) (handled_of hs) (else_of o) behind (handled_of (drop k hs)) old.code now.code
+pub record HandledLeft (around : Around) (hs : List HandlerAlternative) (k behind : ℕ) (old now : Draft) : Type 0 where
+  pub left : (o : Option (List Statement)) → behind ≡ length old.code.instrs + handled_parts around hs o → LeftHandled (standing_of around) (handled_of hs) (else_of o) behind (handled_of (drop k hs)) old.code now.code
 
-pub handled_begin : (around : Around) (hs : List HandlerAlternative) (o : Option (List Statement)) (behind : ℕ) (x : Draft) → HandledLeft around hs o 0 behind x x
-handled_begin around hs o behind x = record { left = λ _. begin _ _ _ x.code }
+pub handled_begin : (around : Around) (hs : List HandlerAlternative) (behind : ℕ) (x : Draft) → HandledLeft around hs 0 behind x x
+handled_begin around hs behind x = record { left = λ _ _. begin _ _ _ x.code }
 
 handled_step : (w : Standing) (all hs : HandledNodes) (o : OtherwiseNode) (names : List ℕ) (ss : StatementNodes) (behind : ℕ) {x y z : Code}
     → behind ≡ length x.instrs + handled_size w.site all (otherwise_size w.site o 0)
@@ -258,22 +266,23 @@ handled_step w all hs o names ss behind {x} {y} {z} e p q =
     next_handled w names ss hs behind (otherwise_size w.site o 0) (otherwise_code w o no_code) (otherwise_rows w.site o) p
     (q (handled_size w.site hs (otherwise_size w.site o 0)) (e ∙ sym p.length))
 
-pub handled_turn : (around : Around) (hs : List HandlerAlternative) (o : Option (List Statement)) (k : ℕ) (it : HandlerAlternative) (ss : List Statement) (behind : ℕ) {x y z : Draft}
+pub handled_turn : (around : Around) (hs : List HandlerAlternative) (k : ℕ) (it : HandlerAlternative) (ss : List Statement) (behind : ℕ) {x y z : Draft}
     → k < length hs → it ≡ get_or hs k it → ss ≡ (out-HandlerAlternative it).actions
-    → HandledLeft around hs o k behind x y → PutsJoining around ss behind y z → HandledLeft around hs o (k + 1) behind x z
-handled_turn around hs o k it ss behind {x} {y} {z} h e ss_is p q =
+    → HandledLeft around hs k behind x y → PutsJoining around ss behind y z → HandledLeft around hs (k + 1) behind x z
+handled_turn around hs k it ss behind {x} {y} {z} h e ss_is p q =
     let own : (handled_tree it).actions ≡ statements_of ss = ap (λ (t : NumbersTree). t.actions) (handled_tree-out it) ∙ ap (λ (v : List Statement). statements_of v) (sym ss_is) in
     let tree : handled_of (drop k hs) ≡ more_handled (handled_tree it).numbers (statements_of ss) (handled_of (drop (k + 1) hs)) =
     ap handled_of (item_at hs k it h e) ∙ ap (λ (t : StatementNodes). more_handled (handled_tree it).numbers t (handled_of (drop (k + 1) hs))) own in
     record {
-      left = λ there. handled_step (standing_of around) (handled_of hs) (handled_of (drop (k + 1) hs)) (else_of o) (handled_tree it).numbers (statements_of ss) behind there
-          (subst (λ (t : HandledNodes). LeftHandled (standing_of around) (handled_of hs) (else_of o) behind t x.code y.code) tree (p.left there)) q.puts;
+      left = λ o there. handled_step (standing_of around) (handled_of hs) (handled_of (drop (k + 1) hs)) (else_of o) (handled_tree it).numbers (statements_of ss) behind there
+          (subst (λ (t : HandledNodes). LeftHandled (standing_of around) (handled_of hs) (else_of o) behind t x.code y.code) tree (p.left o there)) q.puts;
     }
 
-pub handled_end : (around : Around) (hs : List HandlerAlternative) (o : Option (List Statement)) (k behind : ℕ) {x y z : Draft} → length hs ≤ k
-    → HandledLeft around hs o k behind x y → PutsOtherwise around o y z → PutsHandled around hs o behind x z
-handled_end around hs o k behind {x} {y} {z} h p q = record {
-  puts = λ there. end (subst (λ (t : HandledNodes). LeftHandled (standing_of around) (handled_of hs) (else_of o) behind t x.code y.code) (at_drop_all handled_of hs k h) (p.left there)) (told_as _ _ _ refl refl refl q.puts);
+pub handled_end : (around : Around) (hs : List HandlerAlternative) (k behind : ℕ) {x y : Draft} → length hs ≤ k
+    → HandledLeft around hs k behind x y → PutsHandled around hs behind x y
+handled_end around hs k behind {x} {y} h p = record {
+  puts = λ o there. still_as _ _ _ _ _ _ refl refl refl refl refl refl
+      (subst (λ (t : HandledNodes). LeftHandled (standing_of around) (handled_of hs) (else_of o) behind t x.code y.code) (at_drop_all handled_of hs k h) (p.left o there));
 }
 
 -- ---- ELSE
@@ -290,6 +299,14 @@ else_told around o own ss some is p = record { puts = else_node (standing_of aro
 pub no_else : (around : Around) (o : Option (List Statement)) (x : Draft) → o ≡ None → PutsOtherwise around o x x
 no_else around o x none = record {
   puts = subst (λ (t : OtherwiseNode). AtOtherwise (standing_of around) t no_code 0 x.code x.code) (sym (ap (λ (v : Option (List Statement)). else_of v) none)) (told_as _ _ _ refl refl refl (nothing_at x.code));
+}
+
+pub else_unlabelled : (around : Around) (o : Option (List Statement)) (own ss : List Statement) {x y : Draft} → o ≡ Some own → ss ≡ own → PutsStatements around ss x y → PutsUnlabelled around o x y
+else_unlabelled around o own ss some is p = record { puts = else_node (standing_of around) (else_of o) (statements_of ss) no_label_code 1 (else_is o own ss some is) p.puts }
+
+pub raise_unlabelled : (around : Around) (o : Option (List Statement)) {x y : Draft} → o ≡ None → Appends (i.Raise 1 ∷ []) 1 x.code y.code → PutsUnlabelled around o x y
+raise_unlabelled around o {x} {y} none p = record {
+  puts = subst (λ (t : OtherwiseNode). AtOtherwise (standing_of around) t no_label_code 1 x.code y.code) (sym (ap (λ (v : Option (List Statement)). else_of v) none)) (told_as _ _ _ refl refl refl (without_rows no_label_code p));
 }
 
 -- ---- parts of which one is done
@@ -352,11 +369,11 @@ LeftChoices w all ss behind cs x y =
     StillTo (choices_code w all behind (statements_size w.site ss) (statements_code w ss)) (choices_size w.site all (statements_size w.site ss)) (choices_rows w.site all (statements_size w.site ss) (statements_rows w.site ss))
     (choices_code w cs behind (statements_size w.site ss) (statements_code w ss)) (choices_size w.site cs (statements_size w.site ss)) (choices_rows w.site cs (statements_size w.site ss) (statements_rows w.site ss)) x y
 
-pub record ChoicesLeft (around : Around) (cs : List Choice) (ss : List Statement) (k behind : ℕ) (old now : Draft) : Type 0 where
-  pub left : behind ≡ length old.code.instrs + choices_parts around cs ss → LeftChoices (standing_of around) (choices_of cs) (statements_of ss) behind (choices_of (drop k cs)) old.code now.code
+pub record ChoicesLeft (around : Around) (cs : List Choice) (k behind : ℕ) (old now : Draft) : Type 0 where
+  pub left : (ss : List Statement) → behind ≡ length old.code.instrs + choices_parts around cs ss → LeftChoices (standing_of around) (choices_of cs) (statements_of ss) behind (choices_of (drop k cs)) old.code now.code
 
-pub choices_begin : (around : Around) (cs : List Choice) (ss : List Statement) (behind : ℕ) (x : Draft) → ChoicesLeft around cs ss 0 behind x x
-choices_begin around cs ss behind x = record { left = λ _. begin _ _ _ x.code }
+pub choices_begin : (around : Around) (cs : List Choice) (behind : ℕ) (x : Draft) → ChoicesLeft around cs 0 behind x x
+choices_begin around cs behind x = record { left = λ _ _. begin _ _ _ x.code }
 
 choices_step : (w : Standing) (all cs : ChoiceNodes) (last : StatementNodes) (e : ExprTree) (ss : StatementNodes) (behind : ℕ) {x y z : Code}
     → behind ≡ length x.instrs + choices_size w.site all (statements_size w.site last)
@@ -367,19 +384,20 @@ choices_step : (w : Standing) (all cs : ChoiceNodes) (last : StatementNodes) (e 
 choices_step w all cs last e ss behind there p q =
     next_choice w e ss cs behind (statements_size w.site last) (statements_code w last) (statements_rows w.site last) p (q (choices_size w.site cs (statements_size w.site last)) (there ∙ sym p.length))
 
-pub choices_turn : (around : Around) (cs : List Choice) (ss : List Statement) (k : ℕ) (it : Choice) (behind : ℕ) {x y z : Draft} → k < length cs → it ≡ get_or cs k it
-    → ChoicesLeft around cs ss k behind x y → PutsChoice around it behind y z → ChoicesLeft around cs ss (k + 1) behind x z
-choices_turn around cs ss k it behind {x} {y} {z} h e p q =
+pub choices_turn : (around : Around) (cs : List Choice) (k : ℕ) (it : Choice) (behind : ℕ) {x y z : Draft} → k < length cs → it ≡ get_or cs k it
+    → ChoicesLeft around cs k behind x y → PutsChoice around it behind y z → ChoicesLeft around cs (k + 1) behind x z
+choices_turn around cs k it behind {x} {y} {z} h e p q =
     let tree : choices_of (drop k cs) ≡ more_choices (choice_tree it).condition (choice_tree it).actions (choices_of (drop (k + 1) cs)) = ap choices_of (item_at cs k it h e) in
     record {
-      left = λ there. choices_step (standing_of around) (choices_of cs) (choices_of (drop (k + 1) cs)) (statements_of ss) (choice_tree it).condition (choice_tree it).actions behind there
-          (subst (λ (t : ChoiceNodes). LeftChoices (standing_of around) (choices_of cs) (statements_of ss) behind t x.code y.code) tree (p.left there)) q.puts;
+      left = λ ss there. choices_step (standing_of around) (choices_of cs) (choices_of (drop (k + 1) cs)) (statements_of ss) (choice_tree it).condition (choice_tree it).actions behind there
+          (subst (λ (t : ChoiceNodes). LeftChoices (standing_of around) (choices_of cs) (statements_of ss) behind t x.code y.code) tree (p.left ss there)) q.puts;
     }
 
-pub choices_end : (around : Around) (cs : List Choice) (ss : List Statement) (k behind : ℕ) {x y z : Draft} → length cs ≤ k
-    → ChoicesLeft around cs ss k behind x y → PutsStatements around ss y z → PutsChoices around cs ss behind x z
-choices_end around cs ss k behind {x} {y} {z} h p q = record {
-  puts = λ there. end (subst (λ (t : ChoiceNodes). LeftChoices (standing_of around) (choices_of cs) (statements_of ss) behind t x.code y.code) (at_drop_all choices_of cs k h) (p.left there)) (told_as _ _ _ refl refl refl q.puts);
+pub choices_end : (around : Around) (cs : List Choice) (k behind : ℕ) {x y : Draft} → length cs ≤ k
+    → ChoicesLeft around cs k behind x y → PutsChoices around cs behind x y
+choices_end around cs k behind {x} {y} h p = record {
+  puts = λ ss there. still_as _ _ _ _ _ _ refl refl refl refl refl refl
+      (subst (λ (t : ChoiceNodes). LeftChoices (standing_of around) (choices_of cs) (statements_of ss) behind t x.code y.code) (at_drop_all choices_of cs k h) (p.left ss there));
 }
 
 -- ---- CASE
@@ -389,11 +407,11 @@ LeftCases w all o behind cs x y =
     StillTo (cases_code w all behind (otherwise_size w.site o 1) (otherwise_code w o no_label_code)) (cases_size w.site all (otherwise_size w.site o 1)) (cases_rows w.site all (otherwise_size w.site o 1) (otherwise_rows w.site o))
     (cases_code w cs behind (otherwise_size w.site o 1) (otherwise_code w o no_label_code)) (cases_size w.site cs (otherwise_size w.site o 1)) (cases_rows w.site cs (otherwise_size w.site o 1) (otherwise_rows w.site o)) x y
 
-pub record CasesLeft (around : Around) (cs : List CaseAlternative) (o : Option (List Statement)) (k behind : ℕ) (old now : Draft) : Type 0 where
-  pub left : behind ≡ length old.code.instrs + cases_parts around cs o → LeftCases (standing_of around) (cases_of cs) (else_of o) behind (cases_of (drop k cs)) old.code now.code
+pub record CasesLeft (around : Around) (cs : List CaseAlternative) (k behind : ℕ) (old now : Draft) : Type 0 where
+  pub left : (o : Option (List Statement)) → behind ≡ length old.code.instrs + cases_parts around cs o → LeftCases (standing_of around) (cases_of cs) (else_of o) behind (cases_of (drop k cs)) old.code now.code
 
-pub cases_begin : (around : Around) (cs : List CaseAlternative) (o : Option (List Statement)) (behind : ℕ) (x : Draft) → CasesLeft around cs o 0 behind x x
-cases_begin around cs o behind x = record { left = λ _. begin _ _ _ x.code }
+pub cases_begin : (around : Around) (cs : List CaseAlternative) (behind : ℕ) (x : Draft) → CasesLeft around cs 0 behind x x
+cases_begin around cs behind x = record { left = λ _ _. begin _ _ _ x.code }
 
 cases_step : (w : Standing) (all cs : CaseNodes) (o : OtherwiseNode) (labels : List Bounds) (ss : StatementNodes) (behind : ℕ) {x y1 y2 z : Code}
     → behind ≡ length x.instrs + cases_size w.site all (otherwise_size w.site o 1)
@@ -412,34 +430,26 @@ cases_step w all cs o labels ss behind {x} {y1} {y2} {z} there p l q =
 abbrev case_of_parts : List Bounds → StatementNodes → CaseTree
 case_of_parts labels ss = record { labels = labels; actions = ss }
 
-pub cases_turn : (around : Around) (cs : List CaseAlternative) (o : Option (List Statement)) (k : ℕ) (it : CaseAlternative) (labels : List Bounds) (ss : List Statement) (behind : ℕ) {x y1 y2 z : Draft}
+pub cases_turn : (around : Around) (cs : List CaseAlternative) (k : ℕ) (it : CaseAlternative) (labels : List Bounds) (ss : List Statement) (behind : ℕ) {x y1 y2 z : Draft}
     → k < length cs → it ≡ get_or cs k it → labels ≡ (out-CaseAlternative it).labels → ss ≡ (out-CaseAlternative it).actions
-    → CasesLeft around cs o k behind x y1 → Appends (labels_code around.free labels) (labels_size labels) y1.code y2.code → PutsChosen around ss behind y2 z
-    → CasesLeft around cs o (k + 1) behind x z
-cases_turn around cs o k it labels ss behind {x} {y1} {y2} {z} h e labels_are ss_is p l q =
+    → CasesLeft around cs k behind x y1 → Appends (labels_code around.free labels) (labels_size labels) y1.code y2.code → PutsChosen around ss behind y2 z
+    → CasesLeft around cs (k + 1) behind x z
+cases_turn around cs k it labels ss behind {x} {y1} {y2} {z} h e labels_are ss_is p l q =
     let own : case_tree it ≡ record { labels = labels; actions = statements_of ss } = case_tree-out it
     ∙ ap (λ (v : List Bounds). case_of_parts v (statements_of (out-CaseAlternative it).actions)) (sym labels_are) ∙ ap (λ (v : List Statement). case_of_parts labels (statements_of v)) (sym ss_is) in
     let tree : cases_of (drop k cs) ≡ more_cases labels (statements_of ss) (cases_of (drop (k + 1) cs)) =
     ap cases_of (item_at cs k it h e) ∙ ap (λ (t : CaseTree). more_cases t.labels t.actions (cases_of (drop (k + 1) cs))) own in
     record {
-      left = λ there. cases_step (standing_of around) (cases_of cs) (cases_of (drop (k + 1) cs)) (else_of o) labels (statements_of ss) behind there
-          (subst (λ (t : CaseNodes). LeftCases (standing_of around) (cases_of cs) (else_of o) behind t x.code y1.code) tree (p.left there)) l q.puts;
+      left = λ o there. cases_step (standing_of around) (cases_of cs) (cases_of (drop (k + 1) cs)) (else_of o) labels (statements_of ss) behind there
+          (subst (λ (t : CaseNodes). LeftCases (standing_of around) (cases_of cs) (else_of o) behind t x.code y1.code) tree (p.left o there)) l q.puts;
     }
 
-cases_end : (around : Around) (cs : List CaseAlternative) (o : Option (List Statement)) (k behind : ℕ) {x y z : Draft} → length cs ≤ k
-    → CasesLeft around cs o k behind x y → AtOtherwise (standing_of around) (else_of o) no_label_code 1 y.code z.code → PutsCases around cs o behind x z
-cases_end around cs o k behind {x} {y} {z} h p q = record {
-  puts = λ there. end (subst (λ (t : CaseNodes). LeftCases (standing_of around) (cases_of cs) (else_of o) behind t x.code y.code) (at_drop_all cases_of cs k h) (p.left there)) (told_as _ _ _ refl refl refl q);
+pub cases_end : (around : Around) (cs : List CaseAlternative) (k behind : ℕ) {x y : Draft} → length cs ≤ k
+    → CasesLeft around cs k behind x y → PutsCases around cs behind x y
+cases_end around cs k behind {x} {y} h p = record {
+  puts = λ o there. still_as _ _ _ _ _ _ refl refl refl refl refl refl
+      (subst (λ (t : CaseNodes). LeftCases (standing_of around) (cases_of cs) (else_of o) behind t x.code y.code) (at_drop_all cases_of cs k h) (p.left o there));
 }
-
-pub cases_else : (around : Around) (cs : List CaseAlternative) (o : Option (List Statement)) (own ss : List Statement) (k behind : ℕ) {x y z : Draft} → length cs ≤ k → o ≡ Some own → ss ≡ own
-    → CasesLeft around cs o k behind x y → PutsStatements around ss y z → PutsCases around cs o behind x z
-cases_else around cs o own ss k behind h some is p q = cases_end around cs o k behind h p (else_node (standing_of around) (else_of o) (statements_of ss) no_label_code 1 (else_is o own ss some is) q.puts)
-
-pub cases_raise : (around : Around) (cs : List CaseAlternative) (o : Option (List Statement)) (k behind : ℕ) {x y z : Draft} → length cs ≤ k → o ≡ None
-    → CasesLeft around cs o k behind x y → Appends (i.Raise 1 ∷ []) 1 y.code z.code → PutsCases around cs o behind x z
-cases_raise around cs o k behind {x} {y} {z} h none p q = cases_end around cs o k behind h p
-    (subst (λ (t : OtherwiseNode). AtOtherwise (standing_of around) t no_label_code 1 y.code z.code) (sym (ap (λ (v : Option (List Statement)). else_of v) none)) (told_as _ _ _ refl refl refl (without_rows no_label_code q)))
 
 -- ---- DO
 
@@ -541,12 +551,12 @@ LeftReceives w all o kept behind k rs x y =
     StillTo (receives_code w kept 0 all behind (otherwise_size w.site o 0) (otherwise_code w o no_code)) (receives_size w.site all (otherwise_size w.site o 0)) (receives_rows w.site all (otherwise_size w.site o 0) (otherwise_rows w.site o))
     (receives_code w kept k rs behind (otherwise_size w.site o 0) (otherwise_code w o no_code)) (receives_size w.site rs (otherwise_size w.site o 0)) (receives_rows w.site rs (otherwise_size w.site o 0) (otherwise_rows w.site o)) x y
 
-pub record ReceivesLeft (around : Around) (rs : List ReceiveAlternative) (o : Option (List Statement)) (kept : Kept) (k : ℕ) (old now : Draft) : Type 0 where
-  pub left : kept.behind ≡ length old.code.instrs + receives_parts around rs o
+pub record ReceivesLeft (around : Around) (rs : List ReceiveAlternative) (kept : Kept) (k : ℕ) (old now : Draft) : Type 0 where
+  pub left : (o : Option (List Statement)) → kept.behind ≡ length old.code.instrs + receives_parts around rs o
       → LeftReceives (standing_of around) (receives_of rs) (else_of o) kept.chosen kept.behind k (receives_of (drop k rs)) old.code now.code
 
-pub receives_begin : (around : Around) (rs : List ReceiveAlternative) (o : Option (List Statement)) (kept : Kept) (x : Draft) → ReceivesLeft around rs o kept 0 x x
-receives_begin around rs o kept x = record { left = λ _. begin _ _ _ x.code }
+pub receives_begin : (around : Around) (rs : List ReceiveAlternative) (kept : Kept) (x : Draft) → ReceivesLeft around rs kept 0 x x
+receives_begin around rs kept x = record { left = λ _ _. begin _ _ _ x.code }
 
 receives_step : (w : Standing) (all rs : ReceiveNodes) (o : OtherwiseNode) (kept k source : ℕ) (ks : List ℕ) (ss : StatementNodes) (behind : ℕ) {x y1 y2 z : Code}
     → behind ≡ length x.instrs + receives_size w.site all (otherwise_size w.site o 0) → LeftReceives w all o kept behind k (more_receives source ks ss rs) x y1
@@ -557,65 +567,76 @@ receives_step w all rs o kept k source ks ss behind {x} {y1} {y2} {z} there p t 
     next_receive w kept k source ks ss rs behind (otherwise_size w.site o 0) (otherwise_code w o no_code) (otherwise_rows w.site o) p
     (waited w kept k ss (receives_size w.site rs (otherwise_size w.site o 0)) behind t (q (receives_size w.site rs (otherwise_size w.site o 0)) (omega (arith, there, left, t.length))))
 
-pub receives_turn : (around : Around) (rs : List ReceiveAlternative) (o : Option (List Statement)) (kept : Kept) (k : ℕ) (it : ReceiveAlternative) (ss : List Statement) {x y1 y2 z : Draft}
+pub receives_turn : (around : Around) (rs : List ReceiveAlternative) (kept : Kept) (k : ℕ) (it : ReceiveAlternative) (ss : List Statement) {x y1 y2 z : Draft}
     → k < length rs → it ≡ get_or rs k it → ss ≡ (out-ReceiveAlternative it).actions
-    → ReceivesLeft around rs o kept k x y1 → Appends (is_chosen_code kept.chosen k) 3 y1.code y2.code → PutsChosen around ss kept.behind y2 z → ReceivesLeft around rs o kept (k + 1) x z
-receives_turn around rs o kept k it ss {x} {y1} {y2} {z} h e ss_is p t q =
+    → ReceivesLeft around rs kept k x y1 → Appends (is_chosen_code kept.chosen k) 3 y1.code y2.code → PutsChosen around ss kept.behind y2 z → ReceivesLeft around rs kept (k + 1) x z
+receives_turn around rs kept k it ss {x} {y1} {y2} {z} h e ss_is p t q =
     let own : (receive_tree it).actions ≡ statements_of ss = ap (λ (t : ReceiveTree). t.actions) (receive_tree-out it) ∙ ap (λ (v : List Statement). statements_of v) (sym ss_is) in
     let tree : receives_of (drop k rs) ≡ more_receives (receive_tree it).source (receive_tree it).received (statements_of ss) (receives_of (drop (k + 1) rs)) =
     ap receives_of (item_at rs k it h e) ∙ ap (λ (t : StatementNodes). more_receives (receive_tree it).source (receive_tree it).received t (receives_of (drop (k + 1) rs))) own in
     let one : suc k ≡ k + 1 = omega arith in
     record {
-      left = λ there. subst (λ (j : ℕ). LeftReceives (standing_of around) (receives_of rs) (else_of o) kept.chosen kept.behind j (receives_of (drop (k + 1) rs)) x.code z.code) one
+      left = λ o there. subst (λ (j : ℕ). LeftReceives (standing_of around) (receives_of rs) (else_of o) kept.chosen kept.behind j (receives_of (drop (k + 1) rs)) x.code z.code) one
           (receives_step (standing_of around) (receives_of rs) (receives_of (drop (k + 1) rs)) (else_of o) kept.chosen k (receive_tree it).source (receive_tree it).received (statements_of ss) kept.behind there
-          (subst (λ (t : ReceiveNodes). LeftReceives (standing_of around) (receives_of rs) (else_of o) kept.chosen kept.behind k t x.code y1.code) tree (p.left there)) t q.puts);
+          (subst (λ (t : ReceiveNodes). LeftReceives (standing_of around) (receives_of rs) (else_of o) kept.chosen kept.behind k t x.code y1.code) tree (p.left o there)) t q.puts);
     }
 
-pub receives_end : (around : Around) (rs : List ReceiveAlternative) (o : Option (List Statement)) (kept : Kept) (k : ℕ) {x y z : Draft} → length rs ≤ k
-    → ReceivesLeft around rs o kept k x y → PutsOtherwise around o y z → PutsReceives around rs o kept x z
-receives_end around rs o kept k {x} {y} {z} h p q = record {
-  puts = λ there. end (subst (λ (t : ReceiveNodes). LeftReceives (standing_of around) (receives_of rs) (else_of o) kept.chosen kept.behind k t x.code y.code) (at_drop_all receives_of rs k h) (p.left there)) (told_as _ _ _ refl refl refl q.puts);
+pub receives_end : (around : Around) (rs : List ReceiveAlternative) (kept : Kept) (k : ℕ) {x y : Draft} → length rs ≤ k
+    → ReceivesLeft around rs kept k x y → PutsReceives around rs kept x y
+receives_end around rs kept k {x} {y} h p = record {
+  puts = λ o there. still_as _ _ _ _ _ _ refl refl refl refl refl refl
+      (subst (λ (t : ReceiveNodes). LeftReceives (standing_of around) (receives_of rs) (else_of o) kept.chosen kept.behind k t x.code y.code) (at_drop_all receives_of rs k h) (p.left o there));
 }
+
+-- all alternatives are put, and ELSE is left
+abbrev AllReceives : Standing → ReceiveNodes → OtherwiseNode → ℕ → ℕ → Code → Code → Type 0
+AllReceives w rs o kept behind x y =
+    StillTo (receives_code w kept 0 rs behind (otherwise_size w.site o 0) (otherwise_code w o no_code)) (receives_size w.site rs (otherwise_size w.site o 0)) (receives_rows w.site rs (otherwise_size w.site o 0) (otherwise_rows w.site o))
+    (otherwise_code w o no_code) (otherwise_size w.site o 0) (otherwise_rows w.site o) x y
 
 -- the wait and the alternatives
 abbrev AtReceiving : Standing → Receives → Option LocationTree → ReceiveNodes → OtherwiseNode → Code → Code → Type 0
 AtReceiving w kind set rs o x y =
     AppendsAt (receive_action_code w kind set rs o) (receive_wait_size set rs (has_else o) + receives_size w.site rs (otherwise_size w.site o 0)) (receive_action_rows w.site set rs o) x y
 
+-- ELSE is left
+abbrev ReceivingTo : Standing → Receives → Option LocationTree → ReceiveNodes → OtherwiseNode → Code → Code → Type 0
+ReceivingTo w kind set rs o x y =
+    StillTo (receive_action_code w kind set rs o) (receive_wait_size set rs (has_else o) + receives_size w.site rs (otherwise_size w.site o 0)) (receive_action_rows w.site set rs o)
+    (otherwise_code w o no_code) (otherwise_size w.site o 0) (otherwise_rows w.site o) x y
+
 receive_node : (w : Standing) (kind : Receives) (set : Option LocationTree) (rs : ReceiveNodes) (o : OtherwiseNode) (behind nothing_at : ℕ) {x y z : Code}
     → behind ≡ length x.instrs + (receive_wait_size set rs (has_else o) + receives_size w.site rs (otherwise_size w.site o 0))
     → nothing_at ≡ behind - otherwise_size w.site o 0
     → Appends (receive_wait_code w kind set rs (has_else o) nothing_at (length x.instrs)) (receive_wait_size set rs (has_else o)) x y
-    → AppendsAt (receives_code w (chosen_in w.free set) 0 rs behind (otherwise_size w.site o 0) (otherwise_code w o no_code)) (receives_size w.site rs (otherwise_size w.site o 0)) (receives_rows w.site rs (otherwise_size w.site o 0) (otherwise_rows w.site o)) y z
-    → AtReceiving w kind set rs o x z
+    → AllReceives w rs o (chosen_in w.free set) behind y z
+    → ReceivingTo w kind set rs o x z
 receive_node w from_buffers set rs o behind nothing_at {x} {y} {z} there is p q =
     let to = is ∙ ap (λ (k : ℕ). k - otherwise_size w.site o 0) there in
     let p1 = subst (λ (k : ℕ). Appends (receive_wait_code w from_buffers set rs (has_else o) k (length x.instrs)) (receive_wait_size set rs (has_else o)) x y) to p in
-    let q1 = subst (λ (k : ℕ). AppendsAt (receives_code w (chosen_in w.free set) 0 rs k (otherwise_size w.site o 0) (otherwise_code w o no_code)) (receives_size w.site rs (otherwise_size w.site o 0)) (receives_rows w.site rs (otherwise_size w.site o 0) (otherwise_rows w.site o)) y z) there q in
-    told_as _ _ _ refl refl refl
-    (then_at (without_rows (λ at. receive_wait_code w from_buffers set rs (has_else o) ((at + (receive_wait_size set rs (has_else o) + receives_size w.site rs (otherwise_size w.site o 0))) - otherwise_size w.site o 0) at) p1) q1)
+    let q1 = subst (λ (k : ℕ). AllReceives w rs o (chosen_in w.free set) k y z) there q in
+    still_as _ _ _ _ _ _ refl refl refl refl refl refl
+    (before_still (without_rows (λ at. receive_wait_code w from_buffers set rs (has_else o) ((at + (receive_wait_size set rs (has_else o) + receives_size w.site rs (otherwise_size w.site o 0))) - otherwise_size w.site o 0) at) p1) q1)
 receive_node w of_signals set rs o behind nothing_at {x} {y} {z} there is p q =
     let to = is ∙ ap (λ (k : ℕ). k - otherwise_size w.site o 0) there in
     let p1 = subst (λ (k : ℕ). Appends (receive_wait_code w of_signals set rs (has_else o) k (length x.instrs)) (receive_wait_size set rs (has_else o)) x y) to p in
-    let q1 = subst (λ (k : ℕ). AppendsAt (receives_code w (chosen_in w.free set) 0 rs k (otherwise_size w.site o 0) (otherwise_code w o no_code)) (receives_size w.site rs (otherwise_size w.site o 0)) (receives_rows w.site rs (otherwise_size w.site o 0) (otherwise_rows w.site o)) y z) there q in
-    told_as _ _ _ refl refl refl
-    (then_at (without_rows (λ at. receive_wait_code w of_signals set rs (has_else o) ((at + (receive_wait_size set rs (has_else o) + receives_size w.site rs (otherwise_size w.site o 0))) - otherwise_size w.site o 0) at) p1) q1)
+    let q1 = subst (λ (k : ℕ). AllReceives w rs o (chosen_in w.free set) k y z) there q in
+    still_as _ _ _ _ _ _ refl refl refl refl refl refl
+    (before_still (without_rows (λ at. receive_wait_code w of_signals set rs (has_else o) ((at + (receive_wait_size set rs (has_else o) + receives_size w.site rs (otherwise_size w.site o 0))) - otherwise_size w.site o 0) at) p1) q1)
 
 pub receive_told : (around : Around) (rs : List ReceiveAlternative) (o : Option (List Statement)) (wait : Wait) (kept : Kept) (last nothing_at : ℕ) {x y z : Draft}
     → wait.behind ≤ 4294967295 → last ≡ capped (otherwise_size (site_around around) (else_of o) 0) → nothing_at ≡ wait.behind - last
     → kept.chosen ≡ chosen_in around.free (set_tree wait.set.now) → kept.behind ≡ wait.behind
     → Appends (receive_wait_code (standing_of around) (kind_of wait.receives) (set_tree wait.set.now) (receives_of rs) (waits_else wait.receives) nothing_at (length x.code.instrs)) (receive_wait_size (set_tree wait.set.now) (receives_of rs) (waits_else wait.receives)) x.code y.code
-    → PutsReceives around rs o kept y z → PutsReceiveCase around rs o wait x z
+    → PutsReceives around rs kept y z → PutsReceiveCase around rs o wait x z
 receive_told around rs o wait kept last nothing_at {x} {y} {z} fits last_is is chosen_is behind_is p q =
     let at_nothing : nothing_at ≡ wait.behind - otherwise_size (site_around around) (else_of o) 0 = omega (arith, fits, last_is, is) in
     record {
       puts = λ same there.
           let p1 = subst (λ (b : Bool). Appends (receive_wait_code (standing_of around) (kind_of wait.receives) (set_tree wait.set.now) (receives_of rs) b nothing_at (length x.code.instrs)) (receive_wait_size (set_tree wait.set.now) (receives_of rs) b) x.code y.code) same p in
-          let q1 = q.puts (behind_is ∙ behind_after (length x.code.instrs) (length y.code.instrs) _ _ wait.behind there p1.length) in
-          let q2 = subst (λ (k : ℕ). AppendsAt (receives_code (standing_of around) k 0 (receives_of rs) kept.behind (otherwise_size (site_around around) (else_of o) 0) (otherwise_code (standing_of around) (else_of o) no_code))
-          (receives_parts around rs o) (receives_rows (site_around around) (receives_of rs) (otherwise_size (site_around around) (else_of o) 0) (otherwise_rows (site_around around) (else_of o))) y.code z.code) chosen_is q1 in
-          let q3 = subst (λ (k : ℕ). AppendsAt (receives_code (standing_of around) (chosen_in around.free (set_tree wait.set.now)) 0 (receives_of rs) k (otherwise_size (site_around around) (else_of o) 0) (otherwise_code (standing_of around) (else_of o) no_code))
-          (receives_parts around rs o) (receives_rows (site_around around) (receives_of rs) (otherwise_size (site_around around) (else_of o) 0) (otherwise_rows (site_around around) (else_of o))) y.code z.code) behind_is q2 in
+          let q1 = q.puts o (behind_is ∙ behind_after (length x.code.instrs) (length y.code.instrs) _ _ wait.behind there p1.length) in
+          let q2 = subst (λ (k : ℕ). AllReceives (standing_of around) (receives_of rs) (else_of o) k kept.behind y.code z.code) chosen_is q1 in
+          let q3 = subst (λ (k : ℕ). AllReceives (standing_of around) (receives_of rs) (else_of o) (chosen_in around.free (set_tree wait.set.now)) k y.code z.code) behind_is q2 in
           receive_node (standing_of around) (kind_of wait.receives) (set_tree wait.set.now) (receives_of rs) (else_of o) wait.behind nothing_at there at_nothing p1 q3;
     }
 
@@ -677,11 +698,11 @@ if_node : (w : Standing) (cs : ChoiceNodes) (ss : StatementNodes) (behind : ℕ)
     → AtAction w (if_then cs ss) x y
 if_node w cs ss behind {x} e p = told_as _ _ _ (ap (λ (k : ℕ). choices_code w cs k (statements_size w.site ss) (statements_code w ss) (length x.instrs)) e) refl refl p
 
-pub if_told : (around : Around) (a : Action) (own_cs cs : List Choice) (own_ss ss : List Statement) (behind : ℕ) {x y : Draft} → a ≡ actions.If own_cs own_ss → cs ≡ own_cs → ss ≡ own_ss
-    → PutsChoices around cs ss behind x y → PutsActionTo around a behind x y
-if_told around a own_cs cs own_ss ss behind is cs_are ss_are p =
+pub if_told : (around : Around) (a : Action) (own_cs cs : List Choice) (own_ss ss : List Statement) (behind : ℕ) {x y z : Draft} → a ≡ actions.If own_cs own_ss → cs ≡ own_cs → ss ≡ own_ss
+    → PutsChoices around cs behind x y → PutsStatements around ss y z → PutsActionTo around a behind x z
+if_told around a own_cs cs own_ss ss behind is cs_are ss_are p q =
     let tree = ap action_tree is ∙ action_tree-If own_cs own_ss ∙ ap (λ (v : List Choice). if_then (choices_of v) (statements_of own_ss)) (sym cs_are) ∙ ap (λ (v : List Statement). if_then (choices_of cs) (statements_of v)) (sym ss_are) in
-    of_tree around a (if_then (choices_of cs) (statements_of ss)) behind tree (λ there. if_node (standing_of around) (choices_of cs) (statements_of ss) behind there (p.puts there))
+    of_tree around a (if_then (choices_of cs) (statements_of ss)) behind tree (λ there. if_node (standing_of around) (choices_of cs) (statements_of ss) behind there (end (p.puts ss there) q.puts))
 
 pub do_told : (around : Around) (a : Action) (boxed : Box Control Global) (c : Control) (own ss : List Statement) (behind : ℕ) {x y : Draft} → a ≡ actions.Do boxed own → c ≡ boxed.value → ss ≡ own
     → PutsDo around c ss behind x y → PutsActionTo around a behind x y
@@ -704,17 +725,17 @@ case_node w e cs o behind {x} {y} {z} there p q =
     let q1 = subst (λ (k : ℕ). AppendsAt (cases_code w cs k (otherwise_size w.site o 1) (otherwise_code w o no_label_code)) (cases_size w.site cs (otherwise_size w.site o 1)) (cases_rows w.site cs (otherwise_size w.site o 1) (otherwise_rows w.site o)) y z) there q in
     told_as _ _ _ refl (omega arith) refl (then_at (without_rows (λ at. taken_by w e (i.SetLocal w.free 1) at) p) q1)
 
-pub case_told : (around : Around) (a : Action) (boxed : Box Expr Global) (e : Expr) (own_cs cs : List CaseAlternative) (own_o o : Option (List Statement)) (behind : ℕ) {x y z : Draft}
+pub case_told : (around : Around) (a : Action) (boxed : Box Expr Global) (e : Expr) (own_cs cs : List CaseAlternative) (own_o o : Option (List Statement)) (behind : ℕ) {x y v z : Draft}
     → a ≡ actions.Case boxed own_cs own_o → e ≡ boxed.value → cs ≡ own_cs → o ≡ own_o
     → Appends (taken_by (standing_of around) (expr_tree e) (i.SetLocal around.free 1) (length x.code.instrs)) (expr_size (expr_tree e) + 1) x.code y.code
-    → PutsCases around cs o behind y z → PutsActionTo around a behind x z
-case_told around a boxed e own_cs cs own_o o behind {x} {y} {z} is e_is cs_are o_is p q =
+    → PutsCases around cs behind y v → PutsUnlabelled around o v z → PutsActionTo around a behind x z
+case_told around a boxed e own_cs cs own_o o behind {x} {y} {v} {z} is e_is cs_are o_is p q last =
     let tree = ap action_tree is ∙ action_tree-Case boxed own_cs own_o ∙ ap (λ (v : Expr). case_of (expr_tree v) (cases_of own_cs) (else_of own_o)) (sym e_is)
     ∙ ap (λ (v : List CaseAlternative). case_of (expr_tree e) (cases_of v) (else_of own_o)) (sym cs_are) ∙ ap (λ (v : Option (List Statement)). case_of (expr_tree e) (cases_of cs) (else_of v)) (sym o_is) in
     of_tree around a (case_of (expr_tree e) (cases_of cs) (else_of o)) behind tree
     (λ there.
     let place : behind ≡ length y.code.instrs + cases_parts around cs o = case_place behind (length x.code.instrs) (length y.code.instrs) (expr_size (expr_tree e)) (cases_parts around cs o) there p.length in
-    case_node (standing_of around) (expr_tree e) (cases_of cs) (else_of o) behind there p (q.puts place))
+    case_node (standing_of around) (expr_tree e) (cases_of cs) (else_of o) behind there p (end (q.puts o place) last.puts))
 
 delay_node : (w : Standing) (set : Option LocationTree) (priority : ℕ) (ds : DelayNodes) (behind : ℕ) {x y z : Code}
     → behind ≡ length x.instrs + (delay_wait_size set ds + delays_size w.site ds)
@@ -738,23 +759,23 @@ delay_told around a set priority own es ds kept behind {x} {y} {z} is es_are ds_
     let q2 = subst (λ (k : ℕ). AppendsAt (delays_code (standing_of around) k 0 (delays_of ds) behind) (delays_size (site_around around) (delays_of ds)) (delays_rows (site_around around) (delays_of ds)) y.code z.code) kept_is q1 in
     delay_node (standing_of around) (set_tree set) priority (delays_of ds) behind there p q2)
 
-pub buffers_told : (around : Around) (a : Action) (own_rs rs : List ReceiveAlternative) (own_o o : Option (List Statement)) (wait : Wait) {x y : Draft}
+pub buffers_told : (around : Around) (a : Action) (own_rs rs : List ReceiveAlternative) (own_o o : Option (List Statement)) (wait : Wait) {x y z : Draft}
     → a ≡ actions.ReceiveBuffers wait.set.now own_rs own_o → rs ≡ own_rs → o ≡ own_o → kind_of wait.receives ≡ from_buffers → waits_else wait.receives ≡ has_else (else_of o)
-    → PutsReceiveCase around rs o wait x y → PutsActionTo around a wait.behind x y
-buffers_told around a own_rs rs own_o o wait {x} {y} is rs_are o_is kind same p =
+    → PutsReceiveCase around rs o wait x y → PutsOtherwise around o y z → PutsActionTo around a wait.behind x z
+buffers_told around a own_rs rs own_o o wait {x} {y} {z} is rs_are o_is kind same p q =
     let tree = ap action_tree is ∙ action_tree-ReceiveBuffers wait.set.now own_rs own_o ∙ ap (λ (v : List ReceiveAlternative). receive_buffers (set_tree wait.set.now) (receives_of v) (else_of own_o)) (sym rs_are)
     ∙ ap (λ (v : Option (List Statement)). receive_buffers (set_tree wait.set.now) (receives_of rs) (else_of v)) (sym o_is) in
     of_tree around a (receive_buffers (set_tree wait.set.now) (receives_of rs) (else_of o)) wait.behind tree
-    (λ there. told_as _ _ _ refl refl refl (subst (λ (k : Receives). AtReceiving (standing_of around) k (set_tree wait.set.now) (receives_of rs) (else_of o) x.code y.code) kind (p.puts same there)))
+    (λ there. told_as _ _ _ refl refl refl (subst (λ (k : Receives). AtReceiving (standing_of around) k (set_tree wait.set.now) (receives_of rs) (else_of o) x.code z.code) kind (end (p.puts same there) q.puts)))
 
-pub signals_told : (around : Around) (a : Action) (own_rs rs : List ReceiveAlternative) (own_o o : Option (List Statement)) (wait : Wait) {x y : Draft}
+pub signals_told : (around : Around) (a : Action) (own_rs rs : List ReceiveAlternative) (own_o o : Option (List Statement)) (wait : Wait) {x y z : Draft}
     → a ≡ actions.ReceiveSignals wait.set.now own_rs own_o → rs ≡ own_rs → o ≡ own_o → kind_of wait.receives ≡ of_signals → waits_else wait.receives ≡ has_else (else_of o)
-    → PutsReceiveCase around rs o wait x y → PutsActionTo around a wait.behind x y
-signals_told around a own_rs rs own_o o wait {x} {y} is rs_are o_is kind same p =
+    → PutsReceiveCase around rs o wait x y → PutsOtherwise around o y z → PutsActionTo around a wait.behind x z
+signals_told around a own_rs rs own_o o wait {x} {y} {z} is rs_are o_is kind same p q =
     let tree = ap action_tree is ∙ action_tree-ReceiveSignals wait.set.now own_rs own_o ∙ ap (λ (v : List ReceiveAlternative). receive_signals (set_tree wait.set.now) (receives_of v) (else_of own_o)) (sym rs_are)
     ∙ ap (λ (v : Option (List Statement)). receive_signals (set_tree wait.set.now) (receives_of rs) (else_of v)) (sym o_is) in
     of_tree around a (receive_signals (set_tree wait.set.now) (receives_of rs) (else_of o)) wait.behind tree
-    (λ there. told_as _ _ _ refl refl refl (subst (λ (k : Receives). AtReceiving (standing_of around) k (set_tree wait.set.now) (receives_of rs) (else_of o) x.code y.code) kind (p.puts same there)))
+    (λ there. told_as _ _ _ refl refl refl (subst (λ (k : Receives). AtReceiving (standing_of around) k (set_tree wait.set.now) (receives_of rs) (else_of o) x.code z.code) kind (end (p.puts same there) q.puts)))
 
 -- ELSE is written
 pub else_written : (o : Option (List Statement)) → is_some o ≡ has_else (else_of o)

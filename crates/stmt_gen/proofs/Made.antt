@@ -17,9 +17,9 @@ use Rattle.code_scheme.specs.StatementSize.{labels_code, labels_size, statements
 use Rattle.code_scheme.specs.StatementCode.{CodeAt, no_code, joining, chosen, next_place, statements_code, statement_code, handler_code, handled_code, otherwise_code, action_code, choices_code, cases_code, delays_code, receives_code}
 use Rattle.code_scheme.specs.StatementRows.{RowsAt, no_rows, own_rows, statements_rows, statement_rows, handler_rows, handled_rows, otherwise_rows, action_rows, choices_rows, cases_rows, delays_rows, receives_rows}
 use Rattle.expr_gen.specs.Putting.{Appends}
-use Rattle.stmt_gen.specs.Appending.{AppendsAt, AppendsRows}
+use Rattle.stmt_gen.specs.Appending.{AppendsAt, AppendsRows, StillTo}
 use Rattle.stmt_gen.specs.Constructs.{guarded_code, choice_code}
-use Rattle.stmt_gen.proofs.Placing.{StillTo, step, told_as, then_at, without_rows, rows_before}
+use Rattle.stmt_gen.proofs.Placing.{step, told_as, then_at, without_rows, rows_before}
 
 -- ---- sums
 

@@ -1,13 +1,14 @@
 -- Sets of exceptions by a mark for each number.
 use Rattle.std.proofs.Common.{◌≡◌, ℕ, zero, suc, ◌+◌, ◌-◌, ◌<◌, ◌≤◌, min, Bool, true, false, ◌||◌, List, [], ◌∷◌, ◌++◌, length, get_or, set, take, drop, refl, sym, ap, ◌∙◌, arith, length-drop, ◌⊎◌, inl, inr}
-use Rattle.std.specs.Prelude.{◌==◌, nat_lt, filter, Some}
+use Rattle.std.specs.Prelude.{◌==◌, nat_lt, filter, map, option_map, Some, None}
 use Rattle.std.specs.List.{list_any}
 use Rattle.std.proofs.Math.Bool.{or_assoc}
 use Rattle.std.proofs.Math.ListN.{length-set}
 use Rattle.std.proofs.lemmas.Bool.{cases_lt, cases_eq}
 use Rattle.std.proofs.lemmas.Bool.Decides.{nat_tests}
 use Rattle.std.proofs.lemmas.List.{append-nil, get_or-set_same, get_or-set_other, take_more, take_all, drop_all}
-use Rattle.std.proofs.lemmas.List.Elements.{filter-append, filter_agree}
+use Rattle.std.proofs.lemmas.List.Elements.{filter-append}
+use Rattle.std.proofs.lemmas.Option.{slice_get-map}
 use Rattle.std.proofs.lemmas.List.Folds.{list_any-append}
 use Rattle.code_types.specs.declared.instr.Instr.{Instr}
 use Rattle.code_types.specs.declared.instr.Instr.TheVariants as i
@@ -24,16 +25,16 @@ or_false true = refl
 or_false false = refl
 
 pub none_more : (test : ℕ → Bool) → ((x : ℕ) → test x ≡ false) → (xs : List Bool) → MarksMore test xs xs
-none_more test e xs = record { marks = λ x. or_false (has_mark xs x) ∙ ap (λ (b : Bool). has_mark xs x || b) (sym (e x)); size = refl }
+none_more test e xs = record { marks = λ x h. or_false (has_mark xs x) ∙ ap (λ (b : Bool). has_mark xs x || b) (sym (e x)); size = refl }
 
 pub then_more : (p q r : ℕ → Bool) {xs ys zs : List Bool} → ((x : ℕ) → (p x || q x) ≡ r x) → MarksMore p xs ys → MarksMore q ys zs → MarksMore r xs zs
 then_more p q r {xs} {ys} {zs} e a b = record {
-  marks = λ x. b.marks x ∙ ap (λ (t : Bool). t || q x) (a.marks x) ∙ or_assoc (has_mark xs x) (p x) (q x) ∙ ap (λ (t : Bool). has_mark xs x || t) (e x);
+  marks = λ x h. b.marks x (omega (arith, a.size, h)) ∙ ap (λ (t : Bool). t || q x) (a.marks x h) ∙ or_assoc (has_mark xs x) (p x) (q x) ∙ ap (λ (t : Bool). has_mark xs x || t) (e x);
   size = b.size ∙ a.size;
 }
 
 pub as_more : (p r : ℕ → Bool) {xs ys : List Bool} → ((x : ℕ) → p x ≡ r x) → MarksMore p xs ys → MarksMore r xs ys
-as_more p r {xs} e a = record { marks = λ x. a.marks x ∙ ap (λ (t : Bool). has_mark xs x || t) (e x); size = a.size }
+as_more p r {xs} e a = record { marks = λ x h. a.marks x h ∙ ap (λ (t : Bool). has_mark xs x || t) (e x); size = a.size }
 
 -- ---- one mark
 
@@ -55,7 +56,14 @@ length_set : (xs : List Bool) (n : ℕ) (b : Bool) → length (set xs n b) ≡ l
 length_set xs n b = simp length-set
 
 pub one_marked : (xs : List Bool) (n : ℕ) → n < length xs → MarksOne n xs (set xs n true)
-one_marked xs n h = record { marks = λ x. at_mark xs n x h (cases_eq n x); size = length_set xs n true }
+one_marked xs n h = record { marks = λ x _. at_mark xs n x h (cases_eq n x); size = length_set xs n true }
+
+-- a number that has no mark
+pub none_marked : (xs : List Bool) (n : ℕ) → length xs ≤ n → MarksOne n xs xs
+none_marked xs n h = record {
+  marks = λ x g. or_false (has_mark xs x) ∙ ap (λ (t : Bool). has_mark xs x || t) (sym (other_test n x (λ (e : n ≡ x). absurd (omega (arith, e, h, g)))));
+  size = refl;
+}
 
 -- ---- the language's exceptions
 
@@ -66,13 +74,13 @@ below_none : (x : ℕ) → false ≡ nat_lt x 0
 below_none x = grind (arith, nat_tests)
 
 pub language_begin : (count : ℕ) (marks : List Bool) → HasNoMark count marks → MarksBelow 0 count marks
-language_begin count marks p = record { marks = λ x. p.marks x ∙ below_none x; size = p.size }
+language_begin count marks p = record { marks = λ x _. p.marks x ∙ below_none x; size = p.size }
 
 pub language_turn : (k count : ℕ) {old new : List Bool} → MarksBelow k count old → MarksOne k old new → MarksBelow (k + 1) count new
-language_turn k count p q = record { marks = λ x. q.marks x ∙ ap (λ (t : Bool). t || (k == x)) (p.marks x) ∙ below_next x k; size = q.size ∙ p.size }
+language_turn k count p q = record { marks = λ x h. q.marks x (omega (arith, p.size, h)) ∙ ap (λ (t : Bool). t || (k == x)) (p.marks x h) ∙ below_next x k; size = q.size ∙ p.size }
 
 pub language_end : (k count : ℕ) {marks : List Bool} → k ≡ language_exceptions → MarksBelow k count marks → MarksBelow language_exceptions count marks
-language_end k count {marks} e p = record { marks = λ x. p.marks x ∙ ap (λ (n : ℕ). nat_lt x n) e; size = p.size }
+language_end k count {marks} e p = record { marks = λ x h. p.marks x h ∙ ap (λ (n : ℕ). nat_lt x n) e; size = p.size }
 
 -- ---- lists of numbers and instructions
 
@@ -111,11 +119,18 @@ raised_end program is k h p =
 pub raise_marks : (program : Checked) (y : ℕ) (instr : Instr) {a b : List Bool} → instr ≡ i.Raise y → MarksOne y a b → MarksRaised program instr a b
 raise_marks program y instr e p = as_more (λ x. y == x) (λ x. raises (checked_tree program) x instr) (λ x. sym (ap (raises (checked_tree program) x) e)) p
 
-pub call_marks : (program : Checked) (b : ℕ) (instr : Instr) (body : Body) (listed : List ℕ) {old new : List Bool} → instr ≡ i.Call b → slice_get program.bodies b ≡ Some body → listed ≡ body.listed
+pub call_marks : (program : Checked) (b : ℕ) (instr : Instr) (listed : List ℕ) {old new : List Bool} → instr ≡ i.Call b → listed ≡ listed_in (slice_get (checked_tree program).bodies b)
     → MarksAll listed old new → MarksRaised program instr old new
-call_marks program b instr body listed e there is p =
+call_marks program b instr listed e is p =
     as_more (λ x. is_among x listed) (λ x. raises (checked_tree program) x instr)
-    (λ x. ap (is_among x) is ∙ sym (ap (λ (r : _). is_among x (listed_in r)) (body_found program.bodies b body there)) ∙ sym (ap (raises (checked_tree program) x) e)) p
+    (λ x. ap (is_among x) is ∙ sym (ap (raises (checked_tree program) x) e)) p
+
+-- what a body lists
+pub listed_there : (bodies : List Body) (k : ℕ) (body : Body) → slice_get bodies k ≡ Some body → body.listed ≡ listed_in (slice_get (map body_row_tree bodies) k)
+listed_there bodies k body e = sym (ap listed_in (body_found bodies k body e))
+
+pub listed_nowhere : (bodies : List Body) (k : ℕ) → slice_get bodies k ≡ None → [] ≡ listed_in (slice_get (map body_row_tree bodies) k)
+listed_nowhere bodies k e = sym (ap listed_in (slice_get-map body_row_tree bodies k ∙ ap (option_map body_row_tree) e))
 
 -- ---- the marked numbers, rising
 
@@ -146,6 +161,14 @@ marked_false p k e = ap (filter p) (first_numbers k) ∙ filter-append p (number
 pub marked_next : (p : ℕ → Bool) (k : ℕ) (b : Bool) → b ≡ p k → filter p (numbers_from 0 k) ++ where_marked b k ≡ filter p (numbers_from 0 (k + 1))
 marked_next p k true e = sym (marked_true p k (sym e))
 marked_next p k false e = append-nil (filter p (numbers_from 0 k)) ∙ sym (marked_false p k (sym e))
+
+-- tests that agree on these numbers leave the same ones
+filter_below : (p q : ℕ → Bool) (n k : ℕ) → k ≤ n → ((x : ℕ) → x < n → p x ≡ q x) → filter p (numbers_from 0 k) ≡ filter q (numbers_from 0 k)
+filter_below p q n zero h e = refl
+filter_below p q n (suc k) h e =
+    let next : suc k ≡ k + 1 = omega arith in
+    ap (λ (j : ℕ). filter p (numbers_from 0 j)) next ∙ sym (marked_next p k (p k) refl) ∙ ap (λ (ks : List ℕ). ks ++ where_marked (p k) k) (filter_below p q n k (omega (arith, h)) e)
+    ∙ ap (λ (b : Bool). filter q (numbers_from 0 k) ++ where_marked b k) (e k (omega (arith, h))) ∙ marked_next q k (q k) refl ∙ ap (λ (j : ℕ). filter q (numbers_from 0 j)) (sym next)
 
 -- ---- between two places
 
@@ -190,10 +213,7 @@ pub raised_told : (program : Checked) (instrs : List Instr) (count : ℕ) (first
     → MarksBelow language_exceptions count first → MarksAllRaised program instrs first found → marked_in found ≡ raised_in (checked_tree program) instrs
 raised_told program instrs count first found n p q =
     let size : length found ≡ language_exceptions + length program.exceptions = q.size ∙ p.size ∙ n in
-    let tests : (x : ℕ) → has_mark found x ≡ can_arise (checked_tree program) instrs x = λ (x : ℕ). q.marks x ∙ ap (λ (t : Bool). t || list_any (raises (checked_tree program) x) instrs) (p.marks x) in
-    filter_agree (has_mark found) (can_arise (checked_tree program) instrs) tests (numbers_from 0 (length found))
+    let tests : (x : ℕ) → x < length found → has_mark found x ≡ can_arise (checked_tree program) instrs x =
+    λ (x : ℕ) (h : x < length found). q.marks x (omega (arith, q.size, h)) ∙ ap (λ (t : Bool). t || list_any (raises (checked_tree program) x) instrs) (p.marks x (omega (arith, p.size, q.size, h))) in
+    filter_below (has_mark found) (can_arise (checked_tree program) instrs) (length found) (length found) (omega arith) tests
     ∙ ap (λ (k : ℕ). filter (can_arise (checked_tree program) instrs) (numbers_from 0 k)) size
-
-pub listed_told : (raised listed : List ℕ) (count : ℕ) (none marks : List Bool) → HasNoMark count none → MarksAll listed none marks → filter (has_mark marks) raised ≡ filter (λ x. is_among x listed) raised
-listed_told raised listed count none marks p q =
-    filter_agree (has_mark marks) (λ x. is_among x listed) (λ (x : ℕ). q.marks x ∙ ap (λ (t : Bool). t || is_among x listed) (p.marks x)) raised

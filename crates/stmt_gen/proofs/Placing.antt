@@ -1,5 +1,5 @@
 -- What is appended in steps, with handler rows.
-use Rattle.std.proofs.Common.{◌≡◌, ℕ, ◌+◌, List, [], ◌++◌, length, refl, sym, ap, ◌∙◌, arith, append_assoc}
+use Rattle.std.proofs.Common.{◌≡◌, ℕ, ◌+◌, List, ◌++◌, length, refl, sym, ap, ◌∙◌, arith, append_assoc}
 use Rattle.std.proofs.lemmas.List.{append-nil}
 use Rattle.code_types.specs.declared.code.Code.{Code}
 use Rattle.code_types.specs.declared.code.Handler.{Handler}
@@ -7,7 +7,7 @@ use Rattle.code_types.specs.declared.instr.Instr.{Instr}
 use Rattle.code_scheme.specs.StatementCode.{CodeAt, no_code}
 use Rattle.code_scheme.specs.StatementRows.{RowsAt, no_rows}
 use Rattle.expr_gen.specs.Putting.{Appends}
-use Rattle.stmt_gen.specs.Appending.{AppendsAt, AppendsRows}
+use Rattle.stmt_gen.specs.Appending.{AppendsAt, AppendsRows, StillTo}
 
 -- nothing
 pub nothing_at : (x : Code) → AppendsAt no_code 0 no_rows x x
@@ -47,13 +47,6 @@ rows_before rows {a} {m} {r} {x} {y} {z} p q = record {
   bodies = q.bodies ∙ p.bodies;
 }
 
--- What is still to be appended to one code, if this is to be appended to an earlier one in all.
-pub record StillTo (all : CodeAt) (size : ℕ) (rows : RowsAt) (left : CodeAt) (left_size : ℕ) (left_rows : RowsAt) (old now : Code) : Type 0 where
-  pub instrs : now.instrs ++ left (length now.instrs) ≡ old.instrs ++ all (length old.instrs)
-  pub handlers : now.handlers ++ left_rows (length now.instrs) ≡ old.handlers ++ rows (length old.instrs)
-  pub bodies : now.bodies ≡ old.bodies
-  pub length : length now.instrs + left_size ≡ length old.instrs + size
-
 pub begin : (a : CodeAt) (m : ℕ) (r : RowsAt) (x : Code) → StillTo a m r a m r x x
 begin a m r x = record { instrs = refl; length = refl; handlers = refl; bodies = refl }
 
@@ -76,5 +69,27 @@ end p q = record {
   instrs = q.instrs ∙ p.instrs;
   length = q.length ∙ p.length;
   handlers = q.handlers ∙ p.handlers;
+  bodies = q.bodies ∙ p.bodies;
+}
+
+-- the same, where both are told otherwise
+pub still_as : {a : CodeAt} (b : CodeAt) {m : ℕ} (n : ℕ) {r : RowsAt} (s : RowsAt) {c : CodeAt} (d : CodeAt) {k : ℕ} (l : ℕ) {t : RowsAt} (u : RowsAt) {x y : Code}
+    → a (length x.instrs) ≡ b (length x.instrs) → m ≡ n → r (length x.instrs) ≡ s (length x.instrs)
+    → c (length y.instrs) ≡ d (length y.instrs) → k ≡ l → t (length y.instrs) ≡ u (length y.instrs)
+    → StillTo a m r c k t x y → StillTo b n s d l u x y
+still_as {a} b {m} n {r} s {c} d {k} l {t} u {x} {y} code size rows left left_size left_rows p = record {
+  instrs = ap (λ (is : List Instr). y.instrs ++ is) (sym left) ∙ p.instrs ∙ ap (λ (is : List Instr). x.instrs ++ is) code;
+  length = omega (arith, p.length, size, left_size);
+  handlers = ap (λ (hs : List Handler). y.handlers ++ hs) (sym left_rows) ∙ p.handlers ∙ ap (λ (hs : List Handler). x.handlers ++ hs) rows;
+  bodies = p.bodies;
+}
+
+-- a part first
+pub before_still : {a b c : CodeAt} {m n k : ℕ} {r s t : RowsAt} {x y z : Code}
+    → AppendsAt a m r x y → StillTo b n s c k t y z → StillTo (λ at. a at ++ b (at + m)) (m + n) (λ at. r at ++ s (at + m)) c k t x z
+before_still {a} {b} {c} {m} {n} {k} {r} {s} {t} {x} {y} {z} p q = record {
+  instrs = q.instrs ∙ ap (λ (j : ℕ). y.instrs ++ b j) p.length ∙ ap (λ (is : List Instr). is ++ b (length x.instrs + m)) p.instrs ∙ append_assoc x.instrs (a (length x.instrs)) (b (length x.instrs + m));
+  length = omega (arith, p.length, q.length);
+  handlers = q.handlers ∙ ap (λ (j : ℕ). y.handlers ++ s j) p.length ∙ ap (λ (hs : List Handler). hs ++ s (length x.instrs + m)) p.handlers ∙ append_assoc x.handlers (r (length x.instrs)) (s (length x.instrs + m));
   bodies = q.bodies ∙ p.bodies;
 }

@@ -14,6 +14,13 @@ pub record AppendsAt (made : CodeAt) (size : ℕ) (rows : RowsAt) (old new : Cod
   pub bodies : new.bodies ≡ old.bodies
   pub length : length new.instrs ≡ length old.instrs + size
 
+-- What is still to be appended to the code as it is now, if this is to be appended in all to what it was.
+pub record StillTo (all : CodeAt) (size : ℕ) (rows : RowsAt) (left : CodeAt) (left_size : ℕ) (left_rows : RowsAt) (old now : Code) : Type 0 where
+  pub instrs : now.instrs ++ left (length now.instrs) ≡ old.instrs ++ all (length old.instrs)
+  pub handlers : now.handlers ++ left_rows (length now.instrs) ≡ old.handlers ++ rows (length old.instrs)
+  pub bodies : now.bodies ≡ old.bodies
+  pub length : length now.instrs + left_size ≡ length old.instrs + size
+
 -- Handler rows are appended to the code, and nothing else in it is changed.
 pub record AppendsRows (rows : List Handler) (old new : Code) : Type 0 where
   pub handlers : new.handlers ≡ old.handlers ++ rows

@@ -20,7 +20,7 @@ use Rattle.code_scheme.specs.StatementSize.{turn_back_size, statements_size, sta
 use Rattle.code_scheme.specs.StatementCode.{CodeAt, no_code, no_label_code, joining, chosen, loop_code, statements_code, statement_code, handler_code, handled_code, otherwise_code, action_code, choices_code, cases_code, delays_code, receives_code}
 use Rattle.code_scheme.specs.StatementRows.{RowsAt, statements_rows, statement_rows, handler_rows, handled_rows, otherwise_rows, action_rows, choices_rows, cases_rows, delays_rows, receives_rows}
 use Rattle.expr_gen.specs.declared.building.Draft.{Draft}
-use Rattle.stmt_gen.specs.Appending.{AppendsAt}
+use Rattle.stmt_gen.specs.Appending.{AppendsAt, StillTo}
 use Rattle.stmt_gen.specs.Constructs.{guarded_code, choice_code, receive_action_code, receive_action_rows}
 use Rattle.action_gen.specs.Putting.{standing_of}
 use Rattle.action_gen.specs.Receiving.{kind_of, waits_else}
@@ -40,6 +40,11 @@ PutsHere made size rows old new = AppendsAt made size rows old.code new.code
 -- the same, where this is the place behind them
 abbrev pub PutsUpTo : ℕ → CodeAt → ℕ → RowsAt → Draft → Draft → Type 0
 PutsUpTo behind made size rows old new = behind ≡ length old.code.instrs + size → PutsHere made size rows old new
+
+-- the same but for a last part, which is left to be put
+abbrev pub PutsUpToLast : ℕ → CodeAt → ℕ → RowsAt → CodeAt → ℕ → RowsAt → Draft → Draft → Type 0
+PutsUpToLast behind made size rows last last_size last_rows old new =
+    behind ≡ length old.code.instrs + size → StillTo made size rows last last_size last_rows old.code new.code
 
 -- ---- statements
 
@@ -73,20 +78,19 @@ pub record PutsHandler (around : Around) (h : CheckedHandler) (from : ℕ) (come
       (leave_size comes (handler_size (site_around around) (handler_tree h)) + handler_size (site_around around) (handler_tree h))
       (handler_rows (site_around around) (handler_tree h) comes from) old new
 
--- its alternatives with ELSE, behind which is this place
+-- its alternatives with ELSE
 abbrev pub handled_parts : Around → List HandlerAlternative → Option (List Statement) → ℕ
 handled_parts around hs o = handled_size (site_around around) (handled_of hs) (otherwise_size (site_around around) (else_of o) 0)
 
-pub record PutsHandled (around : Around) (hs : List HandlerAlternative) (o : Option (List Statement)) (behind : ℕ) (old new : Draft) : Type 0 where
-  pub puts : PutsUpTo behind
+-- its alternatives, where ELSE ends at this place: whatever is written there, it is left
+pub record PutsHandled (around : Around) (hs : List HandlerAlternative) (behind : ℕ) (old new : Draft) : Type 0 where
+  pub puts : (o : Option (List Statement)) → PutsUpToLast behind
       (handled_code (standing_of around) (handled_of hs) behind (otherwise_size (site_around around) (else_of o) 0)
       (otherwise_code (standing_of around) (else_of o) no_code))
       (handled_parts around hs o)
       (handled_rows (site_around around) (handled_of hs) (otherwise_size (site_around around) (else_of o) 0)
-      (otherwise_rows (site_around around) (else_of o))) old new
-
-pub record PutsOtherwise (around : Around) (o : Option (List Statement)) (old new : Draft) : Type 0 where
-  pub puts : PutsHere (otherwise_code (standing_of around) (else_of o) no_code) (otherwise_size (site_around around) (else_of o) 0)
+      (otherwise_rows (site_around around) (else_of o)))
+      (otherwise_code (standing_of around) (else_of o) no_code) (otherwise_size (site_around around) (else_of o) 0)
       (otherwise_rows (site_around around) (else_of o)) old new
 
 -- ---- parts of which one is done, where this is the place behind all and so many instructions stand behind the part
@@ -125,24 +129,29 @@ pub record PutsChoice (around : Around) (c : Choice) (behind : ℕ) (old new : D
 abbrev pub choices_parts : Around → List Choice → List Statement → ℕ
 choices_parts around cs ss = choices_size (site_around around) (choices_of cs) (statements_size (site_around around) (statements_of ss))
 
-pub record PutsChoices (around : Around) (cs : List Choice) (ss : List Statement) (behind : ℕ) (old new : Draft) : Type 0 where
-  pub puts : PutsUpTo behind
+-- the conditions with their actions, where ELSE ends at this place: whatever is written there, it is left
+pub record PutsChoices (around : Around) (cs : List Choice) (behind : ℕ) (old new : Draft) : Type 0 where
+  pub puts : (ss : List Statement) → PutsUpToLast behind
       (choices_code (standing_of around) (choices_of cs) behind (statements_size (site_around around) (statements_of ss))
       (statements_code (standing_of around) (statements_of ss)))
       (choices_parts around cs ss)
       (choices_rows (site_around around) (choices_of cs) (statements_size (site_around around) (statements_of ss))
-      (statements_rows (site_around around) (statements_of ss))) old new
+      (statements_rows (site_around around) (statements_of ss)))
+      (statements_code (standing_of around) (statements_of ss)) (statements_size (site_around around) (statements_of ss))
+      (statements_rows (site_around around) (statements_of ss)) old new
 
 abbrev pub cases_parts : Around → List CaseAlternative → Option (List Statement) → ℕ
 cases_parts around cs o = cases_size (site_around around) (cases_of cs) (otherwise_size (site_around around) (else_of o) 1)
 
-pub record PutsCases (around : Around) (cs : List CaseAlternative) (o : Option (List Statement)) (behind : ℕ) (old new : Draft) : Type 0 where
-  pub puts : PutsUpTo behind
+pub record PutsCases (around : Around) (cs : List CaseAlternative) (behind : ℕ) (old new : Draft) : Type 0 where
+  pub puts : (o : Option (List Statement)) → PutsUpToLast behind
       (cases_code (standing_of around) (cases_of cs) behind (otherwise_size (site_around around) (else_of o) 1)
       (otherwise_code (standing_of around) (else_of o) no_label_code))
       (cases_parts around cs o)
       (cases_rows (site_around around) (cases_of cs) (otherwise_size (site_around around) (else_of o) 1)
-      (otherwise_rows (site_around around) (else_of o))) old new
+      (otherwise_rows (site_around around) (else_of o)))
+      (otherwise_code (standing_of around) (else_of o) no_label_code) (otherwise_size (site_around around) (else_of o) 1)
+      (otherwise_rows (site_around around) (else_of o)) old new
 
 -- ---- DO
 
@@ -167,18 +176,22 @@ pub record PutsDelays (around : Around) (ds : List DelayAlternative) (kept behin
 abbrev pub receives_parts : Around → List ReceiveAlternative → Option (List Statement) → ℕ
 receives_parts around rs o = receives_size (site_around around) (receives_of rs) (otherwise_size (site_around around) (else_of o) 0)
 
-pub record PutsReceives (around : Around) (rs : List ReceiveAlternative) (o : Option (List Statement)) (kept : Kept) (old new : Draft) : Type 0 where
-  pub puts : PutsUpTo kept.behind
+pub record PutsReceives (around : Around) (rs : List ReceiveAlternative) (kept : Kept) (old new : Draft) : Type 0 where
+  pub puts : (o : Option (List Statement)) → PutsUpToLast kept.behind
       (receives_code (standing_of around) kept.chosen 0 (receives_of rs) kept.behind (otherwise_size (site_around around) (else_of o) 0)
       (otherwise_code (standing_of around) (else_of o) no_code))
       (receives_parts around rs o)
       (receives_rows (site_around around) (receives_of rs) (otherwise_size (site_around around) (else_of o) 0)
-      (otherwise_rows (site_around around) (else_of o))) old new
+      (otherwise_rows (site_around around) (else_of o)))
+      (otherwise_code (standing_of around) (else_of o) no_code) (otherwise_size (site_around around) (else_of o) 0)
+      (otherwise_rows (site_around around) (else_of o)) old new
 
--- a RECEIVE CASE of either sort, with ELSE where the wait says so
+-- a RECEIVE CASE of either sort, with ELSE where the wait says so, which is left
 pub record PutsReceiveCase (around : Around) (rs : List ReceiveAlternative) (o : Option (List Statement)) (wait : Wait) (old new : Draft) : Type 0 where
   pub puts : waits_else wait.receives ≡ has_else (else_of o)
-      → PutsUpTo wait.behind
+      → PutsUpToLast wait.behind
       (receive_action_code (standing_of around) (kind_of wait.receives) (set_tree wait.set.now) (receives_of rs) (else_of o))
       (receive_wait_size (set_tree wait.set.now) (receives_of rs) (has_else (else_of o)) + receives_parts around rs o)
-      (receive_action_rows (site_around around) (set_tree wait.set.now) (receives_of rs) (else_of o)) old new
+      (receive_action_rows (site_around around) (set_tree wait.set.now) (receives_of rs) (else_of o))
+      (otherwise_code (standing_of around) (else_of o) no_code) (otherwise_size (site_around around) (else_of o) 0)
+      (otherwise_rows (site_around around) (else_of o)) old new

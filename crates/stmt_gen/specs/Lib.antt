@@ -7,3 +7,4 @@ pub mod HandlerRows
 pub mod Modulions
 pub mod Marking
 pub mod Puts
+pub mod Kinds

@@ -1,5 +1,5 @@
 -- Sets of exceptions by a mark for each number.
-use Rattle.std.specs.Prelude.{◌≡◌, ℕ, ◌||◌, ◌==◌, nat_lt, Bool, false, List, length, get_or, filter, [], ◌∷◌, if◌then◌else◌}
+use Rattle.std.specs.Prelude.{◌≡◌, ℕ, ◌<◌, ◌||◌, ◌==◌, nat_lt, Bool, false, List, length, get_or, filter, [], ◌∷◌, if◌then◌else◌}
 use Rattle.std.specs.List.{list_any}
 use Rattle.code_types.specs.declared.instr.Instr.{Instr}
 use Rattle.checked_program.specs.declared.program.Checked.{Checked}
@@ -10,9 +10,9 @@ use Rattle.code_scheme.specs.BodyItems.{raises, is_among, numbers_from}
 abbrev pub has_mark : List Bool → ℕ → Bool
 has_mark marks x = get_or marks x false
 
--- marks that are set for what was marked before, and for what passes the test
+-- marks that are set for what was marked before, and for what passes the test; a number that has none isn't marked
 pub record MarksMore (test : ℕ → Bool) (old new : List Bool) : Type 0 where
-  pub marks : (x : ℕ) → has_mark new x ≡ (has_mark old x || test x)
+  pub marks : (x : ℕ) → x < length old → has_mark new x ≡ (has_mark old x || test x)
   pub size : length new ≡ length old
 
 -- one number, several, those that an instruction raises, and those that some of these do
@@ -35,7 +35,7 @@ pub record HasNoMark (count : ℕ) (all : List Bool) : Type 0 where
 
 -- so many marks, of which those of the first numbers are set
 pub record MarksBelow (few count : ℕ) (all : List Bool) : Type 0 where
-  pub marks : (x : ℕ) → has_mark all x ≡ nat_lt x few
+  pub marks : (x : ℕ) → x < count → has_mark all x ≡ nat_lt x few
   pub size : length all ≡ count
 
 -- the numbers that are marked, rising

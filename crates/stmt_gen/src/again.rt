@@ -1,16 +1,16 @@
 // Regions: an exception that goes out of one is raised again behind the release of the region.
-ghost use Rattle.std.specs.Prelude.{◌≡◌, ◌+◌, ◌++◌, length, filter, IfOk, OnOk};
+ghost use Rattle.std.specs.Prelude.{◌≡◌, ◌+◌, ◌++◌, length, filter, slice_get, IfOk, OnOk};
 ghost use Rattle.program_trees.specs.ProgramTree.{checked_tree};
-ghost use Rattle.code_scheme.specs.BodyItems.{language_exceptions, raised_in, is_among};
+ghost use Rattle.code_scheme.specs.BodyItems.{language_exceptions, listed_in, raised_in, is_among};
 ghost use Rattle.stmt_gen.specs.Appending.{KeepsFront};
-ghost use Rattle.stmt_gen.specs.Marking.{HasNoMark, MarksBelow, MarksOne, MarksAll, MarksRaised, MarksAllRaised, has_mark, marked_in, where_marked};
+ghost use Rattle.stmt_gen.specs.Marking.{HasNoMark, MarksBelow, MarksOne, MarksAll, MarksRaised, MarksAllRaised, marked_in, where_marked};
 ghost use Rattle.stmt_gen.specs.Modulions.{PutsReleases, instrs_between};
 
 use crate::handlers::put_row;
 use checked_program::Checked;
 use chill_base::{List, Memory, Numbers};
 use code_types::Instr;
-use expr_gen::{Draft, PartRefusal, body_of};
+use expr_gen::{Draft, PartRefusal};
 use std::alloc::Global;
 
 /// How many exceptions the language has. The user's are numbered behind them.
@@ -54,7 +54,7 @@ pub fn raised_between(
     let until = (until as usize).min(instrs.len());
     let from = (from as usize).min(until);
     let mut found = language_marks(alloc, count_of_exceptions(program)?)?;
-    mark_all_raised(&instrs[from..until], program, &mut found)?;
+    mark_all_raised(&instrs[from..until], program, &mut found);
     marked(alloc, &found)
 }
 
@@ -69,12 +69,12 @@ fn count_of_exceptions(program: &Checked) -> Result<usize, Memory>
 }
 
 // So many marks, of which those of the language's exceptions are set.
-fn language_marks(alloc: Global, count: usize) -> Result<Vec<bool>, PartRefusal>
+fn language_marks(alloc: Global, count: usize) -> Result<Vec<bool>, Memory>
     ensures { IfOk result (λ marks. MarksBelow language_exceptions count marks.items) }
 {
     let mut found = no_marks(alloc, count)?;
     for number in 0..LANGUAGE {
-        mark(number as u32, &mut found)?;
+        mark(number as u32, &mut found);
     }
     Ok(found)
 }
@@ -90,52 +90,53 @@ fn no_marks(alloc: Global, count: usize) -> Result<Vec<bool>, Memory>
     Ok(marks)
 }
 
-// The mark of this number is set, or Unsound where there is none.
-fn mark(number: u32, marks: &mut Vec<bool>) -> Result<(), PartRefusal>
-    ensures { OnOk result (MarksOne number marks.old.items marks.new.items) }
+// The mark of this number is set, where there is one.
+fn mark(number: u32, marks: &mut Vec<bool>)
+    ensures { MarksOne number marks.old.items marks.new.items }
 {
     let number = number as usize;
     if number < marks.len() {
         marks[number] = true;
-        Ok(())
-    } else {
-        Err(PartRefusal::Unsound)
     }
 }
 
 // Each of these exceptions is marked.
-fn mark_all(exceptions: &[u32], marks: &mut Vec<bool>) -> Result<(), PartRefusal>
-    ensures { OnOk result (MarksAll exceptions.now marks.old.items marks.new.items) }
+fn mark_all(exceptions: &[u32], marks: &mut Vec<bool>)
+    ensures { MarksAll exceptions.now marks.old.items marks.new.items }
 {
     for exception in exceptions {
-        mark(*exception, marks)?;
+        mark(*exception, marks);
     }
-    Ok(())
 }
 
 // The exceptions are marked that an instruction raises, or the procedure lists that it calls.
-fn mark_raised(instr: Instr, program: &Checked, marks: &mut Vec<bool>) -> Result<(), PartRefusal>
-    ensures { OnOk result (MarksRaised program.now instr marks.old.items marks.new.items) }
+fn mark_raised(instr: Instr, program: &Checked, marks: &mut Vec<bool>)
+    ensures { MarksRaised program.now instr marks.old.items marks.new.items }
 {
     match instr {
         Instr::Raise(exception) => mark(exception, marks),
-        Instr::Call(body) => mark_all(body_of(program, body)?.listed.as_slice(), marks),
-        _ => Ok(()),
+        Instr::Call(body) => mark_all(listed_by(program, body), marks),
+        _ => (),
+    }
+}
+
+// The exceptions that the body of this number lists; none where there is no such body.
+fn listed_by(program: &Checked, number: u32) -> &[u32]
+    ensures { result.now ≡ listed_in (slice_get (checked_tree program.now).bodies number) }
+{
+    match program.bodies.as_slice().get(number as usize) {
+        Some(body) => body.listed.as_slice(),
+        None => &[],
     }
 }
 
 // Those of each of these instructions.
-fn mark_all_raised(
-    instrs: &[Instr],
-    program: &Checked,
-    marks: &mut Vec<bool>,
-) -> Result<(), PartRefusal>
-    ensures { OnOk result (MarksAllRaised program.now instrs.now marks.old.items marks.new.items) }
+fn mark_all_raised(instrs: &[Instr], program: &Checked, marks: &mut Vec<bool>)
+    ensures { MarksAllRaised program.now instrs.now marks.old.items marks.new.items }
 {
     for instr in instrs {
-        mark_raised(*instr, program, marks)?;
+        mark_raised(*instr, program, marks);
     }
-    Ok(())
 }
 
 // The numbers that are marked, rising.
@@ -170,36 +171,34 @@ fn narrow(number: usize) -> Result<u32, Memory>
 }
 
 /// Those of the raised exceptions that are listed.
-pub fn raised_and_listed(
-    raised: &Numbers,
-    listed: &Numbers,
-    program: &Checked,
-) -> Result<Numbers, PartRefusal>
+pub fn raised_and_listed(raised: &Numbers, listed: &Numbers) -> Result<Numbers, PartRefusal>
     ensures { IfOk result (λ both. both ≡ filter (λ x. is_among x listed.now) raised.now) }
 {
-    let alloc = raised.allocator();
-    let mut is_listed = no_marks(alloc, count_of_exceptions(program)?)?;
-    mark_all(listed.as_slice(), &mut is_listed)?;
-    those_marked(alloc, raised.as_slice(), &is_listed)
+    those_among(raised.allocator(), raised.as_slice(), listed.as_slice())
 }
 
-// Those of the numbers that are marked.
-fn those_marked(alloc: Global, numbers: &[u32], marks: &[bool]) -> Result<Numbers, PartRefusal>
-    ensures { IfOk result (λ those. those ≡ filter (has_mark marks.now) numbers.now) }
+// Those of the numbers that are listed.
+fn those_among(alloc: Global, numbers: &[u32], listed: &[u32]) -> Result<Numbers, PartRefusal>
+    ensures { IfOk result (λ those. those ≡ filter (λ x. is_among x listed.now) numbers.now) }
 {
     let mut those = List::new(alloc);
     for number in numbers {
-        if is_marked(*number, marks) {
+        if is_among(*number, listed) {
             those.push(*number)?;
         }
     }
     Ok(those)
 }
 
-fn is_marked(number: u32, marks: &[bool]) -> bool
-    ensures { result ≡ has_mark marks.now number }
+fn is_among(number: u32, numbers: &[u32]) -> bool
+    ensures { result ≡ is_among number numbers.now }
 {
-    (number as usize) < marks.len() && marks[number as usize]
+    for other in numbers {
+        if *other == number {
+            return true;
+        }
+    }
+    false
 }
 
 /// Appends, for each of these exceptions, what releases the region and raises it again, with its row for the instructions

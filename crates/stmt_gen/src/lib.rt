@@ -10,6 +10,7 @@ mod going_on;
 mod handlers;
 mod items;
 mod joining;
+mod kinds;
 mod sizes;
 mod statements;
 

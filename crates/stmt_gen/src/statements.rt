@@ -1,9 +1,16 @@
 // Statements: one recursion over them, with the handlers and the alternatives in them.
+ghost use Rattle.std.specs.Prelude.{◌≡◌, true, false, OnOk};
+ghost use Rattle.program_trees.specs.StatementTree.{action_tree};
+ghost use Rattle.action_gen.specs.Putting.{holds_statements};
+ghost use Rattle.stmt_gen.specs.Kinds.{is_structured};
+ghost use Rattle.stmt_gen.specs.Appending.{KeepsFront};
+ghost use Rattle.stmt_gen.specs.Holding.{PutsStatements, PutsStatement, PutsGuarded, PutsAction, PutsActionTo, PutsHandler, PutsHandled, PutsJoining, PutsChosen, PutsChoice, PutsChoices, PutsCases, PutsDo, PutsDelays, PutsReceives, PutsReceiveCase};
 
 use crate::again::Span;
 use crate::going_on::{action_goes_on, go_on, goes_on};
 use crate::handlers::put_rows;
 use crate::joining::{leaving_size, next_place, put_leaving};
+use crate::kinds::{holds_statements, is_structured};
 use crate::sizes::{
     action_size, choice_size, chosen_size, handled_size, otherwise_size, statement_size,
     statements_size,
@@ -24,12 +31,16 @@ use expr_gen::{Branch, Draft, PartRefusal, put_condition};
 const RANGEFAIL: u32 = 1;
 
 /// Appends the code of statements, as far as control comes.
+#[tactic(auto, using(crate::proofs::Front::keeping_front))]
 #[cycle(statement)]
 pub fn put_statements(
     statements: &[Statement],
     around: &Around,
     draft: &mut Draft,
-) -> Result<(), PartRefusal> {
+) -> Result<(), PartRefusal>
+    ensures puts { OnOk result (PutsStatements around.now statements.now draft.old draft.new) }
+    ensures keeps { KeepsFront draft.old.code draft.new.code }
+{
     for statement in statements {
         put_statement(statement, around, draft)?;
         if !goes_on(statement) {
@@ -40,12 +51,16 @@ pub fn put_statements(
 }
 
 /// Appends the code of a statement, whose label encloses its handler too.
+#[tactic(auto, using(crate::proofs::Front::keeping_front))]
 #[cycle(statement)]
 pub fn put_statement(
     statement: &Statement,
     around: &Around,
     draft: &mut Draft,
-) -> Result<(), PartRefusal> {
+) -> Result<(), PartRefusal>
+    ensures puts { OnOk result (PutsStatement around.now statement.now draft.old draft.new) }
+    ensures keeps { KeepsFront draft.old.code draft.new.code }
+{
     if !statement.labelled {
         return put_guarded(statement, around, draft);
     }
@@ -60,12 +75,12 @@ pub fn put_statement(
 }
 
 // An action with its handler.
+#[tactic(auto, using(crate::proofs::Front::keeping_front))]
 #[cycle(statement)]
-fn put_guarded(
-    statement: &Statement,
-    around: &Around,
-    draft: &mut Draft,
-) -> Result<(), PartRefusal> {
+fn put_guarded(statement: &Statement, around: &Around, draft: &mut Draft) -> Result<(), PartRefusal>
+    ensures puts { OnOk result (PutsGuarded around.now statement.now draft.old draft.new) }
+    ensures keeps { KeepsFront draft.old.code draft.new.code }
+{
     let from = draft.target_behind(0)?;
     put_action(&statement.action, around, draft)?;
     match &statement.handler {
@@ -79,6 +94,7 @@ fn put_guarded(
 
 /// Appends a handler of what stands from this place up to the present one, and control goes on behind it. It is told
 /// whether control comes from there.
+#[tactic(auto, using(crate::proofs::Front::keeping_front))]
 #[cycle(statement)]
 pub fn put_handler(
     handler: &Handler,
@@ -86,7 +102,10 @@ pub fn put_handler(
     comes: bool,
     around: &Around,
     draft: &mut Draft,
-) -> Result<(), PartRefusal> {
+) -> Result<(), PartRefusal>
+    ensures puts { OnOk result (PutsHandler around.now handler.now from comes draft.old draft.new) }
+    ensures keeps { KeepsFront draft.old.code draft.new.code }
+{
     let until = draft.target_behind(0)?;
     let size = handled_size(handler, &around.site);
     let jump = leaving_size(comes, size);
@@ -106,13 +125,18 @@ pub fn put_handler(
 }
 
 // The alternatives of a handler. ELSE is left to who holds the handler, whose depth bounds both.
+#[tactic(auto, using(crate::proofs::Front::keeping_front))]
 #[cycle(statement)]
 fn put_handled(
     alternatives: &[HandlerAlternative],
     behind: u32,
     around: &Around,
     draft: &mut Draft,
-) -> Result<(), PartRefusal> {
+) -> Result<(), PartRefusal>
+    ensures puts { OnOk result
+        (PutsHandled around.now alternatives.now behind draft.old draft.new) }
+    ensures keeps { KeepsFront draft.old.code draft.new.code }
+{
     for alternative in alternatives {
         put_joining(alternative.actions.as_slice(), behind, around, draft)?;
     }
@@ -120,34 +144,69 @@ fn put_handled(
 }
 
 // Actions, behind which control goes on at a place.
+#[tactic(auto, using(crate::proofs::Front::keeping_front))]
 #[cycle(statement)]
 fn put_joining(
     actions: &[Statement],
     behind: u32,
     around: &Around,
     draft: &mut Draft,
-) -> Result<(), PartRefusal> {
+) -> Result<(), PartRefusal>
+    ensures puts { OnOk result (PutsJoining around.now actions.now behind draft.old draft.new) }
+    ensures keeps { KeepsFront draft.old.code draft.new.code }
+{
     put_statements(actions, around, draft)?;
     put_leaving(go_on(actions), behind, draft)
 }
 
 // Actions that are done where the Boolean on top is TRUE, and behind which control goes on at a place.
+#[tactic(auto, using(crate::proofs::Front::keeping_front))]
 #[cycle(statement)]
 fn put_chosen(
     actions: &[Statement],
     behind: u32,
     around: &Around,
     draft: &mut Draft,
-) -> Result<(), PartRefusal> {
+) -> Result<(), PartRefusal>
+    ensures puts { OnOk result (PutsChosen around.now actions.now behind draft.old draft.new) }
+    ensures keeps { KeepsFront draft.old.code draft.new.code }
+{
     let size = chosen_size(actions, &around.site);
     draft.put(Instr::Unless(next_place(size, go_on(actions), behind, draft)))?;
     put_joining(actions, behind, around, draft)
 }
 
 // The code of an action.
+#[tactic(auto, using(crate::proofs::Front::keeping_front))]
 #[cycle(statement)]
-fn put_action(action: &Action, around: &Around, draft: &mut Draft) -> Result<(), PartRefusal> {
+fn put_action(action: &Action, around: &Around, draft: &mut Draft) -> Result<(), PartRefusal>
+    ensures puts { OnOk result (PutsAction around.now action.now draft.old draft.new) }
+    ensures keeps { KeepsFront draft.old.code draft.new.code }
+{
+    if !holds_statements(action) {
+        return put_plain(action, around, draft);
+    }
     let behind = draft.target_behind(action_size(action, &around.site))?;
+    if is_structured(action) {
+        put_structured(action, behind, around, draft)
+    } else {
+        put_waiting(action, behind, around, draft)
+    }
+}
+
+// The code of IF, CASE, DO or BEGIN, behind which is this place.
+#[tactic(auto, using(crate::proofs::Front::keeping_front, action_gen::proofs::Views::statement_built))]
+#[cycle(statement)]
+fn put_structured(
+    action: &Action,
+    behind: u32,
+    around: &Around,
+    draft: &mut Draft,
+) -> Result<(), PartRefusal>
+    requires { is_structured (action_tree action.now) ≡ true }
+    ensures puts { OnOk result (PutsActionTo around.now action.now behind draft.old draft.new) }
+    ensures keeps { KeepsFront draft.old.code draft.new.code }
+{
     match action {
         Action::If { choices, otherwise } => {
             put_choices(choices.as_slice(), behind, around, draft)?;
@@ -169,18 +228,33 @@ fn put_action(action: &Action, around: &Around, draft: &mut Draft) -> Result<(),
                 None => draft.put(Instr::Raise(RANGEFAIL)),
             }
         }
-        _ => put_waiting(action, behind, around, draft),
+        // These aren't structured.
+        Action::DelayCase { .. } => Ok(()),
+        Action::ReceiveBuffers { .. } | Action::ReceiveSignals { .. } => Ok(()),
+        Action::Nothing | Action::Declare { .. } | Action::Lowest { .. } => Ok(()),
+        Action::Module { .. } | Action::Region { .. } | Action::Assign { .. } => Ok(()),
+        Action::Update { .. } | Action::Call(_) | Action::Routine { .. } => Ok(()),
+        Action::Evaluate(_) | Action::PutInt(_) | Action::PutText(_) | Action::PutLine => Ok(()),
+        Action::Exit { .. } | Action::Return { .. } | Action::Result { .. } => Ok(()),
+        Action::Assert(_) | Action::Cause { .. } | Action::Stop | Action::Start(_) => Ok(()),
+        Action::Delay { .. } | Action::Continue { .. } | Action::Send { .. } => Ok(()),
     }
 }
 
-// The code of an action that may wait for one of several, behind which is this place, or of one without statements.
+// The code of an action that waits for one of several, behind which is this place.
+#[tactic(auto, using(crate::proofs::Front::keeping_front, action_gen::proofs::Views::statement_built))]
 #[cycle(statement)]
 fn put_waiting(
     action: &Action,
     behind: u32,
     around: &Around,
     draft: &mut Draft,
-) -> Result<(), PartRefusal> {
+) -> Result<(), PartRefusal>
+    requires holds { holds_statements (action_tree action.now) ≡ true }
+    requires waits { is_structured (action_tree action.now) ≡ false }
+    ensures puts { OnOk result (PutsActionTo around.now action.now behind draft.old draft.new) }
+    ensures keeps { KeepsFront draft.old.code draft.new.code }
+{
     match action {
         Action::DelayCase {
             set,
@@ -223,7 +297,17 @@ fn put_waiting(
                 None => Ok(()),
             }
         }
-        _ => put_plain(action, around, draft),
+        // These don't wait for one of several.
+        Action::If { .. } | Action::Case { .. } | Action::Do { .. } | Action::Begin { .. } => Ok(
+            (),
+        ),
+        Action::Nothing | Action::Declare { .. } | Action::Lowest { .. } => Ok(()),
+        Action::Module { .. } | Action::Region { .. } | Action::Assign { .. } => Ok(()),
+        Action::Update { .. } | Action::Call(_) | Action::Routine { .. } => Ok(()),
+        Action::Evaluate(_) | Action::PutInt(_) | Action::PutText(_) | Action::PutLine => Ok(()),
+        Action::Exit { .. } | Action::Return { .. } | Action::Result { .. } => Ok(()),
+        Action::Assert(_) | Action::Cause { .. } | Action::Stop | Action::Start(_) => Ok(()),
+        Action::Delay { .. } | Action::Continue { .. } | Action::Send { .. } => Ok(()),
     }
 }
 
@@ -236,6 +320,7 @@ struct Wait<'a> {
 }
 
 // A RECEIVE CASE: the wait and the alternatives. ELSE is left to who holds the action.
+#[tactic(auto, using(crate::proofs::Front::keeping_front))]
 #[cycle(statement)]
 fn put_receive_case(
     alternatives: &[ReceiveAlternative],
@@ -243,7 +328,11 @@ fn put_receive_case(
     wait: Wait,
     around: &Around,
     draft: &mut Draft,
-) -> Result<(), PartRefusal> {
+) -> Result<(), PartRefusal>
+    ensures puts { OnOk result
+        (PutsReceiveCase around.now alternatives.now otherwise.now wait.entry draft.old draft.new) }
+    ensures keeps { KeepsFront draft.old.code draft.new.code }
+{
     let last = otherwise_size(otherwise, 0, &around.site);
     let nothing = wait.behind.saturating_sub(last);
     put_receive_wait(
@@ -274,13 +363,17 @@ struct Kept {
 }
 
 // The conditions of an IF with their actions.
+#[tactic(auto, using(crate::proofs::Front::keeping_front))]
 #[cycle(statement)]
 fn put_choices(
     choices: &[Choice],
     behind: u32,
     around: &Around,
     draft: &mut Draft,
-) -> Result<(), PartRefusal> {
+) -> Result<(), PartRefusal>
+    ensures puts { OnOk result (PutsChoices around.now choices.now behind draft.old draft.new) }
+    ensures keeps { KeepsFront draft.old.code draft.new.code }
+{
     for choice in choices {
         put_choice(choice, behind, around, draft)?;
     }
@@ -288,13 +381,17 @@ fn put_choices(
 }
 
 // A condition, and the actions that are done where it is TRUE.
+#[tactic(auto, using(crate::proofs::Front::keeping_front))]
 #[cycle(statement)]
 fn put_choice(
     choice: &Choice,
     behind: u32,
     around: &Around,
     draft: &mut Draft,
-) -> Result<(), PartRefusal> {
+) -> Result<(), PartRefusal>
+    ensures puts { OnOk result (PutsChoice around.now choice.now behind draft.old draft.new) }
+    ensures keeps { KeepsFront draft.old.code draft.new.code }
+{
     let actions = choice.actions.as_slice();
     let size = choice_size(choice, &around.site);
     let branch = Branch {
@@ -306,13 +403,17 @@ fn put_choice(
 }
 
 // The alternatives of a CASE, whose selector is kept.
+#[tactic(auto, using(crate::proofs::Front::keeping_front))]
 #[cycle(statement)]
 fn put_cases(
     alternatives: &[CaseAlternative],
     behind: u32,
     around: &Around,
     draft: &mut Draft,
-) -> Result<(), PartRefusal> {
+) -> Result<(), PartRefusal>
+    ensures puts { OnOk result (PutsCases around.now alternatives.now behind draft.old draft.new) }
+    ensures keeps { KeepsFront draft.old.code draft.new.code }
+{
     for alternative in alternatives {
         put_labels(alternative.labels.as_slice(), around.free, draft)?;
         put_chosen(alternative.actions.as_slice(), behind, around, draft)?;
@@ -321,6 +422,7 @@ fn put_cases(
 }
 
 // A loop, behind which is this place.
+#[tactic(auto, using(crate::proofs::Front::keeping_front))]
 #[cycle(statement)]
 fn put_do(
     actions: &[Statement],
@@ -328,7 +430,10 @@ fn put_do(
     behind: u32,
     around: &Around,
     draft: &mut Draft,
-) -> Result<(), PartRefusal> {
+) -> Result<(), PartRefusal>
+    ensures puts { OnOk result (PutsDo around.now control.now actions.now behind draft.old draft.new) }
+    ensures keeps { KeepsFront draft.old.code draft.new.code }
+{
     let inside = around.taking(locals_kept(control))?;
     put_before_turns(control, behind, around, draft)?;
     let again = draft.target_behind(0)?;
@@ -342,6 +447,7 @@ fn put_do(
 }
 
 // The alternatives of a DELAY CASE, of which the chosen one's number is kept.
+#[tactic(auto, using(crate::proofs::Front::keeping_front))]
 #[cycle(statement)]
 fn put_delays(
     alternatives: &[DelayAlternative],
@@ -349,7 +455,10 @@ fn put_delays(
     behind: u32,
     around: &Around,
     draft: &mut Draft,
-) -> Result<(), PartRefusal> {
+) -> Result<(), PartRefusal>
+    ensures puts { OnOk result (PutsDelays around.now alternatives.now chosen behind draft.old draft.new) }
+    ensures keeps { KeepsFront draft.old.code draft.new.code }
+{
     for number in 0..alternatives.len() {
         put_is_chosen(chosen, number, draft)?;
         put_chosen(
@@ -363,13 +472,18 @@ fn put_delays(
 }
 
 // The alternatives of a RECEIVE CASE, of which the chosen one's number is kept.
+#[tactic(auto, using(crate::proofs::Front::keeping_front))]
 #[cycle(statement)]
 fn put_receives(
     alternatives: &[ReceiveAlternative],
     kept: Kept,
     around: &Around,
     draft: &mut Draft,
-) -> Result<(), PartRefusal> {
+) -> Result<(), PartRefusal>
+    ensures puts { OnOk result
+        (PutsReceives around.now alternatives.now kept draft.old draft.new) }
+    ensures keeps { KeepsFront draft.old.code draft.new.code }
+{
     for number in 0..alternatives.len() {
         put_is_chosen(kept.chosen, number, draft)?;
         put_chosen(

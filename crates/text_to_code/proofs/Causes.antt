@@ -9,7 +9,11 @@ use Rattle.code_gen.specs.declared.refusal.CodeRefusal.{CodeRefusal}
 use Rattle.code_gen.specs.declared.refusal.CodeRefusal.TheVariants.{CodeTooLong}
 use Rattle.code_types.specs.Agreement.{Agrees}
 use Rattle.code_types.specs.declared.code.Code.{Code}
-use Rattle.text_to_code.specs.Building.{IsElaborated, IsCompiled, IsGivenUp, unelaborated, uncompiled, unguarded}
+use Rattle.program_ranges.specs.ProgramRanges.{AreInRange}
+use Rattle.code_laws.specs.Talk.{IsCompilable}
+use Rattle.compilable_laws.proofs.Programs.{program_compilable}
+use Rattle.program_trees.specs.ProgramTree.{checked_tree}
+use Rattle.text_to_code.specs.Building.{IsElaborated, IsWellElaborated, IsCompiled, IsGivenUp, IsUnguarded, unelaborated, uncompiled, unguarded}
 use Rattle.text_to_code.specs.declared.build.BuildRefusal.{BuildRefusal}
 use Rattle.text_to_code.specs.declared.build.BuildRefusal.TheVariants as refusals
 
@@ -19,14 +23,32 @@ without_program tree refusals.NotBuilt = unelaborated
 without_program tree refusals.Memory = tt
 
 -- before there was code
-pub without_code : (tree : ProgramTree) (program : Checked) (refusal : BuildRefusal) → IsElaborated tree program → IsGivenUp tree refusal
-without_code tree program refusals.NotBuilt made = uncompiled program made
-without_code tree program refusals.Memory made = tt
+pub without_code : (tree : ProgramTree) (program : Checked) (refusal : BuildRefusal) → IsElaborated tree program
+    → (refusal ≡ refusals.NotBuilt → 65536 < program.size) → IsGivenUp tree refusal
+without_code tree program refusals.NotBuilt made too_long = uncompiled program made (too_long refl)
+without_code tree program refusals.Memory made too_long = tt
+
+-- a program that is well elaborated may be compiled
+pub compilable : (program : Checked) → AreInRange program → IsWellElaborated program → IsCompilable (checked_tree program)
+compilable program in_range well = program_compilable program (record {
+  in_range = in_range;
+  typed = well.typed.typed;
+  few = well.few;
+  well_made = well.well_made;
+})
+
+-- the guard takes what is compiled of it
+disagreeing : (program : Checked) (code : Code) → AreInRange program → IsCompiled program code → (Agrees code → ⊥) → IsUnguarded program code
+disagreeing program code in_range compiled disagrees = record {
+  disagrees = disagrees;
+  not_of_well_elaborated = λ well. disagrees (compiled.agrees (compilable program in_range well));
+}
 
 -- by the guard
 pub without_guard : (tree : ProgramTree) (program : Checked) (code : Code) (refusal : BuildRefusal) → IsElaborated tree program → IsCompiled program code
     → (refusal ≡ refusals.NotBuilt → Agrees code → ⊥) → IsGivenUp tree refusal
-without_guard tree program code refusals.NotBuilt made compiled disagrees = unguarded program code made compiled (disagrees refl)
+without_guard tree program code refusals.NotBuilt made compiled disagrees =
+    unguarded program code made compiled (disagreeing program code made compiled (disagrees refl))
 without_guard tree program code refusals.Memory made compiled disagrees = tt
 
 -- a refusal that is handed on

@@ -50,8 +50,9 @@ IsInOrder (Ok done) = Unit {0}
 IsInOrder (Err (refusals.Broken told)) = AreInOrder told
 IsInOrder (Err refusals.Memory) = Unit {0}
 
--- the text has such a tree, whose size isn't above 65,536, and this is the program of that tree and its code
-pub record IsAccepted (text : List ℕ) (program : Checked) (code : Code) : Type 0 where
+-- The text has such a tree, whose size isn't above 65,536, and these are a program in range and its code. That the text breaks no
+-- rule of the checks, and that the program is the tree's, isn't said.
+pub record HasCode (text : List ℕ) (program : Checked) (code : Code) : Type 0 where
   pub resolved : IsResolved text
   pub small : program_size resolved.tree ≤ 65536
   pub built : IsBuiltOf resolved.tree program code
@@ -82,7 +83,7 @@ abbrev pub RefusesTree : ProgramTree → List Diagnostic → Type 0
 RefusesTree tree told = ((told ≡ broken_names (level_of tree)) × (told ≢ [])) ⊎ ((broken_names (level_of tree) ≡ []) × MayTell tree told)
 
 -- what is accepted of a tree
-pub record AcceptsTree (tree : ProgramTree) (made : Built) : Type 0 where
+pub record TreeHasCode (tree : ProgramTree) (made : Built) : Type 0 where
   pub named : broken_names (level_of tree) ≡ []
   pub small : program_size tree ≤ 65536
   pub built : IsBuiltOf tree made.program.checked.value made.code
@@ -90,12 +91,12 @@ pub record AcceptsTree (tree : ProgramTree) (made : Built) : Type 0 where
 -- what is told of a text by its tree alone
 abbrev pub TellsTree : ProgramTree → Told → Type 0
 TellsTree tree (tellings.Refused told) = RefusesTree tree told
-TellsTree tree (tellings.Accepted built) = AcceptsTree tree built.value
+TellsTree tree (tellings.Accepted built) = TreeHasCode tree built.value
 
 -- what the code tells of a text
 abbrev pub Tells : List ℕ → Told → Type 0
 Tells text (tellings.Refused told) = Refuses text told
-Tells text (tellings.Accepted built) = IsAccepted text built.value.program.checked.value built.value.code
+Tells text (tellings.Accepted built) = HasCode text built.value.program.checked.value built.value.code
 
 -- why a text has no tree, where it is for a rule: the first that it breaks
 abbrev pub IsNoTree : List ℕ → NoTree → Type 0

@@ -1,5 +1,5 @@
 // The code of a program that breaks no rule on names, modes, statements and processes.
-ghost use Rattle.std.specs.Prelude.{◌≡◌, IfErr, IfOk, IsErrOf};
+ghost use Rattle.std.specs.Prelude.{◌≡◌, ◌<◌, IfErr, IfOk, IsErrOf};
 ghost use Rattle.chill_tree.specs.ItemTree.{program_tree};
 ghost use Rattle.code_types.specs.Agreement.{Agrees};
 ghost use Rattle.program_ranges.specs.ProgramRanges.{AreInRange};
@@ -57,11 +57,12 @@ fn elaborated(evaluation: &Evaluation<'_>, tree: &Tree) -> Result<Program, Build
 }
 
 fn compiled(alloc: Global, program: &Checked) -> Result<Code, BuildRefusal>
-    ensures { IfOk result (IsCompiled program.now) }
+    ensures made { IfOk result (IsCompiled program.now) }
+    ensures too_long { IsErrOf result BuildRefusal.NotBuilt → 65536 < program.now.size }
 {
     match compile(alloc, program) {
         Ok(code) => Ok(code),
-        Err(CodeRefusal::CodeTooLong | CodeRefusal::Unsound) => Err(BuildRefusal::NotBuilt),
+        Err(CodeRefusal::CodeTooLong) => Err(BuildRefusal::NotBuilt),
         Err(CodeRefusal::Memory) => Err(BuildRefusal::Memory),
     }
 }

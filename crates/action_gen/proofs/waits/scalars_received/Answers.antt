@@ -5,9 +5,8 @@ use Rattle.action_gen.proofs.waits.scalars_received.Goals as goal
 
 pub loop-number-preserved : goal.loop-number-preserved
 loop-number-preserved c =
-    let sum = c.in_ok-count.ensures (c.loop-number.count + c.in_ok-local.local.now.count) c.saturating_add-in-loop-number.ensures in
-    scalars_turn c.args.around.now.site.body.now.locals c.args.received.now c.loop-number.number-index (get_or c.args.received.now c.loop-number.number-index 0) c.in_ok-local.local.now c.loop-number.count c.in_ok-count.count _
-    c.loop-number-test.true refl c.in_ok-local.ensures sum c.loop-number.invariant
+    scalars_turn (rows_around c.args.around.now) c.args.received.now c.loop-number.number-index (get_or c.args.received.now c.loop-number.number-index 0) c.scalars_of_local.result c.loop-number.count c.in_ok-count.count _
+    c.loop-number-test.true refl c.scalars_of_local.ensures c.in_ok-count.ensures c.loop-number.invariant
 
 pub returns : goal.returns
 returns c = scalars_done (rows_around c.args.around.now) c.args.received.now c.loop-number.number-index c.loop-number.count _ c.loop-number-test.false c.loop-number.invariant

@@ -8,11 +8,11 @@ pub returns-clause-puts : goal.returns-clause-puts
 returns-clause-puts c =
     let low_fits : SFits w64 c.args.bounds.low = search rules in
     let high_fits : SFits w64 c.args.bounds.high = search rules in
-    let above_fits : SFits w64 c.in_ok-above.above = search rules in
-    let none_fits : SFits w64 c.in_ok-none.none = search rules in
+    let above_fits : SFits w64 c.plus-above.result = search rules in
+    let none_fits : SFits w64 c.plus-none.result = search rules in
     let inside : c.in_ok-inside.inside ≡ length c.args.draft.now.code.instrs + 12 = c.in_ok-inside.ensures 12 refl in
-    let above = simp to_z-of_z at c.in_ok-above.ensures in
-    let none = simp to_z-of_z at c.in_ok-none.ensures in
+    let above = simp to_z-of_z at c.plus-above.ensures in
+    let none = simp to_z-of_z at c.plus-none.ensures in
     let below_low = simp to_z-of_z at c.in_ok-put_is_below.ensures.puts in
     let not_above = simp to_z-of_z at c.in_ok-put_is_none_above.ensures.puts in
     let chosen = simp to_z-of_z at c.put_unless_inside.ensures.puts in

@@ -1,18 +1,17 @@
-use Rattle.std.proofs.Common.{ℕ, ◌+◌, OnOk, ap, sym, subst, ◌∙◌, rules, w64}
+use Rattle.std.proofs.Common.{ℕ, map, ◌+◌, OnOk, ap, sym, subst, ◌∙◌, rules, w64}
 use mir.Val.{SFits}
 use Rattle.std.proofs.lemmas.Int.{to_z-of_z}
 use Rattle.std.proofs.lemmas.Result.{on_ok_weaker}
 use Rattle.checked_program.specs.declared.expr.Expr.{Expr}
 use Rattle.checked_program.specs.declared.expr.Location.{Location}
 use Rattle.program_trees.specs.ExprTree.{expr_tree, location_tree, received_of}
-use Rattle.program_trees.specs.ProgramTree.{body_row_tree}
+use Rattle.program_trees.specs.ProgramTree.{local_row_tree}
 use Rattle.code_scheme.specs.Pieces.{capped, bounds_of_value, contents_code}
 use Rattle.code_scheme.specs.ExprSizes.{expr_size}
 use Rattle.code_scheme.specs.ExprCode.{members_code, counts_of}
 use Rattle.expr_gen.specs.Putting.{Appends, layout_of}
 use Rattle.expr_gen.specs.Trees.{ranges_of}
 use Rattle.expr_gen.proofs.Appending.{and_then, kept_on}
-use Rattle.expr_gen.proofs.Rows.{body_locals}
 use Rattle.expr_gen.proofs.Made.{moved, indices_turn, indices_done, received_turn, received_done, members_turn, members_done, arguments_turn, arguments_done, places_turn, places_done}
 use Rattle.expr_gen.proofs.Told.{constant_told, this_told, get_told, contents_told, part_told, receive_told, start_expr_told, call_expr_told, powerset_told, parts_told, uniform_told, uniform_count, routine_told, prefixed_told, binary_told, received_told, place_indexed, place_zero, place_none, start_told, alone_told, between_told, in_told, out_told, inout_told, call_told, field_told, element_told}
 use Rattle.expr_gen.proofs.values.+value.Goals as goal
@@ -62,16 +61,16 @@ pub put_arguments-returns-clause-kept : goal.put_arguments-returns-clause-kept
 put_arguments-returns-clause-kept t c = places_done c.args.arguments.now c.loop-argument.argument-index c.loop-argument.kept _ c.loop-argument-test.false c.loop-argument.invariant.places
 
 pub put_argument-returns-in-In-clause-puts : goal.put_argument-returns-in-In-clause-puts
-put_argument-returns-in-In-clause-puts t c = on_ok_weaker c.put_received.result (λ q. in_told _ (body_row_tree c.args.taker.callee.now).locals c.args.taker.parameter _ _ c.args.given.now c.in-In.received c.in-In.is q) c.put_received.ensures.puts
+put_argument-returns-in-In-clause-puts t c = on_ok_weaker c.put_received.result (λ q. in_told _ (map local_row_tree c.args.taker.locals.now) c.args.taker.parameter _ _ c.args.given.now c.in-In.received c.in-In.is q) c.put_received.ensures.puts
 
 pub put_argument-returns-in_ok-keep_place-in-Out-clause-puts : goal.put_argument-returns-in_ok-keep_place-in-Out-clause-puts
-put_argument-returns-in_ok-keep_place-in-Out-clause-puts t c = on_ok_weaker c.put_lowest.result (λ q. out_told _ (body_row_tree c.args.taker.callee.now).locals c.args.taker.parameter _ c.args.given.now c.in-Out.target c.in-Out.bounds c.in-Out.is c.in_ok-put_place-in-Out.ensures.puts c.in_ok-keep_place-in-Out.ensures.puts q) c.put_lowest.ensures.puts
+put_argument-returns-in_ok-keep_place-in-Out-clause-puts t c = on_ok_weaker c.put_lowest.result (λ q. out_told _ (map local_row_tree c.args.taker.locals.now) c.args.taker.parameter _ c.args.given.now c.in-Out.target c.in-Out.bounds c.in-Out.is c.in_ok-put_place-in-Out.ensures.puts c.in_ok-keep_place-in-Out.ensures.puts q) c.put_lowest.ensures.puts
 
 pub put_argument-returns-in_ok-put_contents-in-InOut-clause-puts : goal.put_argument-returns-in_ok-put_contents-in-InOut-clause-puts
-put_argument-returns-in_ok-put_contents-in-InOut-clause-puts t c = on_ok_weaker c.put_check.result (λ q. inout_told _ (body_row_tree c.args.taker.callee.now).locals c.args.taker.parameter _ c.args.given.now c.in-InOut.target c.in-InOut.taken c.in-InOut.bounds c.tested_in.result c.in-InOut.is c.tested_in.ensures c.in_ok-put_place-in-InOut.ensures.puts c.in_ok-keep_place-in-InOut.ensures.puts c.in_ok-put_kept-in-InOut.ensures.puts c.in_ok-put_contents-in-InOut.ensures.puts q) c.put_check.ensures.puts
+put_argument-returns-in_ok-put_contents-in-InOut-clause-puts t c = on_ok_weaker c.put_check.result (λ q. inout_told _ (map local_row_tree c.args.taker.locals.now) c.args.taker.parameter _ c.args.given.now c.in-InOut.target c.in-InOut.taken c.in-InOut.bounds c.tested_in.result c.in-InOut.is c.tested_in.ensures c.in_ok-put_place-in-InOut.ensures.puts c.in_ok-keep_place-in-InOut.ensures.puts c.in_ok-put_kept-in-InOut.ensures.puts c.in_ok-put_contents-in-InOut.ensures.puts q) c.put_check.ensures.puts
 
 pub put_call-returns-clause-puts : goal.put_call-returns-clause-puts
-put_call-returns-clause-puts t c = on_ok_weaker c.put_copies_out.result (λ q. call_told _ _ c.args.call.now c.as_slice-arguments.result.now (body_row_tree c.in_ok-callee.callee.now).locals c.in_ok-kept.kept c.as_slice-arguments.ensures (body_locals c.args.site.now.program.now.bodies _ c.in_ok-callee.callee.now c.in_ok-callee.ensures) c.in_ok-kept.ensures.kept c.in_ok-kept.ensures.puts c.in_ok-put_call.ensures.puts q) c.put_copies_out.ensures.puts
+put_call-returns-clause-puts t c = on_ok_weaker c.put_copies_out.result (λ q. call_told _ _ c.args.call.now c.as_slice-arguments.result.now (map local_row_tree c.locals_of-locals.result.now) c.in_ok-kept.kept c.as_slice-arguments.ensures (sym c.locals_of-locals.ensures) c.in_ok-kept.ensures.kept c.in_ok-kept.ensures.puts c.in_ok-put.ensures.puts q) c.put_copies_out.ensures.puts
 
 pub put_expr-returns-in-Constant-clause-puts : goal.put_expr-returns-in-Constant-clause-puts
 put_expr-returns-in-Constant-clause-puts t c = on_ok_weaker c.put_scalars.result (λ q. constant_told _ _ _ c.args.expr.now c.in-Constant.scalars c.as_slice.result.now c.in-Constant.is c.as_slice.ensures q) c.put_scalars.ensures.puts

@@ -1,6 +1,6 @@
-use Rattle.std.proofs.Common.{◌≡◌, drop, true}
+use Rattle.std.proofs.Common.{◌≡◌, drop, map, true}
 use Rattle.program_trees.specs.ExprTree.{received_of}
-use Rattle.program_trees.specs.ProgramTree.{body_row_tree}
+use Rattle.program_trees.specs.ProgramTree.{local_row_tree}
 use Rattle.code_scheme.specs.Pieces.{kept_behind}
 use Rattle.code_scheme.specs.ExprSizes.{indices_size, received_sizes, members_size, arguments_size}
 use Rattle.code_scheme.specs.ExprCode.{indices_code, received_codes, members_code, arguments_code}
@@ -35,8 +35,8 @@ invariant-put_powerset-loop-range l = record {
 
 abbrev pub invariant-put_arguments-loop-argument : goal.invariant-put_arguments-loop-argument
 invariant-put_arguments-loop-argument l = record {
-  left : StillTo (λ at. arguments_code (layout_of l.site.program.now l.site.body.now) (body_row_tree l.callee).locals 0 l.free (arguments_of l.arguments) at) (arguments_size (arguments_of l.arguments))
-      (λ at. arguments_code (layout_of l.site.program.now l.site.body.now) (body_row_tree l.callee).locals l.parameter l.kept (arguments_of (drop l.argument-index l.arguments)) at) (arguments_size (arguments_of (drop l.argument-index l.arguments)))
+  left : StillTo (λ at. arguments_code (layout_of l.site.program.now l.site.body.now) (map local_row_tree l.locals) 0 l.free (arguments_of l.arguments) at) (arguments_size (arguments_of l.arguments))
+      (λ at. arguments_code (layout_of l.site.program.now l.site.body.now) (map local_row_tree l.locals) l.parameter l.kept (arguments_of (drop l.argument-index l.arguments)) at) (arguments_size (arguments_of (drop l.argument-index l.arguments)))
       l.initial.draft.code l.draft.code;
   places : kept_behind (arguments_of (drop l.argument-index l.arguments)) l.kept ≡ kept_behind (arguments_of l.arguments) l.free;
   keeps : Keeps l.initial.draft.code l.draft.code;

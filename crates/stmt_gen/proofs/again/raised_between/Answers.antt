@@ -15,6 +15,6 @@ returns c =
     IfOk-weaker c.marked.result (λ numbers. numbers ≡ marked_in c.deref.result.now)
     (λ raised. raised ≡ raised_in (checked_tree c.args.program.now) (instrs_between c.args.from c.args.until c.args.draft.now))
     (λ xs e. e ∙ ap marked_in c.deref.ensures.value ∙ raised_told c.args.program.now (take (c.min-until.result - c.min-from.result) (drop c.min-from.result c.as_slice-instrs.result.now)) c.in_ok-count_of_exceptions.field-0 c.in_ok-found.found.items c.mark_all_raised.new.marks.items
-    c.in_ok-count_of_exceptions.ensures c.in_ok-found.ensures c.in_ok-mark_all_raised.ensures
+    c.in_ok-count_of_exceptions.ensures c.in_ok-found.ensures c.mark_all_raised.ensures
     ∙ ap (λ (is : List Instr). raised_in (checked_tree c.args.program.now) (take (c.min-until.result - c.min-from.result) (drop c.min-from.result is))) c.as_slice-instrs.ensures
     ∙ ap (λ (is : List Instr). raised_in (checked_tree c.args.program.now) is) (sym between)) c.marked.ensures

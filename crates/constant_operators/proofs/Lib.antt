@@ -1,0 +1,2 @@
+pub mod ResultFits
+pub mod Computing
