@@ -6,3 +6,6 @@ pub mod ShownLocal
 pub mod ShownSimple
 pub mod ShownStatement
 pub mod ShownItem
+pub mod Sets
+pub mod Defining
+pub mod WrittenSo
