@@ -1,0 +1,9 @@
+//! The laws of what is there where nothing is told of a text: the values of its constants.
+//!
+//! It stands on `checks_model`, whose definitions it speaks of, and on `elaborated_laws`. The functions here have no body, and
+//! their contracts are the laws. No crate needs it to run.
+#![tactic(auto)]
+
+mod laws;
+
+pub use laws::constants_law;
