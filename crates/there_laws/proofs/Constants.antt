@@ -32,7 +32,7 @@ use Rattle.elaborated_laws.proofs.Classes.{form_is}
 use Rattle.there_laws.specs.Constants.{HasValue, IsMeasurable, HasConstants, HaveConstants, RangeHasConstants, RangesHaveConstants, IsReceived, FitsSynonym, ConstantThereLaw}
 use Rattle.there_laws.proofs.Forms.{HasBounds, has_bounds, part_fits, PartsThere, shape_there}
 
-abbrev AllKnown : Ground → Type 0
+abbrev pub AllKnown : Ground → Type 0
 AllKnown g = (n : Name) → IsKnownName g n
 
 each_known : (g : Ground) (ns : List Name) → AllKnown g → AreKnown g ns
@@ -91,11 +91,11 @@ binary_there o (Some c) (Some k) None w left right first later fits = absurd (tr
 binary_there o (Some c) (Some k) (Some v) None left right first later fits = absurd (true≢false (sym later))
 
 -- an operand has a value and a class
-record OperandThere (g : Ground) (e : ExprTree) : Type 0 where
-  value : IsSome (constant_of g e)
-  class : IsSome (class_of g e)
+pub record OperandThere (g : Ground) (e : ExprTree) : Type 0 where
+  pub value : IsSome (constant_of g e)
+  pub class : IsSome (class_of g e)
 
-operand_there : (g : Ground) (e : ExprTree) → AllKnown g → told_as g by_itself None e ≡ [] → has_form g false e ≡ true → IsSome (constant_of g e) → OperandThere g e
+pub operand_there : (g : Ground) (e : ExprTree) → AllKnown g → told_as g by_itself None e ≡ [] → has_form g false e ≡ true → IsSome (constant_of g e) → OperandThere g e
 operand_there g e known clean form value = record { value = value; class = class_there g by_itself false None e (each_known g (names_in e) known) clean form value }
 
 signed_there : (g : Ground) (at : Pos) (o : Prefix) (e : ExprTree) → has_form g false e ≡ true → (told_as g by_itself None e ≡ [] → OperandThere g e) → told_sign g at o e (told_as g by_itself None e) ≡ [] → IsSome (option_and_then (value_of_unary o) (constant_of g e))
@@ -485,3 +485,7 @@ mutual
       ends_there (constant_as g m l) (constant_as g m h)
       (constant_there g s m l known has.0 received (λ is. neither_left (misfits_as g m l) (misfits_as g m h) (judged is)) (none_first (told_as g s m l) (told_as g s m h) none) (in_place g s l apart (both_left (has_form g true l) (has_form g true h) form)))
       (constant_there g s m h known has.1 received (λ is. neither_right (misfits_as g m l) (misfits_as g m h) (judged is)) (none_later (told_as g s m l) (told_as g s m h) none) (in_place g s h apart (both_right (has_form g true l) (has_form g true h) form)))
+
+-- where it stands by itself
+pub alone_there : (g : Ground) (e : ExprTree) → AllKnown g → HasConstants g e → told_as g by_itself None e ≡ [] → has_form g false e ≡ true → IsSome (constant_of g e)
+alone_there g e known has none form = constant_there g by_itself None e known has itself (never g e) none form

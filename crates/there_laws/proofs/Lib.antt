@@ -1,2 +1,5 @@
 pub mod Forms
 pub mod Constants
+pub mod Shapes
+pub mod ConstantShapes
+pub mod Modes

@@ -1,7 +1,16 @@
 // Laws of what is there where nothing is told. Each is a fact about the definitions, which a caller learns by calling the function.
 ghost use Rattle.there_laws.specs.Constants.{ConstantThereLaw};
+ghost use Rattle.there_laws.specs.Modes.{WrittenThereLaw};
+ghost use Rattle.there_laws.specs.Shapes.{ConstantShapeLaw};
 
-/// An expression of constant form in which nothing is told has a value, where what it names has one.
+/// An expression of constant form in which nothing is told has a value, where what it names has one; and the value of a
+/// constant is a number, a powerset or parts, as its class says.
 pub fn constants_law()
-    ensures { ConstantThereLaw }
+    ensures value { ConstantThereLaw }
+    ensures shape { ConstantShapeLaw }
+{}
+
+/// A mode that a text writes, and of which nothing is told, is there, where what it names is.
+pub fn modes_law()
+    ensures { WrittenThereLaw }
 {}

@@ -1,4 +1,4 @@
-//! The laws of what is there where nothing is told of a text: the values of its constants.
+//! The laws of what is there where nothing is told of a text: the values of its constants, and the modes that it writes.
 //!
 //! It stands on `checks_model`, whose definitions it speaks of, and on `elaborated_laws`. The functions here have no body, and
 //! their contracts are the laws. No crate needs it to run.
@@ -6,4 +6,4 @@
 
 mod laws;
 
-pub use laws::constants_law;
+pub use laws::{constants_law, modes_law};

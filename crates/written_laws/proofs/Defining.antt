@@ -6,7 +6,7 @@ use Rattle.chill_base.specs.declared.pos.Pos.{Pos}
 use Rattle.chill_tree.specs.declared.tree.name.Name.{Name}
 use Rattle.chill_tree.specs.ModeTree as written
 use Rattle.chill_tree.specs.LocalTree.{SynonymTree, ModeDefinitionTree, DeclarationTree, LocalTree, synonyms, syn_modes, new_modes, locations}
-use Rattle.chill_tree.specs.SimpleTree.{SimpleTree, ControlTree, while_holds, for_ever, for_members, for_steps}
+use Rattle.chill_tree.specs.SimpleTree.{ControlTree, while_holds, for_ever, for_members, for_steps}
 use Rattle.chill_tree.specs.StatementTree.{StatementTree, BracketedTree, StatementNodes, ElsIfNodes, CaseNodes, NamedNodes, ReceiveNodes, OtherwiseNode, HandlerNode, BodyNodes, HandlerTree, BodyTree, empty, simple, bracketed, if_then, case_of, do_loop, begin_end, delay_case, receive_case, no_statements, more_statements, no_branches, more_branches, no_cases, more_cases, no_named, more_named, no_receives, more_receives, no_otherwise, otherwise, no_handler, handler, no_parts, more_locals, more_actions, handler_node, body_nodes}
 use Rattle.chill_tree.specs.ItemTree.{SignalTree, ParamTree, ProcedureTree, FormalTree, ProcessTree, ItemTree, ItemNodes, local_item, signals, procedure, process, action, no_items, more_items, ModulionTree, modulion_item, ProgramTree}
 use Rattle.chill_tree.specs.ItemTree.{seize as seize_item, grant as grant_item, modulion as modulion_of}
@@ -20,16 +20,16 @@ use Rattle.names_model.specs.declared.identifier.Identifier.{Identifier}
 use Rattle.names_model.specs.declared.part.Mention.{Mention}
 use Rattle.names_model.specs.declared.part.Clause.{Clause}
 use Rattle.names_model.specs.Identifiers.{identifier}
-use Rattle.names_model.specs.Parts.{PartTree, PartNodes, routine, part_nodes}
+use Rattle.names_model.specs.Parts.{PartTree, routine, part_nodes}
 use Rattle.names_model.specs.Sizes.{elements_in, head_size, size_of, sizes_of, block_of}
 use Rattle.names_model.specs.Definitions.{within, defined, elements_defined, elements_with, params_defined, definitions_of, definitions_in, text_definitions, numbers_on}
 use Rattle.names_model.specs.ExprMentions.{used, mentions_of, mentions_of_some, mentions_of_ranges}
 use Rattle.names_model.specs.ModeMentions.{mentions_of_mode, mentions_of_some_mode}
-use Rattle.names_model.specs.StatementParts.{mentioned, synonym_part, mode_part, initial_parts, declaration_parts, local_parts, simple_parts, control_parts, turn_parts, labelled, received_parts, statement_parts, bracketed_parts, action_parts, branch_parts, case_parts, event_parts, receive_parts, otherwise_parts, handler_parts, exception_parts, body_parts}
-use Rattle.names_model.specs.ItemParts.{seized, granted, signal_parts, param_clause, formal_clause, whole_body, procedure_part, process_part, item_parts, each_item, program_parts}
+use Rattle.names_model.specs.StatementParts.{mentioned, synonym_part, mode_part, declaration_parts, local_parts, simple_parts, control_parts, turn_parts, labelled, received_parts, statement_parts, bracketed_parts, action_parts, branch_parts, case_parts, event_parts, receive_parts, otherwise_parts, handler_parts, exception_parts, body_parts}
+use Rattle.names_model.specs.ItemParts.{seized, granted, signal_parts, param_clause, formal_clause, whole_body, procedure_part, process_part, item_parts, each_item}
 use Rattle.names_model.specs.Resolving.{level_of}
 use Rattle.checks_model.specs.Ground.{Origin, a_synonym, a_mode, an_element, a_location, a_parameter, a_counter, a_received, a_procedure, a_process, a_signal, a_modulion, a_predefined}
-use Rattle.checks_model.specs.Origins.{is_set, sets_in, elements, elements_of, elements_of_some, origins_of_synonym, owner_of, origins_of_mode, origins_of_declaration, origins_of_local, counters_in, received_in, origins_in, origins_in_bracketed, origins_in_each, origins_in_branches, origins_in_cases, origins_in_named, origins_in_receives, origins_in_otherwise, origins_in_handler, origins_in_parts, origins_of_signal, origins_of_param, origins_of_formal, origins_of_body, origins_of_procedure, origins_of_process, origins_of_item, origins_of_items, text_origins}
+use Rattle.checks_model.specs.Origins.{is_set, sets_in, elements, elements_of, elements_of_some, origins_of_synonym, owner_of, origins_of_mode, origins_of_declaration, origins_of_local, counters_in, received_in, origins_in, origins_in_bracketed, origins_in_each, origins_in_branches, origins_in_cases, origins_in_named, origins_in_receives, origins_in_otherwise, origins_in_handler, origins_in_parts, origins_of_signal, origins_of_param, origins_of_formal, origins_of_procedure, origins_of_process, origins_of_item, origins_of_items, text_origins}
 use Rattle.written_laws.specs.Written.{Each}
 use Rattle.written_laws.proofs.Shown.{each_append, each_map, each_any, each_flat, each_same}
 use Rattle.written_laws.proofs.Sets.{HasElements, HasSets, Closed, each_more, sets_of, sets_of_parts, sets_before, closed_both, sets_have, elements_closed, with_elements, some_closed, some_have, many_closed, many_have}

@@ -1,14 +1,14 @@
 -- The SETs of a mode that defines something have their elements among the definitions.
-use Rattle.std.proofs.Common.{◌≡◌, ◌≤◌, ℕ, zero, suc, ◌+◌, Bool, true, false, List, [], ◌∷◌, ◌++◌, Option, Some, None, ◌⊎◌, inl, inr, length, length-append, refl, sym, ap, ◌∙◌, subst, arith}
+use Rattle.std.proofs.Common.{◌≡◌, ◌≤◌, ℕ, zero, suc, Bool, List, [], ◌∷◌, ◌++◌, Option, Some, None, inl, inr, length, length-append, refl, ap, ◌∙◌, arith}
 use Rattle.std.specs.Prelude.{map, flat_map, replicate}
 use Rattle.diagnostics.specs.Listing.{IsIn}
 use Rattle.chill_tree.specs.declared.tree.name.Name.{Name}
 use Rattle.chill_tree.specs.ModeTree as written
 use Rattle.names_model.specs.Definitions.{numbers_on}
-use Rattle.checks_model.specs.Ground.{Origin, a_synonym, a_mode, an_element, a_location, a_parameter, a_counter, a_received, a_procedure, a_process, a_signal, a_modulion, a_predefined}
+use Rattle.checks_model.specs.Ground.{Origin, a_synonym, a_mode, an_element, a_location, a_parameter, a_procedure, a_signal}
 use Rattle.checks_model.specs.Origins.{sets_in, elements, elements_of, elements_of_some}
 use Rattle.written_laws.specs.Written.{Each}
-use Rattle.written_laws.proofs.Shown.{each_append, each_map, each_any, each_flat, each_same}
+use Rattle.written_laws.proofs.Shown.{each_append, each_map, each_any, each_same}
 
 -- ---- members of lists
 

@@ -1,5 +1,5 @@
 -- The text literals in an expression are short.
-use Rattle.std.proofs.Common.{ℕ, List, [], ◌∷◌, ◌++◌, Option, Some, None}
+use Rattle.std.proofs.Common.{ℕ, List, [], ◌∷◌, Option}
 use Rattle.chill_base.specs.declared.pos.Pos.{Pos}
 use Rattle.chill_tree.specs.declared.tree.name.Name.{Name}
 use Rattle.chill_tree.specs.ExprTree.{ExprTree, expr_nodes, RangeTree, range_nodes}

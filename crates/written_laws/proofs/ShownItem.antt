@@ -1,5 +1,5 @@
 -- What is shown of a program: its nodes have short expressions, and what it defines is written with fields.
-use Rattle.std.proofs.Common.{◌≡◌, ℕ, Bool, true, false, List, [], ◌∷◌, ◌++◌, Option, Some, None, refl, subst}
+use Rattle.std.proofs.Common.{ℕ, true, List, [], ◌∷◌, ◌++◌, Option, Some, None}
 use Rattle.std.specs.Prelude.{map, flat_map}
 use Rattle.chill_tree.specs.declared.token.Word.TheVariants as words
 use Rattle.chill_tree.specs.declared.tree.name.Name.{Name}
@@ -14,15 +14,15 @@ use Rattle.rules_model.specs.ListGrammar.{IsName, is_name, IsClause, no_clause, 
 use Rattle.rules_model.specs.ModeGrammar.{IsMode}
 use Rattle.rules_model.specs.ItemGrammar.{IsPassed, pass_names, pass_all, AreSignalParts, no_signal_parts, with_signal_parts, IsSignal, is_signal, IsPassing, no_passing, pass_in, pass_out, pass_in_out, IsParam, is_param, IsFormal, is_formal, AreWithin, none_within, some_within, IsResult, is_result, AreExceptions, are_exceptions, IsBlock, is_block, IsProcedure, is_procedure, IsProcess, is_process, IsKind, is_module, is_region, IsItem, is_seize, is_grant, is_local_item, are_signals, is_procedure_item, is_process_item, is_modulion_item, is_action, AreItems, no_items, then_item, IsModulion, is_modulion, AreModulions, no_modulions, then_modulion, IsTreeOf, is_tree}
 use Rattle.rules_model.specs.Diagnoses.{HasTree}
-use Rattle.checks_model.specs.Ground.{Origin, a_parameter, a_procedure, a_process, a_signal, a_modulion}
-use Rattle.checks_model.specs.Origins.{sets_in, elements, elements_of, elements_of_some, origins_in_parts, origins_in_handler, origins_of_signal, origins_of_param, origins_of_formal, origins_of_body, origins_of_procedure, origins_of_process, origins_of_item, origins_of_items, text_origins}
-use Rattle.checks_model.specs.Sites.{Site, Around, in_procedure, in_no_procedure, at_item, at_mode, at_body, at_program, sites_of_parts, sites_of_handler, sites_of_modes, sites_of_result, sites_of_body, sites_of_procedure, sites_of_process, sites_of_item, sites_of_items, locals_of_body, outermost_locals, shared_in, items_of, sites}
+use Rattle.checks_model.specs.Ground.{a_parameter}
+use Rattle.checks_model.specs.Origins.{sets_in, elements_of, elements_of_some, origins_in_parts, origins_in_handler, origins_of_signal, origins_of_param, origins_of_formal, origins_of_body, origins_of_procedure, origins_of_process, origins_of_item, origins_of_items, text_origins}
+use Rattle.checks_model.specs.Sites.{Around, in_procedure, in_no_procedure, at_item, at_mode, at_body, sites_of_parts, sites_of_handler, sites_of_modes, sites_of_result, sites_of_body, sites_of_procedure, sites_of_process, sites_of_item, sites_of_items, locals_of_body, sites}
 use Rattle.written_laws.specs.Written.{Each, HasShortExprs, ShortTextsLaw}
 use Rattle.written_laws.proofs.Shown.{Shown, none, skip, ends, both, before, behind, so, Shows, listed, each_append, each_any, each_map, each_flat, and_one}
 use Rattle.written_laws.proofs.Tokens.{tokens_short}
 use Rattle.written_laws.proofs.ShownMode.{IsFilled, names_passed, closing_passed, mode_shown}
 use Rattle.written_laws.proofs.ShownLocal.{IsSomeFilled, AreSomeFilled, IsShaped, Fine, fine_both, fine_before, elements_shaped, some_elements_shaped, names_shaped, local_shown}
-use Rattle.written_laws.proofs.ShownStatement.{IsBody, IsHandled, statement_shown, handler_shown, body_shown}
+use Rattle.written_laws.proofs.ShownStatement.{IsHandled, statement_shown, handler_shown, body_shown}
 
 passed_by : {w : Passed} {toks rest : Toks} → IsPassed w toks rest → Shown (Unit {0}) toks rest
 passed_by (pass_names d) = names_passed d

@@ -1,20 +1,19 @@
 -- What is shown of definition statements: their nodes have short expressions, and what they define is written with fields.
-use Rattle.std.proofs.Common.{◌≡◌, ℕ, Bool, true, false, List, [], ◌∷◌, ◌++◌, Option, Some, None, length}
+use Rattle.std.proofs.Common.{Bool, true, false, List, ◌∷◌, ◌++◌, Option, Some, None, length}
 use Rattle.std.specs.Prelude.{map, flat_map, replicate}
 use Rattle.chill_tree.specs.declared.tree.name.Name.{Name}
-use Rattle.chill_tree.specs.ExprTree.{ExprTree}
 use Rattle.chill_tree.specs.ModeTree as written
-use Rattle.chill_tree.specs.LocalTree.{SynonymTree, ModeDefinitionTree, InitialTree, DeclarationTree, LocalTree, synonyms, syn_modes, new_modes, locations}
+use Rattle.chill_tree.specs.LocalTree.{SynonymTree, ModeDefinitionTree, InitialTree, DeclarationTree, LocalTree}
 use Rattle.rules_model.specs.Marks.{Toks}
 use Rattle.rules_model.specs.LocalGrammar.{IsWrittenMode, no_mode, with_mode, IsSynonym, is_synonym, IsModeDefinition, is_mode_definition, IsInitial, no_initial, by_sign, by_word, IsDeclaration, is_declaration, IsLocal, are_synonyms, are_syn_modes, are_new_modes, are_locations}
 use Rattle.names_model.specs.Definitions.{numbers_on}
-use Rattle.checks_model.specs.Ground.{Origin, a_synonym, a_mode, an_element, a_location, a_parameter, a_counter, a_received, a_procedure, a_process, a_signal, a_modulion, a_predefined}
+use Rattle.checks_model.specs.Ground.{Origin, a_synonym, a_mode, an_element, a_location, a_parameter, a_procedure, a_signal}
 use Rattle.checks_model.specs.Origins.{sets_in, elements, elements_of, elements_of_some, origins_of_names, origins_of_synonym, owner_of, origins_of_mode, origins_of_declaration, origins_of_local}
 use Rattle.checks_model.specs.Phases.{some_expr, initial_expr}
 use Rattle.checks_model.specs.Sites.{Site, at_synonym, at_mode_definition, at_declaration, sites_of_local}
 use Rattle.elaborated_laws.specs.Classes.{HasShortTexts}
 use Rattle.written_laws.specs.Written.{Each, HasShortExprs}
-use Rattle.written_laws.proofs.Shown.{Shown, none, skip, ends, both, before, behind, so, Shows, listed, each_append, each_any, each_map, each_flat, each_same}
+use Rattle.written_laws.proofs.Shown.{Shown, none, skip, ends, both, behind, so, Shows, listed, each_append, each_any, each_map, each_flat, each_same}
 use Rattle.written_laws.proofs.ShownExpr.{expr_shown}
 use Rattle.written_laws.proofs.ShownMode.{IsFilled, names_passed, mode_shown}
 

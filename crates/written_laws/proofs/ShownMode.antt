@@ -1,5 +1,5 @@
 -- The structures in a mode have a field.
-use Rattle.std.proofs.Common.{◌≡◌, Bool, true, false, List, [], ◌∷◌, ◌++◌, Option, Some, None, refl, true≢false, sym}
+use Rattle.std.proofs.Common.{◌≡◌, Bool, true, false, List, [], ◌∷◌, ◌++◌, Option, refl, true≢false, sym}
 use Rattle.chill_tree.specs.declared.token.Word.{Word}
 use Rattle.chill_tree.specs.declared.tree.name.Name.{Name}
 use Rattle.chill_tree.specs.declared.tree.mode.Packing.{Packing}
@@ -7,11 +7,11 @@ use Rattle.chill_tree.specs.ExprTree.{ExprTree}
 use Rattle.chill_tree.specs.ModeTree.{DiscreteTree, IndexTree, PlaceTree, SpreadTree, BaseTree, FieldTree, field_nodes, ModeTree, discrete, powerset, chars, structure, array, FieldNodes, no_fields, more_fields, base_mode, read_mode, event_mode, buffer_mode}
 use Rattle.rules_model.specs.Marks.{Toks}
 use Rattle.rules_model.specs.ExprGrammar.{IsExpr}
-use Rattle.rules_model.specs.ListGrammar.{IsName, AreListed, one_of, and_of, is_name, AreNames, IsClause, no_clause, with_clause, IsFlag, no_flag, with_flag, IsLength, no_length, with_length, IsLabel, no_label, with_label, IsClosing, left_open, closed_by}
+use Rattle.rules_model.specs.ListGrammar.{one_of, and_of, is_name, AreNames, IsFlag, no_flag, with_flag, IsLength, no_length, with_length, IsLabel, no_label, with_label, IsClosing, left_open, closed_by}
 use Rattle.rules_model.specs.ModeGrammar.{IsDiscrete, is_named_mode, is_bounded, is_set, IsIndex, is_index_name, is_index_range, IsPlace, up_to, of_length, IsFieldPlace, no_place, with_place, is_step, IsPacking, no_packing, packed, not_packed, IsSpread, no_spread, spread_packed, spread_not_packed, spread_by_step, IsBase, is_discrete, is_powerset, is_chars, is_structure, is_array, AreFields, one_field, and_field, IsField, is_field, IsMode, is_base_mode, is_read_mode, is_event_mode, is_buffer_mode}
 use Rattle.elaborated_laws.specs.Modes.{has_name}
 use Rattle.written_laws.specs.Written.{Each}
-use Rattle.written_laws.proofs.Shown.{Shown, none, skip, ends, both, before, behind, so, passed, one, and_one}
+use Rattle.written_laws.proofs.Shown.{Shown, none, skip, ends, before, behind, so, passed, one, and_one}
 use Rattle.written_laws.proofs.ShownExpr.{expr_shown}
 
 -- ---- what is passed

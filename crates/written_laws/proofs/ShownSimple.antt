@@ -1,8 +1,6 @@
 -- The expressions of an action that holds no other, and of what controls a loop, have short text literals.
-use Rattle.std.proofs.Common.{◌≡◌, Bool, List, [], ◌∷◌, ◌++◌, Option, Some, None}
-use Rattle.std.specs.Prelude.{flat_map}
+use Rattle.std.proofs.Common.{List, [], ◌∷◌, ◌++◌, Option}
 use Rattle.chill_tree.specs.declared.token.Word.{Word}
-use Rattle.chill_tree.specs.declared.tree.name.Name.{Name}
 use Rattle.chill_tree.specs.ExprTree.{ExprTree, RangeTree, alone, between}
 use Rattle.chill_tree.specs.SimpleTree.{SimpleTree, ControlTree}
 use Rattle.rules_model.specs.Marks.{Toks}
@@ -12,7 +10,7 @@ use Rattle.rules_model.specs.SimpleGrammar.{IsControl, is_while, is_ever, is_mem
 use Rattle.checks_model.specs.Phases.{some_expr, some_exprs, exprs_of_simple, priority_of, exprs_of_control, exprs_of_label, exprs_of_labels}
 use Rattle.elaborated_laws.specs.Classes.{HasShortTexts, RangeHasShortTexts}
 use Rattle.written_laws.specs.Written.{Each}
-use Rattle.written_laws.proofs.Shown.{Shown, none, skip, ends, both, before, behind, so, each_append, each_flat}
+use Rattle.written_laws.proofs.Shown.{Shown, none, skip, ends, both, behind, so, each_append, each_flat}
 use Rattle.written_laws.proofs.ShownExpr.{expr_shown, location_shown, args_shown, exprs_shown, ranges_shown, args_as_nodes}
 use Rattle.written_laws.proofs.ShownMode.{flag_passed}
 

@@ -1,10 +1,9 @@
 -- What is shown of statements, handlers and bodies: their nodes have short expressions, and what they define is written with fields.
-use Rattle.std.proofs.Common.{◌≡◌, ℕ, Bool, true, false, List, [], ◌∷◌, ◌++◌, Option, Some, None, length}
-use Rattle.std.specs.Prelude.{map, flat_map}
+use Rattle.std.proofs.Common.{false, List, [], ◌∷◌, ◌++◌, Option, Some, None, length}
 use Rattle.chill_tree.specs.declared.token.Word.TheVariants as words
 use Rattle.chill_tree.specs.declared.tree.name.Name.{Name}
-use Rattle.chill_tree.specs.ExprTree.{ExprTree, RangeTree}
-use Rattle.chill_tree.specs.SimpleTree.{SimpleTree, ControlTree, while_holds, for_ever, for_members, for_steps}
+use Rattle.chill_tree.specs.ExprTree.{ExprTree}
+use Rattle.chill_tree.specs.SimpleTree.{ControlTree, while_holds, for_ever, for_members, for_steps}
 use Rattle.chill_tree.specs.StatementTree.{StatementTree, BracketedTree, ElsIfTree, CaseTree, NamedTree, ReceiveTree, HandlerTree, BodyTree, local_part, action_part, statement_nodes, branch_nodes, case_nodes, named_nodes, receive_nodes, otherwise_node, handler_node, body_nodes}
 use Rattle.rules_model.specs.Marks.{Toks}
 use Rattle.rules_model.specs.ListGrammar.{AreNames, IsClause, no_clause, with_clause}
@@ -13,7 +12,7 @@ use Rattle.names_model.specs.Definitions.{numbers_on}
 use Rattle.checks_model.specs.Ground.{Origin, a_received}
 use Rattle.checks_model.specs.Origins.{counters_in, received_in, origins_of_local, origins_in, origins_in_bracketed, origins_in_each, origins_in_branches, origins_in_cases, origins_in_named, origins_in_receives, origins_in_otherwise, origins_in_handler, origins_in_parts}
 use Rattle.checks_model.specs.Phases.{some_expr, exprs_of_labels}
-use Rattle.checks_model.specs.Sites.{Site, Around, at_simple, at_condition, at_selector, at_labels, at_control, at_set, at_priority, at_event, at_source, at_received, at_exceptions, some_site, events_listed, sites_of_local, sites_of, sites_of_bracketed, sites_of_each, sites_of_branches, sites_of_cases, sites_of_events, sites_of_receives, sites_of_otherwise, sites_of_handler, sites_of_exceptions, sites_of_parts}
+use Rattle.checks_model.specs.Sites.{Site, Around, at_simple, at_condition, at_selector, at_labels, at_set, at_priority, at_source, at_received, at_exceptions, some_site, events_listed, sites_of_local, sites_of, sites_of_bracketed, sites_of_each, sites_of_branches, sites_of_cases, sites_of_events, sites_of_receives, sites_of_otherwise, sites_of_handler, sites_of_exceptions, sites_of_parts}
 use Rattle.written_laws.specs.Written.{Each, HasShortExprs}
 use Rattle.written_laws.proofs.Shown.{Shown, none, skip, ends, both, before, behind, so, each_append, each_any, each_map, and_one}
 use Rattle.written_laws.proofs.ShownExpr.{expr_shown, location_shown}

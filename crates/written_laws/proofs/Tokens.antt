@@ -1,15 +1,14 @@
 -- The text literals among the tokens of a text have at most 256 bytes.
-use Rattle.std.proofs.Common.{◌≡◌, ◌≤◌, ℕ, Bool, true, false, List, [], ◌∷◌, ◌++◌, length, Option, Some, None, refl, sym, ap, ◌∙◌, subst, true≢false}
+use Rattle.std.proofs.Common.{◌≡◌, ℕ, Bool, true, false, List, [], ◌∷◌, ◌++◌, length, Option, Some, None, refl, sym, subst}
 use Rattle.std.proofs.lemmas.Bool.{leb-true}
-use Rattle.std.specs.Prelude.{nat_le, nat_lt, ◌^◌, if◌then◌else◌, is_some}
+use Rattle.std.specs.Prelude.{nat_le, nat_lt, ◌^◌, if◌then◌else◌}
 use Rattle.chill_base.specs.declared.pos.Pos.{Pos}
 use Rattle.chill_tree.specs.declared.token.Token.{Token}
 use Rattle.chill_tree.specs.declared.token.Word.{Word}
-use Rattle.chill_tree.specs.declared.token.TokenKind.{TokenKind}
 use Rattle.chill_tree.specs.declared.token.TokenKind.TheVariants as kinds
 use Rattle.chill_tree.specs.Spelling.{word_of}
 use Rattle.rules_model.specs.TokensShapes.{Shape, separator, comment, unclosed, name, whole, character, text, sign, Piece, between, token, named, piece_of}
-use Rattle.rules_model.specs.TokensCut.{behind_all, first_place, IsPieceAt, Cut, joined, ArePieces, own_token, tokens_among, AreTokensOf}
+use Rattle.rules_model.specs.TokensCut.{behind_all, first_place, Cut, ArePieces, own_token, tokens_among, AreTokensOf}
 use Rattle.elaborated_laws.proofs.Told.{no_some, same_some}
 use Rattle.written_laws.proofs.Shown.{IsShortKind, AreShortTokens}
 

@@ -1,9 +1,9 @@
 -- What defines something in a text is written as the grammar, the tokens and the number of definitions allow it.
-use Rattle.std.proofs.Common.{◌≡◌, ◌<◌, ◌≤◌, ℕ, zero, suc, ◌+◌, ◌==◌, ◌&&◌, Bool, true, false, List, [], ◌∷◌, ◌++◌, Option, Some, None, ◌⊎◌, inl, inr, length, length-append, refl, sym, ap, ◌∙◌, subst, arith, true≢false, eq-eqb}
-use Rattle.std.specs.Prelude.{map, flat_map, slice_get, option_map, option_and_then, IsSome, is_some, nat_lt, if◌then◌else◌}
+use Rattle.std.proofs.Common.{◌≡◌, ◌<◌, ◌≤◌, ℕ, zero, suc, Bool, true, false, List, [], ◌∷◌, ◌++◌, Option, Some, None, inl, inr, length, length-append, refl, sym, ap, ◌∙◌, subst, arith, true≢false, eq-eqb}
+use Rattle.std.specs.Prelude.{flat_map, slice_get, option_map, option_and_then, IsSome, nat_lt, if◌then◌else◌}
 use Rattle.std.specs.declared.cmp.Ordering.{Ordering}
 use Rattle.std.specs.declared.cmp.Ordering.TheVariants.{Less, Equal, Greater}
-use Rattle.std.proofs.lemmas.Bool.{cases_lt, lt-ltb}
+use Rattle.std.proofs.lemmas.Bool.{cases_lt}
 use Rattle.chill_base.specs.declared.pos.Pos.{Pos}
 use Rattle.diagnostics.specs.declared.diagnostic.Diagnostic.{Diagnostic}
 use Rattle.diagnostics.specs.Listing.{IsIn, insert_once, placed, listed}
@@ -11,10 +11,8 @@ use Rattle.diagnostics.specs.Order.{diagnostic_cmp}
 use Rattle.chill_tree.specs.declared.tree.name.Name.{Name}
 use Rattle.chill_tree.specs.ModeTree as written
 use Rattle.chill_tree.specs.ItemTree.{ProgramTree}
-use Rattle.modes.specs.ModeTree.{ModeTree, set_of, int, boolean, char, instance}
-use Rattle.modes.specs.Language.{IsOfLanguage}
+use Rattle.modes.specs.ModeTree.{set_of, int, boolean, char, instance}
 use Rattle.names_model.specs.declared.definition.Definition.{Definition}
-use Rattle.names_model.specs.declared.names.Resolved.{Resolved}
 use Rattle.names_model.specs.declared.identifier.Identifier.{Identifier}
 use Rattle.names_model.specs.Identifiers.{identifier}
 use Rattle.names_model.specs.Definitions.{text_definitions, predefined, with_predefined}
@@ -25,10 +23,10 @@ use Rattle.names_model.specs.Seeing.{outermost}
 use Rattle.checks_model.specs.Diagnoses.{HasNames}
 use Rattle.checks_model.specs.Ground.{Ground, Origin, Predefined, of_mode, truth, no_instance, num, succ, pred, abs, card, min, max, upper, lower, size, put_int, put_text, put_nl, get_int, a_synonym, a_mode, an_element, a_location, a_parameter, a_counter, a_received, a_procedure, a_process, a_signal, a_modulion, a_predefined, same_place, number_at}
 use Rattle.checks_model.specs.Origins.{set_in_discrete, sets_in_base, sets_in_fields, sets_in, text_origins, in_both_cases, predefined_origins, origins_of}
-use Rattle.checks_model.specs.Table.{under_name, named_set, set_mode, numbered, ground_with}
+use Rattle.checks_model.specs.Table.{under_name, named_set, set_mode, numbered}
 use Rattle.elaborated_laws.specs.Modes.{IsWrittenDiscrete, IsWrittenBase, AreWritten, IsWritten}
-use Rattle.elaborated_laws.specs.Entries.{IsSomeWritten, AllWritten, AreSomeWritten, IsWrittenSo, AllWrittenSo}
-use Rattle.elaborated_laws.specs.Table.{IsDefinedSo, AreDefined}
+use Rattle.elaborated_laws.specs.Entries.{IsSomeWritten, AllWritten, AreSomeWritten, IsWrittenSo}
+use Rattle.elaborated_laws.specs.Table.{IsDefinedSo}
 use Rattle.elaborated_laws.proofs.Told.{none_later, not_above, no_some, same_some}
 use Rattle.ground_laws.specs.Defining.{Defines, AllDefine}
 use Rattle.ground_laws.proofs.Defining.{origins_define}
@@ -37,7 +35,7 @@ use Rattle.written_laws.proofs.Shown.{each_append, each_any, each_flat}
 use Rattle.written_laws.proofs.ShownMode.{IsFilledBase, AreFilled, IsFilled}
 use Rattle.written_laws.proofs.ShownLocal.{IsSomeFilled, AreSomeFilled, IsShaped}
 use Rattle.written_laws.proofs.ShownItem.{program_fine}
-use Rattle.written_laws.proofs.Sets.{IsFirstIn, HasElements, HasSets, Closed, each_more, sets_of, sets_of_some, sets_of_parts}
+use Rattle.written_laws.proofs.Sets.{IsFirstIn, HasElements, HasSets, each_more, sets_of, sets_of_some, sets_of_parts}
 use Rattle.written_laws.proofs.Defining.{IsNamedAt, IsSomeNamed, has_element, IsOwned, program_defining}
 
 -- ---- L3 is told of nothing
