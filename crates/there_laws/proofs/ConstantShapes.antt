@@ -1,27 +1,27 @@
 -- The value of a constant is a number, a powerset or parts, as its class says.
-use Rattle.std.proofs.Common.{◌≡◌, ◌&&◌, ◌||◌, Bool, true, false, List, [], ◌∷◌, Option, Some, None, ℕ, ℤ, pos, ◌⊎◌, inl, inr, refl, sym, ap, ◌∙◌, subst, true≢false}
+use Rattle.std.proofs.Common.{◌≡◌, ◌&&◌, ◌||◌, Bool, true, false, List, [], Option, Some, None, ℕ, ℤ, pos, ◌⊎◌, inl, inr, refl, sym, ap, ◌∙◌, subst, true≢false}
 use Rattle.std.specs.Prelude.{is_some, map, replicate, option_map, option_and_then, not, int_le, neg_ℤ, ◌+ℤ◌, ◌-ℤ◌, ◌*ℤ◌, length, if◌then◌else◌}
 use Rattle.scalar_operators.specs.Numbers.{int_result, truth_number, truth_of, quotient, remainder, modulus, magnitude}
 use Rattle.chill_tree.specs.declared.tree.expr.Operator.{Operator}
 use Rattle.chill_tree.specs.declared.tree.expr.Operator.TheVariants as ops
 use Rattle.chill_tree.specs.declared.tree.expr.Prefix.{Prefix}
 use Rattle.chill_tree.specs.declared.tree.expr.Prefix.TheVariants as prefixes
-use Rattle.chill_tree.specs.ExprTree.{ExprTree, ExprNodes, RangeNodes, whole, character, text, this_instance, paren, receive, start, tuple, uniform, name, apply, field, prefixed, binary, no_exprs, more_exprs}
+use Rattle.chill_tree.specs.ExprTree.{ExprTree, RangeNodes, whole, character, text, this_instance, paren, receive, start, tuple, uniform, name, apply, field, prefixed, binary}
 use Rattle.modes.specs.declared.mode.Bounds.{Bounds}
 use Rattle.modes.specs.ModeTree.{ModeTree, ClassTree, value, derived, null, nothing, int, boolean, char, chars}
 use Rattle.modes.specs.Form.{FormTree, form_of, of_int, of_boolean, of_char, of_instance, of_set, of_powerset, of_chars, of_array, of_structure, of_meeting}
 use Rattle.modes.specs.Bounds.{bounds_of, values_of}
 use Rattle.modes.specs.Roots.{root_of, novelty_of}
-use Rattle.checks_model.specs.Alike.{mode_in, class_is, of_form, same_number, is_int, is_boolean, is_instance, is_powerset, is_discrete, is_meeting, are_similar, are_v_equivalent, are_compatible}
-use Rattle.checks_model.specs.ValueTrees.{ValueTree, ValueNodes, number, members, parts, value_nodes}
-use Rattle.checks_model.specs.Ground.{Ground, Predefined, of_mode, truth, no_instance, num, succ, pred, abs, card, min, max, upper, lower, size, put_int, put_text, put_nl, get_int}
-use Rattle.checks_model.specs.Operations.{when, their_class, takes, is_arithmetic, is_logic, is_on_sets, is_equality, is_order, has_order, form_in, can_be_member, class_of_in, class_of_binary, class_of_unary, member_class, class_of_routine, class_of_measure, measured_mode, is_measuring}
-use Rattle.checks_model.specs.OperatorValues.{in_int, truth_value, arithmetic, logic, holds_between, is_true, is_in, zipped, member_bounds, value_of_binary, value_of_unary, count_true, least_of, greatest_of, at_offset, up_to, down_to, class_bounds, value_of_routine, value_of_measure}
-use Rattle.checks_model.specs.Classes.{class_as, class_of, class_of_first, mode_of_part, class_behind, class_of_call, class_of_measured, both_classes, result_class, Callee, calls, routine, no_callee, callee_of, Measured, a_mode_of, misfit, other, measured_first, tuple_mode, value_if, shape_fits, uniform_fits}
-use Rattle.checks_model.specs.Constants.{value_routine, is_value_routine, constant_as, constant_of, value_of_first, values_of_ranges, applied, literal_in, negated, value_before, value_of_call, value_of_measured, tuple_value, value_of_parts, members_from, set_of_ranges, uniform_value, uniform_of}
+use Rattle.checks_model.specs.Alike.{class_is, same_number, is_int, is_boolean, is_instance, is_powerset, is_discrete, is_meeting, are_similar, are_v_equivalent, are_compatible}
+use Rattle.checks_model.specs.ValueTrees.{ValueTree, number, members, parts, value_nodes}
+use Rattle.checks_model.specs.Ground.{Predefined, num, succ, pred, abs, card, min, max, upper, lower, size}
+use Rattle.checks_model.specs.Operations.{when, their_class, takes, is_arithmetic, is_logic, is_on_sets, is_equality, is_order, has_order, form_in, can_be_member, class_of_in, class_of_binary, class_of_unary, member_class, class_of_routine, class_of_measure, measured_mode}
+use Rattle.checks_model.specs.OperatorValues.{truth_value, arithmetic, logic, holds_between, is_true, is_in, zipped, member_bounds, value_of_binary, value_of_unary, count_true, least_of, greatest_of, at_offset, up_to, down_to, class_bounds, value_of_routine, value_of_measure}
+use Rattle.checks_model.specs.Classes.{class_of, class_of_first, mode_of_part, class_behind, class_of_call, class_of_measured, both_classes, result_class, Callee, calls, routine, no_callee, callee_of, Measured, a_mode_of, misfit, other, measured_first, tuple_mode, value_if, shape_fits, uniform_fits}
+use Rattle.checks_model.specs.Constants.{value_routine, constant_as, constant_of, value_of_first, values_of_ranges, applied, literal_in, negated, value_before, value_of_call, value_of_measured, tuple_value, value_of_parts, members_from, set_of_ranges, uniform_value, uniform_of}
 use Rattle.layout_map.specs.Spots.{spots_of, words_of}
 use Rattle.elaborated_laws.proofs.Told.{no_some, same_some, there_mapped, there_chained, both_left, both_right}
-use Rattle.there_laws.specs.Shapes.{is_number, is_members, are_parts, has_shape, shape_by, is_of_class, HasShape, HasShapes, ConstantShapeLaw}
+use Rattle.there_laws.specs.Shapes.{is_number, is_members, are_parts, has_shape, shape_by, is_of_class, ConstantShapeLaw}
 use Rattle.there_laws.proofs.Shapes.{similar_shape, root_form, bounded_number}
 
 -- ---- numbers

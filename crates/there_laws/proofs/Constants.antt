@@ -1,7 +1,7 @@
 -- An expression of constant form in which nothing is told has a value.
-use Rattle.std.proofs.Common.{◌≡◌, ◌≤◌, ℕ, zero, suc, ◌==◌, ◌&&◌, ◌||◌, Bool, true, false, List, [], ◌∷◌, ◌++◌, Option, Some, None, ◌⊎◌, inl, inr, ℤ, pos, refl, sym, ap, ◌∙◌, subst, arith, true≢false, le-leb}
+use Rattle.std.proofs.Common.{◌≡◌, ℕ, suc, ◌==◌, ◌&&◌, ◌||◌, Bool, true, false, List, [], ◌∷◌, ◌++◌, Option, Some, None, ℤ, pos, refl, sym, ap, ◌∙◌, subst, arith, true≢false}
 use Rattle.std.proofs.lemmas.Int.{ints}
-use Rattle.std.specs.Prelude.{IsSome, is_some, option_map, option_and_then, not, nat_lt, nat_le, neg_ℤ, int_le, if◌then◌else◌}
+use Rattle.std.specs.Prelude.{IsSome, is_some, option_map, option_and_then, not, nat_lt, neg_ℤ, int_le, if◌then◌else◌}
 use Rattle.chill_base.specs.declared.pos.Pos.{Pos}
 use Rattle.chill_tree.specs.declared.tree.name.Name.{Name}
 use Rattle.chill_tree.specs.declared.tree.expr.Operator.{Operator}
@@ -10,26 +10,26 @@ use Rattle.chill_tree.specs.declared.tree.expr.Prefix.TheVariants as prefixes
 use Rattle.chill_tree.specs.ExprTree.{ExprTree, ExprNodes, RangeTree, RangeNodes, whole, character, text, this_instance, paren, receive, start, tuple, uniform, name, apply, field, prefixed, binary, no_exprs, more_exprs, alone, between, no_ranges, more_ranges, place_of}
 use Rattle.diagnostics.specs.declared.diagnostic.Diagnostic.{Diagnostic}
 use Rattle.diagnostics.specs.declared.rule.Rule.TheVariants as rules
-use Rattle.scalar_operators.specs.Numbers.{is_int, int_result, least_int, greatest_int, where_true}
+use Rattle.scalar_operators.specs.Numbers.{is_int, least_int, greatest_int, where_true}
 use Rattle.modes.specs.declared.mode.Bounds.{Bounds}
-use Rattle.modes.specs.ModeTree.{ModeTree, ClassTree, derived, int}
+use Rattle.modes.specs.ModeTree.{ModeTree, ClassTree, derived}
 use Rattle.modes.specs.Form.{FormTree, form_of, of_int, of_boolean, of_char, of_instance, of_set, of_powerset, of_chars, of_array, of_structure, of_meeting}
 use Rattle.modes.specs.Bounds.{bounds_of, values_of}
 use Rattle.checks_model.specs.Told.{tell_at, told_if, then_told, holds_of, holds_of_both}
 use Rattle.checks_model.specs.ValueTrees.{ValueTree, number}
-use Rattle.checks_model.specs.Ground.{Ground, Predefined, of_mode, truth, no_instance, num, succ, pred, abs, card, min, max, upper, lower, size, put_int, put_text, put_nl, get_int, mode_of_name}
+use Rattle.checks_model.specs.Ground.{Ground, Predefined, of_mode, truth, no_instance, num, succ, pred, abs, card, min, max, upper, lower, size, put_int, put_text, put_nl, get_int}
 use Rattle.checks_model.specs.Operations.{class_of_measure, is_measuring, argument_misfits, operands_misfit, operand_misfits, measured_mode, when}
 use Rattle.checks_model.specs.Classes.{class_of, class_of_first, Callee, calls, routine, no_callee, callee_of, Measured, a_mode_of, misfit, other, measured, measured_first, measured_misfits, tuple_mode, shape_fits, uniform_fits, part_mode, mode_of_part, count_exprs}
 use Rattle.checks_model.specs.OperatorValues.{in_int, value_of_binary, value_of_unary, value_of_routine, value_of_measure}
 use Rattle.checks_model.specs.Constants.{has_form, have_form, range_has_form, are_arguments, is_measured, value_routine, constant_as, constant_of, value_of_first, values_of_ranges, value_of_range, both_ends, behind, applied, literal_in, negated, value_before, value_of_call, value_of_measured, tuple_value, value_of_parts, set_of_ranges, uniform_value, uniform_of}
-use Rattle.checks_model.specs.ConstantRules.{Standing, by_itself, in_a_tuple, in_a_synonym, is_by_itself, is_in_synonym, raises, told_as, told_in_each, told_in_ranges, told_in_range, told_before, told_unary, told_binary, told_call, told_literal, told_tuple, told_uniform, told_misfit, told_parts, told_part, ranges_misfit, class_misfits, is_constant_tuple, is_judged, standing_of_parts, told_if_constant, when_routine, misfits_as, some_misfits, one_misfits}
+use Rattle.checks_model.specs.ConstantRules.{Standing, by_itself, in_a_tuple, in_a_synonym, is_by_itself, is_in_synonym, raises, told_as, told_in_each, told_in_ranges, told_in_range, told_before, told_unary, told_binary, told_call, told_literal, told_tuple, told_uniform, told_misfit, told_parts, told_part, ranges_misfit, class_misfits, is_judged, standing_of_parts, told_if_constant, when_routine, misfits_as, some_misfits, one_misfits}
 use Rattle.table_laws.specs.Names.{names_in}
 use Rattle.class_laws.specs.Known.{HasMode}
 use Rattle.elaborated_laws.specs.Known.{IsDeclarable, IsKnownName, AreKnown}
-use Rattle.elaborated_laws.proofs.Told.{none_first, none_later, none_inside, none_then, not_broken, not_misfit, not_misfit_rest, not_true, both_left, both_right, neither_left, neither_right, not_above, no_some, same_some}
-use Rattle.elaborated_laws.proofs.Constants.{class_there, literal_or_not, minus_told, constant_told, told_sign, at_call}
+use Rattle.elaborated_laws.proofs.Told.{none_first, none_later, none_inside, none_then, not_broken, not_misfit, not_misfit_rest, not_true, both_left, both_right, neither_left, neither_right, not_above, no_some}
+use Rattle.elaborated_laws.proofs.Constants.{class_there, minus_told, constant_told, told_sign, at_call}
 use Rattle.elaborated_laws.proofs.Classes.{form_is}
-use Rattle.there_laws.specs.Constants.{HasValue, IsMeasurable, HasConstants, HaveConstants, RangeHasConstants, RangesHaveConstants, IsReceived, FitsSynonym, ConstantThereLaw}
+use Rattle.there_laws.specs.Constants.{IsMeasurable, HasConstants, HaveConstants, RangeHasConstants, RangesHaveConstants, IsReceived, FitsSynonym, ConstantThereLaw}
 use Rattle.there_laws.proofs.Forms.{HasBounds, has_bounds, part_fits, PartsThere, shape_there}
 
 abbrev pub AllKnown : Ground → Type 0

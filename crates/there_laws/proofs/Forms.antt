@@ -1,12 +1,12 @@
 -- What the forms of modes hold that a location may have: bounds, and the modes of parts.
-use Rattle.std.proofs.Common.{◌≡◌, ◌<◌, ◌≤◌, ℕ, zero, suc, ◌+◌, ◌==◌, ◌&&◌, Bool, true, false, Option, Some, None, ℤ, refl, sym, ap, ◌∙◌, subst, arith, true≢false}
+use Rattle.std.proofs.Common.{◌≡◌, ◌<◌, ◌≤◌, ℕ, zero, suc, ◌+◌, ◌==◌, ◌&&◌, Bool, true, Option, Some, refl, sym, ap, subst, arith, true≢false}
 use Rattle.std.proofs.lemmas.Bool.{eqb-true}
-use Rattle.std.specs.Prelude.{IsSome, is_some, if◌then◌else◌}
-use Rattle.chill_tree.specs.ExprTree.{RangeNodes, RangeTree, no_ranges, more_ranges}
+use Rattle.std.specs.Prelude.{IsSome, is_some}
+use Rattle.chill_tree.specs.ExprTree.{RangeNodes, no_ranges, more_ranges}
 use Rattle.modes.specs.declared.mode.Bounds.{Bounds}
 use Rattle.modes.specs.ModeTree.{ModeTree, int, boolean, char, instance, set_of, range, powerset, chars, array, structure, event, buffer, read, named, FieldNodes, no_fields, more_fields, SpreadTree}
 use Rattle.modes.specs.Form.{FormTree, form_of, of_int, of_boolean, of_char, of_instance, of_set, of_powerset, of_chars, of_array, of_structure, of_meeting}
-use Rattle.modes.specs.Bounds.{bounds_of, bounds_in, values_of}
+use Rattle.modes.specs.Bounds.{bounds_of, values_of}
 use Rattle.modes.specs.Language.{parts_fit, is_from_to, lie_in}
 use Rattle.checks_model.specs.Classes.{are_alone, count_ranges, count_fields, shape_fits, field_mode_at, part_mode}
 use Rattle.elaborated_laws.specs.Known.{IsDeclarable}

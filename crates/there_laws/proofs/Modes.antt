@@ -1,7 +1,6 @@
 -- A mode that a text writes, and of which nothing is told, is there.
 use Rattle.std.proofs.Common.{◌≡◌, ℕ, ◌&&◌, ◌||◌, Bool, true, false, List, [], ◌∷◌, ◌++◌, Option, Some, None, ℤ, refl, sym, ap, ◌∙◌, subst, true≢false}
-use Rattle.std.specs.Prelude.{IsSome, is_some, codes, map, flat_map, option_map, option_and_then, not, length, if◌then◌else◌}
-use Rattle.std.specs.List.{list_any}
+use Rattle.std.specs.Prelude.{IsSome, is_some, codes, flat_map, option_map, option_and_then, not, if◌then◌else◌}
 use Rattle.chill_base.specs.declared.pos.Pos.{Pos}
 use Rattle.chill_tree.specs.declared.tree.name.Name.{Name}
 use Rattle.chill_tree.specs.declared.tree.mode.Packing.{Packing}
@@ -12,26 +11,24 @@ use Rattle.chill_tree.specs.ModeTree as written
 use Rattle.diagnostics.specs.declared.diagnostic.Diagnostic.{Diagnostic}
 use Rattle.diagnostics.specs.declared.rule.Rule.TheVariants as rules
 use Rattle.names_model.specs.NameRules.{tell}
-use Rattle.modes.specs.declared.mode.Bounds.{Bounds}
-use Rattle.modes.specs.ModeTree.{ModeTree, ClassTree, value, derived, null, nothing, int, powerset, chars, structure, array, event, buffer, read, FieldNodes, PlaceTree, SpreadTree}
+use Rattle.modes.specs.ModeTree.{ModeTree, ClassTree, value, derived, null, nothing, int, powerset, chars, structure, event, read, FieldNodes, PlaceTree, SpreadTree}
 use Rattle.modes.specs.Form.{form_of}
 use Rattle.modes.specs.Bounds.{bounds_of, natural_of}
 use Rattle.layout_map.specs.Place.{is_possible}
-use Rattle.checks_model.specs.Alike.{goes_with, are_similar, are_v_equivalent, is_discrete, is_instance}
-use Rattle.checks_model.specs.Told.{tell_at, told_if, is_none_told, then_told, holds_of, holds_of_both}
+use Rattle.checks_model.specs.Alike.{goes_with, is_discrete}
+use Rattle.checks_model.specs.Told.{tell_at, told_if, is_none_told, holds_of, holds_of_both}
 use Rattle.checks_model.specs.ValueTrees.{ValueTree, number, members, parts}
 use Rattle.checks_model.specs.Ground.{Ground, mode_of_name}
 use Rattle.checks_model.specs.Classes.{class_of}
 use Rattle.checks_model.specs.Constants.{has_form, constant_of}
-use Rattle.checks_model.specs.ConstantRules.{by_itself, told_of_constants, told_needed, is_outside}
-use Rattle.checks_model.specs.WrittenModes.{unless_told, number_in, needed_number, is_no_int, from_to, told_length, told_some_length, length_of, some_length_of, bound_misfits, told_bound, is_above, told_bounds, told_range, range_from, range_of, is_meeting_name, told_name, named_mode_in, told_not_discrete, told_discrete_name, discrete_name, told_of_discrete, set_named, mode_of_discrete, first_place_of, is_large_powerset, told_of_powerset, has_index_values, told_of_index, mode_of_index, place_from, numbers_of_place, has_no_int, place_there, told_in_place, numbers_of_step, step_from, spread_there, step_misfits, holds_of_three, is_impossible_spread, told_spread, told_in_spread, told_large, array_from, told_at_array, FieldThere, has_place, have_places, place_has_no_int, is_misplaced, told_overlap, is_twice, told_field, told_fields, held_place, field_from, fields_from, is_packed, structure_from, told_at_structure, fields_named, told_in_some_place, mode_of_base, fields_there, told_of_base, told_in_fields, buffer_from, if_whole, mode_of, told_unless_whole, told_of_mode}
-use Rattle.table_laws.specs.Names.{names_in}
-use Rattle.elaborated_laws.proofs.Told.{none_first, none_later, none_inside, none_then, not_broken, not_true, both_left, both_right, not_second, neither_left, neither_right, no_some, same_some}
-use Rattle.there_laws.specs.Shapes.{is_number, has_shape, is_of_class}
-use Rattle.there_laws.specs.Modes.{IsNeeded, IsSomeNeeded, DiscreteNeeds, IndexNeeds, PlaceNeeds, SomePlaceNeeds, SpreadNeeds, BaseNeeds, FieldsNeed, ModeNeeds, WrittenThereLaw}
+use Rattle.checks_model.specs.ConstantRules.{told_of_constants, told_needed, is_outside}
+use Rattle.checks_model.specs.WrittenModes.{unless_told, number_in, needed_number, is_no_int, from_to, told_length, told_some_length, length_of, some_length_of, bound_misfits, told_bound, is_above, told_bounds, told_range, range_from, range_of, told_name, told_not_discrete, told_discrete_name, discrete_name, told_of_discrete, mode_of_discrete, first_place_of, is_large_powerset, told_of_powerset, has_index_values, told_of_index, mode_of_index, place_from, numbers_of_place, has_no_int, place_there, told_in_place, step_from, spread_there, step_misfits, holds_of_three, is_impossible_spread, told_spread, told_in_spread, told_large, array_from, told_at_array, FieldThere, have_places, place_has_no_int, is_misplaced, told_overlap, is_twice, told_fields, held_place, field_from, fields_from, is_packed, structure_from, told_at_structure, fields_named, told_in_some_place, mode_of_base, fields_there, told_of_base, told_in_fields, buffer_from, if_whole, told_unless_whole}
+use Rattle.elaborated_laws.proofs.Told.{none_first, none_later, none_inside, none_then, not_broken, not_true, not_second, neither_left, neither_right}
+use Rattle.there_laws.specs.Shapes.{is_number, is_of_class}
+use Rattle.there_laws.specs.Modes.{IsNeeded, IsSomeNeeded, DiscreteNeeds, IndexNeeds, PlaceNeeds, SomePlaceNeeds, SpreadNeeds, BaseNeeds, FieldsNeed, WrittenThereLaw}
 use Rattle.there_laws.proofs.Constants.{AllKnown, OperandThere, operand_there, alone_there}
 use Rattle.there_laws.proofs.Shapes.{similar_shape}
-use Rattle.there_laws.proofs.ConstantShapes.{instance_form, discrete_form, similar_left, constant_shape}
+use Rattle.there_laws.proofs.ConstantShapes.{discrete_form, similar_left, constant_shape}
 
 -- ---- what is there
 

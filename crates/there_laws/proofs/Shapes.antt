@@ -1,14 +1,14 @@
 -- Modes and their shapes: which values they have.
-use Rattle.std.proofs.Common.{◌≡◌, ◌&&◌, Bool, true, false, Option, Some, None, refl, sym, ap, ◌∙◌, subst, true≢false}
-use Rattle.std.specs.Prelude.{not, ℤ}
+use Rattle.std.proofs.Common.{◌≡◌, Bool, true, false, Some, refl, sym, ◌∙◌, true≢false}
+use Rattle.std.specs.Prelude.{ℤ}
 use Rattle.modes.specs.declared.mode.Bounds.{Bounds}
-use Rattle.modes.specs.ModeTree.{ModeTree, ClassTree, value, derived, null, nothing, int, boolean, char, instance, set_of, range, powerset, chars, array, structure, event, buffer, read, named, FieldNodes}
-use Rattle.modes.specs.Form.{FormTree, form_of, of_int, of_boolean, of_char, of_instance, of_set, of_powerset, of_chars, of_array, of_structure, of_meeting}
-use Rattle.modes.specs.Bounds.{bounds_of, bounds_in}
+use Rattle.modes.specs.ModeTree.{ModeTree, int, boolean, char, instance, set_of, range, powerset, chars, array, structure, event, buffer, read, named}
+use Rattle.modes.specs.Form.{form_of}
+use Rattle.modes.specs.Bounds.{bounds_of}
 use Rattle.modes.specs.Roots.{root_of}
 use Rattle.modes.specs.Similar.{Shape, shape_of, has_values, like_int, like_boolean, like_char, like_instance, like_set, like_powerset, like_chars, like_array, like_structure, like_none, part, no_more, next_field}
 use Rattle.checks_model.specs.Alike.{same_shape, are_similar}
-use Rattle.checks_model.specs.ValueTrees.{ValueTree, number, members, parts}
+use Rattle.checks_model.specs.ValueTrees.{ValueTree, number}
 use Rattle.elaborated_laws.proofs.Told.{no_some, both_left}
 use Rattle.elaborated_laws.proofs.Classes.{inner_bounds}
 use Rattle.there_laws.specs.Shapes.{is_number, is_members, are_parts, has_shape}

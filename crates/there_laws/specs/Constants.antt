@@ -1,5 +1,5 @@
 -- The law that constants have values: what their names need, and where they stand.
-use Rattle.std.specs.Prelude.{◌≡◌, Bool, true, false, not, List, [], Option, Some, None, IsSome}
+use Rattle.std.specs.Prelude.{◌≡◌, true, false, not, [], Option, Some, IsSome}
 use Rattle.chill_tree.specs.declared.tree.name.Name.{Name}
 use Rattle.chill_tree.specs.ExprTree.{ExprTree, ExprNodes, RangeTree, RangeNodes, whole, character, text, this_instance, paren, receive, start, tuple, uniform, name, apply, field, prefixed, binary, no_exprs, more_exprs, alone, between, no_ranges, more_ranges}
 use Rattle.modes.specs.ModeTree.{ModeTree}

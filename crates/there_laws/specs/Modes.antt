@@ -1,5 +1,5 @@
 -- The law that the modes that a text writes are there: what their names need.
-use Rattle.std.specs.Prelude.{◌≡◌, Bool, List, [], Option, Some, None, IsSome}
+use Rattle.std.specs.Prelude.{◌≡◌, Bool, [], Option, Some, None, IsSome}
 use Rattle.chill_tree.specs.declared.tree.name.Name.{Name}
 use Rattle.chill_tree.specs.ExprTree.{ExprTree}
 use Rattle.chill_tree.specs.ModeTree as written
