@@ -176,7 +176,7 @@ own_shape nothing c x is holds = no_some c is
 
 -- ---- an operator between two operands
 
-of_when : {A : Type 0} (b : Bool) (x y : A) → when b x ≡ Some y → x ≡ y
+pub of_when : {A : Type 0} (b : Bool) (x y : A) → when b x ≡ Some y → x ≡ y
 of_when true x y is = same_some x y is
 of_when false x y is = no_some y is
 

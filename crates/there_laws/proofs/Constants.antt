@@ -35,7 +35,7 @@ use Rattle.there_laws.proofs.Forms.{HasBounds, has_bounds, part_fits, PartsThere
 abbrev pub AllKnown : Ground → Type 0
 AllKnown g = (n : Name) → IsKnownName g n
 
-each_known : (g : Ground) (ns : List Name) → AllKnown g → AreKnown g ns
+pub each_known : (g : Ground) (ns : List Name) → AllKnown g → AreKnown g ns
 each_known g [] known = tt
 each_known g (n ∷ ns) known = (known n, each_known g ns known)
 

@@ -3,3 +3,5 @@ pub mod Constants
 pub mod Shapes
 pub mod ConstantShapes
 pub mod Modes
+pub mod Needs
+pub mod Table

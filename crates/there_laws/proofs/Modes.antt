@@ -32,14 +32,14 @@ use Rattle.there_laws.proofs.ConstantShapes.{discrete_form, similar_left, consta
 
 -- ---- what is there
 
-mapped : {A B : Type 0} (f : A → B) (x : Option A) → IsSome x → IsSome (option_map f x)
+pub mapped : {A B : Type 0} (f : A → B) (x : Option A) → IsSome x → IsSome (option_map f x)
 mapped f (Some x) there = refl
 mapped f None there = absurd (true≢false (sym there))
 
-told_nothing : {A : Type 0} (told : List Diagnostic) (x : Option A) → told ≡ [] → IsSome x → IsSome (unless_told told x)
+pub told_nothing : {A : Type 0} (told : List Diagnostic) (x : Option A) → told ≡ [] → IsSome x → IsSome (unless_told told x)
 told_nothing told x none there = subst (λ t. IsSome (unless_told t x)) (sym none) there
 
-value_in : {A : Type 0} (x : Option A) → IsSome x → (y : A) × (x ≡ Some y)
+pub value_in : {A : Type 0} (x : Option A) → IsSome x → (y : A) × (x ≡ Some y)
 value_in (Some y) there = (y, refl)
 value_in None there = absurd (true≢false (sym there))
 

@@ -1,3 +1,4 @@
 pub mod Constants
 pub mod Shapes
 pub mod Modes
+pub mod Table

@@ -2,6 +2,7 @@
 ghost use Rattle.there_laws.specs.Constants.{ConstantThereLaw};
 ghost use Rattle.there_laws.specs.Modes.{WrittenThereLaw};
 ghost use Rattle.there_laws.specs.Shapes.{ConstantShapeLaw};
+ghost use Rattle.there_laws.specs.Table.{TableThereLaw};
 
 /// An expression of constant form in which nothing is told has a value, where what it names has one; and the value of a
 /// constant is a number, a powerset or parts, as its class says.
@@ -13,4 +14,10 @@ pub fn constants_law()
 /// A mode that a text writes, and of which nothing is told, is there, where what it names is.
 pub fn modes_law()
     ensures { WrittenThereLaw }
+{}
+
+/// In a table that an order of its definitions leads through, and of which nothing is told, what constants and modes need of
+/// names is there of each name.
+pub fn table_law()
+    ensures { TableThereLaw }
 {}

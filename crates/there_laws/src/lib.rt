@@ -6,4 +6,4 @@
 
 mod laws;
 
-pub use laws::{constants_law, modes_law};
+pub use laws::{constants_law, modes_law, table_law};
