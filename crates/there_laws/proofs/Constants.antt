@@ -405,7 +405,7 @@ mutual
       let parts = parts_of (λ t. told_in_ranges g t (shape_fits rs) 0 k rs) (told_tuple g k rs b) s n (have_form g rs) parts_form head none in
       let misfits = ranges_misfit g (shape_fits rs) 0 k rs in
       let synonym : is_in_synonym parts.standing ≡ true → (holds_of (λ m. not (shape_fits rs (form_of m))) k || some_misfits g (shape_fits rs) 0 k rs) ≡ false
-          = λ is. tuple_judged g n m at b rs (parts.unjudged is).0 (judged (parts.unjudged is).1) in
+      = λ is. tuple_judged g n m at b rs (parts.unjudged is).0 (judged (parts.unjudged is).1) in
       let fit = either_fits (shape_fits rs) k (is_in_synonym parts.standing) (λ is. told_fits (shape_fits rs) k misfits b (none_first (told_misfit (shape_fits rs) k misfits b) (told_parts g (shape_fits rs) 0 k rs) (parts.judged is)))
       (λ is. held_fits (shape_fits rs) k (neither_left (holds_of (λ m. not (shape_fits rs (form_of m))) k) (some_misfits g (shape_fits rs) 0 k rs) (synonym is))) in
       tuple_there (shape_fits rs) k (values_of_ranges g (shape_fits rs) 0 k rs) there fit
@@ -420,7 +420,7 @@ mutual
       let parts = parts_of (λ t. told_as g t part e) (told_uniform g k e b) s n (has_form g true e) part_form head none in
       let misfits = class_misfits g part e in
       let synonym : is_in_synonym parts.standing ≡ true → (holds_of (λ m. not (uniform_fits (form_of m))) k || misfits_as g part e) ≡ false
-          = λ is. uniform_judged g n m at b e (parts.unjudged is).0 (judged (parts.unjudged is).1) in
+      = λ is. uniform_judged g n m at b e (parts.unjudged is).0 (judged (parts.unjudged is).1) in
       let fit = either_fits uniform_fits k (is_in_synonym parts.standing) (λ is. told_fits uniform_fits k misfits b (none_first (told_misfit uniform_fits k misfits b) (told_part g part e) (parts.judged is)))
       (λ is. held_fits uniform_fits k (neither_left (holds_of (λ m. not (uniform_fits (form_of m))) k) (misfits_as g part e) (synonym is))) in
       uniform_there k (constant_as g part e) there fit

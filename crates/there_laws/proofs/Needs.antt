@@ -1,5 +1,5 @@
 -- What constants and modes need of their names, where this is known of each name.
-use Rattle.std.proofs.Common.{◌≡◌, Bool, true, false, List, [], ◌∷◌, ◌++◌, Option, Some, None, refl, sym, ap, ◌∙◌, true≢false}
+use Rattle.std.proofs.Common.{◌≡◌, true, List, [], ◌∷◌, ◌++◌, Option, Some, None, refl, sym, true≢false}
 use Rattle.std.specs.Prelude.{IsSome}
 use Rattle.chill_tree.specs.declared.tree.name.Name.{Name}
 use Rattle.chill_tree.specs.ExprTree.{ExprTree, ExprNodes, RangeTree, RangeNodes, whole, character, text, this_instance, paren, receive, start, tuple, uniform, name, apply, field, prefixed, binary, no_exprs, more_exprs, alone, between, no_ranges, more_ranges}
@@ -11,7 +11,7 @@ use Rattle.checks_model.specs.Operations.{element_of_form, field_of_form}
 use Rattle.checks_model.specs.Classes.{Measured, a_mode_of, misfit, other, measured, measured_first, measured_name, measured_part, located, located_name}
 use Rattle.class_laws.specs.Known.{HasMode}
 use Rattle.table_laws.specs.Names.{some_name, names_in, names_in_each, names_in_range, names_in_ranges, names_in_some, names_in_discrete, names_in_index, names_in_place, names_in_some_place, names_in_spread, names_in_base, names_in_fields, names_in_mode}
-use Rattle.there_laws.specs.Constants.{IsMeasurable, HasConstants, HaveConstants, RangeHasConstants, RangesHaveConstants}
+use Rattle.there_laws.specs.Constants.{IsMeasurable, HaveConstants, RangeHasConstants, RangesHaveConstants}
 use Rattle.there_laws.specs.Modes.{IsNeeded, IsSomeNeeded, DiscreteNeeds, IndexNeeds, PlaceNeeds, SomePlaceNeeds, SpreadNeeds, BaseNeeds, FieldsNeed, ModeNeeds}
 use Rattle.there_laws.specs.Table.{stands_for_mode, IsSomeModeName, TuplesNamed, EachTuplesNamed, RangeTuplesNamed, RangesTuplesNamed, SomeTuplesNamed, DiscreteNamed, IndexNamed, PlaceNamed, SomePlaceNamed, SpreadNamed, BaseNamed, FieldsNamed, ModeNamed, IsNameThere}
 
@@ -141,9 +141,10 @@ mutual
   fields_need : (g : Ground) (fs : written.FieldNodes) → AreThere g (names_in_fields fs) → FieldsNamed g fs → FieldsNeed g fs
   fields_need g written.no_fields there is = tt
   fields_need g (written.more_fields ns b p fs) there is =
-      let first = there_first g (names_in_base b ++ names_in_some_place p) (names_in_fields fs) there in
-      ((base_needs g b (there_first g (names_in_base b) (names_in_some_place p) first) is.0.0, some_place_needs g p (there_later g (names_in_base b) (names_in_some_place p) first) is.0.1),
-      fields_need g fs (there_later g (names_in_base b ++ names_in_some_place p) (names_in_fields fs) there) is.1)
+      let first = there_first g (names_in_base b ++ names_in_some_place p) (names_in_fields fs) there in (
+        (base_needs g b (there_first g (names_in_base b) (names_in_some_place p) first) is.0.0, some_place_needs g p (there_later g (names_in_base b) (names_in_some_place p) first) is.0.1),
+        fields_need g fs (there_later g (names_in_base b ++ names_in_some_place p) (names_in_fields fs) there) is.1,
+      )
 
 pub mode_needs : (g : Ground) (w : written.ModeTree) → AreThere g (names_in_mode w) → ModeNamed g w → ModeNeeds g w
 mode_needs g (written.base_mode b) there is = base_needs g b there is

@@ -1,6 +1,6 @@
 -- Names have what constants and modes need of them, in a table of which nothing is told.
-use Rattle.std.proofs.Common.{◌≡◌, ◌<◌, ℕ, ◌||◌, Bool, true, false, List, [], ◌∷◌, ◌++◌, Option, Some, None, ℤ, pos, length, true≢false, refl, sym, ap, ◌∙◌, ◌⊎◌, inl, inr, subst, Contains}
-use Rattle.std.specs.Prelude.{IsSome, IfSome, is_some, not, map, slice_get, option_map, option_and_then}
+use Rattle.std.proofs.Common.{◌≡◌, ℕ, ◌||◌, Bool, true, false, List, [], ◌∷◌, Option, Some, None, ℤ, pos, length, true≢false, refl, sym, ap, ◌∙◌, inl, inr, subst, Contains}
+use Rattle.std.specs.Prelude.{IsSome, IfSome, is_some, not, slice_get, option_map, option_and_then}
 use Rattle.std.proofs.lemmas.Bool.{cases_lt}
 use Rattle.std.proofs.lemmas.Option.{slice_get-map, slice_get_past}
 use Rattle.names_laws.proofs.Members.{none_in, in_cases}
@@ -8,35 +8,34 @@ use Rattle.chill_tree.specs.declared.tree.name.Name.{Name}
 use Rattle.chill_tree.specs.ExprTree.{ExprTree, paren, tuple, uniform, place_of}
 use Rattle.chill_tree.specs.ModeTree as written
 use Rattle.chill_tree.specs.LocalTree.{SynonymTree}
-use Rattle.diagnostics.specs.declared.diagnostic.Diagnostic.{Diagnostic}
 use Rattle.diagnostics.specs.declared.rule.Rule.TheVariants as rules
 use Rattle.modes.specs.ModeTree as modes
 use Rattle.modes.specs.ModeTree.{ModeTree, ClassTree, value, derived, null, nothing, set_of}
 use Rattle.modes.specs.Form.{form_of}
 use Rattle.checks_model.specs.Alike.{goes_with}
-use Rattle.checks_model.specs.Told.{tell_at, told_if, holds_of, holds_of_both}
+use Rattle.checks_model.specs.Told.{tell_at, told_if, holds_of_both}
 use Rattle.checks_model.specs.ValueTrees.{ValueTree, number}
-use Rattle.checks_model.specs.Ground.{Ground, Origin, Entry, Predefined, of_mode, truth, no_instance, num, succ, pred, abs, card, min, max, upper, lower, size, put_int, put_text, put_nl, get_int, a_synonym, a_mode, an_element, a_location, a_parameter, a_counter, a_received, a_procedure, a_process, a_signal, a_modulion, a_predefined, number_at, origin_of, entry_of, named_mode}
+use Rattle.checks_model.specs.Ground.{Ground, Origin, Entry, of_mode, truth, no_instance, a_synonym, a_mode, an_element, a_location, a_parameter, a_predefined, number_at, origin_of, entry_of}
 use Rattle.checks_model.specs.OperatorValues.{truth_value}
-use Rattle.checks_model.specs.Classes.{class_as, class_of, class_of_origin, located_name, shape_fits, uniform_fits}
-use Rattle.checks_model.specs.Constants.{has_form, constant_as, constant_of, value_of_name, is_constant_origin}
+use Rattle.checks_model.specs.Classes.{class_as, class_of, shape_fits, uniform_fits}
+use Rattle.checks_model.specs.Constants.{has_form, constant_as, constant_of}
 use Rattle.checks_model.specs.ConstantRules.{by_itself, in_a_synonym, told_as, misfits_as, class_misfits, value_misfits, told_of_value, told_of_synonym_value}
-use Rattle.checks_model.specs.WrittenModes.{mode_of, some_mode_of, unless_told, told_of_mode, told_of_some_mode}
+use Rattle.checks_model.specs.WrittenModes.{mode_of, some_mode_of, told_of_some_mode}
 use Rattle.checks_model.specs.Table.{entry_by, set_mode, named_set, told_of_synonym, value_within, synonym_entry}
 use Rattle.table_laws.specs.Names.{names_in, names_in_mode, names_in_some_mode, names_needed}
 use Rattle.table_laws.specs.Frames.{is_read}
-use Rattle.table_laws.specs.OneTable.{IsEvaluated, AllDone, NeedsDone, NeedsEarlier, IsOrder}
-use Rattle.elaborated_laws.specs.Known.{IsDeclarable, IsKnownName, AreKnown}
+use Rattle.table_laws.specs.OneTable.{IsEvaluated, AllDone, NeedsDone, NeedsEarlier}
+use Rattle.elaborated_laws.specs.Known.{IsDeclarable}
 use Rattle.elaborated_laws.specs.Modes.{IsWritten}
 use Rattle.elaborated_laws.specs.Entries.{IsSomeWritten, IsWrittenSo, AllWrittenSo}
 use Rattle.elaborated_laws.proofs.Told.{none_inside, none_then, not_broken, not_true, neither_left, no_some, same_some, there_mapped, there_chained, unless_there}
 use Rattle.elaborated_laws.proofs.Constants.{class_there}
 use Rattle.elaborated_laws.proofs.Modes.{language_declarable, mode_fits}
 use Rattle.elaborated_laws.proofs.Table.{table_known}
-use Rattle.there_laws.specs.Constants.{IsReceived, HasConstants}
+use Rattle.there_laws.specs.Constants.{IsReceived}
 use Rattle.there_laws.specs.Shapes.{is_number, has_shape, is_of_class, HasShapes}
 use Rattle.there_laws.specs.Modes.{IsNeeded}
-use Rattle.there_laws.specs.Table.{stands_for_mode, SomeModeNamed, TuplesNamed, ModeNamed, IsSound, AllSound, IsThereBy, IsNameThere, TableThereLaw}
+use Rattle.there_laws.specs.Table.{SomeModeNamed, IsSound, AllSound, IsThereBy, IsNameThere, TableThereLaw}
 use Rattle.there_laws.proofs.Constants.{AllKnown, each_known, constant_there, alone_there}
 use Rattle.there_laws.proofs.Shapes.{similar_shape}
 use Rattle.there_laws.proofs.ConstantShapes.{instance_form, similar_left, of_when, constant_shape}
