@@ -5,3 +5,4 @@ pub mod ConstantShapes
 pub mod Modes
 pub mod Needs
 pub mod Table
+pub mod Told

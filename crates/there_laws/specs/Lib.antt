@@ -2,3 +2,4 @@ pub mod Constants
 pub mod Shapes
 pub mod Modes
 pub mod Table
+pub mod Told

@@ -3,6 +3,7 @@ ghost use Rattle.there_laws.specs.Constants.{ConstantThereLaw};
 ghost use Rattle.there_laws.specs.Modes.{WrittenThereLaw};
 ghost use Rattle.there_laws.specs.Shapes.{ConstantShapeLaw};
 ghost use Rattle.there_laws.specs.Table.{TableThereLaw};
+ghost use Rattle.there_laws.specs.Told.{UntoldLaw};
 
 /// An expression of constant form in which nothing is told has a value, where what it names has one; and the value of a
 /// constant is a number, a powerset or parts, as its class says.
@@ -20,4 +21,10 @@ pub fn modes_law()
 /// names is there of each name.
 pub fn table_law()
     ensures { TableThereLaw }
+{}
+
+/// Where the list of a program's modes and constants is empty nothing is told of the modes and values that its definitions are
+/// defined by.
+pub fn told_law()
+    ensures { UntoldLaw }
 {}

@@ -201,7 +201,7 @@ written_so (a_predefined p) shaped few = tt
 few_sets : (os : List Origin) (o : Origin) → length os ≤ 4096 → HasSets os o → AreFew (sets_of o)
 few_sets os o few has = each_more (HasElements os) (λ ns. length ns ≤ 4096) (λ ns has. let fits = has.0 in omega (arith, few, fits)) (sets_of o) has
 
-each_there : {A : Type 0} (P : A → Type 0) (xs : List A) (k : ℕ) (x : A) → Each P xs → slice_get xs k ≡ Some x → P x
+pub each_there : {A : Type 0} (P : A → Type 0) (xs : List A) (k : ℕ) (x : A) → Each P xs → slice_get xs k ≡ Some x → P x
 each_there P [] k x each is = no_some x is
 each_there P (y ∷ xs) zero x each is = subst P (same_some y x is) each.0
 each_there P (y ∷ xs) (suc k) x each is = each_there P xs k x each.1 is
@@ -221,7 +221,7 @@ text_written text t has =
 
 -- ---- predefined names
 
-abbrev each_predefined : List Predefined
+abbrev pub each_predefined : List Predefined
 each_predefined =
     of_mode int ∷ of_mode boolean ∷ of_mode char ∷ of_mode instance
     ∷ truth true ∷ truth false ∷ no_instance
