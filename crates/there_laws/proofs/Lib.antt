@@ -6,3 +6,4 @@ pub mod Modes
 pub mod Needs
 pub mod Table
 pub mod Told
+pub mod Plain

@@ -220,11 +220,10 @@ module _ (g : Ground) where
   procedure_untold p clean =
       let params = map (λ q. at_mode q.mode) p.params in
       let inner = at_body (Some p.name) (flat_map (λ q. q.names) p.params ++ locals_of_body p.body p.handler) ∷ sites_of_body (in_procedure p) p.body p.handler in
-      let front = first (params ++ sites_of_result p.returns) inner clean in
-      (
+      let front = first (params ++ sites_of_result p.returns) inner clean in (
         result_untold p.returns (later params (sites_of_result p.returns) front),
         both (flat_map origins_of_param p.params ++ elements_of_some p.returns) (origins_of_body p.body p.handler) (both (flat_map origins_of_param p.params) (elements_of_some p.returns) (params_untold p.params (first params (sites_of_result p.returns) front)) (some_untold p.returns))
-        (body_untold (in_procedure p) p.body p.handler (later (params ++ sites_of_result p.returns) inner clean).1),
+            (body_untold (in_procedure p) p.body p.handler (later (params ++ sites_of_result p.returns) inner clean).1),
       )
 
   process_untold : (p : ProcessTree) → Clean (sites_of_process p) → Untold (origins_of_process p)

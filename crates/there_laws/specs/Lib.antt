@@ -3,3 +3,4 @@ pub mod Shapes
 pub mod Modes
 pub mod Table
 pub mod Told
+pub mod Plain
