@@ -1,7 +1,6 @@
 -- The names of a text that breaks no rule on modes and constants.
-use Rattle.std.proofs.Common.{◌≡◌, List, Option, Some, ap}
-use Rattle.std.specs.Prelude.{slice_get}
-use Rattle.checks_model.specs.Ground.{Ground, Origin, a_synonym, a_mode, an_element, a_location, a_parameter, a_counter, a_received, a_procedure, a_process, a_signal, a_modulion, a_predefined}
+use Rattle.std.proofs.Common.{ap}
+use Rattle.checks_model.specs.Ground.{Ground, Origin, a_synonym, a_mode, a_location, a_parameter}
 use Rattle.written_laws.proofs.WrittenSo.{all_written, all_defined}
 use Rattle.there_laws.specs.Table.{IsSound, AllSound}
 use Rattle.there_laws.specs.Told.{IsUntold}
