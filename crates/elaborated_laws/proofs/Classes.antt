@@ -44,7 +44,7 @@ of_int_language = record { parts = refl; size = (let e : 1 ≤ 4096 = omega arit
 of_char_language : IsOfLanguage char
 of_char_language = record { parts = refl; size = (let e : 1 ≤ 4096 = omega arith in e) }
 
-inner_bounds : (k : Option Bounds) (l h : ℤ) (b : Bounds) → bounds_in k l h ≡ Some b → (c : Bounds) × (k ≡ Some c)
+pub inner_bounds : (k : Option Bounds) (l h : ℤ) (b : Bounds) → bounds_in k l h ≡ Some b → (c : Bounds) × (k ≡ Some c)
 inner_bounds None l h b is = no_some b is
 inner_bounds (Some c) l h b is = (c, refl)
 
@@ -69,7 +69,7 @@ discrete_language : (m : ModeTree) (b : Bounds) → parts_fit m ≡ true → bou
 discrete_language m b fits is = record { parts = fits; size = (let one = one_leaf m b is in omega (arith, one)) }
 
 -- a mode that has values within limits is discrete
-by_values : (k : Option Bounds) → is_from_to 1 4096 (count_within k) ≡ true → (b : Bounds) × (k ≡ Some b)
+pub by_values : (k : Option Bounds) → is_from_to 1 4096 (count_within k) ≡ true → (b : Bounds) × (k ≡ Some b)
 by_values None fits = absurd (true≢false (sym fits))
 by_values (Some b) fits = (b, refl)
 
@@ -83,7 +83,7 @@ no_more : (v x : ℕ) → 1 ≤ v → v * x ≤ 4096 → x ≤ 4096
 no_more zero x some few = absurd (omega (arith, some))
 no_more (suc k) x some few = omega (arith, few)
 
-parent_of : (k : Option Bounds) (l h : ℤ) → lie_in l h k ≡ true → (b : Bounds) × (k ≡ Some b)
+pub parent_of : (k : Option Bounds) (l h : ℤ) → lie_in l h k ≡ true → (b : Bounds) × (k ≡ Some b)
 parent_of None l h fits = absurd (true≢false (sym fits))
 parent_of (Some b) l h fits = (b, refl)
 
@@ -92,11 +92,11 @@ parent_language p l h fits =
     let there = parent_of (bounds_of p) l h (both_right (parts_fit p) (lie_in l h (bounds_of p)) fits.parts) in
     discrete_language p there.0 (both_left (parts_fit p) (lie_in l h (bounds_of p)) fits.parts) there.1
 
-read_of : (m : ModeTree) → IsOfLanguage (read m) → IsOfLanguage m
+pub read_of : (m : ModeTree) → IsOfLanguage (read m) → IsOfLanguage m
 read_of m fits = record { parts = fits.parts; size = fits.size }
 
 -- each field's mode is of the language
-abbrev FieldsAre : FieldNodes → Type 0
+abbrev pub FieldsAre : FieldNodes → Type 0
 FieldsAre no_fields = Unit {0}
 FieldsAre (more_fields n m at fs) = IsOfLanguage m × FieldsAre fs
 
@@ -115,7 +115,7 @@ fields_are (more_fields n m at fs) fits few =
     (record { parts = both_left (parts_fit m) (fields_fit fs) fits; size = (let one : leaves_of m ≤ 4096 = omega (arith, both) in one) }, fields_are fs (both_right (parts_fit m) (fields_fit fs) fits) (omega (arith, both)))
 
 -- what the form of a mode holds is of the language
-abbrev FormIs : FormTree → Type 0
+abbrev pub FormIs : FormTree → Type 0
 FormIs (of_powerset m) = IsOfLanguage m
 FormIs (of_array i e how) = IsOfLanguage i × IsOfLanguage e
 FormIs (of_structure fs p) = FieldsAre fs

@@ -103,12 +103,12 @@ value_there : (p : Predefined) (c : Option ClassTree) → IsSome c → holds_of 
 value_there p (Some c) there fits = not_true (is_some (class_of_routine p c)) fits
 value_there p None there fits = absurd (true≢false (sym there))
 
-constant_told : (b : Bool) (told : List Diagnostic) → b ≡ true → told_if_constant b told ≡ [] → told ≡ []
+pub constant_told : (b : Bool) (told : List Diagnostic) → b ≡ true → told_if_constant b told ≡ [] → told ≡ []
 constant_told true told is none = none
 constant_told false told is none = absurd (true≢false (sym is))
 
 -- what is told at a call of a routine with its arguments
-abbrev at_call : Ground → Pos → Predefined → ExprNodes → List Diagnostic
+abbrev pub at_call : Ground → Pos → Predefined → ExprNodes → List Diagnostic
 at_call g at p es = told_if_constant (are_arguments g (is_measuring p) es) (told_call g at p es)
 
 -- that nothing is told of a routine's argument, where it is measured and where it is a value
@@ -171,7 +171,7 @@ called_there g at no_callee result base es none form there = absurd (true≢fals
 -- ---- signs
 
 -- a literal, which makes one number with a minus, or no literal
-literal_or_not : (g : Ground) (e : ExprTree) → (literal_in e ≡ None) ⊎ (class_of g e ≡ Some (derived int))
+pub literal_or_not : (g : Ground) (e : ExprTree) → (literal_in e ≡ None) ⊎ (class_of g e ≡ Some (derived int))
 literal_or_not g (whole at n) = inr refl
 literal_or_not g (character at n) = inl refl
 literal_or_not g (text at n) = inl refl
@@ -187,10 +187,10 @@ literal_or_not g (field at e n) = inl refl
 literal_or_not g (prefixed at o e) = inl refl
 literal_or_not g (binary at l o p r) = inl refl
 
-abbrev told_sign : Ground → Pos → Prefix → ExprTree → List Diagnostic → List Diagnostic
+abbrev pub told_sign : Ground → Pos → Prefix → ExprTree → List Diagnostic → List Diagnostic
 told_sign g at o e inside = then_told inside (told_if_constant (has_form g false e) (told_unary g at o e))
 
-minus_told : (g : Ground) (at : Pos) (e : ExprTree) (inside : List Diagnostic) → literal_in e ≡ None → told_before g at prefixes.Minus e inside ≡ told_sign g at prefixes.Minus e inside
+pub minus_told : (g : Ground) (at : Pos) (e : ExprTree) (inside : List Diagnostic) → literal_in e ≡ None → told_before g at prefixes.Minus e inside ≡ told_sign g at prefixes.Minus e inside
 minus_told g at (whole p n) inside none = absurd (true≢false (ap is_some none))
 minus_told g at (character p n) inside none = refl
 minus_told g at (text p n) inside none = refl

@@ -1,0 +1,9 @@
+pub mod Forms
+pub mod Constants
+pub mod Shapes
+pub mod ConstantShapes
+pub mod Modes
+pub mod Needs
+pub mod Table
+pub mod Told
+pub mod Plain

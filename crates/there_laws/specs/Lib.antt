@@ -1,0 +1,6 @@
+pub mod Constants
+pub mod Shapes
+pub mod Modes
+pub mod Table
+pub mod Told
+pub mod Plain

@@ -1,0 +1,24 @@
+-- The law of the names of a text that breaks no rule on modes and constants.
+use Rattle.std.specs.Prelude.{◌≡◌, ℕ, List, Some, slice_get}
+use Rattle.chill_tree.specs.declared.tree.name.Name.{Name}
+use Rattle.chill_tree.specs.ItemTree.{ProgramTree}
+use Rattle.checks_model.specs.Ground.{Ground, Origin, a_synonym, a_mode, a_location, a_parameter}
+use Rattle.checks_model.specs.Diagnoses.{HasModes}
+use Rattle.table_laws.specs.OneTable.{IsOrder}
+use Rattle.there_laws.specs.Table.{TuplesNamed, ModeNamed, SomeModeNamed, IsNameThere}
+
+-- the names in what defines something that constants and modes look up stand for modes where they have to
+abbrev pub IsNamedSo : Ground → Origin → Type 0
+IsNamedSo g (a_synonym s) = SomeModeNamed g s.mode × TuplesNamed g s.value
+IsNamedSo g (a_mode novel w) = ModeNamed g w
+IsNamedSo g (a_location d) = ModeNamed g d.mode
+IsNamedSo g (a_parameter w) = ModeNamed g w
+IsNamedSo g o = Unit {0}
+
+abbrev pub AllNamedSo : Ground → Type 0
+AllNamedSo g = (d : ℕ) (o : Origin) → slice_get g.origins d ≡ Some o → IsNamedSo g o
+
+-- In a text that breaks no rule on names, modes and constants each name has what constants and modes need, where its names stand for modes
+-- as they have to, and an order leads through its definitions.
+abbrev pub TextThereLaw : Type 0
+TextThereLaw = (text : List ℕ) (t : ProgramTree) (g : Ground) (order : List ℕ) → HasModes text t g → IsOrder g order → AllNamedSo g → (n : Name) → IsNameThere g n

@@ -1,0 +1,33 @@
+// Laws of what is there where nothing is told. Each is a fact about the definitions, which a caller learns by calling the function.
+ghost use Rattle.there_laws.specs.Constants.{ConstantThereLaw};
+ghost use Rattle.there_laws.specs.Modes.{WrittenThereLaw};
+ghost use Rattle.there_laws.specs.Plain.{TextThereLaw};
+ghost use Rattle.there_laws.specs.Shapes.{ConstantShapeLaw};
+ghost use Rattle.there_laws.specs.Table.{TableThereLaw};
+ghost use Rattle.there_laws.specs.Told.{UntoldLaw};
+
+/// An expression of constant form in which nothing is told has a value, where what it names has one; and the value of a
+/// constant is a number, a powerset or parts, as its class says.
+pub fn constants_law()
+    ensures value { ConstantThereLaw }
+    ensures shape { ConstantShapeLaw }
+{}
+
+/// A mode that a text writes, and of which nothing is told, is there, where what it names is.
+pub fn modes_law()
+    ensures { WrittenThereLaw }
+{}
+
+/// In a table that an order of its definitions leads through, and of which nothing is told, what constants and modes need of
+/// names is there of each name; so it is in a text that breaks no rule on names, modes and constants, where its names stand
+/// for modes as they have to.
+pub fn table_law()
+    ensures table { TableThereLaw }
+    ensures text { TextThereLaw }
+{}
+
+/// Where the list of a program's modes and constants is empty nothing is told of the modes and values that its definitions are
+/// defined by.
+pub fn told_law()
+    ensures { UntoldLaw }
+{}

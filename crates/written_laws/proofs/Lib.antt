@@ -1,0 +1,11 @@
+pub mod Shown
+pub mod Tokens
+pub mod ShownExpr
+pub mod ShownMode
+pub mod ShownLocal
+pub mod ShownSimple
+pub mod ShownStatement
+pub mod ShownItem
+pub mod Sets
+pub mod Defining
+pub mod WrittenSo

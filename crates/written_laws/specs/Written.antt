@@ -1,0 +1,55 @@
+-- What a text with a tree writes: its text literals are short, its structures have a field, and its SETs are small and defined.
+use Rattle.std.specs.Prelude.{◌≡◌, ℕ, List, [], ◌∷◌, ◌++◌}
+use Rattle.chill_tree.specs.ExprTree.{ExprTree}
+use Rattle.chill_tree.specs.ItemTree.{ProgramTree}
+use Rattle.rules_model.specs.Diagnoses.{HasTree}
+use Rattle.checks_model.specs.Sites.{Site, at_item, at_synonym, at_mode_definition, at_declaration, at_mode, at_simple, at_condition, at_selector, at_labels, at_control, at_set, at_priority, at_event, at_source, at_received, at_exceptions, at_body, at_program, sites}
+use Rattle.checks_model.specs.Phases.{some_expr, exprs_of_simple, priority_of, exprs_of_control, exprs_of_labels, initial_expr}
+use Rattle.checks_model.specs.Ground.{Ground}
+use Rattle.checks_model.specs.Table.{ground_with}
+use Rattle.checks_model.specs.Diagnoses.{HasNames}
+use Rattle.elaborated_laws.specs.Classes.{HasShortTexts}
+use Rattle.elaborated_laws.specs.Entries.{AllWrittenSo}
+use Rattle.elaborated_laws.specs.Table.{AreDefined}
+
+-- each of a list
+abbrev pub Each : {A : Type 0} → (A → Type 0) → List A → Type 0
+Each P [] = Unit {0}
+Each P (x ∷ xs) = P x × Each P xs
+
+-- the expressions at a node, those in modes aside
+abbrev pub exprs_at : Site → List ExprTree
+exprs_at (at_synonym s) = s.value ∷ []
+exprs_at (at_declaration shared d) = some_expr (initial_expr d.initial)
+exprs_at (at_simple a s) = exprs_of_simple s ++ some_expr (priority_of s)
+exprs_at (at_condition e) = e ∷ []
+exprs_at (at_selector e) = e ∷ []
+exprs_at (at_labels e ls) = exprs_of_labels ls
+exprs_at (at_control c) = exprs_of_control c
+exprs_at (at_set e) = e ∷ []
+exprs_at (at_priority e) = e ∷ []
+exprs_at (at_item kind all i) = []
+exprs_at (at_mode_definition d) = []
+exprs_at (at_mode m) = []
+exprs_at (at_event earlier n) = []
+exprs_at (at_source earlier n) = []
+exprs_at (at_received n names) = []
+exprs_at (at_exceptions earlier ns) = []
+exprs_at (at_body n locals) = []
+exprs_at (at_program shared) = []
+
+-- the text literals in them have at most 256 bytes
+abbrev pub HasShortExprs : Site → Type 0
+HasShortExprs s = Each HasShortTexts (exprs_at s)
+
+-- Each node of a text has short text literals.
+abbrev pub ShortTextsLaw : Type 0
+ShortTextsLaw = (text : List ℕ) (t : ProgramTree) → HasTree text t → Each HasShortExprs (sites t)
+
+-- What defines something in a text is written as the grammar, the tokens and the number of definitions allow it, and the elements of its
+-- SETs are defined, where no rule on names is broken.
+abbrev pub WrittenSoLaw : Type 0
+WrittenSoLaw = (text : List ℕ) (t : ProgramTree) (g : Ground) → HasNames text t → g ≡ ground_with t g.entries → AllWrittenSo g
+
+abbrev pub DefinedSoLaw : Type 0
+DefinedSoLaw = (text : List ℕ) (t : ProgramTree) (g : Ground) → HasNames text t → g ≡ ground_with t g.entries → AreDefined g
