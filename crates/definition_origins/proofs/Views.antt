@@ -1,6 +1,7 @@
 -- Trees by their fields, and origins in the order in which they are found.
 use Rattle.std.proofs.Common.{◌≡◌, ◌++◌, ℕ, List, [], ◌∷◌, Option, Some, None, map, length, replicate, refl, sym, ap, ◌∙◌, append-nil, append_assoc, arith}
 use Rattle.std.specs.Prelude.{Bool, true, false, ◌+◌, zero, suc, option_map, flat_map, if◌then◌else◌}
+use Rattle.std.proofs.lemmas.List.{map-append}
 use Rattle.chill_base.specs.declared.pos.Pos.{Pos}
 use Rattle.chill_tree.specs.declared.tree.name.Name.{Name}
 use Rattle.chill_tree.specs.declared.tree.mode.Field.{Field, out-Field, fold_out-Field}
@@ -23,8 +24,10 @@ use Rattle.chill_tree.specs.declared.tree.item.Modulion.{Modulion, out-Modulion,
 use Rattle.chill_tree.specs.ItemTree.{ItemTree, ModulionTree, item_layer, modulion_layer, item_tree, modulion_tree, item_trees}
 use Rattle.chill_tree.proofs.ItemViews.{item_built}
 use Rattle.names_model.specs.Definitions.{numbers_on}
-use Rattle.checks_model.specs.Ground.{Origin}
-use Rattle.checks_model.specs.Origins.{set_in_discrete, sets_in_base, sets_in_fields, sets_in, is_set_base, is_set, elements, elements_of, owner_of, origins_of_local, counters_in, origins_in, origins_in_each, origins_in_branches, origins_in_cases, origins_in_named, origins_in_receives, origins_in_otherwise, origins_in_parts, origins_in_bracketed}
+use Rattle.checks_model.specs.Ground.{Origin, a_mode}
+use Rattle.checks_model.specs.Origins.{set_in_discrete, sets_in_base, sets_in_fields, sets_in, is_set_base, is_set, elements, elements_of, owner_of, origins_of_mode, origins_of_local, counters_in, origins_in, origins_in_each, origins_in_branches, origins_in_cases, origins_in_named, origins_in_receives, origins_in_otherwise, origins_in_parts, origins_in_bracketed}
+use Rattle.definition_origins.specs.declared.origin.Origin.{Origin as Pushed}
+use Rattle.definition_origins.specs.OriginTrees.{origin_tree, origin_trees}
 use Rattle.definition_origins.specs.Walks.{elements_in_base, elements_in_fields, elements_of_owned, owner_by, held_origins, else_origins}
 
 pub tree-field_out : (f : Field) → field_tree f ≡ record { names = (out-Field f).names; base = boxed_base (out-Field f).base; place = option_map place_tree (out-Field f).place }
@@ -78,19 +81,40 @@ mode-owned o (written.buffer_mode at l b) = base-alone b
 pub elements-owned : (novel : Bool) (d : ModeDefinitionTree) → elements_of_owned (owner_by novel d) d.mode ≡ elements_of (owner_of novel d) d.mode
 elements-owned novel d = mode-owned (d.name, novel) d.mode
 
+-- a mode's origin, and the elements in the mode
+pub mode_made : (novel : Bool) (d : ModeDefinitionTree) (os found new : List Pushed) (o : Pushed) (w : Option (Name × Bool)) → found ≡ os ++ o ∷ [] → origin_tree o ≡ a_mode novel d.mode → w ≡ owner_by novel d
+    → origin_trees new ≡ origin_trees found ++ elements_of_owned w d.mode → origin_trees new ≡ origin_trees os ++ origins_of_mode novel d
+mode_made novel d os found new o w pushed same owner made =
+    made ∙ ap (λ os. origin_trees os ++ elements_of_owned w d.mode) pushed ∙ ap (λ ts. ts ++ elements_of_owned w d.mode) (map-append origin_tree os (o ∷ []))
+    ∙ append_assoc (origin_trees os) (origin_tree o ∷ []) (elements_of_owned w d.mode)
+    ∙ ap (λ t. origin_trees os ++ t ∷ elements_of_owned w d.mode) same
+    ∙ ap (λ w. origin_trees os ++ a_mode novel d.mode ∷ elements_of_owned w d.mode) owner
+    ∙ ap (λ es. origin_trees os ++ a_mode novel d.mode ∷ es) (elements-owned novel d)
+
 pub same-origin : (o : Origin) (ns : List Name) → map (λ n. o) ns ≡ replicate (length ns) o
 same-origin o [] = refl
 same-origin o (n ∷ ns) = ap (λ os. o ∷ os) (same-origin o ns)
 
 numbers_behind : (from n : ℕ) → numbers_on from (suc n) ≡ numbers_on from n ++ (from + n) ∷ []
-numbers_behind from zero = ap (λ k. k ∷ []) (omega arith)
-numbers_behind from (suc n) = ap (λ ks. from ∷ ks) (numbers_behind (suc from) n ∙ ap (λ k. numbers_on (suc from) n ++ k ∷ []) (omega arith))
+numbers_behind from zero = let e : from ≡ from + 0 = omega arith in ap (λ k. k ∷ []) e
+numbers_behind from (suc n) =
+    let e : suc from + n ≡ from + suc n = omega arith in
+    ap (λ ks. from ∷ ks) (numbers_behind (suc from) n ∙ ap (λ k. numbers_on (suc from) n ++ k ∷ []) e)
 
 -- one number more from 0 on
 pub numbers_more : (n : ℕ) → numbers_on 0 (n + 1) ≡ numbers_on 0 n ++ n ∷ []
-numbers_more n = ap (numbers_on 0) (omega arith) ∙ numbers_behind 0 n ∙ ap (λ k. numbers_on 0 n ++ k ∷ []) (omega arith)
+numbers_more n =
+    let e : n + 1 ≡ suc n = omega arith in
+    let f : 0 + n ≡ n = omega arith in
+    ap (numbers_on 0) e ∙ numbers_behind 0 n ∙ ap (λ k. numbers_on 0 n ++ k ∷ []) f
 
-pub ruleset numbers_views = (numbers_more, append-nil, append_assoc)
+-- one origin more, of the next number
+pub part_more : (os ps new : List Pushed) (o : Pushed) (f : ℕ → Origin) (n : ℕ) → new ≡ os ++ o ∷ [] → origin_tree o ≡ f n → origin_trees os ≡ origin_trees ps ++ map f (numbers_on 0 n) → origin_trees new ≡ origin_trees ps ++ map f (numbers_on 0 (n + 1))
+part_more os ps new o f n pushed same before =
+    ap origin_trees pushed ∙ map-append origin_tree os (o ∷ []) ∙ ap (λ ts. ts ++ origin_tree o ∷ []) before
+    ∙ append_assoc (origin_trees ps) (map f (numbers_on 0 n)) (origin_tree o ∷ [])
+    ∙ ap (λ t. origin_trees ps ++ (map f (numbers_on 0 n) ++ t ∷ [])) same
+    ∙ ap (λ ts. origin_trees ps ++ ts) (sym (ap (map f) (numbers_more n) ∙ map-append f (numbers_on 0 n) (n ∷ [])))
 
 pub ruleset owned_views = (elements-alone, elements-owned, same-origin, append-nil, append_assoc)
 

@@ -2,7 +2,8 @@
 ghost use Rattle.std.specs.Prelude.{◌≡◌, ◌++◌, IfOk, OnOk, map, flat_map};
 ghost use Rattle.chill_tree.specs.ItemTree.{signal_tree, param_tree, formal_tree, procedure_tree, process_tree, item_tree, item_trees, item_nodes, modulion_tree, modulion_item, program_tree};
 ghost use Rattle.class_operators.specs.Predefined.{predefined_tree};
-ghost use Rattle.checks_model.specs.Origins.{origins_of_signal, origins_of_param, origins_of_formal, origins_of_procedure, origins_of_process, origins_of_item, origins_of_items, in_both_cases, origins_of};
+ghost use Rattle.chill_tree.specs.StatementTree.{handler_node};
+ghost use Rattle.checks_model.specs.Origins.{origins_in_handler, origins_of_signal, origins_of_param, origins_of_formal, origins_of_procedure, origins_of_process, origins_of_item, origins_of_items, in_both_cases, origins_of};
 ghost use Rattle.definition_origins.specs.OriginTrees.{origin_trees};
 
 use crate::locals::add_local;
@@ -136,15 +137,23 @@ fn add_items<'a>(items: &'a [Item], found: &mut Origins<'a>) -> Result<(), Memor
     Ok(())
 }
 
-// A module or a region, and what it holds.
+// What a module or a region holds.
 #[tactic(auto, using(crate::proofs::Views::item_views))]
+#[cycle(item)]
+fn add_inside<'a>(modulion: &'a Modulion, found: &mut Origins<'a>) -> Result<(), Memory>
+    ensures { OnOk result (origin_trees found.new ≡ origin_trees found.old ++ (origins_of_items (item_nodes (modulion_tree modulion.now).items) ++ origins_in_handler (handler_node (modulion_tree modulion.now).handler))) }
+{
+    add_items(modulion.items.as_slice(), found)?;
+    add_some_handler(&modulion.handler, found)
+}
+
+// A module or a region, and what it holds.
 #[cycle(item)]
 fn add_modulion<'a>(modulion: &'a Modulion, found: &mut Origins<'a>) -> Result<(), Memory>
     ensures { OnOk result (origin_trees found.new ≡ origin_trees found.old ++ origins_of_item (modulion_item (modulion_tree modulion.now))) }
 {
     found.push(Origin::Modulion(modulion))?;
-    add_items(modulion.items.as_slice(), found)?;
-    add_some_handler(&modulion.handler, found)
+    add_inside(modulion, found)
 }
 
 // A predefined name, in upper and in lower case.

@@ -49,7 +49,8 @@ fn add_syn_mode<'a>(own: &'a ModeDefinition, found: &mut Origins<'a>) -> Result<
     ensures { OnOk result (origin_trees found.new ≡ origin_trees found.old ++ origins_of_mode false (mode_definition_tree own.now)) }
 {
     found.push(Origin::SynMode(own))?;
-    add_mode(&own.mode, owner_of(own, false), found)
+    add_mode(&own.mode, owner_of(own, false), found)?;
+    Ok(())
 }
 
 // A NEWMODE.
@@ -58,7 +59,8 @@ fn add_new_mode<'a>(own: &'a ModeDefinition, found: &mut Origins<'a>) -> Result<
     ensures { OnOk result (origin_trees found.new ≡ origin_trees found.old ++ origins_of_mode true (mode_definition_tree own.now)) }
 {
     found.push(Origin::NewMode(own))?;
-    add_mode(&own.mode, owner_of(own, true), found)
+    add_mode(&own.mode, owner_of(own, true), found)?;
+    Ok(())
 }
 
 // SYNMODEs.

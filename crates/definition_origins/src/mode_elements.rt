@@ -1,6 +1,6 @@
 // The elements of the SETs in modes.
 ghost use Rattle.std.specs.Prelude.{◌≡◌, ◌++◌, None, OnOk, map, flat_map, option_map};
-ghost use Rattle.chill_tree.specs.ModeTree.{base_tree, discrete_tree, field_trees, field_nodes, mode_tree};
+ghost use Rattle.chill_tree.specs.ModeTree.{base_tree, discrete_tree, field_tree, field_trees, field_nodes, mode_tree};
 ghost use Rattle.checks_model.specs.Origins.{set_in_discrete, elements, elements_of, elements_of_some};
 ghost use Rattle.definition_origins.specs.OriginTrees.{owner_tree, origin_trees};
 ghost use Rattle.definition_origins.specs.Walks.{elements_in_base, elements_in_fields, elements_of_owned};
@@ -10,7 +10,6 @@ use chill_base::Memory;
 use chill_tree::tree::{Base, Discrete, Field, Mode, Name};
 
 // The elements of a SET.
-#[tactic(auto, using(crate::proofs::Views::numbers_views))]
 fn add_elements<'a>(
     names: &'a [Name],
     owner: Option<Owner<'a>>,
@@ -57,14 +56,22 @@ fn add_base<'a>(
     }
 }
 
-// The elements of the SETs in the modes of fields.
+// The elements of the SETs in the mode of a field.
 #[tactic(auto, using(crate::proofs::Views::mode_views))]
+#[cycle(base)]
+fn add_field<'a>(field: &'a Field, found: &mut Origins<'a>) -> Result<(), Memory>
+    ensures { OnOk result (origin_trees found.new ≡ origin_trees found.old ++ elements_in_base None (field_tree field.now).base) }
+{
+    add_base(&field.base, None, found)
+}
+
+// The elements of the SETs in the modes of fields.
 #[cycle(base)]
 fn add_fields<'a>(fields: &'a [Field], found: &mut Origins<'a>) -> Result<(), Memory>
     ensures { OnOk result (origin_trees found.new ≡ origin_trees found.old ++ elements_in_fields (field_nodes (field_trees fields.now))) }
 {
     for field in fields {
-        add_base(&field.base, None, found)?;
+        add_field(field, found)?;
     }
     Ok(())
 }
@@ -96,13 +103,20 @@ pub fn add_some_mode<'a>(mode: &'a Option<Mode>, found: &mut Origins<'a>) -> Res
     }
 }
 
-/// The elements in modes.
+// The elements of the SETs in a mode, which is the whole mode of no name.
 #[tactic(auto, using(crate::proofs::Views::owned_views))]
+fn add_unnamed<'a>(mode: &'a Mode, found: &mut Origins<'a>) -> Result<(), Memory>
+    ensures { OnOk result (origin_trees found.new ≡ origin_trees found.old ++ elements_of None (mode_tree mode.now)) }
+{
+    add_mode(mode, None, found)
+}
+
+/// The elements in modes.
 pub fn add_modes<'a>(modes: &'a [Mode], found: &mut Origins<'a>) -> Result<(), Memory>
     ensures { OnOk result (origin_trees found.new ≡ origin_trees found.old ++ flat_map (elements_of None) (map mode_tree modes.now)) }
 {
     for mode in modes {
-        add_mode(mode, None, found)?;
+        add_unnamed(mode, found)?;
     }
     Ok(())
 }

@@ -26,7 +26,6 @@ fn add_counter<'a>(control: &'a Control, found: &mut Origins<'a>) -> Result<(), 
 }
 
 // So many names that an alternative of RECEIVE CASE receives.
-#[tactic(auto, using(crate::proofs::Views::numbers_views))]
 fn add_parts<'a>(
     alternative: &'a ReceiveAlternative,
     count: usize,
