@@ -1,1 +1,3 @@
 pub mod OfChecks
+pub mod RisingRows
+pub mod Views

@@ -5,14 +5,19 @@
 #![tactic(auto)]
 
 mod check_rule;
+mod items;
+mod locals;
+mod mode_elements;
 mod order;
 mod origin;
+mod statements;
 mod told;
 mod uses;
 
 pub use check_rule::CheckRule;
 pub use class_operators::{PREDEFINED, Predefined};
+pub use items::origins;
 pub use order::in_order;
-pub use origin::{Element, Origin, Origins, Owner, origins};
+pub use origin::{Element, Origin, Origins, Owner};
 pub use told::Told;
 pub use uses::{number_at, places};

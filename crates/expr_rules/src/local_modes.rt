@@ -38,7 +38,7 @@ fn set_mode(evaluation: &mut Evaluation<'_>, number: u32, mode: Option<Rc<Mode>>
 fn mode_of_received(
     evaluation: &Evaluation<'_>,
     alternative: &ReceiveAlternative,
-    part: u32,
+    part: usize,
 ) -> Result<Option<Rc<Mode>>, Memory> {
     let walk = Walk { evaluation };
     let Some(names) = &alternative.received else {
@@ -49,7 +49,7 @@ fn mode_of_received(
     }
     match walk.parts_of_signal(&alternative.source) {
         None => shared(walk.element_of_buffer(&alternative.source)),
-        Some(parts) => match parts.get(part as usize) {
+        Some(parts) => match parts.get(part) {
             None => Ok(None),
             Some(mode) => shared(mode.as_ref()),
         },

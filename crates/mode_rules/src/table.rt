@@ -141,7 +141,7 @@ pub fn signal_entry(
 // An element is of the SET's mode, with the name that the SET is the whole mode of.
 fn element_entry(ground: &Evaluation<'_>, own: Element<'_>) -> Result<Entry, Memory> {
     let Element { names, part, owner } = own;
-    let number = i64::from(part);
+    let number = i64::try_from(part).unwrap_or(i64::MAX);
     match set_mode(ground, names, owner)? {
         None => constant_entry(ground, None, number),
         Some(mode) => constant_entry(ground, Some(Class::Derived(mode)), number),
