@@ -15,7 +15,9 @@ loop-place-preserved c =
     let span : to_z w64 (of_z w64 c.offsets_between.result) ≡ span_of (to_z w64 c.loop-place.low-bits) (to_z w64 c.loop-place.high-bits) = search rules in
     let own : c.all_members.result ≡ union (get_or c.loop-place.words.items c.loop-place.place c.index.result.now) (span_of (to_z w64 c.loop-place.low-bits) (to_z w64 c.loop-place.high-bits)) = c.all_members.ensures ∙ (λ i. union (value i) (span i)) in
     let here : c.loop-place.place < length c.loop-place.words.items = search rules in
-    let long : length (set c.loop-place.words.items c.loop-place.place (to_z w64 (of_z w64 c.all_members.result))) ≡ length c.loop-place.words.items = length-set c.loop-place.words.items c.loop-place.place (to_z w64 (of_z w64 c.all_members.result)) in
-    (c.loop-place.invariant.0 ∙ span_more c.loop-place.words.items c.loop-place.place (length (set c.loop-place.words.items c.loop-place.place (to_z w64 (of_z w64 c.all_members.result))))
-      (to_z w64 c.loop-place.low-bits) (to_z w64 c.loop-place.high-bits) (to_z w64 (of_z w64 c.lowered-low.result)) (to_z w64 (of_z w64 c.lowered-high.result)) (to_z w64 (of_z w64 c.all_members.result)) c.index.result.now
-      here lower upper (word ∙ own) long, long ∙ c.loop-place.invariant.1)
+    let long : length (set c.loop-place.words.items c.loop-place.place (to_z w64 (of_z w64 c.all_members.result))) ≡ length c.loop-place.words.items = length-set c.loop-place.words.items c.loop-place.place (to_z w64 (of_z w64 c.all_members.result)) in (
+      c.loop-place.invariant.0 ∙ span_more c.loop-place.words.items c.loop-place.place (length (set c.loop-place.words.items c.loop-place.place (to_z w64 (of_z w64 c.all_members.result))))
+          (to_z w64 c.loop-place.low-bits) (to_z w64 c.loop-place.high-bits) (to_z w64 (of_z w64 c.lowered-low.result)) (to_z w64 (of_z w64 c.lowered-high.result)) (to_z w64 (of_z w64 c.all_members.result)) c.index.result.now
+          here lower upper (word ∙ own) long,
+      long ∙ c.loop-place.invariant.1,
+    )
