@@ -1,4 +1,5 @@
 pub mod SetWords
+pub mod Spans
 pub mod Below
 pub mod Offsets
 pub mod MemberSets

@@ -1,5 +1,5 @@
 -- Powersets by which offsets are members, and the operators on the numbers that tell of members.
-use Rattle.std.specs.Prelude.{ℕ, zero, suc, ◌+◌, Bool, true, ◌&&◌, ◌||◌, not, if◌then◌else◌, Option, Some, None, ℤ}
+use Rattle.std.specs.Prelude.{ℕ, zero, suc, ◌+◌, Bool, true, ◌&&◌, ◌||◌, not, if◌then◌else◌, Option, Some, None, ℤ, pos, int_le, ◌≡◌}
 use Rattle.chill_tree.specs.declared.tree.expr.Operator.{Operator}
 use Rattle.chill_tree.specs.declared.tree.expr.Operator.TheVariants as ops
 use Rattle.scalar_operators.specs.Powersets.{union, intersection, difference, symmetric_difference}
@@ -12,6 +12,11 @@ word_operator ops.And = intersection
 word_operator ops.AndIf = intersection
 word_operator ops.Minus = difference
 word_operator _ = symmetric_difference
+
+-- two offsets of one number of a powerset, of which the one is an offset of a member where the other is the same
+pub record AreAsOne (a b : ℤ) : Type 0 where
+  pub from : (k : ℕ) → int_le a (pos k) ≡ int_le b (pos k)
+  pub to : (k : ℕ) → int_le (pos k) a ≡ int_le (pos k) b
 
 -- ---- of the offsets below a number, those that are members
 

@@ -1,9 +1,9 @@
 // Powersets of constants, each as a list of numbers that tell of 32 members each (Z.200, chapter on powersets).
-ghost use Rattle.std.specs.Prelude.{◌≡◌, ◌-ℤ◌, min, IfOk};
+ghost use Rattle.std.specs.Prelude.{◌≡◌, ◌-ℤ◌, pos, min, length, IfOk};
 ghost use Rattle.modes.specs.Scalars.{numbers_of};
 ghost use Rattle.scalar_operators.specs.Powersets.{complement_in};
-ghost use Rattle.scalar_operators.specs.Members.{by_pairs, complement_of, has_member_at, has_offset_of, no_members};
-ghost use Rattle.constant_values.specs.Sets.{word_operator, count_below, least_below, greatest_below, included_below, same_below};
+ghost use Rattle.scalar_operators.specs.Members.{by_pairs, complement_of, has_member_at, has_offset_of, no_members, span_in, union_of};
+ghost use Rattle.constant_values.specs.Sets.{word_operator, AreAsOne, count_below, least_below, greatest_below, included_below, same_below};
 
 use chill_base::{Memory, Scalars};
 use chill_tree::tree::Operator;
@@ -175,17 +175,22 @@ pub fn empty_set(alloc: Global, size: u64) -> Result<Scalars, Memory>
 }
 
 /// Puts the members from one offset to another into a powerset.
-pub fn add_members(set: &mut Scalars, from: i64, to: i64) {
+pub fn add_members(set: &mut Scalars, from: i64, to: i64)
+    ensures { set.new ≡ union_of set.old (span_in (length set.old) from to) }
+{
     let mut low = from;
     let mut high = to;
-    for own in set.room() {
-        *own = all_members(*own, offsets_between(low, high));
+    let words = set.room();
+    for place in 0..words.len() {
+        words[place] = all_members(words[place], offsets_between(low, high));
         low = lowered(low);
         high = lowered(high);
     }
 }
 
 // An offset as the next number of a powerset tells of it: one before the first stays before it.
-fn lowered(offset: i64) -> i64 {
+fn lowered(offset: i64) -> i64
+    ensures { AreAsOne result (offset -ℤ pos 32) }
+{
     if offset < 0 { offset } else { offset - 32 }
 }
