@@ -14,4 +14,6 @@ mod layouts;
 #[cfg(test)]
 mod programs;
 #[cfg(test)]
+mod read_journals;
+#[cfg(test)]
 mod reports;
