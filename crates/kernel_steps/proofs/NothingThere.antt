@@ -11,7 +11,6 @@ use Rattle.world_model.specs.Lists.{last_of}
 use Rattle.world_model.specs.Ranges.{IsNumber, IsInRange}
 use Rattle.world_model.specs.World.{held_by}
 use Rattle.world_model.specs.Allowed.{MustWait}
-use Rattle.buffers_signals.specs.declared.messages.Held.{Held}
 use Rattle.buffers_signals.specs.Buffers as buffers
 use Rattle.kernel_steps.specs.declared.reply.Reply.TheVariants.{Now, Later}
 use Rattle.kernel_steps.specs.declared.seats.Going.{Going}

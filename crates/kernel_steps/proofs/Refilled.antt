@@ -1,5 +1,5 @@
 -- What a receive and a send leave in the buffers, and in the world.
-use Rattle.std.proofs.Common.{◌≡◌, ℕ, ◌<◌, List, [], ◌∷◌, ◌++◌, ℤ, length, map, length-set, refl, sym, ap, ◌∙◌, Option, Some, None, slice_get, slice_set}
+use Rattle.std.proofs.Common.{◌≡◌, ℕ, ◌<◌, List, [], ◌∷◌, ◌++◌, ℤ, length, map, length-set, refl, ap, ◌∙◌, Option, Some, None, slice_get, slice_set}
 use Rattle.std.specs.Prelude.{slice_index_or, Bool}
 use Rattle.std.proofs.lemmas.List.{length-map}
 use Rattle.kernel_base.specs.declared.facts.Facts.{Facts}

@@ -1,8 +1,7 @@
 -- A value that is taken from buffers, and the world.
-use Rattle.std.proofs.Common.{◌≡◌, ℕ, zero, suc, ◌≤◌, true, List, [], ◌∷◌, ℤ, refl, sym, ap, ◌∙◌, inl, inr, arith, Option, Some, None, slice_get, subst, eq-eqb}
-use Rattle.std.specs.Prelude.{◌==◌, slice_index_or, IsFalse, IsSome}
+use Rattle.std.proofs.Common.{◌≡◌, ℕ, zero, suc, ◌≤◌, List, ℤ, refl, sym, ap, ◌∙◌, arith, Option, Some, None, subst}
+use Rattle.std.specs.Prelude.{slice_index_or, IsFalse, IsSome}
 use Rattle.std.specs.Option.{option_and_then}
-use Rattle.std.proofs.lemmas.Bool.{cases_Bool, eqb-true}
 use Rattle.std.proofs.lemmas.Bool.Decides.{nat_tests}
 use Rattle.kernel_base.specs.declared.facts.Facts.{Facts}
 use Rattle.kernel_base.specs.declared.request.Alternative.{Alternative}

@@ -1,6 +1,6 @@
 -- The values in buffers, those that wait to send and to receive, and the world.
-use Rattle.std.proofs.Common.{◌≡◌, ◌⊎◌, ℕ, ◌<◌, Bool, true, false, not, List, [], ◌∷◌, ◌++◌, length, map, refl, sym, ap, ◌∙◌, inl, inr, Option, Some, None, slice_get, slice_set, subst, eq-eqb}
-use Rattle.std.specs.Prelude.{if◌then◌else◌, ◌==◌, slice_index_or, is_some}
+use Rattle.std.proofs.Common.{◌≡◌, ℕ, ◌<◌, Bool, true, not, List, [], ◌∷◌, ◌++◌, length, map, refl, sym, ap, ◌∙◌, inl, inr, Option, Some, None, slice_get, slice_set, subst}
+use Rattle.std.specs.Prelude.{◌==◌, slice_index_or, is_some}
 use Rattle.std.specs.Option.{option_and_then}
 use Rattle.std.proofs.lemmas.Bool.{cases_eq}
 use Rattle.kernel_base.specs.declared.facts.Facts.{Facts}
