@@ -1,8 +1,8 @@
 -- What the best of the stored values and the best of those that are offered say of all that may be received.
-use Rattle.std.proofs.Common.{◌≡◌, ℕ, zero, suc, ◌+◌, ◌<◌, List, [], ◌∷◌, ◌++◌, Bool, true, false, not, refl, sym, ap, ◌∙◌, slice_get, Option, Some, None, is_some, IsSome, IfSome, IfNone, arith, eq-eqb, subst, get_or, length, take}
+use Rattle.std.proofs.Common.{◌≡◌, ℕ, zero, suc, ◌<◌, List, [], ◌∷◌, Bool, true, false, not, refl, sym, ap, ◌∙◌, slice_get, Option, Some, None, is_some, IsSome, IfSome, IfNone, arith, eq-eqb, subst, length}
 use Rattle.std.specs.Prelude.{IsFalse, ◌==◌, ◌&&◌, if◌then◌else◌, slice_index_or}
 use Rattle.std.proofs.lemmas.Bool.Decides.{nat_tests}
-use Rattle.std.proofs.lemmas.Bool.{eqb-true, ne_eqb}
+use Rattle.std.proofs.lemmas.Bool.{eqb-true}
 use Rattle.std.specs.List.{remove, filter}
 use Rattle.std.proofs.lemmas.Option.{same_Some}
 use Rattle.kernel_lists.specs.Once.{others, AreOnce}

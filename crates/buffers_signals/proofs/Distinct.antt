@@ -1,5 +1,5 @@
 -- Send numbers stay distinct as values are sent and taken.
-use Rattle.std.proofs.Common.{◌≡◌, ◌≢◌, ℕ, ◌+◌, ◌<◌, ◌≤◌, List, [], ◌∷◌, ◌++◌, length, cond, true, refl, sym, ap, ◌∙◌, inl, inr, arith, Some, slice_get, get_or}
+use Rattle.std.proofs.Common.{◌≡◌, ◌≢◌, ℕ, ◌+◌, ◌<◌, ◌≤◌, List, [], ◌∷◌, ◌++◌, length, cond, refl, sym, ap, ◌∙◌, inl, inr, arith, Some, slice_get, get_or}
 use Rattle.std.specs.Prelude.{◌==◌}
 use Rattle.std.specs.List.{remove}
 use Rattle.std.proofs.lemmas.Bool.{cases_eq, ne_eqb}
@@ -8,7 +8,7 @@ use Rattle.std.proofs.lemmas.Option.{same_Some, slice_get_within, slice_get-get_
 use Rattle.kernel_lists.specs.Once.{others, AreOnce}
 use Rattle.kernel_lists.proofs.Entries.{once_remove}
 use Rattle.world_model.specs.declared.world.StoredValue.{StoredValue}
-use Rattle.value_queues.specs.Queues.{placed, with_placed, values_in, stored_but, times_in, times_stored, TakesFirst}
+use Rattle.value_queues.specs.Queues.{placed, with_placed, values_in, stored_but, times_stored, TakesFirst}
 use Rattle.value_queues.proofs.Counted.{tells, tells_same, times_set, times_placed, times_taken, taken_but, none_stored}
 use Rattle.buffers_signals.specs.declared.messages.Held.{Held}
 use Rattle.buffers_signals.specs.Lists.{sender_of, times_held}

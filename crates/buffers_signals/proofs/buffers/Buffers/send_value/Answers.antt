@@ -1,9 +1,8 @@
-use Rattle.std.proofs.Common.{◌≡◌, ◌<◌, List, length, length-set, ap, arith, sym, subst, ◌∙◌, ◌++◌, ◌∷◌, [], Option}
+use Rattle.std.proofs.Common.{◌<◌, List, length, length-set, ap, arith, sym, subst, ◌∙◌}
 use Rattle.kernel_lists.specs.First.{IsFirst}
 use Rattle.kernel_lists.specs.Once.{entry_of}
 use Rattle.kernel_lists.proofs.Entries.{found_at, once_push}
-use Rattle.world_model.specs.declared.world.StoredValue.{StoredValue}
-use Rattle.value_queues.specs.Queues.{placed, values_in, with_placed, times_stored}
+use Rattle.value_queues.specs.Queues.{placed, values_in, times_stored}
 use Rattle.buffers_signals.specs.declared.messages.Held.{Held}
 use Rattle.buffers_signals.specs.declared.messages.Receiver.{Receiver}
 use Rattle.buffers_signals.specs.Lists.{lists, sender_of, times_held}

@@ -1,4 +1,4 @@
-use Rattle.std.proofs.Common.{◌≡◌, ◌<◌, ℕ, ◌∷◌, List, length, length-set, Option, None, false, arith, ap, sym, ◌∙◌}
+use Rattle.std.proofs.Common.{◌≡◌, ℕ, ◌∷◌, List, length, length-set, Option, None, arith, ap, sym, ◌∙◌}
 use Rattle.std.specs.Prelude.{slice_index_or, is_some}
 use Rattle.std.proofs.lemmas.Option.{same_Some}
 use Rattle.kernel_base.specs.declared.answer.Answer.TheVariants.{Got}
