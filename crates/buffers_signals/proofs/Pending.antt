@@ -8,7 +8,7 @@ use Rattle.world_model.specs.Lists.{number_for}
 use Rattle.kernel_lists.specs.declared.best.Rank.{Rank}
 use Rattle.kernel_lists.specs.declared.best.Best.{Best}
 use Rattle.kernel_lists.specs.Best.{precedes_in, IsBest, NoneRanked}
-use Rattle.buffers_signals.specs.Lists.{rank_of}
+use Rattle.value_queues.specs.Queues.{rank_of}
 use Rattle.buffers_signals.specs.Signals.{SeenSignals, IsFor, NoneFor, IsChoice}
 use Rattle.buffers_signals.specs.Ranks.{signal_rank}
 use Rattle.buffers_signals.proofs.Choosing.{both, joined, numbered}

@@ -1,5 +1,5 @@
 -- What a contract sees of the buffers, and what sending and receiving do.
-use Rattle.std.specs.Prelude.{◌≡◌, ℕ, zero, suc, ◌<◌, Bool, List, [], ◌∷◌, ◌++◌, length, slice_index_or, Some, None, IsTrue, IsFalse, IsSome}
+use Rattle.std.specs.Prelude.{◌≡◌, ℕ, zero, suc, ◌+◌, ◌<◌, ◌≤◌, Bool, List, [], ◌∷◌, ◌++◌, length, slice_index_or, Some, None, IsTrue, IsFalse, IsSome}
 use Rattle.std.specs.List.{find}
 use Rattle.std.specs.declared.option.Option.{Option}
 use Rattle.kernel_base.specs.declared.request.Alternative.{Alternative}
@@ -12,22 +12,25 @@ use Rattle.world_model.specs.declared.world.StoredValue.{StoredValue}
 use Rattle.world_model.specs.Lists.{number_for}
 use Rattle.world_model.specs.Allowed.{is_below}
 use Rattle.kernel_lists.specs.Best.{precedes_in}
-use Rattle.kernel_lists.specs.Once.{entry_of, others}
+use Rattle.kernel_lists.specs.Once.{entry_of, others, AreOnce}
 use Rattle.buffers_signals.specs.declared.messages.Held.{Held}
 use Rattle.buffers_signals.specs.declared.messages.Receiver.{Receiver}
 use Rattle.buffers_signals.specs.declared.messages.Sent.{Sent}
 use Rattle.buffers_signals.specs.declared.messages.Sent.TheVariants as sends
 use Rattle.buffers_signals.specs.declared.messages.Received.{Received}
 use Rattle.buffers_signals.specs.declared.messages.Received.TheVariants as receipts
-use Rattle.buffers_signals.specs.Lists.{sender_of, receiver_of, IsIn, values_in, stored_but, rank_of, lists}
+use Rattle.value_queues.specs.Queues.{rank_of, values_in, with_placed, stored_but, times_stored}
+use Rattle.buffers_signals.specs.Lists.{sender_of, receiver_of, IsIn, times_held, lists}
 
--- the length of each buffer; the values that lie in buffers; those whose senders wait, and the receivers that wait, in
--- the order in which they came; and for how many changes there is room
+-- the length of each buffer; the values that lie in each, in the order in which they are received; those whose senders
+-- wait, and the receivers that wait, in the order in which they came; the last send number; and for how many changes there
+-- is room
 pub record SeenBuffers : Type 0 where
   pub lengths : List (Option ℕ)
-  pub stored : List Held
+  pub stored : List (List StoredValue)
   pub senders : List Held
   pub receivers : List Receiver
+  pub last : ℕ
   pub spare : ℕ
 
 -- neither a send nor a receive of the process waits
@@ -69,7 +72,8 @@ pub record Hands (old new : SeenBuffers) (buffer : ℕ) (value : StoredValue) (t
 pub record Stores (old new : SeenBuffers) (buffer : ℕ) (value : StoredValue) : Type 0 where
   pub nobody : receiver_for old buffer ≡ None
   pub room : IsTrue (takes_more old buffer)
-  pub stored : new.stored ≡ old.stored ++ record { buffer = buffer; value = value } ∷ []
+  pub there : buffer < length old.stored
+  pub stored : new.stored ≡ with_placed old.stored buffer value
   pub senders : new.senders ≡ old.senders
   pub receivers : new.receivers ≡ old.receivers
 
@@ -94,7 +98,7 @@ Sends old new who send request sent = ⊥
 -- a value that may be received: of a buffer of length 0 one whose sender waits
 abbrev pub IsCandidateOf : Option ℕ → SeenBuffers → Held → Type 0
 IsCandidateOf (Some zero) b held = IsIn b.senders held
-IsCandidateOf length b held = IsIn b.stored held
+IsCandidateOf length b held = IsIn (values_in b.stored held.buffer) held.value
 
 abbrev pub IsCandidate : SeenBuffers → Held → Type 0
 IsCandidate b held = IsCandidateOf (slice_index_or b.lengths held.buffer None) b held
@@ -105,7 +109,7 @@ NoCandidate b buffers = (held : Held) → IsCandidate b held → number_for buff
 
 -- the values that lie in buffers, and those whose senders wait
 pub record Values : Type 0 where
-  pub stored : List Held
+  pub stored : List (List StoredValue)
   pub senders : List Held
 
 -- nobody waits to send to the buffer
@@ -119,7 +123,8 @@ pub record IsRefilled (old new : Values) (buffer sender : ℕ) : Type 0 where
   pub buffer_is : offer.buffer ≡ buffer
   pub sender_is : offer.value.sender ≡ sender
   pub best : (other : Held) → IsIn old.senders other → other.buffer ≡ buffer → IsFalse (precedes_in (rank_of other.value) (rank_of offer.value))
-  pub stored : new.stored ≡ old.stored ++ offer ∷ []
+  pub there : buffer < length old.stored
+  pub stored : new.stored ≡ with_placed old.stored buffer offer.value
   pub senders : new.senders ≡ others sender_of old.senders sender
 
 abbrev pub RefillsBy : Values → Values → ℕ → Option ℕ → Type 0
@@ -138,6 +143,22 @@ values_of b = record { stored = b.stored; senders = b.senders }
 -- without the stored value of this send number
 abbrev pub values_but : ℕ → SeenBuffers → Values
 values_but send b = record { stored = stored_but send b.stored; senders = b.senders }
+
+-- how often a send number stands among these values
+abbrev pub times : ℕ → Values → ℕ
+times send v = times_stored send v.stored + times_held send v.senders
+
+-- No two values have one send number, and none has a number behind the last.
+pub record AreDistinct (v : Values) (last : ℕ) : Type 0 where
+  pub once : (send : ℕ) → times send v ≤ 1
+  pub drawn : (send : ℕ) → last < send → times send v ≡ 0
+
+-- What the buffers keep: no process waits twice to send, and none twice to receive; and each buffer has its list of values.
+pub record AreWell (lengths : List (Option ℕ)) (stored : List (List StoredValue)) (senders : List Held) (receivers : List Receiver) (last : ℕ) : Type 0 where
+  pub senders_once : AreOnce sender_of senders
+  pub receivers_once : AreOnce receiver_of receivers
+  pub each : length stored ≡ length lengths
+  pub distinct : AreDistinct (record { stored = stored; senders = senders }) last
 
 -- the value may be received from one of the listed buffers, and no other goes before it
 pub record IsChoice (b : SeenBuffers) (buffers : List Alternative) (held : Held) : Type 0 where

@@ -1,10 +1,7 @@
--- Words on the lists of values and receivers.
-use Rattle.std.specs.Prelude.{◌≡◌, ℕ, ◌==◌, not, Bool, List, slice_get, if◌then◌else◌, Some, None, is_some}
-use Rattle.std.specs.List.{filter, filter_map}
-use Rattle.std.specs.declared.option.Option.{Option}
-use Rattle.world_model.specs.declared.world.StoredValue.{StoredValue}
+-- Words on the lists of senders and receivers.
+use Rattle.std.specs.Prelude.{◌≡◌, ℕ, ◌==◌, Bool, List, slice_get, Some, is_some}
+use Rattle.std.specs.List.{count_by}
 use Rattle.world_model.specs.Lists.{number_for}
-use Rattle.kernel_lists.specs.declared.best.Rank.{Rank}
 use Rattle.buffers_signals.specs.declared.messages.Held.{Held}
 use Rattle.buffers_signals.specs.declared.messages.Receiver.{Receiver}
 
@@ -18,20 +15,9 @@ receiver_of receiver = receiver.who
 abbrev pub IsIn : {X : Type 0} → List X → X → Type 0
 IsIn xs x = (place : ℕ) × (slice_get xs place ≡ Some x)
 
--- the values of one buffer, in order
-abbrev pub value_for : ℕ → Held → Option StoredValue
-value_for buffer held = if held.buffer == buffer then Some held.value else None
-
-abbrev pub values_in : List Held → ℕ → List StoredValue
-values_in held buffer = filter_map (value_for buffer) held
-
--- all but the value of this send number
-abbrev pub stored_but : ℕ → List Held → List Held
-stored_but send held = filter (λ h. not (h.value.send == send)) held
-
--- a value goes by its priority, and among equals by its send number
-abbrev pub rank_of : StoredValue → Rank
-rank_of value = record { priority = value.priority; arrival = value.send }
+-- how often a send number stands among these values
+abbrev pub times_held : ℕ → List Held → ℕ
+times_held send held = count_by (λ h. h.value.send == send) held
 
 -- it lists the buffer or signal
 abbrev pub lists : ℕ → Receiver → Bool

@@ -1,5 +1,5 @@
 -- How values and signals stand, where they may be chosen.
-use Rattle.std.specs.Prelude.{◌≡◌, ℕ, ◌==◌, ◌&&◌, not, Bool, true, false, List, slice_get, slice_index_or, if◌then◌else◌, Some, None, is_some}
+use Rattle.std.specs.Prelude.{◌≡◌, ℕ, ◌==◌, ◌&&◌, Bool, true, false, List, ◌∷◌, slice_get, slice_index_or, if◌then◌else◌, Some, None, is_some}
 use Rattle.std.specs.declared.option.Option.{Option}
 use Rattle.kernel_base.specs.declared.request.Alternative.{Alternative}
 use Rattle.world_model.specs.declared.world.PendingSignal.{PendingSignal}
@@ -10,7 +10,8 @@ use Rattle.kernel_lists.specs.Best.{precedes_in}
 use Rattle.buffers_signals.specs.declared.messages.Held.{Held}
 use Rattle.buffers_signals.specs.declared.receiving.Source.{Source}
 use Rattle.buffers_signals.specs.declared.receiving.Source.TheVariants.{Stored, Offered, Nowhere}
-use Rattle.buffers_signals.specs.Lists.{rank_of}
+use Rattle.value_queues.specs.Queues.{rank_of, values_in, first_rank}
+use Rattle.world_model.specs.declared.world.StoredValue.{StoredValue}
 use Rattle.buffers_signals.specs.Signals.{may_receive}
 use Rattle.buffers_signals.specs.Buffers.{SeenBuffers, IsChoice, NoCandidate}
 
@@ -33,9 +34,9 @@ is_unbuffered lengths buffer = is_zero (slice_index_or lengths buffer None)
 abbrev pub is_listed : List Alternative → ℕ → Bool
 is_listed buffers buffer = is_some (number_for buffers buffer)
 
--- a value that lies in a listed buffer
-abbrev pub stored_rank : List (Option ℕ) → List Alternative → Held → Option Rank
-stored_rank lengths buffers held = rank_where (is_listed buffers held.buffer && not (is_unbuffered lengths held.buffer)) held
+-- the value that is received first from a buffer, where values lie in it
+abbrev pub front_rank : List (Option ℕ) → List (List StoredValue) → Alternative → Option Rank
+front_rank lengths stored listed = if is_unbuffered lengths listed.thing then None else first_rank (values_in stored listed.thing)
 
 -- a value whose sender waits on a listed buffer of length 0
 abbrev pub offered_rank : List (Option ℕ) → List Alternative → Held → Option Rank
@@ -48,17 +49,27 @@ source_between (Some stored) None = Stored stored.place
 source_between None (Some offered) = Offered offered.place
 source_between (Some stored) (Some offered) = if precedes_in offered.rank stored.rank then Offered offered.place else Stored stored.place
 
--- the choice stands at this place
-pub record IsChoiceAt (b : SeenBuffers) (buffers : List Alternative) (list : List Held) (unbuffered : Bool) (place : ℕ) : Type 0 where
+-- the choice is the first value of the buffer that stands at this place of the list
+pub record IsFrontAt (b : SeenBuffers) (buffers : List Alternative) (place : ℕ) : Type 0 where
+  pub listed : Alternative
+  pub at : slice_get buffers place ≡ Some listed
+  pub value : StoredValue
+  pub rest : List StoredValue
+  pub first : values_in b.stored listed.thing ≡ value ∷ rest
+  pub choice : IsChoice b buffers (record { buffer = listed.thing; value = value })
+  pub length : is_unbuffered b.lengths listed.thing ≡ false
+
+-- the choice is offered by the sender at this place
+pub record IsOfferAt (b : SeenBuffers) (buffers : List Alternative) (place : ℕ) : Type 0 where
   pub held : Held
-  pub at : slice_get list place ≡ Some held
+  pub at : slice_get b.senders place ≡ Some held
   pub choice : IsChoice b buffers held
-  pub length : is_unbuffered b.lengths held.buffer ≡ unbuffered
+  pub length : is_unbuffered b.lengths held.buffer ≡ true
 
 -- where the choice stands, if there is one
 abbrev pub IsSource : SeenBuffers → List Alternative → Source → Type 0
-IsSource b buffers (Stored place) = IsChoiceAt b buffers b.stored false place
-IsSource b buffers (Offered place) = IsChoiceAt b buffers b.senders true place
+IsSource b buffers (Stored place) = IsFrontAt b buffers place
+IsSource b buffers (Offered place) = IsOfferAt b buffers place
 IsSource b buffers Nowhere = NoCandidate b buffers
 
 -- a pending signal that is listed and that the process may receive

@@ -19,7 +19,8 @@ use Rattle.buffers_signals.specs.declared.messages.Sent.{Sent}
 use Rattle.buffers_signals.specs.declared.messages.Sent.TheVariants as sends
 use Rattle.buffers_signals.specs.declared.messages.Received.{Received}
 use Rattle.buffers_signals.specs.declared.messages.Received.TheVariants as receipts
-use Rattle.buffers_signals.specs.Lists.{receiver_of, IsIn, rank_of, lists}
+use Rattle.value_queues.specs.Queues.{rank_of}
+use Rattle.buffers_signals.specs.Lists.{receiver_of, IsIn, lists}
 
 -- for each signal the process that may receive it, if its definition names one; the pending signals; the receivers that
 -- wait, in the order in which they came; and for how many changes there is room

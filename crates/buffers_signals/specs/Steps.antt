@@ -1,6 +1,7 @@
 -- What single steps of receiving do.
 use Rattle.std.specs.Prelude.{◌≡◌, ℕ, List, slice_get, Some, IsTrue}
 use Rattle.kernel_base.specs.declared.request.Alternative.{Alternative}
+use Rattle.world_model.specs.declared.world.StoredValue.{StoredValue}
 use Rattle.buffers_signals.specs.declared.messages.Held.{Held}
 use Rattle.world_model.specs.Lists.{number_for}
 use Rattle.kernel_lists.specs.Once.{others}
@@ -15,8 +16,8 @@ abbrev pub GotFrom : SeenBuffers → SeenBuffers → List Alternative → Receiv
 GotFrom old new buffers (Got answer refill) = Takes old new buffers answer refill
 GotFrom old new buffers received = ⊥
 
--- the values of two lists
-abbrev pub values : List Held → List Held → Values
+-- the values in buffers, and those whose senders wait
+abbrev pub values : List (List StoredValue) → List Held → Values
 values stored senders = record { stored = stored; senders = senders }
 
 -- the receiver at this place lists the thing

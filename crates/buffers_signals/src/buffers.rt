@@ -1,64 +1,68 @@
 // Buffers, with the values in them, and those that wait to send to them and to receive from them (Z.200, chapter on
 // concurrent execution).
-ghost use Rattle.std.specs.Prelude.{◌≡◌, ◌+◌, ◌<◌, ◌≤◌, ◌++◌, ◌∷◌, [], None, Some, IfOk, IfSome, IfNone, OnOk, IsTrue, IsFalse, true, false, length, slice_get, slice_index_or};
+ghost use Rattle.std.specs.Prelude.{◌≡◌, ◌+◌, ◌<◌, ◌≤◌, ◌++◌, ◌∷◌, [], None, Some, IfOk, IfSome, IfNone, OnOk, IsTrue, IsFalse, true, false, length, replicate, slice_get, slice_index_or};
 ghost use Rattle.std.specs.List.{find};
 ghost use Rattle.kernel_lists.specs.Once.{AreOnce};
-ghost use Rattle.buffers_signals.specs.Lists.{sender_of, receiver_of, values_in, lists};
+ghost use Rattle.value_queues.specs.Queues.{values_in};
+ghost use Rattle.buffers_signals.specs.Lists.{sender_of, receiver_of, lists};
 ghost use Rattle.buffers_signals.specs.Buffers.{IsSend, IsReceive, WaitsOnNothing, Sends, SendsValue, Receives, ReceivesFrom, takes_more};
-ghost use Rattle.buffers_signals.specs.Ranks.{IsSource, IsChoiceAt};
+ghost use Rattle.world_model.specs.Allowed.{is_below};
+ghost use Rattle.buffers_signals.specs.Ranks.{IsSource, IsFrontAt, IsOfferAt};
 ghost use Rattle.buffers_signals.specs.Steps.{GotFrom};
 
-use crate::receiving::{Source, best_offered, best_stored, better_source};
-use crate::taking::{
-    answer_with, count_in, first_receiver, forget, refill, take_receiver, take_sender, take_value,
-};
+use crate::receiving::{Source, best_front, best_offered, better_source};
+use crate::taking::{answer_with, first_receiver, refill, take_receiver, take_sender};
 use crate::{Held, Received, Receiver, Sent};
 use chill_base::{Item, Lengths, Memory};
 use kernel_base::{Alternative, Alternatives, Facts, Request};
 use std::alloc::Global;
 use std::marker::Model;
+use value_queues::ValueQueues;
 use world_model::{StoredValue, number_at, number_for};
 
 /// The buffers of a program.
 #[derive(Drop)]
 pub struct Buffers {
     lengths: Lengths,
-    stored: Vec<Held>,
+    stored: ValueQueues,
     senders: Vec<Held>,
     receivers: Vec<Receiver>,
+    last: u32,
 }
 
 impl Model for Buffers {
     ghost use Rattle.std.specs.Prelude.{min};
     ghost use Rattle.kernel_lists.specs.Room.{spare};
-    ghost use Rattle.kernel_lists.specs.Once.{AreOnce};
-    ghost use Rattle.buffers_signals.specs.Lists.{sender_of, receiver_of};
-    ghost use Rattle.buffers_signals.specs.Buffers.{SeenBuffers};
+    ghost use Rattle.buffers_signals.specs.Buffers.{SeenBuffers, AreWell};
 
     ghost Value = { SeenBuffers };
 
     ghost view = { λ b. record {
       lengths = b.lengths;
-      stored = b.stored.items;
+      stored = b.stored.values;
       senders = b.senders.items;
       receivers = b.receivers.items;
-      spare = min (spare b.stored) (min (spare b.senders) (spare b.receivers));
+      last = b.last;
+      spare = min b.stored.room (min (spare b.senders) (spare b.receivers));
     } };
 
-    ghost invariant = { λ b. AreOnce sender_of b.senders.items × AreOnce receiver_of b.receivers.items };
+    ghost invariant = { λ b. AreWell b.lengths b.stored.values b.senders.items b.receivers.items b.last };
 }
 
 impl Buffers {
     /// The buffers of the facts, all of them empty.
     pub fn new(alloc: Global, facts: &Facts) -> Result<Buffers, Memory>
         ensures lengths { IfOk result (λ b. b.lengths ≡ facts.now.buffers) }
-        ensures empty { IfOk result (λ b. (b.stored ≡ []) × (b.senders ≡ []) × (b.receivers ≡ [])) }
+        ensures stored { IfOk result (λ b. b.stored ≡ replicate (length facts.now.buffers) []) }
+        ensures nobody { IfOk result (λ b. (b.senders ≡ []) × (b.receivers ≡ [])) }
+        ensures last { IfOk result (λ b. b.last ≡ 0) }
     {
         Ok(Buffers {
             lengths: facts.buffers.copy()?,
-            stored: Vec::new(alloc),
+            stored: ValueQueues::new(alloc, facts.buffers.len())?,
             senders: Vec::new(alloc),
             receivers: Vec::new(alloc),
+            last: 0,
         })
     }
 
@@ -69,6 +73,7 @@ impl Buffers {
         ensures stored { self.new.stored ≡ self.old.stored }
         ensures senders { self.new.senders ≡ self.old.senders }
         ensures receivers { self.new.receivers ≡ self.old.receivers }
+        ensures last { self.new.last ≡ self.old.last }
         ensures spare { self.old.spare ≤ self.new.spare }
     {
         self.stored.reserve(n as usize)?;
@@ -85,12 +90,14 @@ impl Buffers {
         let _stored = &self.stored;
     }
 
-    /// Sends a value under this send number. It takes no memory.
+    /// Sends a value under this send number, which is behind all earlier ones. It takes no memory.
     pub fn send(&mut self, who: u32, send: u32, request: Request) -> Sent
         requires spare { 0 < self.old.spare }
+        requires next { self.old.last < send }
         requires is_send { IsSend self.old request }
         requires nothing { WaitsOnNothing self.old who }
         ensures sends { Sends self.old self.new who send request result }
+        ensures last { self.new.last ≤ send }
         ensures lengths { self.new.lengths ≡ self.old.lengths }
         ensures spare { self.old.spare ≤ self.new.spare + 1 }
     {
@@ -114,11 +121,15 @@ impl Buffers {
 
     fn send_value(&mut self, buffer: u32, value: StoredValue) -> Sent
         requires spare { 0 < self.old.spare }
+        requires next { self.old.last < value.send }
+        requires there { buffer < length self.old.lengths }
         requires nothing { WaitsOnNothing self.old value.sender }
         ensures sends { SendsValue self.old self.new buffer value result }
+        ensures last { self.new.last ≡ value.send }
         ensures lengths { self.new.lengths ≡ self.old.lengths }
         ensures spare { self.old.spare ≤ self.new.spare + 1 }
     {
+        self.last = value.send;
         if let Some(place) = first_receiver(&self.receivers, buffer) {
             let receiver = take_receiver(&mut self.receivers, place, buffer);
             return Sent::Handed {
@@ -126,21 +137,12 @@ impl Buffers {
                 answer: answer_with(receiver.number, value),
             };
         }
-        if self.takes_one_more(buffer) {
-            self.stored.push_reserved(Held { buffer, value });
+        if takes_one_more(self.lengths.as_slice(), &self.stored, buffer) {
+            self.stored.put(buffer, value);
             return Sent::Stored;
         }
         self.senders.push_reserved(Held { buffer, value });
         Sent::Delayed
-    }
-
-    fn takes_one_more(&self, buffer: u32) -> bool
-        ensures { result ≡ takes_more self.now buffer }
-    {
-        match number_at(self.lengths.as_slice(), buffer) {
-            Some(most) => count_in(&self.stored, buffer) < most as usize,
-            None => true,
-        }
     }
 
     /// Receives a value. It takes no memory.
@@ -149,6 +151,7 @@ impl Buffers {
         requires is_receive { IsReceive self.old request }
         requires nothing { WaitsOnNothing self.old who }
         ensures receives { Receives self.old self.new who process request result }
+        ensures last { self.new.last ≡ self.old.last }
         ensures lengths { self.new.lengths ≡ self.old.lengths }
         ensures spare { self.old.spare ≤ self.new.spare + 1 }
     {
@@ -170,6 +173,7 @@ impl Buffers {
         requires spare { 0 < self.old.spare }
         requires nothing { WaitsOnNothing self.old who }
         ensures receives { ReceivesFrom self.old self.new who process buffers otherwise result }
+        ensures last { self.new.last ≡ self.old.last }
         ensures lengths { self.new.lengths ≡ self.old.lengths }
         ensures spare { self.old.spare ≤ self.new.spare + 1 }
     {
@@ -194,45 +198,59 @@ impl Buffers {
         ensures { IsSource self.now buffers.now result }
     {
         let lengths = self.lengths.as_slice();
+        self.stored.in_order();
         better_source(
-            best_stored(lengths, buffers, &self.stored),
+            best_front(lengths, buffers, &self.stored),
             best_offered(lengths, buffers, &self.senders),
         )
     }
 
     fn take_stored(&mut self, buffers: &[Alternative], place: usize) -> Received
-        requires { IsChoiceAt self.old buffers.now self.old.stored false place }
+        requires front { IsFrontAt self.old buffers.now place }
+        requires spare { 0 < self.old.spare }
         ensures got { GotFrom self.old self.new buffers.now result }
+        ensures last { self.new.last ≡ self.old.last }
         ensures lengths { self.new.lengths ≡ self.old.lengths }
-        ensures spare { self.old.spare ≤ self.new.spare }
+        ensures spare { self.old.spare ≤ self.new.spare + 1 }
     {
-        let taken = take_value(&mut self.stored, place);
-        let alternative = number_for(buffers, taken.buffer).unwrap();
+        let buffer = buffers[place].thing;
+        let value = self.stored.take_first(buffer);
+        let alternative = number_for(buffers, buffer).unwrap();
         let refill = refill(
             self.lengths.as_slice(),
             &mut self.stored,
             &mut self.senders,
-            taken.buffer,
+            buffer,
         );
         Received::Got {
-            answer: answer_with(alternative, taken.value),
+            answer: answer_with(alternative, value),
             refill,
         }
     }
 
     fn take_offered(&mut self, buffers: &[Alternative], place: usize) -> Received
-        requires { IsChoiceAt self.old buffers.now self.old.senders true place }
+        requires { IsOfferAt self.old buffers.now place }
         ensures got { GotFrom self.old self.new buffers.now result }
+        ensures last { self.new.last ≡ self.old.last }
         ensures lengths { self.new.lengths ≡ self.old.lengths }
         ensures spare { self.old.spare ≤ self.new.spare }
     {
         let taken = take_sender(&mut self.senders, place);
-        forget(&mut self.stored, taken.value.send);
         let alternative = number_for(buffers, taken.buffer).unwrap();
         let refill = Some(taken.value.sender);
         Received::Got {
             answer: answer_with(alternative, taken.value),
             refill,
         }
+    }
+}
+
+// Whether a buffer takes one more value.
+fn takes_one_more(lengths: &[Option<u32>], stored: &ValueQueues, buffer: u32) -> bool
+    ensures { result ≡ is_below (slice_index_or lengths.now buffer None) (length (values_in stored.now.values buffer)) }
+{
+    match number_at(lengths, buffer) {
+        Some(most) => stored.count(buffer) < most as usize,
+        None => true,
     }
 }

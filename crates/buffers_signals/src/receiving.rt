@@ -1,15 +1,15 @@
 // Which value is received from buffers.
 ghost use Rattle.std.specs.Prelude.{◌≡◌, slice_index_or, IfSome, IfNone};
 ghost use Rattle.kernel_lists.specs.Best.{IsBest, NoneRanked};
-ghost use Rattle.buffers_signals.specs.Ranks.{is_listed, is_unbuffered, stored_rank, offered_rank, rank_where, source_between};
+ghost use Rattle.buffers_signals.specs.Ranks.{is_listed, is_unbuffered, front_rank, offered_rank, rank_where, source_between};
 
 use crate::Held;
-use crate::taking::rank;
 use kernel_base::Alternative;
 use kernel_lists::{Best, Rank, better, precedes};
+use value_queues::{ValueQueues, rank};
 use world_model::{number_at, number_for};
 
-/// Where the value that is received stands: among the values that lie in buffers, or among those whose senders wait.
+/// Where the value that is received stands: first in the buffer at a place of the list, or among those whose senders wait.
 #[derive(Clone, Copy)]
 pub enum Source {
     Stored { place: usize },
@@ -32,12 +32,14 @@ fn rank_if(may: bool, held: &Held) -> Option<Rank>
     if may { Some(rank(&held.value)) } else { None }
 }
 
-fn rank_stored(lengths: &[Option<u32>], buffers: &[Alternative], held: &Held) -> Option<Rank>
-    ensures { result ≡ stored_rank lengths.now buffers.now held.now }
+fn rank_front(lengths: &[Option<u32>], stored: &ValueQueues, listed: &Alternative) -> Option<Rank>
+    ensures { result ≡ front_rank lengths.now stored.now.values listed.now }
 {
-    let may = number_for(buffers, held.buffer).is_some()
-        && !is_without_values(lengths, held.buffer);
-    rank_if(may, held)
+    if is_without_values(lengths, listed.thing) {
+        None
+    } else {
+        stored.first(listed.thing)
+    }
 }
 
 fn rank_offered(lengths: &[Option<u32>], buffers: &[Alternative], held: &Held) -> Option<Rank>
@@ -47,18 +49,18 @@ fn rank_offered(lengths: &[Option<u32>], buffers: &[Alternative], held: &Held) -
     rank_if(may, held)
 }
 
-/// The best of the values that lie in listed buffers.
-pub fn best_stored(
+/// The listed buffer whose first value is the best of all that lie in listed buffers.
+pub fn best_front(
     lengths: &[Option<u32>],
     buffers: &[Alternative],
-    stored: &[Held],
+    stored: &ValueQueues,
 ) -> Option<Best>
-    ensures some { IfSome result (IsBest (stored_rank lengths.now buffers.now) stored.now) }
-    ensures none { IfNone result (NoneRanked (stored_rank lengths.now buffers.now) stored.now) }
+    ensures some { IfSome result (IsBest (front_rank lengths.now stored.now.values) buffers.now) }
+    ensures none { IfNone result (NoneRanked (front_rank lengths.now stored.now.values) buffers.now) }
 {
     let mut found = None;
-    for place in 0..stored.len() {
-        found = better(found, place, rank_stored(lengths, buffers, &stored[place]));
+    for place in 0..buffers.len() {
+        found = better(found, place, rank_front(lengths, stored, &buffers[place]));
     }
     found
 }

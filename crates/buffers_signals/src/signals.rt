@@ -10,13 +10,14 @@ ghost use Rattle.buffers_signals.specs.Lists.{receiver_of};
 ghost use Rattle.buffers_signals.specs.Ranks.{signal_rank};
 ghost use Rattle.buffers_signals.specs.Signals.{IsSend, IsReceive, Sends, SendsTo, Receives, ReceivesFrom, may_receive, is_receiver};
 
-use crate::taking::{answer_with, rank, take_receiver};
+use crate::taking::{answer_with, take_receiver};
 use crate::{Received, Receiver, Sent};
 use chill_base::{Item, Lengths, Memory};
 use kernel_base::{Alternative, Alternatives, Facts, Request};
 use kernel_lists::{Best, Rank, better};
 use std::alloc::Global;
 use std::marker::Model;
+use value_queues::rank;
 use world_model::{PendingSignal, StoredValue, number_at, number_for};
 
 /// The signals of a program.

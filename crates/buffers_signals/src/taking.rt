@@ -7,14 +7,15 @@ ghost use Rattle.std.specs.List.{find};
 ghost use Rattle.kernel_lists.specs.First.{IsFirst};
 ghost use Rattle.kernel_lists.specs.Room.{spare};
 ghost use Rattle.kernel_lists.specs.Once.{others, AreOnce};
-ghost use Rattle.buffers_signals.specs.Lists.{rank_of, lists, values_in, stored_but, sender_of, receiver_of};
+ghost use Rattle.buffers_signals.specs.Lists.{lists, sender_of, receiver_of};
 ghost use Rattle.buffers_signals.specs.Ranks.{sender_rank, is_unbuffered};
-ghost use Rattle.buffers_signals.specs.Buffers.{Refills};
+ghost use Rattle.buffers_signals.specs.Buffers.{Refills, times};
 ghost use Rattle.buffers_signals.specs.Steps.{values, ListsAt, TakesOut};
 
 use crate::{Held, Receiver};
 use kernel_base::{Alternative, Answer};
 use kernel_lists::{Best, Rank, better};
+use value_queues::{ValueQueues, rank};
 use world_model::{StoredValue, number_at, number_for};
 
 /// The answer of a receiver. The value's scalars go along.
@@ -26,16 +27,6 @@ pub fn answer_with(alternative: u32, value: StoredValue) -> Answer
         send: value.send,
         scalars: value.scalars,
         by: value.sender,
-    }
-}
-
-/// How a value stands.
-pub fn rank(value: &StoredValue) -> Rank
-    ensures { result ≡ rank_of value.now }
-{
-    Rank {
-        priority: value.priority,
-        arrival: value.send,
     }
 }
 
@@ -75,19 +66,6 @@ pub fn first_receiver(receivers: &[Receiver], buffer: u32) -> Option<usize>
     None
 }
 
-/// How many values lie in a buffer.
-pub fn count_in(stored: &[Held], buffer: u32) -> usize
-    ensures { result ≡ length (values_in stored.now buffer) }
-{
-    let mut count = 0;
-    for held in stored {
-        if held.buffer == buffer {
-            count += 1;
-        }
-    }
-    count
-}
-
 fn rank_for(held: &Held, buffer: u32) -> Option<Rank>
     ensures { result ≡ sender_rank buffer held.now }
 {
@@ -110,26 +88,6 @@ pub fn best_sender(senders: &[Held], buffer: u32) -> Option<Best>
     found
 }
 
-/// Takes out every value of a send number.
-pub fn forget(stored: &mut Vec<Held>, send: u32)
-    ensures rest { stored.new.items ≡ stored_but send stored.old.items }
-    ensures room { spare stored.old ≤ spare stored.new }
-{
-    stored.retain(move |held| held.value.send != send);
-}
-
-/// Takes out the value at a place, and with it all of its send number.
-pub fn take_value(stored: &mut Vec<Held>, place: usize) -> Held
-    requires { place < length stored.old.items }
-    ensures taken { slice_get stored.old.items place ≡ Some result }
-    ensures rest { stored.new.items ≡ stored_but result.value.send stored.old.items }
-    ensures room { spare stored.old < spare stored.new }
-{
-    let taken = stored.remove(place);
-    forget(stored, taken.value.send);
-    taken
-}
-
 /// Takes out the one that waits to send at a place.
 pub fn take_sender(senders: &mut Vec<Held>, place: usize) -> Held
     requires there { place < length senders.old.items }
@@ -145,16 +103,19 @@ pub fn take_sender(senders: &mut Vec<Held>, place: usize) -> Held
 /// Stores the value of the best of those that wait to send to a buffer that has a length, and names its sender.
 pub fn refill(
     lengths: &[Option<u32>],
-    stored: &mut Vec<Held>,
+    stored: &mut ValueQueues,
     senders: &mut Vec<Held>,
     buffer: u32,
 ) -> Option<u32>
     requires buffered { is_unbuffered lengths.now buffer ≡ false }
-    requires room { 0 < spare stored.old }
+    requires room { 0 < stored.old.room }
+    requires there { buffer < length stored.old.values }
     requires once { AreOnce sender_of senders.old.items }
-    ensures refills { (by : ℕ) → Refills (slice_index_or lengths.now buffer None) (values stored.old.items senders.old.items) (values stored.new.items senders.new.items) buffer by result }
+    ensures refills { (by : ℕ) → Refills (slice_index_or lengths.now buffer None) (values stored.old.values senders.old.items) (values stored.new.values senders.new.items) buffer by result }
     ensures once { AreOnce sender_of senders.new.items }
-    ensures stored_room { spare stored.old ≤ spare stored.new + 1 }
+    ensures each { length stored.new.values ≡ length stored.old.values }
+    ensures times { (send : ℕ) → times send (values stored.new.values senders.new.items) ≡ times send (values stored.old.values senders.old.items) }
+    ensures stored_room { stored.old.room ≤ stored.new.room + 1 }
     ensures senders_room { spare senders.old ≤ spare senders.new }
 {
     number_at(lengths, buffer)?;
@@ -162,7 +123,7 @@ pub fn refill(
         Some(best) => {
             let offer = take_sender(senders, best.place);
             let sender = offer.value.sender;
-            stored.push_reserved(offer);
+            stored.put(buffer, offer.value);
             Some(sender)
         }
         None => None,

@@ -6,19 +6,20 @@ use Rattle.kernel_base.specs.declared.answer.Answer.{Answer}
 use Rattle.kernel_base.specs.declared.event.Event.{Event}
 use Rattle.kernel_base.specs.Facts.{IsSound}
 use Rattle.world_model.specs.declared.world.World.{World}
-use Rattle.world_model.specs.World.{world_of}
+use Rattle.world_model.specs.World.{world_of, stored_in}
 use Rattle.region_kernel.specs.declared.regions.Lock.{Lock}
 use Rattle.region_kernel.specs.Regions.{held_by}
 use Rattle.event_queues.specs.declared.sets.Delayed.{Delayed}
 use Rattle.event_queues.specs.Delayed.{count_on}
-use Rattle.buffers_signals.specs.declared.messages.Held.{Held}
-use Rattle.buffers_signals.specs.Lists.{values_in}
+use Rattle.world_model.specs.declared.world.StoredValue.{StoredValue}
+use Rattle.value_queues.specs.Queues.{values_in}
 use Rattle.kernel_steps.specs.declared.seats.Copies.{Copies}
 use Rattle.kernel_steps.specs.declared.seats.Seats.{Seats}
 use Rattle.kernel_steps.specs.declared.state.Queues.{Queues}
 use Rattle.kernel_steps.specs.declared.state.Ready.{Ready}
 use Rattle.kernel_steps.specs.declared.state.State.{State}
 use Rattle.kernel_steps.specs.Queued.{Sleeps, Trades, Hears}
+use Rattle.kernel_steps.specs.Shuffled.{Shuffled}
 use Rattle.kernel_steps.specs.Seated.{Seated}
 use Rattle.kernel_steps.specs.Kept.{world_in, width_in, IsBook, Rests, IsKept}
 use Rattle.kernel_steps.proofs.Served.{argues_same}
@@ -55,7 +56,7 @@ trades_roomier : (facts : Facts) (w : World) (q q' : Queues) → SameQueues q q'
 trades_roomier facts w q q' h r = record {
   lengths = h.buffer_lengths ∙ r.lengths;
   each = r.each;
-  stored = λ buffer. ap (λ (l : List Held). values_in l buffer) h.stored ∙ r.stored buffer;
+  stored = λ buffer. subst (λ (all : List (List StoredValue)). Shuffled (values_in all buffer) (stored_in w buffer)) (sym h.stored) (r.stored buffer);
   senders = rw h.senders r.senders;
   receivers = rw h.receivers r.receivers;
 }
@@ -69,6 +70,7 @@ rests_roomier facts w s t h r = record {
   trades = trades_roomier facts w s.queues t.queues h.queues r.trades;
   hears = hears_roomier facts w s.queues t.queues h.queues r.hears;
   sends = h.queues.sends ∙ r.sends;
+  last = omega (arith, h.queues.last, h.queues.sends, r.last);
   store = h.store ∙ r.store;
   locations = r.locations;
   input = rw h.read r.input;

@@ -25,6 +25,7 @@ pub record SameQueues (q new : Queues) : Type 0 where
   pub stored : new.buffers.stored ≡ q.buffers.stored
   pub senders : new.buffers.senders ≡ q.buffers.senders
   pub receivers : new.buffers.receivers ≡ q.buffers.receivers
+  pub last : new.buffers.last ≡ q.buffers.last
   pub wanted : new.signals.wanted ≡ q.signals.wanted
   pub pending : new.signals.pending ≡ q.signals.pending
   pub hearers : new.signals.receivers ≡ q.signals.receivers

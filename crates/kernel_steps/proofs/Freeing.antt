@@ -217,7 +217,7 @@ only_push [] event only is = (is, tt)
 only_push (e ∷ goes) event only is = (only.0, only_push goes event only.1 is)
 
 rests_moved : (w : World) (s : State) (t : Seats) (j : Book) → Rests s.facts w s → Rests s.facts w (record s { seats = t; journal = j })
-rests_moved w s t j r = record { sleeps = r.sleeps; trades = r.trades; hears = r.hears; sends = r.sends; store = r.store; locations = r.locations; input = r.input; read = r.read; argues = r.argues }
+rests_moved w s t j r = record { sleeps = r.sleeps; trades = r.trades; hears = r.hears; sends = r.sends; last = r.last; store = r.store; locations = r.locations; input = r.input; read = r.read; argues = r.argues }
 
 -- one that goes on takes no region for another
 back_occupies : (w : World) (p who r : ℕ) (back : Option ℕ) → p ≢ who → Occupies (locked_back w p back) who r → Occupies w who r

@@ -38,6 +38,7 @@ use Rattle.kernel_steps.proofs.Quiet.{freed_keeps}
 use Rattle.kernel_steps.proofs.Telling.{nothing_pends, takes_signal}
 use Rattle.kernel_steps.proofs.Served.{argues_same, sleeps_same, trades_same, serves_later}
 use Rattle.kernel_steps.proofs.Plain.{InRange, plain_serves}
+use Rattle.buffers_signals.specs.Buffers.{SeenBuffers}
 
 -- how many scalars a message has
 abbrev width_told : Option Message → ℕ
@@ -143,6 +144,7 @@ takes_serves s s' who ticks list otherwise answer refill r can range o seats h j
         receivers = rw h.receivers hears.receivers;
       };
       sends = o.sends ∙ k.rests.sends;
+      last = let e = ap (λ (b : SeenBuffers). b.last) o.buffers in omega (arith, e, o.sends, k.rests.last);
       store = o.store ∙ k.rests.store;
       locations = k.rests.locations;
       input = ap (λ n. drop n s.facts.input) o.read ∙ k.rests.input;
@@ -164,6 +166,7 @@ nothing_serves s s' who ticks list otherwise r can w_in t_in o seats h journal =
       trades = rw o.buffers k.rests.trades;
       hears = record { wanted = o.wanted ∙ hears.wanted; pending = h.pending ∙ hears.pending; receivers = rw h.receivers hears.receivers };
       sends = o.sends ∙ k.rests.sends;
+      last = let e = ap (λ (b : SeenBuffers). b.last) o.buffers in omega (arith, e, o.sends, k.rests.last);
       store = o.store ∙ k.rests.store;
       locations = k.rests.locations;
       input = ap (λ n. drop n s.facts.input) o.read ∙ k.rests.input;
@@ -210,6 +213,7 @@ delays_serves s s' who ticks list otherwise r going can w_in t_in o h journal ra
           receivers = rw (phases, same.processes, h.receivers) (mirror_begin receiver_of (hearing_in w.processes) s.queues.signals.receivers w.phases who Active new one active refl refl refl hears.receivers);
         };
         sends = o.sends ∙ k.rests.sends ∙ sym same.sends;
+        last = let e = ap (λ (b : SeenBuffers). b.last) o.buffers in omega (arith, e, o.sends, k.rests.last);
         store = o.store ∙ k.rests.store ∙ sym same.store;
         locations = ap length same.store ∙ k.rests.locations;
         input = ap (λ n. drop n s.facts.input) o.read ∙ k.rests.input ∙ sym same.input;

@@ -72,6 +72,7 @@ rests_go facts w s going back at r =
       trades = trades_go facts w s.queues.buffers going.who going.answer back at r.trades;
       hears = hears_go facts w s.queues.signals going.who going.answer back at r.hears;
       sends = r.sends ∙ sym same.sends;
+      last = r.last;
       store = r.store ∙ sym same.store;
       locations = ap length same.store ∙ r.locations;
       input = r.input ∙ sym same.input;

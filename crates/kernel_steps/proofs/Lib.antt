@@ -1,3 +1,4 @@
+pub mod Shuffled
 pub mod Keyed
 pub mod Queued
 pub mod Placed

@@ -11,8 +11,6 @@ use Rattle.world_model.specs.Lists.{last_of}
 use Rattle.world_model.specs.Ranges.{IsNumber, IsInRange}
 use Rattle.world_model.specs.World.{held_by}
 use Rattle.world_model.specs.Allowed.{MustWait}
-use Rattle.buffers_signals.specs.declared.messages.Held.{Held}
-use Rattle.buffers_signals.specs.Lists.{values_in}
 use Rattle.buffers_signals.specs.Buffers as buffers
 use Rattle.kernel_steps.specs.declared.reply.Reply.TheVariants.{Now, Later}
 use Rattle.kernel_steps.specs.declared.seats.Going.{Going}
@@ -27,6 +25,7 @@ use Rattle.kernel_steps.proofs.Taking.{nothing_taken}
 use Rattle.kernel_steps.proofs.Quiet.{freed_keeps}
 use Rattle.kernel_steps.proofs.Served.{argues_same, serves_later}
 use Rattle.kernel_steps.proofs.Plain.{plain_serves}
+use Rattle.kernel_steps.proofs.Trading.{stored_kept}
 
 -- all but the seats and the buffers is as it was
 pub record KeepsOthers (s s' : State) : Type 0 where
@@ -40,6 +39,7 @@ pub record KeepsOthers (s s' : State) : Type 0 where
   pub taken : s'.taken ≡ s.taken
   pub argued : s'.arguments ≡ s.arguments
   pub sends : s'.queues.sends ≡ s.queues.sends
+  pub last : s'.queues.buffers.last ≡ s.queues.buffers.last
   pub lengths : s'.queues.buffers.lengths ≡ s.queues.buffers.lengths
 
 pub nothing_serves : (s s' : State) (who ticks : ℕ) (list : List Alternative) (otherwise : Bool) (r : Ready) → CanServe s who (ReceiveBuffer list otherwise) r → IsNumber who → IsNumber ticks → KeepsOthers s s' → s'.seats ≡ s.seats
@@ -53,9 +53,10 @@ nothing_serves s s' who ticks list otherwise r can w_in t_in o seats h journal =
     (record { processes = refl; phases = refl; occupants = refl; held = refl; facts = o.facts; widest = o.widest; ready = o.ready; seats = seats; taken = o.taken; events = journal; plain = refl })
     (record {
       sleeps = rw o.events k.rests.sleeps;
-      trades = record { lengths = o.lengths ∙ trades.lengths; each = trades.each; stored = λ q. ap (λ (l : List Held). values_in l q) h.stored ∙ trades.stored q; senders = rw h.senders trades.senders; receivers = rw h.receivers trades.receivers };
+      trades = record { lengths = o.lengths ∙ trades.lengths; each = trades.each; stored = stored_kept w w s.queues.buffers.stored s'.queues.buffers.stored refl h.stored trades.stored; senders = rw h.senders trades.senders; receivers = rw h.receivers trades.receivers };
       hears = rw o.signals k.rests.hears;
       sends = o.sends ∙ k.rests.sends;
+      last = omega (arith, o.last, o.sends, k.rests.last);
       store = o.store ∙ k.rests.store;
       locations = k.rests.locations;
       input = ap (λ n. drop n s.facts.input) o.read ∙ k.rests.input;
@@ -97,6 +98,7 @@ delays_serves s s' who ticks list otherwise r going can w_in t_in o h journal ra
         trades = trades_receives s.facts w w1 s.queues.buffers s'.queues.buffers who list otherwise None back active phases same.processes same.stored o.lengths h.stored h.senders h.receivers trades;
         hears = rw o.signals (hears_stay s.facts w w1 s.queues.signals who Active new active phases same.processes same.pending refl refl k.rests.hears);
         sends = o.sends ∙ k.rests.sends ∙ sym same.sends;
+        last = omega (arith, o.last, o.sends, k.rests.last);
         store = o.store ∙ k.rests.store ∙ sym same.store;
         locations = ap length same.store ∙ k.rests.locations;
         input = ap (λ n. drop n s.facts.input) o.read ∙ k.rests.input ∙ sym same.input;

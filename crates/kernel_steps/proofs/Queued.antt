@@ -16,6 +16,8 @@ use Rattle.buffers_signals.specs.Signals.{SeenSignals}
 use Rattle.kernel_steps.specs.Keyed.{Mirrors}
 use Rattle.kernel_steps.specs.Queued.{delayed_in, sending_in, receiving_in, hearing_in, Sleeps, Trades, Hears}
 use Rattle.kernel_steps.proofs.Keyed.{mirror_stay}
+use Rattle.kernel_steps.specs.Shuffled.{Shuffled}
+use Rattle.value_queues.specs.Queues.{values_in}
 
 -- 1 where it holds
 abbrev pub one_if : Bool → ℕ
@@ -51,7 +53,7 @@ pub trades_stay : (facts : Facts) (w w' : World) (b : SeenBuffers) (who : ℕ) (
 trades_stay facts w w' b who old new at is processes stored was now was' now' h = record {
   lengths = h.lengths;
   each = ap length stored ∙ h.each;
-  stored = λ buffer. h.stored buffer ∙ ap (λ (all : List (List StoredValue)). slice_index_or all buffer []) (sym stored);
+  stored = λ buffer. subst (λ (all : List (List StoredValue)). Shuffled (values_in b.stored buffer) (slice_index_or all buffer [])) (sym stored) (h.stored buffer);
   senders = subst (λ (phases : List Phase). Mirrors sender_of sending_in b.senders phases) (sym is) (mirror_stay sender_of sending_in b.senders w.phases who old new at was now h.senders);
   receivers = rw (is, processes) (mirror_stay receiver_of (receiving_in w.processes) b.receivers w.phases who old new at was' now' h.receivers);
 }

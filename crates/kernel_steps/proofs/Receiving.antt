@@ -22,7 +22,8 @@ use Rattle.world_model.specs.World.{after, with_phase, refilled, refilled_by, re
 use Rattle.world_model.specs.Allowed.{IsAllowed, Answers}
 use Rattle.kernel_lists.specs.Once.{others}
 use Rattle.buffers_signals.specs.declared.messages.Held.{Held}
-use Rattle.buffers_signals.specs.Lists.{sender_of, values_in, stored_but, IsIn}
+use Rattle.value_queues.specs.Queues.{with_placed, stored_but}
+use Rattle.buffers_signals.specs.Lists.{sender_of, IsIn}
 use Rattle.buffers_signals.specs.Buffers as buffers
 use Rattle.buffers_signals.specs.Buffers.{SeenBuffers, Values, IsCandidateOf, IsRefilled, values_of, values_but}
 use Rattle.kernel_steps.specs.declared.reply.Reply.TheVariants.{Now}
@@ -35,7 +36,7 @@ use Rattle.kernel_steps.specs.Seated.{Seated, Settles, CanChoose}
 use Rattle.kernel_steps.specs.Kept.{world_in, Rests, count_of_scalars}
 use Rattle.kernel_steps.specs.Serving.{CanServe, Serves, Refills, goes_of}
 use Rattle.kernel_steps.proofs.Queued.{sleeps_stay, hears_stay}
-use Rattle.kernel_steps.proofs.Trading.{stored_push, stored_without}
+use Rattle.kernel_steps.proofs.Trading.{SameStored, stored_push, stored_without}
 use Rattle.kernel_steps.proofs.Refilled.{trades_less, trades_sent}
 use Rattle.kernel_steps.proofs.Taking.{Sends, sender_waits, same_length, takes_value}
 use Rattle.kernel_steps.proofs.Served.{argues_same, seated_same, sleeps_same, hears_same, serves_now}
@@ -62,7 +63,7 @@ record Chooses (facts : Facts) (w : World) (old new : SeenBuffers) (send sender 
   pub stored : List (List StoredValue)
   pub world : refilled facts (without_value w send) (Some sender) ≡ with_phase (storing w stored) sender (Chosen Stored back)
   pub each : length stored ≡ length w.stored
-  pub values : (q : ℕ) → values_in new.stored q ≡ stored_in (storing w stored) q
+  pub values : SameStored new.stored (storing w stored)
   pub senders : new.senders ≡ others sender_of old.senders sender
 
 -- what the offer of one that waits to send is
@@ -106,6 +107,8 @@ stored_chosen facts w old new send buffer n sender most r h =
     let room = has_length facts.buffers held.buffer (suc n) (slice_get facts.buffers held.buffer) refl (unwrap_or-slice_get facts.buffers held.buffer None ∙ most') in
     let less_each : length less.stored ≡ length w.stored = length-map w.stored (worlds.values_but send) in
     let low : held.buffer < length less.stored = let e = h.each in omega (arith, room, e, less_each) in
+    let there : held.buffer < length (stored_but send old.stored) = subst (λ (n : ℕ). n < length (stored_but send old.stored)) (sym r.buffer_is) r.there in
+    let stored : new.stored ≡ with_placed (stored_but send old.stored) held.buffer held.value = r.stored ∙ ap (λ (n : ℕ). with_placed (stored_but send old.stored) n held.value) (sym r.buffer_is) in
     let all : List (List StoredValue) = slice_set less.stored held.buffer (stored_in less held.buffer ++ held.value ∷ []) in
     subst (λ p. Chooses facts w old new send p) r.sender_is
     (record {
@@ -118,7 +121,7 @@ stored_chosen facts w old new send buffer n sender most r h =
       stored = all;
       world = ap (refilled_by facts less held.value.sender) (offer_of w held t) ∙ ap (λ l. with_phase (refilled_buffer less l o) held.value.sender (Chosen Stored t.back)) most';
       each = length-set less.stored held.buffer (stored_in less held.buffer ++ held.value ∷ []) ∙ less_each;
-      values = stored_push less (storing w all) (stored_but send old.stored) new.stored held low refl r.stored (stored_without w less old.stored (stored_but send old.stored) send refl refl h.stored);
+      values = stored_push less (storing w all) (stored_but send old.stored) new.stored held low there refl stored (stored_without w less old.stored (stored_but send old.stored) send refl refl h.stored);
       senders = r.senders ∙ ap (λ p. others sender_of old.senders p) (sym r.sender_is);
     })
 
@@ -196,6 +199,7 @@ leaves_none s s' list answer going k seated o h chooses =
         trades = trades_less s.facts w w1 s.queues.buffers s'.queues.buffers send refl refl refl o.lengths (ap (λ (v : Values). v.stored) left) (ap (λ (v : Values). v.senders) left) h.receivers k.trades;
         hears = rw o.signals (hears_same s.facts w w1 s.queues.signals refl refl refl k.hears);
         sends = o.sends ∙ k.sends;
+        last = omega (arith, o.last, o.sends, k.last);
         store = o.store ∙ k.store;
         locations = k.locations;
         input = ap (λ n. drop n s.facts.input) o.read ∙ k.input;
@@ -222,6 +226,7 @@ leaves_some s s' list answer sender going k seated o h chooses =
         trades = trades_sent s.facts w w1 s.queues.buffers s'.queues.buffers sender c.buffer c.scalars c.priority (Some c.number) c.back new c.is refl refl refl refl c.each c.values o.lengths c.senders h.receivers k.trades;
         hears = rw o.signals (hears_stay s.facts w w1 s.queues.signals sender old new c.is refl refl refl refl refl k.hears);
         sends = o.sends ∙ k.sends;
+        last = omega (arith, o.last, o.sends, k.last);
         store = o.store ∙ k.store;
         locations = k.locations;
         input = ap (λ n. drop n s.facts.input) o.read ∙ k.input;

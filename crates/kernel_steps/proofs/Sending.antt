@@ -16,6 +16,7 @@ use Rattle.world_model.specs.Ranges.{IsNumber, IsInRange}
 use Rattle.world_model.specs.Waiting.{phase_of, buffer_receiver}
 use Rattle.world_model.specs.World.{after, chosen, held_by, with_phase, with_next_send}
 use Rattle.world_model.specs.Allowed.{MustWait}
+use Rattle.value_queues.specs.Queues.{with_placed}
 use Rattle.buffers_signals.specs.declared.messages.Held.{Held}
 use Rattle.buffers_signals.specs.Buffers as buffers
 use Rattle.kernel_steps.specs.declared.reply.Reply.TheVariants.{Now, Later}
@@ -44,6 +45,7 @@ pub record KeepsOthers (s s' : State) : Type 0 where
   pub taken : s'.taken ≡ s.taken
   pub argued : s'.arguments ≡ s.arguments
   pub sends : s'.queues.sends ≡ s.queues.sends + 1
+  pub last : s'.queues.buffers.last ≤ s'.queues.sends
   pub lengths : s'.queues.buffers.lengths ≡ s.queues.buffers.lengths
 
 -- the value as it is sent
@@ -59,7 +61,7 @@ stores_serves s s' who ticks buffer scalars priority r can w_in t_in o seats h j
     let w1 = after s.facts w (Did who ticks request Stored None) in
     let trades = k.rests.trades in
     let one : Held = record { buffer = buffer; value = value_by (w.sends + 1) who scalars priority } in
-    let more : s'.queues.buffers.stored ≡ s.queues.buffers.stored ++ one ∷ [] = h.stored ∙ ap (λ n. s.queues.buffers.stored ++ record { buffer = buffer; value = value_by (n + 1) who scalars priority } ∷ []) k.rests.sends in
+    let more : s'.queues.buffers.stored ≡ with_placed s.queues.buffers.stored buffer one.value = h.stored ∙ ap (λ n. with_placed s.queues.buffers.stored buffer (value_by (n + 1) who scalars priority)) k.rests.sends in
     let fits : buffer < length s.facts.buffers = can.may.fits in
     let low : buffer < length w.stored = let e = trades.each in omega (arith, e, fits) in
     let room = subst (λ (b : Bool). IsTrue b) (room_same s.facts w s.queues.buffers buffer trades) h.room in
@@ -67,9 +69,10 @@ stores_serves s s' who ticks buffer scalars priority r can w_in t_in o seats h j
     (record { processes = refl; phases = refl; occupants = refl; held = refl; facts = o.facts; widest = o.widest; ready = o.ready; seats = seats; taken = o.taken; events = journal; plain = refl })
     (record {
       sleeps = rw o.events (sleeps_same s.facts w w1 s.queues.events refl k.rests.sleeps);
-      trades = trades_stored s.facts w w1 s.queues.buffers s'.queues.buffers one low refl refl refl o.lengths more h.senders h.receivers trades;
+      trades = trades_stored s.facts w w1 s.queues.buffers s'.queues.buffers one low h.there refl refl refl o.lengths more h.senders h.receivers trades;
       hears = rw o.signals (hears_same s.facts w w1 s.queues.signals refl refl refl k.rests.hears);
       sends = o.sends ∙ ap (λ n. n + 1) k.rests.sends;
+      last = o.last;
       store = o.store ∙ k.rests.store;
       locations = k.rests.locations;
       input = ap (λ n. drop n s.facts.input) o.read ∙ k.rests.input;
@@ -115,6 +118,7 @@ hands_serves s s' who ticks buffer scalars priority p answer r going can w_in t_
         trades = trades_handed s.facts w w1 s.queues.buffers s'.queues.buffers p h.receiver.things t.otherwise t.send t.back new at refl refl refl refl refl o.lengths h.stored h.senders h.receivers trades;
         hears = rw o.signals (hears_stay s.facts w w1 s.queues.signals p old new at refl refl refl refl refl k.rests.hears);
         sends = o.sends ∙ ap (λ n. n + 1) k.rests.sends;
+        last = o.last;
         store = o.store ∙ k.rests.store;
         locations = k.rests.locations;
         input = ap (λ n. drop n s.facts.input) o.read ∙ k.rests.input;
@@ -162,6 +166,7 @@ delays_serves s s' who ticks buffer scalars priority r going can w_in t_in o h j
         trades = trades_sends s.facts w w1 s.queues.buffers s'.queues.buffers buffer one.value back active phases same.processes same.stored o.lengths h.stored more h.receivers trades;
         hears = rw o.signals (hears_stay s.facts w w1 s.queues.signals who Active new active phases same.processes same.pending refl refl k.rests.hears);
         sends = o.sends ∙ ap (λ n. n + 1) k.rests.sends ∙ sym same.sends;
+        last = o.last;
         store = o.store ∙ k.rests.store ∙ sym same.store;
         locations = ap length same.store ∙ k.rests.locations;
         input = ap (λ n. drop n s.facts.input) o.read ∙ k.rests.input ∙ sym same.input;

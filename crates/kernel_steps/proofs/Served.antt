@@ -32,6 +32,8 @@ use Rattle.kernel_steps.proofs.Keeping.{Follows, kept_by}
 use Rattle.std.specs.List.{AllByRecursion, count_by}
 use Rattle.std.specs.Prelude.{is_some, slice_index_or}
 use Rattle.world_model.specs.World.{after}
+use Rattle.kernel_steps.specs.Shuffled.{Shuffled}
+use Rattle.value_queues.specs.Queues.{values_in}
 
 -- a world of the same instances and regions
 pub seated_same : (w w' : World) (s : Seats) → w'.processes ≡ w.processes → w'.phases ≡ w.phases → w'.occupants ≡ w.occupants → w'.held ≡ w.held → Seated w s → Seated w' s
@@ -47,7 +49,7 @@ pub trades_same : (facts : Facts) (w w' : World) (b : SeenBuffers) → w'.phases
 trades_same facts w w' b ph p st h = record {
   lengths = h.lengths;
   each = ap length st ∙ h.each;
-  stored = λ q. h.stored q ∙ sym (ap (λ (all : List (List StoredValue)). slice_index_or all q []) st);
+  stored = λ q. subst (λ (all : List (List StoredValue)). Shuffled (values_in b.stored q) (slice_index_or all q [])) (sym st) (h.stored q);
   senders = subst (λ (l : List Phase). Mirrors sender_of sending_in b.senders l) (sym ph) h.senders;
   receivers = rw (ph, p) h.receivers;
 }
@@ -79,6 +81,7 @@ rests_same facts w w' s s' ph c r = record {
   trades = subst (λ (q : Queues). Trades facts w' q.buffers) (sym c.queues) (trades_same facts w w' s.queues.buffers ph c.processes c.stored r.trades);
   hears = subst (λ (q : Queues). Hears facts w' q.signals) (sym c.queues) (hears_same facts w w' s.queues.signals ph c.processes c.pending r.hears);
   sends = ap (λ (q : Queues). q.sends) c.queues ∙ r.sends ∙ sym c.sends;
+  last = subst (λ (q : Queues). q.buffers.last ≤ q.sends) (sym c.queues) r.last;
   store = c.store;
   locations = c.locations ∙ r.locations;
   input = c.input;
@@ -95,6 +98,7 @@ rests_set facts w w' s s' who old new at ph a b a' b' d e f g h i c r = record {
   trades = subst (λ (q : Queues). Trades facts w' q.buffers) (sym c.queues) (trades_stay facts w w' s.queues.buffers who old new at ph c.processes c.stored d e f g r.trades);
   hears = subst (λ (q : Queues). Hears facts w' q.signals) (sym c.queues) (hears_stay facts w w' s.queues.signals who old new at ph c.processes c.pending h i r.hears);
   sends = ap (λ (q : Queues). q.sends) c.queues ∙ r.sends ∙ sym c.sends;
+  last = subst (λ (q : Queues). q.buffers.last ≤ q.sends) (sym c.queues) r.last;
   store = c.store;
   locations = c.locations ∙ r.locations;
   input = c.input;

@@ -33,6 +33,7 @@ use Rattle.kernel_steps.proofs.Queued.{sleeps_stay, trades_stay}
 use Rattle.kernel_steps.proofs.Telling.{may_hear, nobody_hears}
 use Rattle.kernel_steps.proofs.Served.{argues_same, seated_same, sleeps_same, trades_same, serves_now}
 use Rattle.kernel_steps.proofs.Plain.{plain_serves}
+use Rattle.buffers_signals.specs.Buffers.{SeenBuffers}
 
 -- all but the seats, the signals and the send number is as it was
 pub record KeepsOthers (s s' : State) : Type 0 where
@@ -79,6 +80,7 @@ pends_serves s s' who ticks signal scalars to priority r can w_in t_in live o se
         receivers = rw h.receivers hears.receivers;
       };
       sends = o.sends ∙ ap (λ n. n + 1) k.rests.sends;
+      last = let e = ap (λ (b : SeenBuffers). b.last) o.buffers in omega (arith, e, o.sends, k.rests.last);
       store = o.store ∙ k.rests.store;
       locations = k.rests.locations;
       input = ap (λ n. drop n s.facts.input) o.read ∙ k.rests.input;
@@ -129,6 +131,7 @@ hands_serves s s' who ticks signal scalars to priority p answer r going can w_in
           receivers = rw h.receivers (mirror_stop receiver_of (hearing_in w.processes) s.queues.signals.receivers w.phases p old new at refl hears.receivers);
         };
         sends = o.sends ∙ ap (λ n. n + 1) k.rests.sends;
+        last = let e = ap (λ (b : SeenBuffers). b.last) o.buffers in omega (arith, e, o.sends, k.rests.last);
         store = o.store ∙ k.rests.store;
         locations = k.rests.locations;
         input = ap (λ n. drop n s.facts.input) o.read ∙ k.rests.input;

@@ -112,6 +112,7 @@ rests_started s s' who ticks process scalars each c r =
         receivers = mirror_started hearing_in hearing_same (λ ps i. refl) w.processes process w.phases g.receivers each r.hears.receivers;
       });
       sends = rw c.queues r.sends;
+      last = rw c.queues r.last;
       store = c.store ∙ r.store;
       locations = r.locations;
       input = rw c.read r.input;

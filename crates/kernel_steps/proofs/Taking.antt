@@ -1,8 +1,7 @@
 -- A value that is taken from buffers, and the world.
-use Rattle.std.proofs.Common.{◌≡◌, ℕ, zero, suc, ◌≤◌, true, List, [], ◌∷◌, ℤ, refl, sym, ap, ◌∙◌, inl, inr, arith, Option, Some, None, slice_get, subst, eq-eqb}
-use Rattle.std.specs.Prelude.{◌==◌, slice_index_or, IsFalse, IsSome}
+use Rattle.std.proofs.Common.{◌≡◌, ℕ, zero, suc, ◌≤◌, List, ℤ, refl, sym, ap, ◌∙◌, arith, Option, Some, None, subst}
+use Rattle.std.specs.Prelude.{slice_index_or, IsFalse, IsSome}
 use Rattle.std.specs.Option.{option_and_then}
-use Rattle.std.proofs.lemmas.Bool.{cases_Bool, eqb-true}
 use Rattle.std.proofs.lemmas.Bool.Decides.{nat_tests}
 use Rattle.kernel_base.specs.declared.facts.Facts.{Facts}
 use Rattle.kernel_base.specs.declared.request.Alternative.{Alternative}
@@ -13,44 +12,19 @@ use Rattle.world_model.specs.declared.world.StoredValue.{StoredValue}
 use Rattle.world_model.specs.declared.world.World.{World}
 use Rattle.world_model.specs.declared.waiting.Offer.{Offer}
 use Rattle.world_model.specs.Waiting.{phase_of, offer_in}
-use Rattle.world_model.specs.World.{buffer_length}
+use Rattle.world_model.specs.World.{buffer_length, stored_in}
 use Rattle.world_model.specs.Allowed as worlds
 use Rattle.world_model.specs.Allowed.{IsStored, IsOffered, IsRefill, IsRefillBy, TakesValue, NothingToTake}
 use Rattle.kernel_lists.specs.declared.best.Rank.{Rank}
 use Rattle.kernel_lists.specs.Best.{precedes_in}
 use Rattle.kernel_lists.specs.Once.{entry_of}
 use Rattle.buffers_signals.specs.declared.messages.Held.{Held}
-use Rattle.buffers_signals.specs.Lists.{sender_of, values_in, rank_of, IsIn}
+use Rattle.value_queues.specs.Queues.{values_in, rank_of}
+use Rattle.buffers_signals.specs.Lists.{sender_of, IsIn}
 use Rattle.buffers_signals.specs.Buffers.{SeenBuffers, IsCandidateOf, IsCandidate, NoCandidate, IsChoice, Values, values_of, values_but, RefillsBy, Refills}
 use Rattle.kernel_steps.specs.Queued.{sending_in, Trades}
 use Rattle.kernel_steps.proofs.Keyed.{found_there}
-
--- a value that lies in the list lies among those of its buffer
-in_more : (x : Held) (held : List Held) (q : ℕ) (v : StoredValue) → ((j : ℕ) × (slice_get (values_in held q) j ≡ Some v)) → (j : ℕ) × (slice_get (values_in (x ∷ held) q) j ≡ Some v)
-in_more x held q v there = elim (cases_Bool (x.buffer == q)) [
-  | inl mine ↦ (suc there.0, rw mine there.1)
-  | inr other ↦ (there.0, rw other there.1)
-]
-
-value_in : (held : List Held) (k : ℕ) (one : Held) → slice_get held k ≡ Some one → (j : ℕ) × (slice_get (values_in held one.buffer) j ≡ Some one.value)
-value_in [] k one at = absurd (let f : ⊥ = cc in f)
-value_in (x ∷ held) zero one at =
-    let e : x ≡ one = cc in
-    let mine : (x.buffer == one.buffer) ≡ true = eq-eqb x.buffer one.buffer (ap (λ (h : Held). h.buffer) e) in
-    (zero, rw mine (ap (λ (h : Held). Some h.value) e))
-value_in (x ∷ held) (suc k) one at = in_more x held one.buffer one.value (value_in held k one at)
-
--- and the other way round
-value_from_cons : (x : Held) (held : List Held) (q j : ℕ) (v : StoredValue) → ((i : ℕ) → slice_get (values_in held q) i ≡ Some v → IsIn held (record { buffer = q; value = v })) → (x.buffer == q) ≡ true → slice_get (x.value ∷ values_in held q) j ≡ Some v → IsIn (x ∷ held) (record { buffer = q; value = v })
-value_from_cons x held q zero v rest mine at = let e : x.value ≡ v = cc in (zero, λ i. Some (record { buffer = eqb-true x.buffer q mine i; value = e i }))
-value_from_cons x held q (suc j) v rest mine at = let there = rest j at in (suc there.0, there.1)
-
-value_from : (held : List Held) (q j : ℕ) (v : StoredValue) → slice_get (values_in held q) j ≡ Some v → IsIn held (record { buffer = q; value = v })
-value_from [] q j v at = absurd (let f : ⊥ = cc in f)
-value_from (x ∷ held) q j v at = elim (cases_Bool (x.buffer == q)) [
-  | inl mine ↦ value_from_cons x held q j v (λ i. value_from held q i v) mine (rw mine at at)
-  | inr other ↦ (let there = value_from held q j v (rw other at at) in (suc there.0, there.1))
-]
+use Rattle.kernel_steps.proofs.Shuffled.{shuffled_in, shuffled_from}
 
 -- what a phase tells of one that waits to send
 pub record Sends (w : World) (held : Held) : Type 0 where
@@ -127,11 +101,11 @@ of_offered facts w b buffer v o h =
     let entry : entry_of sender_of b.senders v.sender ≡ Some (record { buffer = buffer; value = v }) = h.senders.each v.sender ∙ offers_at v.sender (record { buffer = buffer; value = v; back = o.back }) (phase_of w v.sender) o.waits in
     found_there sender_of b.senders v.sender (record { buffer = buffer; value = v }) entry
 
-stored_of : (facts : Facts) (w : World) (b : SeenBuffers) (held : Held) → IsIn b.stored held → Trades facts w b → IsStored w held.buffer held.value
-stored_of facts w b held at h = let there = value_in b.stored at.0 held at.1 in (there.0, ap (λ (vs : List StoredValue). slice_get vs there.0) (sym (h.stored held.buffer)) ∙ there.1)
+stored_of : (facts : Facts) (w : World) (b : SeenBuffers) (held : Held) → IsIn (values_in b.stored held.buffer) held.value → Trades facts w b → IsStored w held.buffer held.value
+stored_of facts w b held at h = shuffled_in (values_in b.stored held.buffer) (stored_in w held.buffer) at.0 held.value (h.stored held.buffer) at.1
 
-of_stored : (facts : Facts) (w : World) (b : SeenBuffers) (buffer : ℕ) (v : StoredValue) → IsStored w buffer v → Trades facts w b → IsIn b.stored (record { buffer = buffer; value = v })
-of_stored facts w b buffer v s h = value_from b.stored buffer s.0 v (ap (λ (vs : List StoredValue). slice_get vs s.0) (h.stored buffer) ∙ s.1)
+of_stored : (facts : Facts) (w : World) (b : SeenBuffers) (buffer : ℕ) (v : StoredValue) → IsStored w buffer v → Trades facts w b → IsIn (values_in b.stored buffer) v
+of_stored facts w b buffer v s h = shuffled_from (values_in b.stored buffer) (stored_in w buffer) s.0 v (h.stored buffer) s.1
 
 candidate_by : (facts : Facts) (w : World) (b : SeenBuffers) (held : Held) (most : Option ℕ) → IsCandidateOf most b held → Trades facts w b → worlds.IsCandidateOf most w held.buffer held.value
 candidate_by facts w b held None may h = stored_of facts w b held may h

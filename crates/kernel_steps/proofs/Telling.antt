@@ -21,7 +21,8 @@ use Rattle.kernel_lists.specs.Best.{precedes_in}
 use Rattle.kernel_lists.specs.Once.{entry_of}
 use Rattle.kernel_lists.proofs.Entries.{found_at, none_passes}
 use Rattle.buffers_signals.specs.declared.messages.Receiver.{Receiver}
-use Rattle.buffers_signals.specs.Lists.{receiver_of, lists, rank_of}
+use Rattle.buffers_signals.specs.Lists.{receiver_of, lists}
+use Rattle.value_queues.specs.Queues.{rank_of}
 use Rattle.buffers_signals.specs.Signals.{SeenSignals, may_receive, is_receiver, receiver_for, IsFor, NoneFor, IsChoice}
 use Rattle.kernel_steps.specs.Queued.{hearing_in, Hears}
 use Rattle.kernel_steps.proofs.Keyed.{found_there}

@@ -1,8 +1,8 @@
 -- The values in buffers, those that wait to send and to receive, and the world.
-use Rattle.std.proofs.Common.{◌≡◌, ◌⊎◌, ℕ, ◌<◌, Bool, true, false, List, [], ◌∷◌, ◌++◌, length, map, refl, sym, ap, ◌∙◌, inl, inr, Option, Some, None, slice_get, slice_set, subst, eq-eqb}
-use Rattle.std.specs.Prelude.{if◌then◌else◌, ◌==◌, slice_index_or, is_some}
+use Rattle.std.proofs.Common.{◌≡◌, ℕ, ◌<◌, Bool, true, not, List, [], ◌∷◌, ◌++◌, length, map, refl, sym, ap, ◌∙◌, inl, inr, Option, Some, None, slice_get, slice_set, subst}
+use Rattle.std.specs.Prelude.{◌==◌, slice_index_or, is_some}
 use Rattle.std.specs.Option.{option_and_then}
-use Rattle.std.proofs.lemmas.Bool.{cases_Bool, eqb-true}
+use Rattle.std.proofs.lemmas.Bool.{cases_eq}
 use Rattle.kernel_base.specs.declared.facts.Facts.{Facts}
 use Rattle.kernel_base.specs.declared.request.Alternative.{Alternative}
 use Rattle.kernel_base.specs.declared.request.Request.TheVariants.{Read, Write, Enter, Leave, Delay, Continue, SendBuffer, ReceiveBuffer, SendSignal, ReceiveSignal, Start, Put, Get, End}
@@ -21,49 +21,45 @@ use Rattle.kernel_lists.specs.Once.{entry_of}
 use Rattle.kernel_lists.proofs.Entries.{found_at, none_passes}
 use Rattle.buffers_signals.specs.declared.messages.Held.{Held}
 use Rattle.buffers_signals.specs.declared.messages.Receiver.{Receiver}
-use Rattle.buffers_signals.specs.Lists.{receiver_of, values_in, stored_but, lists}
+use Rattle.value_queues.specs.Queues.{values_in, placed, with_placed, stored_but}
+use Rattle.buffers_signals.specs.Lists.{receiver_of, lists}
 use Rattle.buffers_signals.specs.Buffers.{SeenBuffers, receiver_for, takes_more}
 use Rattle.kernel_steps.specs.Queued.{receiving_in, Trades}
+use Rattle.kernel_steps.specs.Shuffled.{Shuffled}
+use Rattle.kernel_steps.proofs.Shuffled.{shuffled_placed, shuffled_filter, shuffled_length}
 use Rattle.kernel_steps.proofs.Keyed.{found_there}
 use Rattle.kernel_steps.proofs.Placed.{read_written}
 
--- one more value
-values_push : (held : List Held) (one : Held) (q : ℕ) → values_in (held ++ one ∷ []) q ≡ (if one.buffer == q then values_in held q ++ one.value ∷ [] else values_in held q)
-values_push [] one q = elim (cases_Bool (one.buffer == q)) [
-  | inl same ↦ rw same refl
-  | inr apart ↦ rw apart refl
-]
-values_push (x ∷ held) one q = elim (cases_Bool (x.buffer == q)) [
-  | inl mine ↦ rw mine (ap (λ l. x.value ∷ l) (values_push held one q) ∙ elim (cases_Bool (one.buffer == q)) [ inl same ↦ rw same refl | inr apart ↦ rw apart refl ])
-  | inr other ↦ rw other (values_push held one q)
-]
+-- the values of the buffers and of the world are the same
+abbrev pub SameStored : List (List StoredValue) → World → Type 0
+SameStored stored w = (q : ℕ) → Shuffled (values_in stored q) (stored_in w q)
 
-pub stored_push : (w w' : World) (old new : List Held) (one : Held) → one.buffer < length w.stored → w'.stored ≡ slice_set w.stored one.buffer (stored_in w one.buffer ++ one.value ∷ []) → new ≡ old ++ one ∷ []
-    → ((q : ℕ) → values_in old q ≡ stored_in w q) → (q : ℕ) → values_in new q ≡ stored_in w' q
-stored_push w w' old new one low is more before q =
-    let now : stored_in w' q ≡ slice_index_or (slice_set w.stored one.buffer (stored_in w one.buffer ++ one.value ∷ [])) q [] = ap (λ (all : List (List StoredValue)). slice_index_or all q []) is in
-    ap (λ (l : List Held). values_in l q) more ∙ values_push old one q ∙ elim (cases_Bool (one.buffer == q)) [
-      | inl same ↦ (let e : one.buffer ≡ q = eqb-true one.buffer q same in
-          rw same (ap (λ vs. vs ++ one.value ∷ []) (before q)
-          ∙ sym (now ∙ subst (λ (n : ℕ). slice_index_or (slice_set w.stored one.buffer (stored_in w one.buffer ++ one.value ∷ [])) n [] ≡ stored_in w n ++ one.value ∷ []) e (read_written w.stored one.buffer (stored_in w one.buffer ++ one.value ∷ []) [] low))))
-      | inr apart ↦ rw apart (before q ∙ sym (now ∙ read_elsewhere w.stored one.buffer q (stored_in w one.buffer ++ one.value ∷ []) [] (λ e. let f : (one.buffer == q) ≡ true = eq-eqb one.buffer q (sym e) in let g : ⊥ = cc in g)))
-    ]
+pub stored_kept : (w w' : World) (old new : List (List StoredValue)) → w'.stored ≡ w.stored → new ≡ old → SameStored old w → SameStored new w'
+stored_kept w w' old new is same before q =
+    subst (λ (all : List (List StoredValue)). Shuffled (values_in new q) (slice_index_or all q [])) (sym is) (subst (λ (all : List (List StoredValue)). Shuffled (values_in all q) (stored_in w q)) (sym same) (before q))
+
+-- one more value
+pub stored_push : (w w' : World) (old new : List (List StoredValue)) (one : Held) → one.buffer < length w.stored → one.buffer < length old → w'.stored ≡ slice_set w.stored one.buffer (stored_in w one.buffer ++ one.value ∷ []) → new ≡ with_placed old one.buffer one.value
+    → SameStored old w → SameStored new w'
+stored_push w w' old new one low there is more before q =
+    let world : List (List StoredValue) = slice_set w.stored one.buffer (stored_in w one.buffer ++ one.value ∷ []) in
+    let now : Shuffled (values_in (with_placed old one.buffer one.value) q) (slice_index_or world q []) = elim (cases_eq q one.buffer) [
+      | inl same ↦ (let here = shuffled_placed one.value (values_in old one.buffer) (stored_in w one.buffer) (before one.buffer) in
+          let part = subst (λ (l : List StoredValue). Shuffled l (stored_in w one.buffer ++ one.value ∷ [])) (sym (read_written old one.buffer (placed one.value (values_in old one.buffer)) [] there)) here in
+          let all = subst (λ (l : List StoredValue). Shuffled (values_in (with_placed old one.buffer one.value) one.buffer) l) (sym (read_written w.stored one.buffer (stored_in w one.buffer ++ one.value ∷ []) [] low)) part in
+          subst (λ (n : ℕ). Shuffled (values_in (with_placed old one.buffer one.value) n) (slice_index_or (slice_set w.stored one.buffer (stored_in w one.buffer ++ one.value ∷ [])) n [])) (sym same) all)
+      | inr apart ↦ (let part = subst (λ (l : List StoredValue). Shuffled l (stored_in w q)) (sym (read_elsewhere old one.buffer q (placed one.value (values_in old one.buffer)) [] apart)) (before q) in
+          subst (λ (l : List StoredValue). Shuffled (values_in (with_placed old one.buffer one.value) q) l) (sym (read_elsewhere w.stored one.buffer q (stored_in w one.buffer ++ one.value ∷ []) [] apart)) part)
+    ] in
+    subst (λ (all : List (List StoredValue)). Shuffled (values_in new q) (slice_index_or all q [])) (sym is) (subst (λ (all : List (List StoredValue)). Shuffled (values_in all q) (slice_index_or world q [])) (sym more) now)
 
 -- without the value of a send number
-values_without_cons : (x : Held) (held : List Held) (send q : ℕ) → values_in (stored_but send held) q ≡ values_but send (values_in held q) → ((x.value.send == send) ≡ true) ⊎ ((x.value.send == send) ≡ false) → ((x.buffer == q) ≡ true) ⊎ ((x.buffer == q) ≡ false) → values_in (stored_but send (x ∷ held)) q ≡ values_but send (values_in (x ∷ held) q)
-values_without_cons x held send q rest (inl gone) (inl mine) = rw (gone, mine) (rest ∙ sym (rw gone refl))
-values_without_cons x held send q rest (inl gone) (inr other) = rw (gone, other) rest
-values_without_cons x held send q rest (inr kept) (inl mine) = rw (kept, mine) (ap (λ l. x.value ∷ l) rest ∙ sym (rw kept refl))
-values_without_cons x held send q rest (inr kept) (inr other) = rw (kept, other) rest
-
-values_without : (held : List Held) (send q : ℕ) → values_in (stored_but send held) q ≡ values_but send (values_in held q)
-values_without [] send q = refl
-values_without (x ∷ held) send q = values_without_cons x held send q (values_without held send q) (cases_Bool (x.value.send == send)) (cases_Bool (x.buffer == q))
-
-pub stored_without : (w w' : World) (old new : List Held) (send : ℕ) → w'.stored ≡ map (values_but send) w.stored → new ≡ stored_but send old → ((q : ℕ) → values_in old q ≡ stored_in w q) → (q : ℕ) → values_in new q ≡ stored_in w' q
+pub stored_without : (w w' : World) (old new : List (List StoredValue)) (send : ℕ) → w'.stored ≡ map (values_but send) w.stored → new ≡ stored_but send old → SameStored old w → SameStored new w'
 stored_without w w' old new send is less before q =
-    ap (λ (l : List Held). values_in l q) less ∙ values_without old send q ∙ ap (values_but send) (before q)
-    ∙ sym (ap (λ (all : List (List StoredValue)). slice_index_or all q []) is ∙ read_mapped (values_but send) w.stored q refl)
+    let part = shuffled_filter (λ (value : StoredValue). not (value.send == send)) (values_in old q) (stored_in w q) (before q) in
+    let left = subst (λ (l : List StoredValue). Shuffled l (values_but send (stored_in w q))) (sym (read_mapped (values_but send) old q refl)) part in
+    let all = subst (λ (l : List StoredValue). Shuffled (values_in (stored_but send old) q) l) (sym (read_mapped (values_but send) w.stored q refl)) left in
+    subst (λ (all : List (List StoredValue)). Shuffled (values_in new q) (slice_index_or all q [])) (sym is) (subst (λ (l : List (List StoredValue)). Shuffled (values_in l q) (slice_index_or (map (values_but send) w.stored) q [])) (sym less) all)
 
 -- what a phase tells of one that waits to receive
 pub record Receives (w : World) (r : Receiver) : Type 0 where
@@ -168,4 +164,4 @@ nobody_receives facts w s buffer none h p = nobody_by facts w s buffer p (buffer
 
 -- the room of a buffer
 pub room_same : (facts : Facts) (w : World) (s : SeenBuffers) (buffer : ℕ) → Trades facts w s → takes_more s buffer ≡ has_room facts w buffer
-room_same facts w s buffer h = ap (λ (lengths : List (Option ℕ)). is_below (slice_index_or lengths buffer None) (length (values_in s.stored buffer))) h.lengths ∙ ap (λ (vs : List StoredValue). is_below (buffer_length facts buffer) (length vs)) (h.stored buffer)
+room_same facts w s buffer h = ap (λ (lengths : List (Option ℕ)). is_below (slice_index_or lengths buffer None) (length (values_in s.stored buffer))) h.lengths ∙ ap (is_below (buffer_length facts buffer)) (shuffled_length (values_in s.stored buffer) (stored_in w buffer) (h.stored buffer))

@@ -32,6 +32,7 @@ pub record Rests (facts : Facts) (w : World) (s : State) : Type 0 where
   pub trades : Trades facts w s.queues.buffers
   pub hears : Hears facts w s.queues.signals
   pub sends : s.queues.sends ≡ w.sends
+  pub last : s.queues.buffers.last ≤ s.queues.sends
   pub store : s.store ≡ w.store
   pub locations : length w.store ≡ length facts.store
   pub input : drop s.read facts.input ≡ w.input

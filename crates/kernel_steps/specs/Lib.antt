@@ -1,4 +1,5 @@
 pub mod Keyed
+pub mod Shuffled
 pub mod Queued
 pub mod Seated
 pub mod Kept

@@ -12,10 +12,12 @@ use Rattle.event_queues.specs.declared.sets.Delayed.{Delayed}
 use Rattle.event_queues.specs.Delayed.{Sets, who_of, count_on}
 use Rattle.buffers_signals.specs.declared.messages.Held.{Held}
 use Rattle.buffers_signals.specs.declared.messages.Receiver.{Receiver}
-use Rattle.buffers_signals.specs.Lists.{sender_of, receiver_of, values_in}
+use Rattle.value_queues.specs.Queues.{values_in}
+use Rattle.buffers_signals.specs.Lists.{sender_of, receiver_of}
 use Rattle.buffers_signals.specs.Buffers.{SeenBuffers}
 use Rattle.buffers_signals.specs.Signals.{SeenSignals}
 use Rattle.kernel_steps.specs.Keyed.{Mirrors}
+use Rattle.kernel_steps.specs.Shuffled.{Shuffled}
 
 -- one that is delayed
 abbrev pub delayed_in : ℕ → Phase → Option Delayed
@@ -47,7 +49,7 @@ pub record Sleeps (facts : Facts) (w : World) (s : Sets) : Type 0 where
 pub record Trades (facts : Facts) (w : World) (b : SeenBuffers) : Type 0 where
   pub lengths : b.lengths ≡ facts.buffers
   pub each : length w.stored ≡ length facts.buffers
-  pub stored : (buffer : ℕ) → values_in b.stored buffer ≡ stored_in w buffer
+  pub stored : (buffer : ℕ) → Shuffled (values_in b.stored buffer) (stored_in w buffer)
   pub senders : Mirrors sender_of sending_in b.senders w.phases
   pub receivers : Mirrors receiver_of (receiving_in w.processes) b.receivers w.phases
 

@@ -52,7 +52,7 @@ returns-in-Got c =
     subst (λ (a : Answer). Serves s s' c.args.who c.args.ticks c.args.request (Now a)) (sym c.twin-handed.ensures)
     (subst (λ (r : Request). Serves s s' c.args.who c.args.ticks r (Now c.in-Got.answer)) (sym q.2)
     (takes_serves s s' c.args.who c.args.ticks q.0 q.1 c.in-Got.answer c.in-Got.refill c.args.ready c.choose_sender-going.result can (record { who = search rules; ticks = search rules; answer = c.took.ensures.in_range }) c.took.ensures.refill
-    (record { facts = refl; widest = refl; ready = refl; events = refl; signals = refl; store = refl; read = refl; taken = refl; argued = refl; sends = refl; lengths = c.in-Got.ensures.lengths })
+    (record { facts = refl; widest = refl; ready = refl; events = refl; signals = refl; store = refl; read = refl; taken = refl; argued = refl; sends = refl; last = c.in-Got.ensures.last; lengths = c.in-Got.ensures.lengths })
     h c.choose_sender-going.ensures.settles
     (c.goes.ensures.events ∙ ap (λ l. l ++ goes_of c.choose_sender-going.result) (c.took.ensures.events ∙ ap (λ (r : Request). s.journal.events ++ Did c.args.who c.args.ticks r c.in-Got.answer c.in-Got.refill ∷ []) can.is)) c.goes.ensures.in_range))
 
@@ -65,7 +65,7 @@ returns-in-Otherwise c =
     let h : buffers.TakesNothing s.queues.buffers c.receive.new.self q.0 q.1 = subst (λ (r : Request). buffers.Receives s.queues.buffers c.receive.new.self c.args.who c.process_of-process.result r received.Otherwise) q.2 c.in-Otherwise.ensures.receives in
     subst (λ (r : Request). Serves s s' c.args.who c.args.ticks r (Now Otherwise)) (sym q.2)
     (nothing_serves s s' c.args.who c.args.ticks q.0 q.1 c.args.ready can (search rules) (search rules)
-    (record { facts = refl; widest = refl; ready = refl; events = refl; signals = refl; store = refl; read = refl; taken = refl; argued = refl; sends = refl; lengths = c.in-Otherwise.ensures.lengths })
+    (record { facts = refl; widest = refl; ready = refl; events = refl; signals = refl; store = refl; read = refl; taken = refl; argued = refl; sends = refl; last = c.in-Otherwise.ensures.last; lengths = c.in-Otherwise.ensures.lengths })
     refl h
     (c.did.ensures.events ∙ ap (λ (r : Request). s.journal.events ++ Did c.args.who c.args.ticks r Otherwise None ∷ []) can.is))
 
@@ -82,7 +82,7 @@ returns-in-Delayed c =
     subst (λ (reply : Reply). Serves s s' c.args.who c.args.ticks c.args.request reply) (sym c.waits.ensures.reply)
     (subst (λ (r : Request). Serves s s' c.args.who c.args.ticks r Later) (sym q.2)
     (delays_serves s s' c.args.who c.args.ticks q.0 q.1 c.args.ready c.wait-going.result can (search rules) (search rules)
-    (record { facts = refl; widest = refl; ready = refl; events = refl; signals = refl; store = refl; read = refl; taken = refl; argued = refl; sends = refl; lengths = c.in-Delayed.ensures.lengths })
+    (record { facts = refl; widest = refl; ready = refl; events = refl; signals = refl; store = refl; read = refl; taken = refl; argued = refl; sends = refl; last = c.in-Delayed.ensures.last; lengths = c.in-Delayed.ensures.lengths })
     h
     (c.waits.ensures.events ∙ ap (λ (r : Request). (s.journal.events ++ Waits c.args.who c.args.ticks r ∷ []) ++ goes_of c.wait-going.result) can.is) c.waits.ensures.in_range
     (c.wait-going.ensures.settles w (ReceiveBuffer q.0 q.1) None k.seated c.requires.can.may.goes.active (λ region is. (journal_holds s.facts s.journal.events k.book.run).occupied c.args.who region (last_is_in (held_by w c.args.who) region is)))))

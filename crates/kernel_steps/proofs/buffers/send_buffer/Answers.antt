@@ -40,7 +40,7 @@ returns-in-Handed c =
     let can = subst (λ (r : Request). CanServe s c.args.who r c.args.ready) q.3 c.requires.can in
     subst (λ (r : Request). Serves s s' c.args.who c.args.ticks r (Now answer)) (sym q.3)
     (hands_serves s s' c.args.who c.args.ticks q.0 q.1 q.2 c.in-Handed.to c.in-Handed.answer c.args.ready c.hand-going.result can (search rules) (search rules) (search rules)
-    (record { facts = refl; widest = refl; ready = refl; events = refl; signals = refl; store = refl; read = refl; taken = refl; argued = refl; sends = refl; lengths = c.in-Handed.ensures.lengths })
+    (record { facts = refl; widest = refl; ready = refl; events = refl; signals = refl; store = refl; read = refl; taken = refl; argued = refl; sends = refl; last = c.in-Handed.ensures.last; lengths = c.in-Handed.ensures.lengths })
     h c.hand-going.ensures.settles
     (c.goes.ensures.events ∙ ap (λ l. l ++ goes_of c.hand-going.result) (c.did.ensures.events ∙ ap (λ (r : Request). s.journal.events ++ Did c.args.who c.args.ticks r answer None ∷ []) can.is)) c.goes.ensures.in_range)
 
@@ -53,7 +53,7 @@ returns-in-Stored c =
     let can = subst (λ (r : Request). CanServe s c.args.who r c.args.ready) q.3 c.requires.can in
     subst (λ (r : Request). Serves s s' c.args.who c.args.ticks r (Now Stored)) (sym q.3)
     (stores_serves s s' c.args.who c.args.ticks q.0 q.1 q.2 c.args.ready can (search rules) (search rules)
-    (record { facts = refl; widest = refl; ready = refl; events = refl; signals = refl; store = refl; read = refl; taken = refl; argued = refl; sends = refl; lengths = c.in-Stored.ensures.lengths })
+    (record { facts = refl; widest = refl; ready = refl; events = refl; signals = refl; store = refl; read = refl; taken = refl; argued = refl; sends = refl; last = c.in-Stored.ensures.last; lengths = c.in-Stored.ensures.lengths })
     refl h
     (c.did-in-Stored.ensures.events ∙ ap (λ (r : Request). s.journal.events ++ Did c.args.who c.args.ticks r Stored None ∷ []) can.is))
 
@@ -76,7 +76,7 @@ returns-in-Delayed c =
     subst (λ (reply : Reply). Serves s s' c.args.who c.args.ticks c.args.request reply) (sym c.waits.ensures.reply)
     (subst (λ (r : Request). Serves s s' c.args.who c.args.ticks r Later) (sym q.3)
     (delays_serves s s' c.args.who c.args.ticks q.0 q.1 q.2 c.args.ready c.wait-going.result can (search rules) (search rules)
-    (record { facts = refl; widest = refl; ready = refl; events = refl; signals = refl; store = refl; read = refl; taken = refl; argued = refl; sends = refl; lengths = c.in-Delayed.ensures.lengths })
+    (record { facts = refl; widest = refl; ready = refl; events = refl; signals = refl; store = refl; read = refl; taken = refl; argued = refl; sends = refl; last = c.in-Delayed.ensures.last; lengths = c.in-Delayed.ensures.lengths })
     h
     (c.waits.ensures.events ∙ ap (λ (r : Request). (s.journal.events ++ Waits c.args.who c.args.ticks r ∷ []) ++ goes_of c.wait-going.result) can.is) c.waits.ensures.in_range
     (c.wait-going.ensures.settles (with_next_send w) request (Some (w.sends + 1)) (seated_same w (with_next_send w) s.seats refl refl refl refl k.seated) c.requires.can.may.goes.active (λ region is. (journal_holds s.facts s.journal.events k.book.run).occupied c.args.who region (last_is_in (held_by w c.args.who) region is)))))

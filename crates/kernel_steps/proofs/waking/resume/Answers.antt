@@ -53,6 +53,7 @@ returns c =
       trades = k.rests.trades;
       hears = k.rests.hears;
       sends = k.rests.sends;
+      last = k.rests.last;
       store = k.rests.store;
       locations = k.rests.locations;
       input = k.rests.input;

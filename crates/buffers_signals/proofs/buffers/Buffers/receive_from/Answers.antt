@@ -8,4 +8,9 @@ use Rattle.buffers_signals.proofs.buffers.Buffers.receive_from.Goals as goal
 pub invariant_of-self : goal.invariant_of-self
 invariant_of-self c =
     let none = ap (λ (v : SeenBuffers). entry_of receiver_of v.receivers c.args.who) c.self.view_is ∙ c.requires.nothing.receives in
-    (c.self.invariant.0, rw c.push_reserved.ensures.items (once_push receiver_of c.self.inside.receivers.items (record { who = c.args.who; process = c.args.process; things = c.args.buffers }) c.self.invariant.1 none))
+    record {
+      senders_once = c.self.invariant.senders_once;
+      receivers_once = rw c.push_reserved.ensures.items (once_push receiver_of c.self.inside.receivers.items (record { who = c.args.who; process = c.args.process; things = c.args.buffers }) c.self.invariant.receivers_once none);
+      each = c.self.invariant.each;
+      distinct = c.self.invariant.distinct;
+    }
