@@ -16,3 +16,4 @@ pub mod Turning
 pub mod Misfits
 pub mod Refusing
 pub mod Opening
+pub mod Stopping

@@ -1,8 +1,9 @@
 -- What a run of a code comes to.
-use Rattle.std.specs.Prelude.{◌≡◌, ◌⊎◌, ◌≤◌, ℕ, suc, List, [], ◌∷◌, ◌++◌, length, slice_get, Some, All}
+use Rattle.std.specs.Prelude.{◌≡◌, ◌⊎◌, ◌≤◌, ℕ, suc, List, [], ◌∷◌, ◌++◌, length, slice_get, sum_by, Some, None, All}
 use Rattle.kernel_base.specs.declared.facts.Facts.{Facts}
 use Rattle.kernel_base.specs.declared.request.Request.{Request}
 use Rattle.kernel_base.specs.declared.event.Event.{Event}
+use Rattle.kernel_base.specs.declared.event.Event.TheVariants.{Did, Waits, Goes, Runs}
 use Rattle.world_model.specs.Session.{Item, Ask}
 use Rattle.world_model.specs.Journal.{ticks_of, line_of, answers_of}
 use Rattle.world_model.specs.World.{world_of}
@@ -15,6 +16,7 @@ use Rattle.code_types.specs.Runs.{IsCodeRun}
 use Rattle.machine_steps.specs.Views.{state_of}
 use Rattle.run_laws.specs.Laws.{StandsWhereLeft}
 use Rattle.serial_run.specs.declared.serial.Driven.{Driven}
+use Rattle.serial_run.specs.declared.stopped.Stopped.{Stopped}
 use Rattle.serial_run.specs.declared.runner.Runner.{Runner}
 
 -- at most 256 ticks, and at most one request behind them: a burst that was made, but wasn't committed since the run was over
@@ -58,3 +60,23 @@ pub record HasAllMachines (code : Code) (facts : Facts) (driven : Driven) : Type
   pub machines : suc (length driven.machines) ≡ length (world_of facts driven.events).phases
   pub instances : (k : ℕ) (runner : Runner) → slice_get driven.machines k ≡ Some runner → runner.instance ≡ suc k
   pub stand : (k : ℕ) (runner : Runner) → slice_get driven.machines k ≡ Some runner → StandsWhereLeft code driven.events runner.instance (state_of runner.machine)
+
+-- one for a commit or a note of ticks, none for a going on
+abbrev pub made_by : Event → ℕ
+made_by (Did who ticks request answer refill) = 1
+made_by (Waits who ticks request) = 1
+made_by (Goes who answer) = 0
+made_by (Runs who ticks) = 1
+
+-- how many events of a journal are no goings on
+abbrev pub made_of : List Event → ℕ
+made_of = sum_by made_by
+
+-- The journal is a run of the code, of so many commits and notes of ticks, and not more than were asked for; over is its end, and
+-- where it has none all of them were made.
+pub record IsStopped (code : Code) (facts : Facts) (most : ℕ) (stopped : Stopped) : Type 0 where
+  pub run : IsCodeRun code facts stopped.events
+  pub made : stopped.made ≡ made_of stopped.events
+  pub few : stopped.made ≤ most
+  pub over : stopped.over ≡ over_of facts stopped.events
+  pub all : stopped.over ≡ None → stopped.made ≡ most

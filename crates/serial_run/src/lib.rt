@@ -9,6 +9,7 @@ mod refusal;
 mod runner;
 mod serial;
 mod serving;
+mod stopped;
 mod taking;
 mod turns;
 
@@ -16,4 +17,5 @@ pub use refusal::{Misfit, RunRefusal};
 pub use runner::{Machines, Runner};
 pub use serial::{Driven, attempt};
 pub use serving::{commit, pause, serve, take_reply};
+pub use stopped::{Stopped, attempt_some};
 pub use taking::start;

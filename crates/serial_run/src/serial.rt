@@ -1,12 +1,12 @@
 // The serial run of a code.
-ghost use Rattle.std.specs.Prelude.{◌≡◌, IfErr, IfOk, OnErr, OnOk, IfSome, IsSomeAnd, None, Some, slice_get};
+ghost use Rattle.std.specs.Prelude.{◌≡◌, ◌+◌, IfErr, IfOk, OnErr, OnOk, IfSome, IsSomeAnd, None, Some, slice_get};
 ghost use Rattle.kernel_base.specs.Facts.{IsSound};
 ghost use Rattle.world_model.specs.Over.{over_of};
 ghost use Rattle.code_types.specs.declared.code.Code.{Code};
 ghost use Rattle.code_types.specs.Runs.{Suits};
 ghost use Rattle.machine_steps.specs.Views.{state_of};
 ghost use Rattle.code_machine.specs.Running.{IsUp};
-ghost use Rattle.serial_run.specs.Driven.{HasAllMachines, IsDriven};
+ghost use Rattle.serial_run.specs.Driven.{HasAllMachines, IsDriven, made_of};
 ghost use Rattle.serial_run.specs.Standing.{AllStand, IsAllTaken, KeepsJournal, Spends};
 ghost use Rattle.serial_run.specs.Suiting.{IsRefused, IsUnsuited, RestFrom};
 
@@ -76,7 +76,7 @@ fn finish(
 }
 
 // One turn: the next process that can go makes a burst, which is committed.
-fn make_turn(
+pub(crate) fn make_turn(
     guarded: &Guarded,
     kernel: &mut Kernel,
     runners: &mut [Runner],
@@ -87,6 +87,7 @@ fn make_turn(
     requires open { over_of kernel.old.facts kernel.old.events ≡ None }
     ensures stand { OnOk result (AllStand guarded.now kernel.new runners.new) }
     ensures spends { OnOk result (Spends kernel.old kernel.new) }
+    ensures made { OnOk result (made_of kernel.new.events ≡ made_of kernel.old.events + 1) }
     ensures refused { IfErr result (IsRefused guarded.now kernel.old.facts) }
 {
     // The count fits its type, and so does each place behind one.

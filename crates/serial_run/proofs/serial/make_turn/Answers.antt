@@ -9,6 +9,7 @@ use Rattle.serial_run.proofs.Leading.{has_place, led_served}
 use Rattle.serial_run.proofs.Misfits.{none_rests}
 use Rattle.serial_run.proofs.Refusing.{if_err, open_kept, unserved_refused}
 use Rattle.serial_run.proofs.Turning.{IsUpAt, turn_at, is_there, is_up, is_within}
+use Rattle.serial_run.proofs.Stopping.{turn_makes}
 use Rattle.serial_run.proofs.serial.make_turn.Goals as goal
 
 pub serve-requires-clause-stands : goal.serve-requires-clause-stands
@@ -58,3 +59,6 @@ unreachable-requires c = none_rests c.args.guarded.now c.next_turn.new.kernel c.
     (all_taken_kept c.args.kernel.now c.next_turn.new.kernel c.next_turn.ensures.journal c.requires.all) c.is_run.ensures.idle
     (open_kept c.args.kernel.now c.next_turn.new.kernel c.next_turn.ensures.journal c.requires.open)
     (subst (λ (o : Option ℕ). RestFrom c.next_turn.new.kernel c.next_turn.new.runners 0 o) c.in-None.is c.in_ok-k.ensures.rest)
+
+pub returns-clause-made : goal.returns-clause-made
+returns-clause-made c = turn_makes c.args.guarded.now c.args.kernel.now c.next_turn.new.kernel c.serve.new.kernel _ c.next_turn.ensures.journal c.in_ok-serve-in-Some.ensures.advances
