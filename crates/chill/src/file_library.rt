@@ -1,12 +1,13 @@
 // Real files as a library. It keeps one count of faults for all names, and the file that was read last stays open: what follows
 // the bytes that were read is read on from it, so a pipe is read as a whole, and a file that is replaced meanwhile isn't mixed.
+// It keeps in mind whether a fault came of want of memory, which isn't the file's.
 ghost use Rattle.std.specs.Io.{ReadsAtMost};
 ghost use Rattle.outside_ports.specs.Library.{untold};
 
 use crate::patience::read_patiently;
 use outside_ports::{Library, PortFault};
 use std::fs;
-use std::io::{self, Read, Seek, SeekFrom};
+use std::io::{self, ErrorKind, Read, Seek, SeekFrom};
 use std::rt::Files;
 use std::time::Clock;
 
@@ -23,6 +24,7 @@ pub struct FileLibrary<'a, R: Files> {
     rt: &'a R,
     open: Option<OpenText<R::File>>,
     faults: u64,
+    lacks_memory: bool,
 }
 
 impl<'a, R: Files> FileLibrary<'a, R> {
@@ -31,7 +33,13 @@ impl<'a, R: Files> FileLibrary<'a, R> {
             rt,
             open: None,
             faults: 0,
+            lacks_memory: false,
         }
+    }
+
+    /// Whether some fault came of want of memory.
+    pub fn lacks_memory(&self) -> bool {
+        self.lacks_memory
     }
 }
 
@@ -73,7 +81,8 @@ impl<R: Files + Clock + AllocGlobal> Library for FileLibrary<'_, R> {
     fn read(&mut self, name: &str, at: u64, into: &mut [u8]) -> Result<usize, PortFault> {
         match read_on(self.rt, &mut self.open, name, at, into) {
             Ok(count) => Ok(count),
-            Err(_) => {
+            Err(error) => {
+                self.lacks_memory |= error.kind() == ErrorKind::OutOfMemory;
                 self.faults = self.faults.saturating_add(1);
                 Err(PortFault)
             }
