@@ -444,9 +444,18 @@ fn too_many_indices(index: &Mode) -> bool {
     !(1..=ELEMENTS).contains(&number_of_values(index))
 }
 
-// Rule L5: more scalars than a mode may have.
+// Rule L5: more scalars than a mode may have. One with a single part has as many as that, of which it was asked already.
 fn too_many_scalars(mode: &Mode) -> bool {
-    number_of_leaves(mode) > SCALARS
+    !has_one_part(mode) && number_of_leaves(mode) > SCALARS
+}
+
+// Whether the mode is an array of one element or a structure of one field.
+fn has_one_part(mode: &Mode) -> bool {
+    match mode {
+        Mode::Array { index, .. } => number_of_values(index) == 1,
+        Mode::Struct { fields, .. } => fields.as_slice().len() == 1,
+        _ => false,
+    }
 }
 
 // The fields, where all of them have a mode and a place or none.
