@@ -1,4 +1,6 @@
 // Texts of journals by hand: those that are read and written again, and lines that can't stand there.
+ghost use Rattle.std.specs.Prelude.{◌<◌, ◌^◌, IfOk, length};
+
 use journal_text::{JournalRefusal, read_journal, write_journal};
 use std::test::Fail;
 
@@ -52,11 +54,23 @@ const BAD: &[(&str, u32)] = &[
     ("chill journal 1\ndid 1 0 end raised done -\nend\n", 2),
 ];
 
+// The bytes of a text, which are to be fewer than 2^32.
+fn bytes_of(text: &str) -> Result<&[u8], Fail>
+    ensures { IfOk result (λ bytes. length bytes.now < 2 ^ 32) }
+{
+    let bytes = text.as_bytes();
+    if bytes.len() < 4_294_967_296 {
+        Ok(bytes)
+    } else {
+        Err(Fail::from("a long text"))
+    }
+}
+
 #[test]
 fn texts_by_hand_are_read_and_written_again(rt: HostRuntime) -> Result<(), Fail> {
     let alloc = rt.alloc();
     for text in TEXTS {
-        match read_journal(alloc, text.as_bytes()) {
+        match read_journal(alloc, bytes_of(text)?) {
             Ok(events) => {
                 let written = write_journal(alloc, events.as_slice())?;
                 assert_eq!(rt; written.as_slice(), text.as_bytes());
@@ -70,7 +84,7 @@ fn texts_by_hand_are_read_and_written_again(rt: HostRuntime) -> Result<(), Fail>
 #[test]
 fn the_first_line_that_cannot_stand_there_is_told(rt: HostRuntime) -> Result<(), Fail> {
     for (text, wanted) in BAD {
-        match read_journal(rt.alloc(), text.as_bytes()) {
+        match read_journal(rt.alloc(), bytes_of(text)?) {
             Err(JournalRefusal::BadLine { line }) => assert_eq!(rt; line, *wanted, "{text}"),
             _ => assert!(rt; false, "no bad line: {text}"),
         }
