@@ -6,4 +6,6 @@ pub mod Modes
 pub mod Needs
 pub mod Table
 pub mod Told
+pub mod NamedTrees
+pub mod Named
 pub mod Plain

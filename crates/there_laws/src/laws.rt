@@ -1,7 +1,7 @@
 // Laws of what is there where nothing is told. Each is a fact about the definitions, which a caller learns by calling the function.
 ghost use Rattle.there_laws.specs.Constants.{ConstantThereLaw};
 ghost use Rattle.there_laws.specs.Modes.{WrittenThereLaw};
-ghost use Rattle.there_laws.specs.Plain.{TextThereLaw};
+ghost use Rattle.there_laws.specs.Plain.{NamedSoLaw, TextThereLaw};
 ghost use Rattle.there_laws.specs.Shapes.{ConstantShapeLaw};
 ghost use Rattle.there_laws.specs.Table.{TableThereLaw};
 ghost use Rattle.there_laws.specs.Told.{UntoldLaw};
@@ -23,6 +23,7 @@ pub fn modes_law()
 /// for modes as they have to.
 pub fn table_law()
     ensures table { TableThereLaw }
+    ensures named { NamedSoLaw }
     ensures text { TextThereLaw }
 {}
 
