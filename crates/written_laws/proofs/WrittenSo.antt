@@ -184,7 +184,7 @@ parts_written (Some ws) filled few = each_written ws filled few
 -- ---- what defines something
 
 written_so : (o : Origin) → IsShaped o → AreFew (sets_of o) → IsWrittenSo o
-written_so (a_synonym s) shaped few = (some_written s.mode shaped.0 few, shaped.1)
+written_so (a_synonym s) shaped few = (some_written s.mode shaped.0 few, shaped.1.0)
 written_so (a_mode novel w) shaped few = tt
 written_so (an_element ns part owner) shaped few = few.0
 written_so (a_location d) shaped few = mode_written d.mode shaped few
