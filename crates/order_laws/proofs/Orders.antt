@@ -24,7 +24,7 @@ names_done : (g : Ground) (done : List ℕ) (ns : List Name) → ((x : ℕ) → 
 names_done g done [] has = tt
 names_done g done (n ∷ ns) has = (
   λ read. number_done done (number_at g.uses n.at) (λ x c.
-  has x (Contains-append_left (read_number g n) (flat_map (read_number g) ns) x (subst (λ b. Contains (if b then some_number (number_at g.uses n.at) else []) x) (sym read) c))),
+      has x (Contains-append_left (read_number g n) (flat_map (read_number g) ns) x (subst (λ b. Contains (if b then some_number (number_at g.uses n.at) else []) x) (sym read) c))),
   names_done g done ns (λ x c. has x (Contains-append_right (read_number g n) (flat_map (read_number g) ns) x c)),
 )
 
@@ -211,8 +211,10 @@ in_before (d ∷ done) order x (inl c) = elim (in_cases d done x c) [
 
 pub some_order : OrderLaw
 some_order g none =
-    let done = all_added g none in
-    (before done.all [], record {
-      earlier = needs_earlier g done.all [] done.ordered tt;
-      all = λ d less. in_before done.all [] d (inl (done.has d (in_numbers (length g.origins) 0 d (omega arith) (omega (arith, less)))));
-    })
+    let done = all_added g none in (
+      before done.all [],
+      record {
+        earlier = needs_earlier g done.all [] done.ordered tt;
+        all = λ d less. in_before done.all [] d (inl (done.has d (in_numbers (length g.origins) 0 d (omega arith) (omega (arith, less)))));
+      },
+    )

@@ -159,8 +159,7 @@ mutual
   parts_pass test no_parts r from each = tt
   parts_pass test (more_parts p ps) r from each =
       let inside = nodes_inside r from p in
-      let behind = nodes r (from + size_of p) ps in
-      (
+      let behind = nodes r (from + size_of p) ps in (
         part_passes test p r from (each (node r from p) (here_in (node r from p) (inside ++ behind) (node r from p) refl)) (λ k c. each k (later_in (node r from p) (inside ++ behind) k (Contains-append_left inside behind k c))),
         parts_pass test ps r (from + size_of p) (λ k c. each k (later_in (node r from p) (inside ++ behind) k (Contains-append_right inside behind k c))),
       )
@@ -195,8 +194,7 @@ clauses_so test text r used (c ∷ cs) so within none = (
 part_so : (test : Mention → Bool) (text : List Definition) (r : Reach) (p : PartTree) → SoWhereUntold test text r (used_in p) → told_here text r p ≡ [] → OwnPasses test p
 part_so test text r (define c) so none = mentions_so test text r (used_in (define c)) c.text so (λ n i. i) none
 part_so test text r (routine n kind params result count ps) so none =
-    let used = used_in (routine n kind params result count ps) in
-    (
+    let used = used_in (routine n kind params result count ps) in (
       clauses_so test text r used params so (λ m i. Contains-append_left (used_in_clauses params) (used_in_mentions result) m i) (none_first (told_clauses text r params) (told_mentions text r result) none),
       mentions_so test text r used result so (λ m i. Contains-append_right (used_in_clauses params) (used_in_mentions result) m i) (none_later (told_clauses text r params) (told_mentions text r result) none),
     )

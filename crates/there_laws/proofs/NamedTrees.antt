@@ -150,8 +150,7 @@ mutual
   base_named g (written.structure at fs p) filled defined so = fields_named g fs filled.1 defined so
   base_named g (written.array at i b s) filled defined so =
       let first = mentions_of_index i ++ mentions_of_base b in
-      let two = so_first g first (mentions_of_spread s) so in
-      (
+      let two = so_first g first (mentions_of_spread s) so in (
         index_named g i (so_first g (mentions_of_index i) (mentions_of_base b) two),
         (base_named g b filled defined (so_later g (mentions_of_index i) (mentions_of_base b) two), spread_named g s (so_later g first (mentions_of_spread s) so)),
       )
@@ -160,8 +159,7 @@ mutual
   fields_named g written.no_fields filled defined so = tt
   fields_named g (written.more_fields ns b p fs) filled defined so =
       let first = mentions_of_base b ++ mentions_of_some_place p in
-      let own = so_first g first (mentions_of_fields fs) so in
-      (
+      let own = so_first g first (mentions_of_fields fs) so in (
         (
           base_named g b filled.0 (sets_first g (sets_in_base b) (sets_in_fields fs) defined) (so_first g (mentions_of_base b) (mentions_of_some_place p) own),
           some_place_named g p (so_later g (mentions_of_base b) (mentions_of_some_place p) own),

@@ -19,8 +19,8 @@ pub fn modes_law()
 {}
 
 /// In a table that an order of its definitions leads through, and of which nothing is told, what constants and modes need of
-/// names is there of each name; so it is in a text that breaks no rule on names, modes and constants, where its names stand
-/// for modes as they have to.
+/// names is there of each name. In a text that breaks no rule on names these stand for modes where they have to; so what is
+/// needed is there in a text that breaks no rule on names, modes and constants.
 pub fn table_law()
     ensures table { TableThereLaw }
     ensures named { NamedSoLaw }
