@@ -8,10 +8,9 @@ use Rattle.std.proofs.lemmas.List.Elements.{Contains-append_left, Contains-appen
 use Rattle.chill_tree.specs.declared.tree.name.Name.{Name}
 use Rattle.names_model.specs.Definitions.{numbers_on}
 use Rattle.names_laws.proofs.Members.{none_in, here_in, later_in, in_cases}
-use Rattle.checks_model.specs.Ground.{Ground, Origin, a_synonym, a_mode, an_element, a_location, a_parameter, a_counter, a_received, a_procedure, a_process, a_signal, a_modulion, a_predefined, origin_of, number_at}
+use Rattle.checks_model.specs.Ground.{Ground, Origin, a_synonym, a_mode, an_element, a_location, a_parameter, a_counter, a_received, a_procedure, a_process, a_signal, a_modulion, a_predefined, number_at}
 use Rattle.table_laws.specs.Names.{names_needed}
-use Rattle.table_laws.specs.Frames.{is_read}
-use Rattle.table_laws.specs.OneTable.{AllDone, NeedsDone, NeedsEarlier, IsOrder}
+use Rattle.table_laws.specs.OneTable.{AllDone, NeedsDone, NeedsEarlier}
 use Rattle.order_laws.specs.Orders.{some_number, read_number, needed_by, needs, LeadsTo, at_once, through, OrderLaw}
 
 -- ---- what is needed is done

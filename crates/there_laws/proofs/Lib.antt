@@ -9,3 +9,4 @@ pub mod Told
 pub mod NamedTrees
 pub mod Named
 pub mod Plain
+pub mod Counted

@@ -1,16 +1,14 @@
 -- The names of a text stand for modes where they have to, where N5 is told of nothing.
-use Rattle.std.proofs.Common.{◌≡◌, ℕ, zero, suc, ◌+◌, Bool, true, false, ◌||◌, List, [], ◌∷◌, ◌++◌, Option, Some, None, refl, sym, ap, ◌∙◌, subst, true≢false, inl, inr, Contains}
-use Rattle.std.specs.Prelude.{flat_map, slice_get, option_and_then, IsSome, if◌then◌else◌}
+use Rattle.std.proofs.Common.{◌≡◌, ℕ, zero, suc, ◌+◌, Bool, true, false, ◌||◌, List, [], ◌∷◌, ◌++◌, Option, Some, None, refl, sym, subst, true≢false, inl, inr, Contains}
+use Rattle.std.specs.Prelude.{flat_map, slice_get, option_and_then}
 use Rattle.std.proofs.lemmas.List.Elements.{Contains-append_left, Contains-append_right}
 use Rattle.diagnostics.specs.declared.diagnostic.Diagnostic.{Diagnostic}
 use Rattle.chill_tree.specs.declared.token.Token.{Token}
 use Rattle.chill_tree.specs.declared.tree.name.Name.{Name}
 use Rattle.chill_tree.specs.ItemTree.{ProgramTree}
-use Rattle.rules_model.specs.Diagnoses.{HasTree}
 use Rattle.names_model.specs.declared.identifier.Identifier.{Identifier}
 use Rattle.names_model.specs.declared.definition.Definition.{Definition}
 use Rattle.names_model.specs.declared.kind.Kind.{Kind}
-use Rattle.names_model.specs.declared.kind.Need.{Need}
 use Rattle.names_model.specs.declared.kind.Need.TheVariants as needs
 use Rattle.names_model.specs.declared.part.Mention.{Mention}
 use Rattle.names_model.specs.declared.part.Mention.TheVariants.{Use, Argument, Element}
@@ -20,18 +18,18 @@ use Rattle.names_model.specs.Parts.{PartTree, PartNodes, define, mention, seize,
 use Rattle.names_model.specs.Sizes.{head_size, size_of}
 use Rattle.names_model.specs.Definitions.{text_definitions, with_predefined, kind_of, is_of, is_kind_at}
 use Rattle.names_model.specs.Dependence.{told_selves, groups_in}
-use Rattle.names_model.specs.Seeing.{Reach, outermost, in_modulion, in_block, sees}
+use Rattle.names_model.specs.Seeing.{Reach, outermost, in_modulion, in_block}
 use Rattle.names_model.specs.NameRules.{Node, node, nodes, nodes_inside, body_reach, any_kind, told_use, told_mention, told_mentions, told_here, told, twice_inside, told_twice, told_in, told_surplus}
 use Rattle.names_model.specs.Resolving.{told_of_names, broken_names, level_of}
-use Rattle.names_laws.proofs.Members.{here_in, later_in, none_in, in_cases, in_flat_map}
+use Rattle.names_laws.proofs.Members.{here_in, later_in, none_in, in_cases}
 use Rattle.names_laws.proofs.RisingTokens.{rising_tokens}
 use Rattle.ground_laws.specs.Defining.{kind_of_predefined, Defines, AllDefine}
-use Rattle.ground_laws.specs.Rows.{used_in_mention, used_in_mentions, used_in, IsUsedAt, uses_of, SeesJust, IsResolved}
+use Rattle.ground_laws.specs.Rows.{used_in_mention, used_in_mentions, used_in, IsUsedAt, IsResolved}
 use Rattle.ground_laws.proofs.Rows.{each_use}
 use Rattle.ground_laws.proofs.Defining.{origins_define}
-use Rattle.checks_model.specs.Ground.{Ground, Origin, Predefined, of_mode, truth, no_instance, num, succ, pred, abs, card, min, max, upper, lower, size, put_int, put_text, put_nl, get_int, a_synonym, a_mode, an_element, a_location, a_parameter, a_counter, a_received, a_procedure, a_process, a_signal, a_modulion, a_predefined, number_at, Entry}
+use Rattle.checks_model.specs.Ground.{Ground, Origin, Predefined, of_mode, truth, no_instance, num, succ, pred, abs, card, min, max, upper, lower, size, put_int, put_text, put_nl, get_int, a_synonym, a_mode, an_element, a_location, a_parameter, a_counter, a_received, a_procedure, a_process, a_signal, a_modulion, a_predefined, Entry}
 use Rattle.checks_model.specs.Origins.{text_origins, predefined_origins, in_both_cases, origins_of}
-use Rattle.checks_model.specs.Table.{numbered, ground_with}
+use Rattle.checks_model.specs.Table.{ground_with}
 use Rattle.checks_model.specs.Diagnoses.{HasNames}
 use Rattle.elaborated_laws.proofs.Told.{none_first, none_later, no_some, same_some}
 use Rattle.written_laws.specs.Written.{Each}
@@ -44,7 +42,7 @@ use Rattle.written_laws.proofs.Defining.{program_defining, program_passing}
 use Rattle.written_laws.proofs.WrittenSo.{none_listed, first_named, number_there, each_pair, each_there, each_predefined}
 use Rattle.there_laws.specs.Table.{stands_for_mode}
 use Rattle.there_laws.specs.Plain.{IsNamedSo, AllNamedSo, NamedSoLaw}
-use Rattle.there_laws.proofs.NamedTrees.{needed_so, is_so, IsSetDefined, AreSetsDefined, named_so}
+use Rattle.there_laws.proofs.NamedTrees.{is_so, IsSetDefined, AreSetsDefined, named_so}
 
 -- ---- what has the kind of a mode
 

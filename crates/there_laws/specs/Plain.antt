@@ -3,7 +3,7 @@ use Rattle.std.specs.Prelude.{◌≡◌, ℕ, List, Some, slice_get}
 use Rattle.chill_tree.specs.declared.tree.name.Name.{Name}
 use Rattle.chill_tree.specs.ItemTree.{ProgramTree}
 use Rattle.checks_model.specs.Ground.{Ground, Origin, a_synonym, a_mode, a_location, a_parameter}
-use Rattle.checks_model.specs.Table.{ground_with}
+use Rattle.checks_model.specs.Table.{ground_with, IsStatementGroundOf}
 use Rattle.checks_model.specs.Diagnoses.{HasNames, HasModes}
 use Rattle.table_laws.specs.OneTable.{IsOrder}
 use Rattle.there_laws.specs.Table.{TuplesNamed, ModeNamed, SomeModeNamed, IsNameThere}
@@ -27,3 +27,7 @@ NamedSoLaw = (text : List ℕ) (t : ProgramTree) (g : Ground) → HasNames text 
 -- its definitions.
 abbrev pub TextThereLaw : Type 0
 TextThereLaw = (text : List ℕ) (t : ProgramTree) (g : Ground) (order : List ℕ) → HasModes text t g → IsOrder g order → (n : Name) → IsNameThere g n
+
+-- So it does where its ground knows counters.
+abbrev pub CountersThereLaw : Type 0
+CountersThereLaw = (text : List ℕ) (t : ProgramTree) (g h : Ground) (order : List ℕ) → HasModes text t g → IsStatementGroundOf t h → IsOrder g order → (n : Name) → IsNameThere h n

@@ -1,6 +1,6 @@
 -- The texts that define something: a test that holds of each mention in a program's parts.
 use Rattle.std.proofs.Common.{◌≡◌, ℕ, Bool, true, List, [], ◌∷◌, ◌++◌, Option, Some, None, length}
-use Rattle.std.specs.Prelude.{map, flat_map, replicate}
+use Rattle.std.specs.Prelude.{flat_map, replicate}
 use Rattle.chill_tree.specs.declared.tree.name.Name.{Name}
 use Rattle.chill_tree.specs.ModeTree as written
 use Rattle.names_model.specs.declared.part.Mention.{Mention}
