@@ -6,4 +6,7 @@ pub mod Modes
 pub mod Needs
 pub mod Table
 pub mod Told
+pub mod NamedTrees
+pub mod Named
 pub mod Plain
+pub mod Counted

@@ -7,6 +7,7 @@ use Rattle.there_laws.specs.Told.{IsUntold}
 use Rattle.there_laws.specs.Plain.{IsNamedSo, TextThereLaw}
 use Rattle.there_laws.proofs.Table.{table_there}
 use Rattle.there_laws.proofs.Told.{untold}
+use Rattle.there_laws.proofs.Named.{all_named}
 
 sound : (g : Ground) (o : Origin) → IsNamedSo g o → IsUntold g o → IsSound g o
 sound g (a_synonym s) named none = (named, none)
@@ -16,7 +17,8 @@ sound g (a_parameter w) named none = (named, none)
 sound g o named none = tt
 
 pub text_there : TextThereLaw
-text_there text t g order has is_order named =
+text_there text t g order has is_order =
     let names = has.is_ground.names in
+    let named = all_named text t g has.has_names names in
     let all : AllSound g = λ d o at. sound g o (named d o at) (untold g t (ap (λ (h : Ground). h.origins) names) has.modes d o at) in
     table_there g order has.is_ground.entries is_order (all_defined text t g has.has_names names) (all_written text t g has.has_names names) all

@@ -3,7 +3,8 @@ use Rattle.std.specs.Prelude.{◌≡◌, ℕ, List, Some, slice_get}
 use Rattle.chill_tree.specs.declared.tree.name.Name.{Name}
 use Rattle.chill_tree.specs.ItemTree.{ProgramTree}
 use Rattle.checks_model.specs.Ground.{Ground, Origin, a_synonym, a_mode, a_location, a_parameter}
-use Rattle.checks_model.specs.Diagnoses.{HasModes}
+use Rattle.checks_model.specs.Table.{ground_with, IsStatementGroundOf}
+use Rattle.checks_model.specs.Diagnoses.{HasNames, HasModes}
 use Rattle.table_laws.specs.OneTable.{IsOrder}
 use Rattle.there_laws.specs.Table.{TuplesNamed, ModeNamed, SomeModeNamed, IsNameThere}
 
@@ -18,7 +19,15 @@ IsNamedSo g o = Unit {0}
 abbrev pub AllNamedSo : Ground → Type 0
 AllNamedSo g = (d : ℕ) (o : Origin) → slice_get g.origins d ≡ Some o → IsNamedSo g o
 
--- In a text that breaks no rule on names, modes and constants each name has what constants and modes need, where its names stand for modes
--- as they have to, and an order leads through its definitions.
+-- They do in a text that breaks no rule on names.
+abbrev pub NamedSoLaw : Type 0
+NamedSoLaw = (text : List ℕ) (t : ProgramTree) (g : Ground) → HasNames text t → g ≡ ground_with t g.entries → AllNamedSo g
+
+-- In a text that breaks no rule on names, modes and constants each name has what constants and modes need, where an order leads through
+-- its definitions.
 abbrev pub TextThereLaw : Type 0
-TextThereLaw = (text : List ℕ) (t : ProgramTree) (g : Ground) (order : List ℕ) → HasModes text t g → IsOrder g order → AllNamedSo g → (n : Name) → IsNameThere g n
+TextThereLaw = (text : List ℕ) (t : ProgramTree) (g : Ground) (order : List ℕ) → HasModes text t g → IsOrder g order → (n : Name) → IsNameThere g n
+
+-- So it does where its ground knows counters.
+abbrev pub CountersThereLaw : Type 0
+CountersThereLaw = (text : List ℕ) (t : ProgramTree) (g h : Ground) (order : List ℕ) → HasModes text t g → IsStatementGroundOf t h → IsOrder g order → (n : Name) → IsNameThere h n

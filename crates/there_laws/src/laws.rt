@@ -1,7 +1,7 @@
 // Laws of what is there where nothing is told. Each is a fact about the definitions, which a caller learns by calling the function.
 ghost use Rattle.there_laws.specs.Constants.{ConstantThereLaw};
 ghost use Rattle.there_laws.specs.Modes.{WrittenThereLaw};
-ghost use Rattle.there_laws.specs.Plain.{TextThereLaw};
+ghost use Rattle.there_laws.specs.Plain.{CountersThereLaw, NamedSoLaw, TextThereLaw};
 ghost use Rattle.there_laws.specs.Shapes.{ConstantShapeLaw};
 ghost use Rattle.there_laws.specs.Table.{TableThereLaw};
 ghost use Rattle.there_laws.specs.Told.{UntoldLaw};
@@ -19,11 +19,13 @@ pub fn modes_law()
 {}
 
 /// In a table that an order of its definitions leads through, and of which nothing is told, what constants and modes need of
-/// names is there of each name; so it is in a text that breaks no rule on names, modes and constants, where its names stand
-/// for modes as they have to.
+/// names is there of each name. In a text that breaks no rule on names these stand for modes where they have to; so what is
+/// needed is there in a text that breaks no rule on names, modes and constants, and where its counters are known too.
 pub fn table_law()
     ensures table { TableThereLaw }
+    ensures named { NamedSoLaw }
     ensures text { TextThereLaw }
+    ensures counters { CountersThereLaw }
 {}
 
 /// Where the list of a program's modes and constants is empty nothing is told of the modes and values that its definitions are

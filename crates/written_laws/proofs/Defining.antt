@@ -1,5 +1,5 @@
 -- What defines something in a text: its SETs' elements are among the definitions, and so are the names of the modes that SETs are
--- the whole of.
+-- the whole of; and what holds of each mention in the text's parts holds of those in its text.
 use Rattle.std.proofs.Common.{◌≡◌, ℕ, suc, ◌+◌, Bool, true, false, List, [], ◌∷◌, ◌++◌, Option, Some, None, ◌⊎◌, inl, inr, length, refl, sym, ap, ◌∙◌, subst, append_assoc, append-nil}
 use Rattle.std.specs.Prelude.{map, flat_map, replicate, if◌then◌else◌}
 use Rattle.chill_base.specs.declared.pos.Pos.{Pos}
@@ -32,6 +32,7 @@ use Rattle.checks_model.specs.Ground.{Origin, a_synonym, a_mode, an_element, a_l
 use Rattle.checks_model.specs.Origins.{is_set, sets_in, elements, elements_of, elements_of_some, origins_of_synonym, owner_of, origins_of_mode, origins_of_declaration, origins_of_local, counters_in, received_in, origins_in, origins_in_bracketed, origins_in_each, origins_in_branches, origins_in_cases, origins_in_named, origins_in_receives, origins_in_otherwise, origins_in_handler, origins_in_parts, origins_of_signal, origins_of_param, origins_of_formal, origins_of_procedure, origins_of_process, origins_of_item, origins_of_items, text_origins}
 use Rattle.written_laws.specs.Written.{Each}
 use Rattle.written_laws.proofs.Shown.{each_append, each_map, each_any, each_flat, each_same}
+use Rattle.written_laws.proofs.Texts.{ClausePasses, HeadPasses, PartPasses, PartsPass, parts_split, TextPasses, elements_pass, some_pass, many_pass, names_pass}
 use Rattle.written_laws.proofs.Sets.{HasElements, HasSets, Closed, each_more, sets_of, sets_of_parts, sets_before, closed_both, sets_have, elements_closed, with_elements, some_closed, some_have, many_closed, many_have}
 
 -- ---- names at places
@@ -123,6 +124,7 @@ many_owned ds ws = each_flat (λ w. Unit {0}) (IsOwned ds) (elements_of None) (�
 pub record Defining (os : List Origin) (ps : List PartTree) : Type 0 where
   pub closed : Closed os
   pub owned : (inside : Inside) (from : ℕ) → Each (IsOwned (definitions_in inside from (part_nodes ps))) os
+  pub passing : (test : Mention → Bool) → PartsPass test (part_nodes ps) → Each (TextPasses test) os
 
 definitions_split : (inside : Inside) (from : ℕ) (ps qs : List PartTree)
     → (k : ℕ) × (definitions_in inside from (part_nodes (ps ++ qs)) ≡ definitions_in inside from (part_nodes ps) ++ definitions_in inside k (part_nodes qs))
@@ -132,11 +134,11 @@ definitions_split inside from (p ∷ ps) qs =
     (h.0, ap (λ ds. definitions_of inside from p ++ ds) h.1 ∙ sym (append_assoc (definitions_of inside from p) (definitions_in inside (from + size_of p) (part_nodes ps)) (definitions_in inside h.0 (part_nodes qs))))
 
 nothing : (ps : List PartTree) → Defining [] ps
-nothing ps = record { closed = tt; owned = λ inside from. tt }
+nothing ps = record { closed = tt; owned = λ inside from. tt; passing = λ test pass. tt }
 
 -- what has no owner
-unowned : (os : List Origin) (ps : List PartTree) → Closed os → ((ds : List Definition) → Each (IsOwned ds) os) → Defining os ps
-unowned os ps closed owned = record { closed = closed; owned = λ inside from. owned (definitions_in inside from (part_nodes ps)) }
+unowned : (os : List Origin) (ps : List PartTree) → Closed os → ((ds : List Definition) → Each (IsOwned ds) os) → ((test : Mention → Bool) → PartsPass test (part_nodes ps) → Each (TextPasses test) os) → Defining os ps
+unowned os ps closed owned passing = record { closed = closed; owned = λ inside from. owned (definitions_in inside from (part_nodes ps)); passing = passing }
 
 joined : {os us : List Origin} {ps qs : List PartTree} → Defining os ps → Defining us qs → Defining (os ++ us) (ps ++ qs)
 joined {os = os} {us = us} {ps = ps} {qs = qs} m k = record {
@@ -147,23 +149,30 @@ joined {os = os} {us = us} {ps = ps} {qs = qs} m k = record {
       let es = definitions_in inside h.0 (part_nodes qs) in
       subst (λ fs. Each (IsOwned fs) (os ++ us)) (sym h.1)
       (each_append (IsOwned (ds ++ es)) os us (each_more (IsOwned ds) (IsOwned (ds ++ es)) (owned_first ds es) os (m.owned inside from)) (each_more (IsOwned es) (IsOwned (ds ++ es)) (owned_later ds es) us (k.owned inside h.0)));
+  passing = λ test pass. let h = parts_split test ps qs pass in each_append (TextPasses test) os us (m.passing test h.0) (k.passing test h.1);
 }
 
-one_part : {os : List Origin} {p : PartTree} → Closed os → ((inside : Inside) (from : ℕ) → Each (IsOwned (definitions_of inside from p)) os) → Defining os (p ∷ [])
-one_part {os = os} {p = p} closed h = record { closed = closed; owned = λ inside from. subst (λ ds. Each (IsOwned ds) os) (sym (append-nil (definitions_of inside from p))) (h inside from) }
+one_part : {os : List Origin} {p : PartTree} → Closed os → ((inside : Inside) (from : ℕ) → Each (IsOwned (definitions_of inside from p)) os) → ((test : Mention → Bool) → PartPasses test p → Each (TextPasses test) os) → Defining os (p ∷ [])
+one_part {os = os} {p = p} closed h passing = record {
+  closed = closed;
+  owned = λ inside from. subst (λ ds. Each (IsOwned ds) os) (sym (append-nil (definitions_of inside from p))) (h inside from);
+  passing = λ test pass. passing test pass.0;
+}
 
 blocked : {os : List Origin} {ps : List PartTree} → Defining os ps → Defining os (block_of ps ∷ [])
-blocked m = one_part m.closed (λ inside from. m.owned (within inside) from)
+blocked m = one_part m.closed (λ inside from. m.owned (within inside) from) m.passing
 
 -- ---- definition statements
 
 -- names of one definition that owns no SET, then the elements in its mode
-names_defining : (count : ℕ) (o : Origin) (inside : List Origin) (ps : List PartTree) → Each (HasElements inside) (sets_of o) → Closed inside → ((ds : List Definition) → IsOwned ds o) → ((ds : List Definition) → Each (IsOwned ds) inside) → Defining (replicate count o ++ inside) ps
-names_defining count o inside ps has closed own owned =
+names_defining : (count : ℕ) (o : Origin) (inside : List Origin) (ps : List PartTree) → Each (HasElements inside) (sets_of o) → Closed inside → ((ds : List Definition) → IsOwned ds o) → ((ds : List Definition) → Each (IsOwned ds) inside)
+    → ((test : Mention → Bool) → PartsPass test (part_nodes ps) → TextPasses test o) → ((test : Mention → Bool) → Each (TextPasses test) inside) → Defining (replicate count o ++ inside) ps
+names_defining count o inside ps has closed own owned passing untold =
     unowned (replicate count o ++ inside) ps (with_elements count o inside has closed) (λ ds. each_append (IsOwned ds) (replicate count o) inside (each_same (IsOwned ds) count o (own ds)) (owned ds))
+    (λ test pass. names_pass test count o inside (passing test pass) (untold test))
 
 synonym_defining : (s : SynonymTree) → Defining (origins_of_synonym s) (synonym_part s ∷ [])
-synonym_defining s = names_defining (length s.names) (a_synonym s) (elements_of_some s.mode) (synonym_part s ∷ []) (some_have s.mode) (some_closed s.mode) (λ ds. tt) (λ ds. some_owned ds s.mode)
+synonym_defining s = names_defining (length s.names) (a_synonym s) (elements_of_some s.mode) (synonym_part s ∷ []) (some_have s.mode) (some_closed s.mode) (λ ds. tt) (λ ds. some_owned ds s.mode) (λ test pass. pass.0) (λ test. some_pass test s.mode)
 
 -- the owner of a mode's SET is the mode's own name, which stands first
 owner_named : (b : Bool) (n : Name) (novel : Bool) (x : Definition) (ds : List Definition) → x.name.at ≡ n.at → IsSomeNamed (x ∷ ds) (if b then Some (n, novel) else None)
@@ -177,9 +186,11 @@ mode_defining novel d =
     let inner = elements_in (mentions_of_mode d.mode) in
     let own : Definition = record { name = identifier d.name; kind = kinds.Mode; inside = inside; elements = elements_with kinds.Mode inner } in
     (tt, elements_owned (definitions_of inside from (mode_part d)) (owner_of novel d) (sets_in d.mode) (owner_named (is_set d.mode) d.name novel own (elements_defined inside inner) refl)))
+    (λ test pass. (pass, elements_pass test (owner_of novel d) (sets_in d.mode)))
 
 declaration_defining : (d : DeclarationTree) → Defining (origins_of_declaration d) (declaration_parts d)
 declaration_defining d = names_defining (length d.names) (a_location d) (elements_of None d.mode) (declaration_parts d) (sets_have None (sets_in d.mode)) (elements_closed None (sets_in d.mode)) (λ ds. tt) (λ ds. elements_owned ds None (sets_in d.mode) tt)
+    (λ test pass. pass.0) (λ test. elements_pass test None (sets_in d.mode))
 
 synonyms_defining : (ss : List SynonymTree) → Defining (flat_map origins_of_synonym ss) (map synonym_part ss)
 synonyms_defining [] = nothing []
@@ -204,8 +215,8 @@ local_defining (locations at ds) = declarations_defining ds
 counters_defining : (c : ControlTree) (ps : List PartTree) → Defining (counters_in c) ps
 counters_defining (while_holds at c) ps = nothing ps
 counters_defining (for_ever at) ps = nothing ps
-counters_defining (for_members at n s c) ps = unowned (a_counter (for_members at n s c) ∷ []) ps (tt, tt) (λ ds. (tt, tt))
-counters_defining (for_steps at n s b down e c) ps = unowned (a_counter (for_steps at n s b down e c) ∷ []) ps (tt, tt) (λ ds. (tt, tt))
+counters_defining (for_members at n s c) ps = unowned (a_counter (for_members at n s c) ∷ []) ps (tt, tt) (λ ds. (tt, tt)) (λ test pass. (tt, tt))
+counters_defining (for_steps at n s b down e c) ps = unowned (a_counter (for_steps at n s b down e c) ∷ []) ps (tt, tt) (λ ds. (tt, tt)) (λ test pass. (tt, tt))
 
 received_defining : (n : Name) (r : Option (List Name)) (ps : List PartTree) → Defining (received_in n r) ps
 received_defining n None ps = nothing ps
@@ -213,6 +224,7 @@ received_defining n (Some ns) ps =
     let numbers = numbers_on 0 (length ns) in
     let any = each_any (λ k. Unit {0}) (λ k. tt) numbers in
     unowned (received_in n (Some ns)) ps (each_map (λ k. Unit {0}) (HasSets (received_in n (Some ns))) (a_received n (length ns)) (λ k fits. tt) numbers any) (λ ds. each_map (λ k. Unit {0}) (IsOwned ds) (a_received n (length ns)) (λ k fits. tt) numbers any)
+    (λ test pass. each_map (λ k. Unit {0}) (TextPasses test) (a_received n (length ns)) (λ k fits. tt) numbers any)
 
 mutual
   statement_defining : (s : StatementTree) (labels : List Name) → Defining (origins_in s) (statement_parts labels s)
@@ -283,8 +295,12 @@ parts_owned : (ds : List Definition) (ws : Option (List written.ModeTree)) → E
 parts_owned ds None = tt
 parts_owned ds (Some ws) = many_owned ds ws
 
+parts_pass : (test : Mention → Bool) (ws : Option (List written.ModeTree)) → Each (TextPasses test) (origins_of_parts ws)
+parts_pass test None = tt
+parts_pass test (Some ws) = many_pass test ws
+
 signal_defining : (s : SignalTree) → Defining (origins_of_signal s) (signal_parts s)
-signal_defining s = unowned (origins_of_signal s) (signal_parts s) (with_elements 1 (a_signal s) (origins_of_parts s.parts) (parts_have s.parts) (parts_closed s.parts)) (λ ds. (tt, parts_owned ds s.parts))
+signal_defining s = unowned (origins_of_signal s) (signal_parts s) (with_elements 1 (a_signal s) (origins_of_parts s.parts) (parts_have s.parts) (parts_closed s.parts)) (λ ds. (tt, parts_owned ds s.parts)) (λ test pass. (pass.0, parts_pass test s.parts))
 
 signals_defining : (ss : List SignalTree) → Defining (flat_map origins_of_signal ss) (flat_map signal_parts ss)
 signals_defining [] = nothing []
@@ -310,13 +326,24 @@ formals_closed (p ∷ ps) = closed_both (origins_of_formal p) (flat_map origins_
 formals_owned : (ds : List Definition) (ps : List FormalTree) → Each (IsOwned ds) (flat_map origins_of_formal ps)
 formals_owned ds ps = each_flat (λ p. Unit {0}) (IsOwned ds) origins_of_formal (λ p fits. param_owned ds p.mode p.names) ps (each_any (λ p. Unit {0}) (λ p. tt) ps)
 
+params_pass : (test : Mention → Bool) (ps : List ParamTree) → Each (ClausePasses test) (map param_clause ps) → Each (TextPasses test) (flat_map origins_of_param ps)
+params_pass test [] pass = tt
+params_pass test (p ∷ ps) pass =
+    each_append (TextPasses test) (origins_of_param p) (flat_map origins_of_param ps) (names_pass test (length p.names) (a_parameter p.mode) (elements_of None p.mode) pass.0 (elements_pass test None (sets_in p.mode))) (params_pass test ps pass.1)
+
+formals_pass : (test : Mention → Bool) (ps : List FormalTree) → Each (ClausePasses test) (map formal_clause ps) → Each (TextPasses test) (flat_map origins_of_formal ps)
+formals_pass test [] pass = tt
+formals_pass test (p ∷ ps) pass =
+    each_append (TextPasses test) (origins_of_formal p) (flat_map origins_of_formal ps) (names_pass test (length p.names) (a_parameter p.mode) (elements_of None p.mode) pass.0 (elements_pass test None (sets_in p.mode))) (formals_pass test ps pass.1)
+
 -- a routine: its own definition with its head, and its body
 routine_defining : (os body : List Origin) (n : Identifier) (kind : Kind) (params : List Clause) (result : List Mention) (ps : List PartTree) → Closed os → ((ds : List Definition) → Each (IsOwned ds) os) → Defining body ps
-    → Defining (os ++ body) (routine n kind params result (sizes_of (part_nodes ps)) (part_nodes ps) ∷ [])
-routine_defining os body n kind params result ps closed owned inner = one_part (closed_both os body closed inner.closed) (λ inside from.
+    → ((test : Mention → Bool) → HeadPasses test params result → Each (TextPasses test) os) → Defining (os ++ body) (routine n kind params result (sizes_of (part_nodes ps)) (part_nodes ps) ∷ [])
+routine_defining os body n kind params result ps closed owned inner passing = one_part (closed_both os body closed inner.closed) (λ inside from.
     let ds = defined inside kind n ∷ params_defined inside (Body from) params ++ elements_defined inside (elements_in result) in
     let es = definitions_in (Body from) (from + head_size params result) (part_nodes ps) in
     each_append (IsOwned (ds ++ es)) os body (owned (ds ++ es)) (each_more (IsOwned es) (IsOwned (ds ++ es)) (owned_later ds es) body (inner.owned (Body from) (from + head_size params result))))
+    (λ test pass. each_append (TextPasses test) os body (passing test pass.0) (inner.passing test pass.1))
 
 body_of_defining : (ps : List BodyTree) (h : Option HandlerTree) → Defining (origins_in_parts (body_nodes ps) ++ origins_in_handler (handler_node h)) (whole_body ps h)
 body_of_defining ps h = joined (body_defining (body_nodes ps) []) (handler_defining (handler_node h) [])
@@ -328,12 +355,12 @@ procedure_defining p =
     routine_defining (a_procedure p ∷ params ++ result) (origins_in_parts (body_nodes p.body) ++ origins_in_handler (handler_node p.handler)) (identifier p.name) kinds.Procedure (map param_clause p.params) (mentions_of_some_mode p.returns) (whole_body p.body p.handler)
     (with_elements 1 (a_procedure p) (params ++ result) (sets_before params result (a_procedure p) (some_have p.returns)) (closed_both params result (params_closed p.params) (some_closed p.returns)))
     (λ ds. (tt, each_append (IsOwned ds) params result (params_owned ds p.params) (some_owned ds p.returns)))
-    (body_of_defining p.body p.handler)
+    (body_of_defining p.body p.handler) (λ test pass. (pass.1, each_append (TextPasses test) params result (params_pass test p.params pass.0) (some_pass test p.returns)))
 
 process_defining : (p : ProcessTree) → Defining (origins_of_process p) (process_part p ∷ [])
 process_defining p =
     routine_defining (a_process p ∷ flat_map origins_of_formal p.formals) (origins_in_parts (body_nodes p.body) ++ origins_in_handler (handler_node p.handler)) (identifier p.name) kinds.Process (map formal_clause p.formals) [] (whole_body p.body p.handler)
-    (with_elements 1 (a_process p) (flat_map origins_of_formal p.formals) tt (formals_closed p.formals)) (λ ds. (tt, formals_owned ds p.formals)) (body_of_defining p.body p.handler)
+    (with_elements 1 (a_process p) (flat_map origins_of_formal p.formals) tt (formals_closed p.formals)) (λ ds. (tt, formals_owned ds p.formals)) (body_of_defining p.body p.handler) (λ test pass. (tt, formals_pass test p.formals pass.0))
 
 -- ---- items
 
@@ -349,7 +376,7 @@ mutual
       let inner = joined (items_defining items) (handler_defining (handler_node h) []) in
       one_part (closed_both (a_modulion kind items ∷ []) (origins_of_items items ++ origins_in_handler (handler_node h)) (tt, tt) inner.closed) (λ inside from.
       let es = definitions_in (Modulion from) (suc from) (part_nodes (each_item items ++ handler_parts [] (handler_node h))) in
-      (tt, each_more (IsOwned es) (IsOwned (defined inside kinds.Modulion (identifier n) ∷ es)) (owned_later (defined inside kinds.Modulion (identifier n) ∷ []) es) (origins_of_items items ++ origins_in_handler (handler_node h)) (inner.owned (Modulion from) (suc from))))
+      (tt, each_more (IsOwned es) (IsOwned (defined inside kinds.Modulion (identifier n) ∷ es)) (owned_later (defined inside kinds.Modulion (identifier n) ∷ []) es) (origins_of_items items ++ origins_in_handler (handler_node h)) (inner.owned (Modulion from) (suc from)))) (λ test pass. (tt, inner.passing test pass))
   item_defining (action s) = statement_defining s []
 
   items_defining : (is : ItemNodes) → Defining (origins_of_items is) (each_item is)
@@ -363,3 +390,7 @@ modulions_defining (m ∷ ms) = joined (item_defining (modulion_item m)) (moduli
 -- what defines something in a program
 pub program_defining : (t : ProgramTree) → Closed (text_origins t) × Each (IsOwned (text_definitions (level_of t))) (text_origins t)
 program_defining t = let m = modulions_defining t.modulions in (m.closed, m.owned Outermost 0)
+
+-- and what holds of each mention in the parts of a program holds of those in what it defines something by
+pub program_passing : (t : ProgramTree) (test : Mention → Bool) → PartsPass test (level_of t) → Each (TextPasses test) (text_origins t)
+program_passing t test pass = (modulions_defining t.modulions).passing test pass

@@ -7,5 +7,6 @@ pub mod ShownSimple
 pub mod ShownStatement
 pub mod ShownItem
 pub mod Sets
+pub mod Texts
 pub mod Defining
 pub mod WrittenSo

@@ -17,9 +17,12 @@ use Rattle.rules_model.specs.Diagnoses.{HasTree}
 use Rattle.checks_model.specs.Ground.{a_parameter}
 use Rattle.checks_model.specs.Origins.{sets_in, elements_of, elements_of_some, origins_in_parts, origins_in_handler, origins_of_signal, origins_of_param, origins_of_formal, origins_of_body, origins_of_procedure, origins_of_process, origins_of_item, origins_of_items, text_origins}
 use Rattle.checks_model.specs.Sites.{Around, in_procedure, in_no_procedure, at_item, at_mode, at_body, sites_of_parts, sites_of_handler, sites_of_modes, sites_of_result, sites_of_body, sites_of_procedure, sites_of_process, sites_of_item, sites_of_items, locals_of_body, sites}
-use Rattle.written_laws.specs.Written.{Each, HasShortExprs, ShortTextsLaw}
+use Rattle.elaborated_laws.specs.Classes.{HasShortTexts}
+use Rattle.written_laws.specs.Written.{Each, exprs_at, HasShortExprs, HasNamed, HasNamedExprs, ShortTextsLaw, PathsLaw}
 use Rattle.written_laws.proofs.Shown.{Shown, none, skip, ends, both, before, behind, so, Shows, listed, each_append, each_any, each_map, each_flat, and_one}
 use Rattle.written_laws.proofs.Tokens.{tokens_short}
+use Rattle.written_laws.proofs.Sets.{each_more}
+use Rattle.written_laws.proofs.ShownExpr.{IsSpelled, AreSpelled}
 use Rattle.written_laws.proofs.ShownMode.{IsFilled, names_passed, closing_passed, mode_shown}
 use Rattle.written_laws.proofs.ShownLocal.{IsSomeFilled, AreSomeFilled, IsShaped, Fine, fine_both, fine_before, elements_shaped, some_elements_shaped, names_shaped, local_shown}
 use Rattle.written_laws.proofs.ShownStatement.{IsHandled, statement_shown, handler_shown, body_shown}
@@ -29,8 +32,8 @@ passed_by (pass_names d) = names_passed d
 passed_by pass_all = skip none
 
 -- nodes of modes have no expressions that are asked
-modes_short : (ms : List ModeTree) → Each HasShortExprs (map at_mode ms)
-modes_short ms = each_map (λ m. Unit {0}) HasShortExprs at_mode (λ m fits. tt) ms (each_any (λ m. Unit {0}) (λ m. tt) ms)
+modes_short : (ms : List ModeTree) → Each AreSpelled (map at_mode ms)
+modes_short ms = each_map (λ m. Unit {0}) AreSpelled at_mode (λ m fits. tt) ms (each_any (λ m. Unit {0}) (λ m. tt) ms)
 
 -- ---- signals
 
@@ -51,7 +54,7 @@ SignalIs s = AreSomeFilled s.parts
 signal_shown : Shows SignalIs IsSignal
 signal_shown s toks rest (is_signal ms t) = skip (before (signal_parts_shown ms) (receiver_passed t))
 
-signal_sites_short : (ms : Option (List ModeTree)) → Each HasShortExprs (sites_of_modes ms)
+signal_sites_short : (ms : Option (List ModeTree)) → Each AreSpelled (sites_of_modes ms)
 signal_sites_short None = tt
 signal_sites_short (Some ms) = modes_short ms
 
@@ -63,7 +66,7 @@ signal_shaped s is = (is, by_parts s.parts)
     by_parts (Some ws) = each_flat (λ w. Unit {0}) IsShaped (elements_of None) (λ w fits. elements_shaped None (sets_in w)) ws (each_any (λ w. Unit {0}) (λ w. tt) ws)
 
 signals_fine : (ss : List SignalTree) → Each SignalIs ss → Fine (flat_map (λ s. sites_of_modes s.parts) ss) (flat_map origins_of_signal ss)
-signals_fine ss each = (each_flat SignalIs HasShortExprs (λ s. sites_of_modes s.parts) (λ s is. signal_sites_short s.parts) ss each, each_flat SignalIs IsShaped origins_of_signal signal_shaped ss each)
+signals_fine ss each = (each_flat SignalIs AreSpelled (λ s. sites_of_modes s.parts) (λ s is. signal_sites_short s.parts) ss each, each_flat SignalIs IsShaped origins_of_signal signal_shaped ss each)
 
 -- ---- procedures and processes
 
@@ -95,17 +98,17 @@ params_shaped ps each = each_flat ParamIs IsShaped origins_of_param (λ p is. na
 formals_shaped : (ps : List FormalTree) → Each FormalIs ps → Each IsShaped (flat_map origins_of_formal ps)
 formals_shaped ps each = each_flat FormalIs IsShaped origins_of_formal (λ p is. names_shaped p.names (a_parameter p.mode) (elements_of None p.mode) is (elements_shaped None (sets_in p.mode))) ps each
 
-param_sites : (ps : List ParamTree) → Each HasShortExprs (map (λ q. at_mode q.mode) ps)
-param_sites ps = each_map (λ p. Unit {0}) HasShortExprs (λ q. at_mode q.mode) (λ p fits. tt) ps (each_any (λ p. Unit {0}) (λ p. tt) ps)
+param_sites : (ps : List ParamTree) → Each AreSpelled (map (λ q. at_mode q.mode) ps)
+param_sites ps = each_map (λ p. Unit {0}) AreSpelled (λ q. at_mode q.mode) (λ p fits. tt) ps (each_any (λ p. Unit {0}) (λ p. tt) ps)
 
-formal_sites : (ps : List FormalTree) → Each HasShortExprs (map (λ q. at_mode q.mode) ps)
-formal_sites ps = each_map (λ p. Unit {0}) HasShortExprs (λ q. at_mode q.mode) (λ p fits. tt) ps (each_any (λ p. Unit {0}) (λ p. tt) ps)
+formal_sites : (ps : List FormalTree) → Each AreSpelled (map (λ q. at_mode q.mode) ps)
+formal_sites ps = each_map (λ p. Unit {0}) AreSpelled (λ q. at_mode q.mode) (λ p fits. tt) ps (each_any (λ p. Unit {0}) (λ p. tt) ps)
 
 returns_shown : {o : Option ModeTree} {toks rest : Toks} → IsClause words.Returns IsResult o toks rest → Shown (IsSomeFilled o) toks rest
 returns_shown no_clause = none
 returns_shown (with_clause (is_result d)) = skip (skip (ends (mode_shown d)))
 
-result_sites : (o : Option ModeTree) → Each HasShortExprs (sites_of_result o)
+result_sites : (o : Option ModeTree) → Each AreSpelled (sites_of_result o)
 result_sites None = tt
 result_sites (Some m) = (tt, tt)
 
@@ -120,7 +123,7 @@ block_shown a (is_block {ps = ps} {h = h} b k c) =
 
 procedure_fine : (p : ProcedureTree) → Each ParamIs p.params → IsSomeFilled p.returns → Fine (sites_of_body (in_procedure p) p.body p.handler) (origins_of_body p.body p.handler) → Fine (sites_of_procedure p) (origins_of_procedure p)
 procedure_fine p params result body = let behind = at_body (Some p.name) (flat_map (λ q. q.names) p.params ++ locals_of_body p.body p.handler) ∷ sites_of_body (in_procedure p) p.body p.handler in (
-  each_append HasShortExprs (map (λ q. at_mode q.mode) p.params ++ sites_of_result p.returns) behind (each_append HasShortExprs (map (λ q. at_mode q.mode) p.params) (sites_of_result p.returns) (param_sites p.params) (result_sites p.returns)) (tt, body.0),
+  each_append AreSpelled (map (λ q. at_mode q.mode) p.params ++ sites_of_result p.returns) behind (each_append AreSpelled (map (λ q. at_mode q.mode) p.params) (sites_of_result p.returns) (param_sites p.params) (result_sites p.returns)) (tt, body.0),
   (
     result,
     each_append IsShaped (flat_map origins_of_param p.params ++ elements_of_some p.returns) (origins_of_body p.body p.handler) (each_append IsShaped (flat_map origins_of_param p.params) (elements_of_some p.returns) (params_shaped p.params params) (some_elements_shaped p.returns)) body.1,
@@ -133,7 +136,7 @@ procedure_shown {x = x} (is_procedure w r e d) =
 
 process_fine : (p : ProcessTree) → Each FormalIs p.formals → Fine (sites_of_body in_no_procedure p.body p.handler) (origins_of_body p.body p.handler) → Fine (sites_of_process p) (origins_of_process p)
 process_fine p formals body = (
-  each_append HasShortExprs (map (λ q. at_mode q.mode) p.formals) (at_body (Some p.name) (flat_map (λ q. q.names) p.formals ++ locals_of_body p.body p.handler) ∷ sites_of_body in_no_procedure p.body p.handler) (formal_sites p.formals) (tt, body.0),
+  each_append AreSpelled (map (λ q. at_mode q.mode) p.formals) (at_body (Some p.name) (flat_map (λ q. q.names) p.formals ++ locals_of_body p.body p.handler) ∷ sites_of_body in_no_procedure p.body p.handler) (formal_sites p.formals) (tt, body.0),
   (tt, each_append IsShaped (flat_map origins_of_formal p.formals) (origins_of_body p.body p.handler) (formals_shaped p.formals formals) body.1),
 )
 
@@ -190,9 +193,9 @@ modulions_shown (then_modulion {xs = xs} {x = x} l d) = and_one ModulionIs xs x 
 
 -- ---- the program
 
-item_sites : (ms : List ModulionTree) → Each ModulionIs ms → Each HasShortExprs (flat_map sites_of_item (map modulion_item ms))
+item_sites : (ms : List ModulionTree) → Each ModulionIs ms → Each AreSpelled (flat_map sites_of_item (map modulion_item ms))
 item_sites [] each = tt
-item_sites (m ∷ ms) each = each_append HasShortExprs (sites_of_item (modulion_item m)) (flat_map sites_of_item (map modulion_item ms)) each.0.0 (item_sites ms each.1)
+item_sites (m ∷ ms) each = each_append AreSpelled (sites_of_item (modulion_item m)) (flat_map sites_of_item (map modulion_item ms)) each.0.0 (item_sites ms each.1)
 
 -- the nodes of a text, and its definitions
 pub program_fine : (text : List ℕ) (t : ProgramTree) → HasTree text t → Fine (sites t) (text_origins t)
@@ -204,4 +207,7 @@ program_fine text t has = by_tree has.tree_of
         ((tt, (tt, item_sites xs each)), each_flat ModulionIs IsShaped (λ m. origins_of_item (modulion_item m)) (λ m is. is.1) xs each)
 
 pub short_texts : ShortTextsLaw
-short_texts text t has = (program_fine text t has).0
+short_texts text t has = each_more AreSpelled HasShortExprs (λ s each. each_more IsSpelled HasShortTexts (λ e spelled. spelled.0) (exprs_at s) each) (sites t) (program_fine text t has).0
+
+pub named_paths : PathsLaw
+named_paths text t has = each_more AreSpelled HasNamedExprs (λ s each. each_more IsSpelled HasNamed (λ e spelled. spelled.1) (exprs_at s) each) (sites t) (program_fine text t has).0

@@ -11,10 +11,9 @@ use Rattle.checks_model.specs.Ground.{Origin, a_synonym, a_mode, an_element, a_l
 use Rattle.checks_model.specs.Origins.{sets_in, elements, elements_of, elements_of_some, origins_of_names, origins_of_synonym, owner_of, origins_of_mode, origins_of_declaration, origins_of_local}
 use Rattle.checks_model.specs.Phases.{some_expr, initial_expr}
 use Rattle.checks_model.specs.Sites.{Site, at_synonym, at_mode_definition, at_declaration, sites_of_local}
-use Rattle.elaborated_laws.specs.Classes.{HasShortTexts}
-use Rattle.written_laws.specs.Written.{Each, HasShortExprs}
+use Rattle.written_laws.specs.Written.{Each}
 use Rattle.written_laws.proofs.Shown.{Shown, none, skip, ends, both, behind, so, Shows, listed, each_append, each_any, each_map, each_flat, each_same}
-use Rattle.written_laws.proofs.ShownExpr.{expr_shown}
+use Rattle.written_laws.proofs.ShownExpr.{IsSpelled, AreSpelled, expr_shown}
 use Rattle.written_laws.proofs.ShownMode.{IsFilled, names_passed, mode_shown}
 
 -- ---- what defines something is written with fields
@@ -28,7 +27,7 @@ AreSomeFilled None = Unit {0}
 AreSomeFilled (Some ws) = Each IsFilled ws
 
 abbrev pub IsShaped : Origin → Type 0
-IsShaped (a_synonym s) = IsSomeFilled s.mode × HasShortTexts s.value
+IsShaped (a_synonym s) = IsSomeFilled s.mode × IsSpelled s.value
 IsShaped (a_mode novel w) = IsFilled w
 IsShaped (a_location d) = IsFilled d.mode
 IsShaped (a_parameter w) = IsFilled w
@@ -38,12 +37,12 @@ IsShaped o = Unit {0}
 
 -- nodes and definitions
 abbrev pub Fine : List Site → List Origin → Type 0
-Fine ss os = Each HasShortExprs ss × Each IsShaped os
+Fine ss os = Each AreSpelled ss × Each IsShaped os
 
 pub fine_both : (ss ts : List Site) (os ps : List Origin) → Fine ss os → Fine ts ps → Fine (ss ++ ts) (os ++ ps)
-fine_both ss ts os ps first later = (each_append HasShortExprs ss ts first.0 later.0, each_append IsShaped os ps first.1 later.1)
+fine_both ss ts os ps first later = (each_append AreSpelled ss ts first.0 later.0, each_append IsShaped os ps first.1 later.1)
 
-pub fine_before : (s : Site) (ss : List Site) (os : List Origin) → HasShortExprs s → Fine ss os → Fine (s ∷ ss) os
+pub fine_before : (s : Site) (ss : List Site) (os : List Origin) → AreSpelled s → Fine ss os → Fine (s ∷ ss) os
 fine_before s ss os short fine = ((short, fine.0), fine.1)
 
 -- ---- elements
@@ -74,7 +73,7 @@ synonym_shown s toks rest (is_synonym ns o e) = behind (names_passed ns) (both (
 
 synonyms_fine : (shared : Bool) (ss : List SynonymTree) → Each SynonymIs ss → Fine (map at_synonym ss) (flat_map origins_of_synonym ss)
 synonyms_fine shared ss each = (
-  each_map SynonymIs HasShortExprs at_synonym (λ s is. (is.1, tt)) ss each,
+  each_map SynonymIs AreSpelled at_synonym (λ s is. (is.1, tt)) ss each,
   each_flat SynonymIs IsShaped origins_of_synonym (λ s is. names_shaped s.names (a_synonym s) (elements_of_some s.mode) is (some_elements_shaped s.mode)) ss each,
 )
 
@@ -86,24 +85,24 @@ definition_shown d toks rest (is_mode_definition m) = skip (skip (mode_shown m))
 
 definitions_fine : (novel : Bool) (ds : List ModeDefinitionTree) → Each DefinitionIs ds → Fine (map at_mode_definition ds) (flat_map (origins_of_mode novel) ds)
 definitions_fine novel ds each = (
-  each_map DefinitionIs HasShortExprs at_mode_definition (λ d is. tt) ds each,
+  each_map DefinitionIs AreSpelled at_mode_definition (λ d is. tt) ds each,
   each_flat DefinitionIs IsShaped (origins_of_mode novel) (λ d is. (is, elements_shaped (owner_of novel d) (sets_in d.mode))) ds each,
 )
 
-initial_shown : {i : Option InitialTree} {toks rest : Toks} → IsInitial i toks rest → Shown (Each HasShortTexts (some_expr (initial_expr i))) toks rest
+initial_shown : {i : Option InitialTree} {toks rest : Toks} → IsInitial i toks rest → Shown (Each IsSpelled (some_expr (initial_expr i))) toks rest
 initial_shown no_initial = none
 initial_shown (by_sign d) = skip (so (λ short. (short, tt)) (expr_shown d))
 initial_shown (by_word d) = skip (skip (so (λ short. (short, tt)) (expr_shown d)))
 
 abbrev DeclarationIs : DeclarationTree → Type 0
-DeclarationIs d = IsFilled d.mode × Each HasShortTexts (some_expr (initial_expr d.initial))
+DeclarationIs d = IsFilled d.mode × Each IsSpelled (some_expr (initial_expr d.initial))
 
 declaration_shown : Shows DeclarationIs IsDeclaration
 declaration_shown d toks rest (is_declaration ns o i) = behind (names_passed ns) (both (mode_shown o) (initial_shown i))
 
 declarations_fine : (shared : Bool) (ds : List DeclarationTree) → Each DeclarationIs ds → Fine (map (at_declaration shared) ds) (flat_map origins_of_declaration ds)
 declarations_fine shared ds each = (
-  each_map DeclarationIs HasShortExprs (at_declaration shared) (λ d is. is.1) ds each,
+  each_map DeclarationIs AreSpelled (at_declaration shared) (λ d is. is.1) ds each,
   each_flat DeclarationIs IsShaped origins_of_declaration (λ d is. names_shaped d.names (a_location d) (elements_of None d.mode) is.0 (elements_shaped None (sets_in d.mode))) ds each,
 )
 

@@ -1,10 +1,10 @@
--- The structures in a mode have a field.
+-- The structures in a mode have a field, and its SETs an element.
 use Rattle.std.proofs.Common.{◌≡◌, Bool, true, false, List, [], ◌∷◌, ◌++◌, Option, refl, true≢false, sym}
 use Rattle.chill_tree.specs.declared.token.Word.{Word}
 use Rattle.chill_tree.specs.declared.tree.name.Name.{Name}
 use Rattle.chill_tree.specs.declared.tree.mode.Packing.{Packing}
 use Rattle.chill_tree.specs.ExprTree.{ExprTree}
-use Rattle.chill_tree.specs.ModeTree.{DiscreteTree, IndexTree, PlaceTree, SpreadTree, BaseTree, FieldTree, field_nodes, ModeTree, discrete, powerset, chars, structure, array, FieldNodes, no_fields, more_fields, base_mode, read_mode, event_mode, buffer_mode}
+use Rattle.chill_tree.specs.ModeTree.{DiscreteTree, named, bounded, set_of, IndexTree, PlaceTree, SpreadTree, BaseTree, FieldTree, field_nodes, ModeTree, discrete, powerset, chars, structure, array, FieldNodes, no_fields, more_fields, base_mode, read_mode, event_mode, buffer_mode}
 use Rattle.rules_model.specs.Marks.{Toks}
 use Rattle.rules_model.specs.ExprGrammar.{IsExpr}
 use Rattle.rules_model.specs.ListGrammar.{one_of, and_of, is_name, AreNames, IsFlag, no_flag, with_flag, IsLength, no_length, with_length, IsLabel, no_label, with_label, IsClosing, left_open, closed_by}
@@ -44,11 +44,6 @@ length_passed : {l : Option ExprTree} {toks rest : Toks} → IsLength l toks res
 length_passed no_length = none
 length_passed (with_length d) = skip (ends (expr_passed d))
 
-discrete_passed : {d : DiscreteTree} {toks rest : Toks} → IsDiscrete d toks rest → Shown (Unit {0}) toks rest
-discrete_passed is_named_mode = skip none
-discrete_passed (is_bounded l h) = skip (skip (behind (ends (expr_passed l)) (ends (expr_passed h))))
-discrete_passed (is_set d) = skip (skip (ends (names_passed d)))
-
 index_passed : {i : IndexTree} {toks rest : Toks} → IsIndex i toks rest → Shown (Unit {0}) toks rest
 index_passed is_index_name = skip none
 index_passed (is_index_range l h) = behind (ends (expr_passed l)) (expr_passed h)
@@ -69,7 +64,7 @@ spread_passed_by (spread_by_step (is_step p d)) = skip (skip (behind (ends (plac
 
 -- ---- lists of names and of fields have something
 
-abbrev has_some : {A : Type 0} → List A → Bool
+abbrev pub has_some : {A : Type 0} → List A → Bool
 has_some [] = false
 has_some (x ∷ xs) = true
 
@@ -87,11 +82,17 @@ fields_some (and_field {fs = fs} {f = f} l d) = some_snoc fs f
 
 -- ---- modes
 
+-- a SET has an element
+abbrev pub IsFilledDiscrete : DiscreteTree → Type 0
+IsFilledDiscrete (named n) = Unit {0}
+IsFilledDiscrete (bounded n l h) = Unit {0}
+IsFilledDiscrete (set_of at ns) = has_some ns ≡ true
+
 abbrev mutual
-  -- structures in it have a field
+  -- structures in it have a field, and SETs an element
   pub IsFilledBase : BaseTree → Type 0
-  IsFilledBase (discrete d) = Unit {0}
-  IsFilledBase (powerset at d) = Unit {0}
+  IsFilledBase (discrete d) = IsFilledDiscrete d
+  IsFilledBase (powerset at d) = IsFilledDiscrete d
   IsFilledBase (chars at e) = Unit {0}
   IsFilledBase (structure at fs p) = (has_name fs ≡ true) × AreFilled fs
   IsFilledBase (array at i b s) = IsFilledBase b
@@ -121,10 +122,15 @@ fields_named : (fs : List FieldTree) → has_some fs ≡ true → Each IsFilledF
 fields_named [] some each = absurd (true≢false (sym some))
 fields_named (f ∷ fs) some each = named_by f.names f.base f.place (field_nodes fs) each.0.0
 
+discrete_shown : {d : DiscreteTree} {toks rest : Toks} → IsDiscrete d toks rest → Shown (IsFilledDiscrete d) toks rest
+discrete_shown is_named_mode = skip none
+discrete_shown (is_bounded l h) = skip (skip (behind (ends (expr_passed l)) (ends (expr_passed h))))
+discrete_shown (is_set d) = skip (skip (so (λ passed. names_some d) (ends (names_passed d))))
+
 mutual
   base_shown : {b : BaseTree} {toks rest : Toks} → IsBase b toks rest → Shown (IsFilledBase b) toks rest
-  base_shown (is_discrete d) = discrete_passed d
-  base_shown (is_powerset d) = skip (discrete_passed d)
+  base_shown (is_discrete d) = discrete_shown d
+  base_shown (is_powerset d) = skip (discrete_shown d)
   base_shown (is_chars d) = skip (skip (ends (expr_passed d)))
   base_shown (is_structure {fs = fs} d p) = skip (skip (before (so (λ each. (fields_named fs (fields_some d) each, as_fields fs each)) (ends (fields_shown d))) (packing_passed p)))
   base_shown (is_array i e s leaves few) = skip (skip (before (behind (ends (index_passed i)) (base_shown e)) (spread_passed_by s)))

@@ -1,5 +1,5 @@
 -- The expressions of an action that holds no other, and of what controls a loop, have short text literals.
-use Rattle.std.proofs.Common.{List, [], ◌∷◌, ◌++◌, Option}
+use Rattle.std.proofs.Common.{List, [], ◌∷◌, ◌++◌, Option, refl}
 use Rattle.chill_tree.specs.declared.token.Word.{Word}
 use Rattle.chill_tree.specs.ExprTree.{ExprTree, RangeTree, alone, between}
 use Rattle.chill_tree.specs.SimpleTree.{SimpleTree, ControlTree}
@@ -8,17 +8,16 @@ use Rattle.rules_model.specs.ExprGrammar.{IsExpr, AreRanges}
 use Rattle.rules_model.specs.ListGrammar.{IsClause, no_clause, with_clause}
 use Rattle.rules_model.specs.SimpleGrammar.{IsControl, is_while, is_ever, is_members, is_steps, IsValue, no_value, with_value, IsMessage, no_message, with_message, IsSimple, is_assign, is_update, is_call, is_call_word, is_exit, is_return, is_result, is_assert, is_cause, is_stop, is_start, is_delay, is_continue, is_send}
 use Rattle.checks_model.specs.Phases.{some_expr, some_exprs, exprs_of_simple, priority_of, exprs_of_control, exprs_of_label, exprs_of_labels}
-use Rattle.elaborated_laws.specs.Classes.{HasShortTexts, RangeHasShortTexts}
 use Rattle.written_laws.specs.Written.{Each}
 use Rattle.written_laws.proofs.Shown.{Shown, none, skip, ends, both, behind, so, each_append, each_flat}
-use Rattle.written_laws.proofs.ShownExpr.{expr_shown, location_shown, args_shown, exprs_shown, ranges_shown, args_as_nodes}
+use Rattle.written_laws.proofs.ShownExpr.{IsSpelled, RangeIsSpelled, expr_shown, location_shown, args_shown, exprs_shown, ranges_shown, args_as_nodes}
 use Rattle.written_laws.proofs.ShownMode.{flag_passed}
 
 abbrev pub AreShort : List ExprTree → Type 0
-AreShort es = Each HasShortTexts es
+AreShort es = Each IsSpelled es
 
 pub short_both : (es fs : List ExprTree) → AreShort es → AreShort fs → AreShort (es ++ fs)
-short_both es fs first later = each_append HasShortTexts es fs first later
+short_both es fs first later = each_append IsSpelled es fs first later
 
 -- what may be left out
 pub clause_shown : {w : Word} {c : Option ExprTree} {toks rest : Toks} → IsClause w IsExpr c toks rest → Shown (AreShort (some_expr c)) toks rest
@@ -34,12 +33,12 @@ message_shown no_message = none
 message_shown (with_message d) = skip (ends (exprs_shown d))
 
 -- the labels of an alternative
-label_short : (l : RangeTree) → RangeHasShortTexts l → AreShort (exprs_of_label l)
+label_short : (l : RangeTree) → RangeIsSpelled l → AreShort (exprs_of_label l)
 label_short (alone e) short = (short, tt)
 label_short (between l h) short = (short.0, (short.1, tt))
 
 pub labels_shown : {ls : List RangeTree} {toks rest : Toks} → AreRanges ls toks rest → Shown (AreShort (exprs_of_labels ls)) toks rest
-labels_shown {ls = ls} d = so (each_flat RangeHasShortTexts HasShortTexts exprs_of_label label_short ls) (ranges_shown d)
+labels_shown {ls = ls} d = so (each_flat RangeIsSpelled IsSpelled exprs_of_label label_short ls) (ranges_shown d)
 
 pub control_shown : {c : ControlTree} {toks rest : Toks} → IsControl c toks rest → Shown (AreShort (exprs_of_control c)) toks rest
 control_shown (is_while d) = skip (so (λ short. (short, tt)) (expr_shown d))
@@ -51,8 +50,8 @@ control_shown (is_steps {e = e} {f = f} {b = b} {c = c} d by down to w) =
 pub simple_shown : {a : SimpleTree} {toks rest : Toks} → IsSimple a toks rest → Shown (AreShort (exprs_of_simple a ++ some_expr (priority_of a))) toks rest
 simple_shown (is_assign l d) = so (λ p. (p.0, (p.1, tt))) (both (ends (location_shown l)) (expr_shown d))
 simple_shown (is_update l is may d) = so (λ p. (p.0, (p.1, tt))) (both (ends (ends (location_shown l))) (expr_shown d))
-simple_shown (is_call d) = skip (skip (so (λ short. ((tt, short), tt)) (args_as_nodes d)))
-simple_shown (is_call_word d) = skip (skip (skip (so (λ short. ((tt, short), tt)) (args_as_nodes d))))
+simple_shown (is_call d) = skip (skip (so (λ short. (((tt, short.0), (refl, (tt, short.1))), tt)) (args_as_nodes d)))
+simple_shown (is_call_word d) = skip (skip (skip (so (λ short. (((tt, short.0), (refl, (tt, short.1))), tt)) (args_as_nodes d))))
 simple_shown is_exit = skip (skip none)
 simple_shown (is_return {v = v} d) = skip (so (λ short. short_both (some_expr v) [] short tt) (value_shown d))
 simple_shown (is_result d) = skip (so (λ short. (short, tt)) (expr_shown d))

@@ -13,9 +13,9 @@ use Rattle.checks_model.specs.Ground.{Origin, a_received}
 use Rattle.checks_model.specs.Origins.{counters_in, received_in, origins_of_local, origins_in, origins_in_bracketed, origins_in_each, origins_in_branches, origins_in_cases, origins_in_named, origins_in_receives, origins_in_otherwise, origins_in_handler, origins_in_parts}
 use Rattle.checks_model.specs.Phases.{some_expr, exprs_of_labels}
 use Rattle.checks_model.specs.Sites.{Site, Around, at_simple, at_condition, at_selector, at_labels, at_set, at_priority, at_source, at_received, at_exceptions, some_site, events_listed, sites_of_local, sites_of, sites_of_bracketed, sites_of_each, sites_of_branches, sites_of_cases, sites_of_events, sites_of_receives, sites_of_otherwise, sites_of_handler, sites_of_exceptions, sites_of_parts}
-use Rattle.written_laws.specs.Written.{Each, HasShortExprs}
+use Rattle.written_laws.specs.Written.{Each}
 use Rattle.written_laws.proofs.Shown.{Shown, none, skip, ends, both, before, behind, so, each_append, each_any, each_map, and_one}
-use Rattle.written_laws.proofs.ShownExpr.{expr_shown, location_shown}
+use Rattle.written_laws.proofs.ShownExpr.{AreSpelled, expr_shown, location_shown}
 use Rattle.written_laws.proofs.ShownMode.{names_passed, label_passed, closing_passed}
 use Rattle.written_laws.proofs.ShownLocal.{IsShaped, Fine, fine_both, fine_before, local_shown}
 use Rattle.written_laws.proofs.ShownSimple.{AreShort, clause_shown, labels_shown, control_shown, simple_shown}
@@ -24,7 +24,7 @@ use Rattle.written_laws.proofs.ShownSimple.{AreShort, clause_shown, labels_shown
 
 -- nodes alone, which define nothing
 abbrev Short : List Site → Type 0
-Short ss = Each HasShortExprs ss
+Short ss = Each AreSpelled ss
 
 short_before : (ss ts : List Site) (os : List Origin) → Short ss → Fine ts os → Fine (ss ++ ts) os
 short_before ss ts os first later = fine_both ss ts [] os (first, tt) later
@@ -180,7 +180,7 @@ module _ (a : Around) where
         let events = sites_of_events a [] (named_nodes ns) in
         let later = origins_in_named (named_nodes ns) in
         skip (skip (so (λ p.
-        short_before (some_site at_set l ++ some_site at_priority c) events later (each_append HasShortExprs (some_site at_set l) (some_site at_priority c) (set_short l p.0.0) (priority_short c p.0.1)) (events_fine [] ns p.1))
+        short_before (some_site at_set l ++ some_site at_priority c) events later (each_append AreSpelled (some_site at_set l) (some_site at_priority c) (set_short l p.0.0) (priority_short c p.0.1)) (events_fine [] ns p.1))
         (both (delay_head_shown h) (ends (named_shown n)))))
     bracketed_shown (is_receive_case {l = l} {rs = rs} {o = o} h r some k) =
         let receives = sites_of_receives a [] (receive_nodes rs) in

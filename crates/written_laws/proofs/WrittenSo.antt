@@ -113,7 +113,7 @@ named_there (x ∷ ds) d at (inr is) same = inr (named_there ds d at is same)
 place_of_first : (n : Name) (ns : List Name) (d : Definition) → option_map identifier (slice_get (n ∷ ns) 0) ≡ Some d.name → d.name.at ≡ n.at
 place_of_first n ns d is = ap (λ (x : Identifier). x.at) (sym (same_some (identifier n) d.name is))
 
-first_named : (t : ProgramTree) (n : Name) (ns : List Name) (owner : Option (Name × Bool)) → IsIn (an_element (n ∷ ns) 0 owner) (text_origins t) → IsNamedAt (text_definitions (level_of t)) n.at
+pub first_named : (t : ProgramTree) (n : Name) (ns : List Name) (owner : Option (Name × Bool)) → IsIn (an_element (n ∷ ns) 0 owner) (text_origins t) → IsNamedAt (text_definitions (level_of t)) n.at
 first_named t n ns owner is =
     let d = definition_of (text_origins t) (text_definitions (level_of t)) (an_element (n ∷ ns) 0 owner) (text_define t) is in
     named_there (text_definitions (level_of t)) d.0 n.at d.1.0 (place_of_first n ns d.0 d.1.1.1)
@@ -123,7 +123,7 @@ first_named t n ns owner is =
 same_at : (p : Pos) → same_place p p ≡ true
 same_at p = rw (eq-eqb p.line p.line refl, eq-eqb p.column p.column refl) refl
 
-number_there : (ds : List Definition) (from : ℕ) (at : Pos) → IsNamedAt ds at → IsSome (number_at (numbered from ds) at)
+pub number_there : (ds : List Definition) (from : ℕ) (at : Pos) → IsNamedAt ds at → IsSome (number_at (numbered from ds) at)
 number_there [] from at is = absurd is
 number_there (d ∷ ds) from at is = by (same_place d.name.at at) refl is (number_there ds (suc from) at)
   where
@@ -184,7 +184,7 @@ parts_written (Some ws) filled few = each_written ws filled few
 -- ---- what defines something
 
 written_so : (o : Origin) → IsShaped o → AreFew (sets_of o) → IsWrittenSo o
-written_so (a_synonym s) shaped few = (some_written s.mode shaped.0 few, shaped.1)
+written_so (a_synonym s) shaped few = (some_written s.mode shaped.0 few, shaped.1.0)
 written_so (a_mode novel w) shaped few = tt
 written_so (an_element ns part owner) shaped few = few.0
 written_so (a_location d) shaped few = mode_written d.mode shaped few
@@ -211,7 +211,7 @@ text_few text t has =
     let few = names_few t has.names in let same = same_length (text_origins t) (text_definitions (level_of t)) (text_define t) in omega (arith, few, same)
 
 -- of what stands in both lists what is so of each
-each_pair : {A : Type 0} (P Q R : A → Type 0) → ((x : A) → P x → Q x → R x) → (xs : List A) → Each P xs → Each Q xs → Each R xs
+pub each_pair : {A : Type 0} (P Q R : A → Type 0) → ((x : A) → P x → Q x → R x) → (xs : List A) → Each P xs → Each Q xs → Each R xs
 each_pair P Q R step [] first later = tt
 each_pair P Q R step (x ∷ xs) first later = (step x first.0 later.0, each_pair P Q R step xs first.1 later.1)
 
