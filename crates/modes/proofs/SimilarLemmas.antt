@@ -1,13 +1,14 @@
 -- What the shapes of two modes say of their forms.
-use Rattle.std.proofs.Common.{◌≡◌, ℕ, suc, List, [], ◌∷◌, length, Bool, true, false, ◌&&◌, Option, refl, arith, rules, sym, ◌∙◌, ap}
-use Rattle.std.specs.Prelude.{◌↔◌, IsTrue}
-use Rattle.std.proofs.lemmas.List.{length-map}
+use Rattle.std.proofs.Common.{◌≡◌, ℕ, suc, ◌+◌, ◌-◌, List, [], ◌∷◌, length, drop, get_or, Bool, true, false, ◌&&◌, Option, Some, None, refl, arith, rules, sym, subst, ◌∙◌, ap}
+use Rattle.std.specs.Prelude.{◌↔◌, IsTrue, IfSome, MatchOption, slice_get}
+use Rattle.std.proofs.lemmas.List.{length-map, drop_more, drop_all}
+use Rattle.std.proofs.lemmas.Option.{slice_get-get_or, slice_get_read}
 use Rattle.modes.specs.ModeTree.{ModeTree, int, boolean, char, instance, set_of, range, powerset, chars, array, structure, event, buffer, read, named, FieldNodes, no_fields, more_fields, PlaceTree, SpreadTree, FieldTree, field_nodes, field_tree, field_trees}
 use Rattle.modes.specs.declared.mode.Field.{Field}
 use Rattle.modes.specs.Form.{FormTree, of_int, of_boolean, of_char, of_instance, of_set, of_powerset, of_chars, of_array, of_structure, of_meeting, form_of}
 use Rattle.modes.specs.Bounds.{bounds_of}
 use Rattle.modes.specs.Roots.{novelty_of, read_is}
-use Rattle.modes.specs.Similar.{Shape, like_int, like_boolean, like_char, like_instance, like_set, like_powerset, like_chars, like_array, like_structure, like_none, part, no_more, next_field, shape_of, shape_of_fields, has_values, Similar, Equivalent, SimilarField, SimilarFields}
+use Rattle.modes.specs.Similar.{Shape, like_int, like_boolean, like_char, like_instance, like_set, like_powerset, like_chars, like_array, like_structure, like_none, part, no_more, next_field, shape_of, shape_of_fields, has_values, Similar, Equivalent, SimilarField, SimilarFields, IsDownTo, AreDownTo, FieldIsDownTo}
 use Rattle.modes.proofs.ModeViews.{mode_built}
 
 -- the shape of a form
@@ -82,6 +83,53 @@ shape-count (x ∷ xs) (y ∷ ys) e =
 pub other_count : (xs ys : List Field) → SimilarFields (field_nodes (field_trees xs)) (field_nodes (field_trees ys)) → length xs ≡ length ys
 other_count xs ys s = sym (length-map xs field_tree) ∙ shape-count (field_trees xs) (field_trees ys) s.shape ∙ length-map ys field_tree
 
+-- no fields are similar to none
+pub no_others : (fs : List Field) → SimilarFields no_fields (field_nodes (field_trees fs)) ↔ (length fs ≡ 0)
+no_others [] = (λ s. refl, λ h. record { shape = refl; values = search rules })
+no_others (f ∷ fs) = (λ s. let e : no_more ≡ next_field _ _ _ _ = s.shape in cc, λ h. absurd (omega (arith, h)))
+
+-- where there is no last field there is none
+pub no_last : (xs : List Field) → None ≡ slice_get xs (length xs - 1) → xs ≡ []
+no_last [] e = refl
+no_last (x ∷ xs) e =
+    let there : slice_get (x ∷ xs) (length (x ∷ xs) - 1) ≡ Some (get_or (x ∷ xs) (length (x ∷ xs) - 1) x) = slice_get-get_or (x ∷ xs) (length (x ∷ xs) - 1) x (omega arith) in
+    let no : ⊥ = cc in
+    absurd no
+
+-- one field is similar to one other exactly where the two lists of them are
+pub last-step : (f g : FieldTree) → SimilarFields (more_fields f.name f.mode f.at no_fields) (more_fields g.name g.mode g.at no_fields) ↔ SimilarField f g
+last-step f g = (λ s. (step_in f g no_fields no_fields s).0, λ s. step_out f g no_fields no_fields (s, record { shape = refl; values = search rules }))
+
+one_left : (xs : List Field) (n : ℕ) (f : Field) → n + 1 ≡ length xs → f ≡ get_or xs n f → drop n xs ≡ f ∷ []
+one_left xs n f e at =
+    let more : drop n xs ≡ get_or xs n f ∷ drop (n + 1) xs = drop_more xs n f (omega (arith, e)) in
+    let none : drop (n + 1) xs ≡ [] = drop_all (n + 1) xs (omega (arith, e)) in
+    cc
+
+down : (P Q : Type 0) (m : ModeTree) (beside : Option ModeTree) → (P ↔ Q) → MatchOption beside (Q → ⊥) (λ k. Q ↔ Similar m k) → MatchOption beside (P → ⊥) (λ k. P ↔ Similar m k)
+down P Q m None e apart = λ p. apart (e.0 p)
+down P Q m (Some k) e h = (λ p. h.0 (e.0 p), λ s. e.1 (h.1 s))
+
+-- fields of which all but the last were compared
+pub last_down : (xs ys : List Field) (i n : ℕ) (f g : Field) (beside : Option ModeTree) → i ≡ n → n + 1 ≡ length xs → length xs ≡ length ys → f ≡ get_or xs n f → g ≡ get_or ys n g →
+    (SimilarFields (field_nodes (field_trees xs)) (field_nodes (field_trees ys)) ↔ SimilarFields (field_nodes (field_trees (drop i xs))) (field_nodes (field_trees (drop i ys)))) →
+    FieldIsDownTo (field_tree f) (field_tree g) beside →
+    IfSome (slice_get xs (length xs - 1)) (λ last. AreDownTo (field_nodes (field_trees xs)) (field_nodes (field_trees ys)) (field_tree last).mode beside)
+last_down xs ys i n f g beside same e count at at_other all h =
+    let here : drop i xs ≡ f ∷ [] = subst (λ (k : ℕ). drop k xs ≡ f ∷ []) (sym same) (one_left xs n f e at) in
+    let there : drop i ys ≡ g ∷ [] = subst (λ (k : ℕ). drop k ys ≡ g ∷ []) (sym same) (one_left ys n g (omega (arith, e, count)) at_other) in
+    let one : SimilarFields (field_nodes (field_trees (f ∷ []))) (field_nodes (field_trees (g ∷ []))) ↔ SimilarField (field_tree f) (field_tree g) = last-step (field_tree f) (field_tree g) in
+    let left : SimilarFields (field_nodes (field_trees (drop i xs))) (field_nodes (field_trees (g ∷ []))) ↔ SimilarField (field_tree f) (field_tree g) =
+    subst (λ (l : List Field). SimilarFields (field_nodes (field_trees l)) (field_nodes (field_trees (g ∷ []))) ↔ SimilarField (field_tree f) (field_tree g)) (sym here) one in
+    let rest : SimilarFields (field_nodes (field_trees (drop i xs))) (field_nodes (field_trees (drop i ys))) ↔ SimilarField (field_tree f) (field_tree g) =
+    subst (λ (l : List Field). SimilarFields (field_nodes (field_trees (drop i xs))) (field_nodes (field_trees l)) ↔ SimilarField (field_tree f) (field_tree g)) (sym there) left in
+    let whole : SimilarFields (field_nodes (field_trees xs)) (field_nodes (field_trees ys)) ↔ SimilarField (field_tree f) (field_tree g) =
+    (λ s. rest.0 (all.0 s), λ s. all.1 (rest.1 s)) in
+    let place : n ≡ length xs - 1 = omega (arith, e) in
+    let found : slice_get xs (length xs - 1) ≡ Some f = slice_get_read xs (length xs) (length xs - 1) f refl (omega (arith, e)) (subst (λ (k : ℕ). f ≡ get_or xs k f) place at) in
+    subst (λ (o : Option Field). IfSome o (λ last. AreDownTo (field_nodes (field_trees xs)) (field_nodes (field_trees ys)) (field_tree last).mode beside)) (sym found)
+    (down _ _ (field_tree f).mode beside whole h)
+
 pub ruleset similar_steps = (mode_built, shape-form)
 
-pub ruleset field_steps = (fields-step, other_count)
+pub ruleset field_steps = (fields-step, last-step, other_count)

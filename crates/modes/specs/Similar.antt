@@ -1,5 +1,5 @@
 -- Which modes are similar, v-equivalent and equivalent.
-use Rattle.std.specs.Prelude.{◌≡◌, ℕ, Bool, true, false, ◌&&◌, List, Option, IsTrue}
+use Rattle.std.specs.Prelude.{◌≡◌, ◌↔◌, ℕ, Bool, true, false, ◌&&◌, List, Option, None, MatchOption, IsTrue}
 use Rattle.modes.specs.declared.mode.Bounds.{Bounds}
 use Rattle.modes.specs.ModeTree.{ModeTree, int, boolean, char, instance, set_of, range, powerset, chars, array, structure, event, buffer, read, named, FieldNodes, no_fields, more_fields, PlaceTree, SpreadTree, FieldTree}
 use Rattle.modes.specs.Bounds.{bounds_of}
@@ -91,3 +91,32 @@ pub record SimilarField (a b : FieldTree) : Type 0 where
   pub name : a.name ≡ b.name
   pub at : a.at ≡ b.at
   pub modes : Equivalent a.mode b.mode
+
+-- a mode without parts, and of any other one that is similar to nothing
+abbrev pub plain : ModeTree → ModeTree
+plain int = int
+plain boolean = boolean
+plain char = char
+plain instance = instance
+plain (set_of d n) = set_of d n
+plain (chars n) = chars n
+plain (range p l h) = event None
+plain (powerset m) = event None
+plain (array i e how) = event None
+plain (structure fs p) = event None
+plain (event l) = event None
+plain (buffer l e) = event None
+plain (read m) = event None
+plain (named d n m) = event None
+
+-- two modes are similar exactly where a part of the one is to what is beside it; where nothing is, they aren't
+abbrev pub IsDownTo : ModeTree → ModeTree → ModeTree → Option ModeTree → Type 0
+IsDownTo a b inner beside = MatchOption beside (Similar a b → ⊥) (λ m. Similar a b ↔ Similar inner m)
+
+-- the same of the fields of two structures
+abbrev pub AreDownTo : FieldNodes → FieldNodes → ModeTree → Option ModeTree → Type 0
+AreDownTo a b inner beside = MatchOption beside (SimilarFields a b → ⊥) (λ m. SimilarFields a b ↔ Similar inner m)
+
+-- the same of two fields
+abbrev pub FieldIsDownTo : FieldTree → FieldTree → Option ModeTree → Type 0
+FieldIsDownTo a b beside = MatchOption beside (SimilarField a b → ⊥) (λ m. SimilarField a b ↔ Similar a.mode m)
