@@ -54,15 +54,15 @@ OnlyThere s (more_exprs e (more_exprs f fs)) = Unit {0}
 first_named : (g : Ground) (e : ExprTree) (es : ExprNodes) → AreWellNamed g false (more_exprs e es) → IsWellNamed g e
 first_named g e es well = record { short = well.short.0; paths = well.paths.0; tuples = well.tuples.0; stands = well.stands.0 }
 
-first_declarable : (s : Source) (es : ExprNodes) (d : ClassTree) → AllNamesKnown s → AreWellNamed s.known false es → class_of_first s.known es ≡ Some d → HasDeclarable d
+pub first_declarable : (s : Source) (es : ExprNodes) (d : ClassTree) → AllNamesKnown s → AreWellNamed s.known false es → class_of_first s.known es ≡ Some d → HasDeclarable d
 first_declarable s no_exprs d known well is = no_some d is
 first_declarable s (more_exprs e es) d known well is = class_declarable s None e d known (first_named s.known e es well) no_receiver is
 
-same_first : (s : Source) (es : ExprNodes) → class_first s es ≡ class_of_first s.known es
+pub same_first : (s : Source) (es : ExprNodes) → class_first s es ≡ class_of_first s.known es
 same_first s no_exprs = refl
 same_first s (more_exprs e es) = refl
 
-operand_there : (s : Source) (es : ExprNodes) (d : ClassTree) → OnlyThere s es → count_exprs es ≡ 1 → class_of_first s.known es ≡ Some d → is_of_values d ≡ true → told_in_args s.known (replicate (count_exprs es) nothing_asked) es ≡ [] → IsSome (only_one s None es)
+pub operand_there : (s : Source) (es : ExprNodes) (d : ClassTree) → OnlyThere s es → count_exprs es ≡ 1 → class_of_first s.known es ≡ Some d → is_of_values d ≡ true → told_in_args s.known (replicate (count_exprs es) nothing_asked) es ≡ [] → IsSome (only_one s None es)
 operand_there s no_exprs d only count is valued none = no_some d is
 operand_there s (more_exprs e no_exprs) d only count is valued none = only nothing_asked d no_receiver (told_inside s.known nothing_asked e (none_first (value_told s.known nothing_asked e (told_in s.known nothing_asked e)) [] none)) is valued
 operand_there s (more_exprs e (more_exprs f fs)) d only count is valued none = absurd (omega (arith, count))

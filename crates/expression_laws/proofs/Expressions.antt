@@ -371,7 +371,7 @@ mutual
       (λ is. ap (λ x. holds_of (λ p. are_arguments s.known (is_measuring p) es) (value_routine x)) is)
   path_there s e known c k clean named class has valued = absurd (true≢false (sym named))
 
-  only_there : (s : Source) (es : ExprNodes) → AllNamesKnown s → AreWellNamed s.known false es → told_in_each s.known es ≡ [] → OnlyThere s es
+  pub only_there : (s : Source) (es : ExprNodes) → AllNamesKnown s → AreWellNamed s.known false es → told_in_each s.known es ≡ [] → OnlyThere s es
   only_there s no_exprs known named constants = tt
   only_there s (more_exprs e no_exprs) known named constants =
       λ r c receives inside class valued. expr_there s r e c known (record { named = record { short = named.short.0; paths = named.paths.0; tuples = named.tuples.0; stands = named.stands.0 }; receives = receives; constants = none_first (told_as s.known by_itself None e) [] constants; told = inside }) class valued

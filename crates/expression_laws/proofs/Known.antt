@@ -52,7 +52,7 @@ called_or n _ = n
 not_call : {A : Type 0} (k : Callee) (m : Name) → is_call k ≡ false → k ≡ calls m → A
 not_call k m apart is = absurd (true≢false (sym (ap is_call is) ∙ apart))
 
-called_by : (n m : Name) (o : Option Origin) → callee_by n o ≡ calls m → (n ≡ m) × (stands_for_procedure o ≡ true)
+pub called_by : (n m : Name) (o : Option Origin) → callee_by n o ≡ calls m → (n ≡ m) × (stands_for_procedure o ≡ true)
 called_by n m (Some (a_procedure p)) is = (ap (called_or n) is, refl)
 called_by n m (Some (a_predefined p)) is = by (is_routine p) is
   where

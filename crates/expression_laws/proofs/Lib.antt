@@ -6,3 +6,9 @@ pub mod Applied
 pub mod Places
 pub mod Expressions
 pub mod Constants
+pub mod Actions
+pub mod Statements
+pub mod Program
+pub mod Things
+pub mod KnownNames
+pub mod Exceptions

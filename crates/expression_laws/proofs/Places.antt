@@ -56,7 +56,7 @@ clean_name s n stands = record { named = record { short = tt; paths = tt; tuples
 pub location_shown : (s : Source) (n : Name) (c : ClassTree) (k : ModeTree) → AllNamesKnown s → is_constant_origin (origin_of s.known n) ≡ false → class_of_name s.known n ≡ Some c → is_of_values c ≡ true → mode_in c ≡ Some k → PathThere (location_named s n) k
 location_shown s n c k known form class valued has = base_path (option_and_then base_of (thing_used s n)) (option_and_then mode_in (class_of s.known (name n))) k ((known n).base form c class valued) (ap (option_and_then mode_in) class ∙ has)
 
-nothing_valued : {A : Type 0} (b : Bool) (c : ClassTree) → when b nothing ≡ Some c → is_of_values c ≡ true → A
+pub nothing_valued : {A : Type 0} (b : Bool) (c : ClassTree) → when b nothing ≡ Some c → is_of_values c ≡ true → A
 nothing_valued true c is valued = absurd (true≢false (sym valued ∙ ap is_of_values (sym (same_some nothing c is))))
 nothing_valued false c is valued = no_some c is
 

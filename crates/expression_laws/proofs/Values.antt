@@ -63,7 +63,7 @@ similar_second a b same =
 pub equivalent_similar : (a b : ModeTree) → are_v_equivalent a b ≡ true → are_similar a b ≡ true
 equivalent_similar a b same = both_left (are_similar a b) (same_number (novelty_of a) (novelty_of b)) same
 
-instance_valued : (f : FormTree) → is_instance f ≡ true → not (is_meeting f) ≡ true
+pub instance_valued : (f : FormTree) → is_instance f ≡ true → not (is_meeting f) ≡ true
 instance_valued of_meeting is = is
 instance_valued f is = refl
 

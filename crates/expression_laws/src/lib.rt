@@ -1,4 +1,4 @@
-//! The laws of elaborated expressions: that an expression, an argument and a location in which no rule is broken are there.
+//! The laws of elaborated expressions, statements and programs: that one in which no rule is broken is there.
 //!
 //! It stands on `checks_model` and `elaboration_model`, whose definitions it speaks of, and on `there_laws` for what is known of
 //! names. The functions here have no body, and their contracts are the laws. No crate needs it to run.
@@ -6,4 +6,4 @@
 
 mod laws;
 
-pub use laws::expressions_law;
+pub use laws::{exceptions_law, expressions_law, names_law, program_law, statements_law};
