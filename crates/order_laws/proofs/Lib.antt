@@ -7,3 +7,5 @@ pub mod Nodes
 pub mod Selves
 pub mod TextCounters
 pub mod GroundThere
+pub mod Loops
+pub mod CounterDepths

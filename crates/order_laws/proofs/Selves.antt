@@ -184,16 +184,16 @@ module _ (text_of_t : List ℕ) (t : ProgramTree) (es : List Entry) (has : HasNa
   abbrev g : Ground
   g = ground_with t es
 
-  abbrev level : PartNodes
+  abbrev pub level : PartNodes
   level = level_of t
 
-  abbrev text : List Definition
+  abbrev pub text : List Definition
   text = definitions_of t
 
   abbrev all : List Definition
   all = with_predefined (definitions_of t)
 
-  abbrev every : List Node
+  abbrev pub every : List Node
   every = nodes (outermost (level_of t)) 0 (level_of t)
 
   abbrev groups : List Group
@@ -207,10 +207,10 @@ module _ (text_of_t : List ℕ) (t : ProgramTree) (es : List Entry) (has : HasNa
 
   -- ---- how deep definitions stand
 
-  deep : ℕ → ℕ
+  pub deep : ℕ → ℕ
   deep d = slice_index_or (depths_in 0 (level_of t)) d 0
 
-  deep_stands : Stand deep 0 (depths_in 0 level)
+  pub deep_stands : Stand deep 0 (depths_in 0 level)
   unfolding deep
   deep_stands = stands_from deep 0 (depths_in 0 level) (λ k. let same : 0 + k ≡ k = omega arith in ap (λ d. slice_index_or (depths_in 0 (level_of t)) d 0) same)
 
@@ -226,7 +226,7 @@ module _ (text_of_t : List ℕ) (t : ProgramTree) (es : List Entry) (has : HasNa
       let of_depths = depths.parts_length 0 level (program_sized t) in
       omega (arith, defined, first, later, language, listed, mapped, of_rows, of_depths)
 
-  outside : LanguageOutside deep text
+  pub outside : LanguageOutside deep text
   unfolding deep
   outside d is = let same = same_counts in let behind = is.behind in let none = default_past (depths_in 0 level) d (omega (arith, same, behind)) in omega (arith, none)
 
@@ -294,7 +294,7 @@ module _ (text_of_t : List ℕ) (t : ProgramTree) (es : List Entry) (has : HasNa
   by_names d e o at c = let h = flat_map_in (read_number g) (needed_in_text o) e c in name_step d e o h.0 at h.1 (read_in h.0 e h.2)
 
   -- a definition that isn't predefined stands in the text
-  in_text : (d : ℕ) (o : Origin) → slice_get (origins_of t) d ≡ Some o → (NeedsNothing o → ⊥) → slice_get (text_origins t) d ≡ Some o
+  pub in_text : (d : ℕ) (o : Origin) → slice_get (origins_of t) d ≡ Some o → (NeedsNothing o → ⊥) → slice_get (text_origins t) d ≡ Some o
   in_text d o at some = elim (got_append (text_origins t) predefined_origins d o at) [
     | inl first ↦ first
     | inr language ↦ absurd (some (each_in NeedsNothing predefined_origins o predefined_alone language))

@@ -13,3 +13,4 @@ pub mod Plain
 pub mod Counted
 pub mod Names
 pub mod Received
+pub mod CounterModes

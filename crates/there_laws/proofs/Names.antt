@@ -26,7 +26,7 @@ use Rattle.order_laws.proofs.Selves.{text_order}
 use Rattle.order_laws.proofs.TextCounters.{grounds_alike, but_counters}
 use Rattle.there_laws.specs.Table.{IsThereBy, SomeModeNamed, EachModeNamed, SomeModesNamed}
 use Rattle.there_laws.specs.Told.{told_of_parts}
-use Rattle.there_laws.specs.Names.{NumbersThereLaw, NamesKnownLaw, NameModesLaw, ResultsLaw, SignalsLaw}
+use Rattle.there_laws.specs.Names.{NumbersThereLaw, NamesKnownLaw, ResultsLaw, SignalsLaw}
 use Rattle.there_laws.proofs.Constants.{AllKnown}
 use Rattle.there_laws.proofs.Modes.{written_there}
 use Rattle.there_laws.proofs.Needs.{AreThere, mode_needs}
@@ -53,7 +53,7 @@ counter_value e (Some (a_modulion kind items)) is = absurd (true≢false (sym is
 counter_value e (Some (a_predefined p)) is = absurd (true≢false (sym is))
 counter_value e None is = absurd (true≢false (sym is))
 
-counter_mode_name : (e : Option Entry) (k : Option ℕ) (o : Option Origin) → is_counter o ≡ true → named_mode e k o ≡ None
+pub counter_mode_name : (e : Option Entry) (k : Option ℕ) (o : Option Origin) → is_counter o ≡ true → named_mode e k o ≡ None
 counter_mode_name e None (Some (a_counter c)) is = refl
 counter_mode_name e (Some d) (Some (a_counter c)) is = refl
 counter_mode_name e k (Some (a_synonym s)) is = absurd (true≢false (sym is))
@@ -203,8 +203,9 @@ all_numbers_there text t g h has is_h d = number_there text t g h has is_h d
 pub names_known : NamesKnownLaw
 names_known text t g h has is_h n = name_known text t g h has is_h n
 
-pub names_modes : NameModesLaw
-names_modes text t g h has is_h n apart = name_modes text t g h has is_h n apart
+-- of all but counters the modes are such as a location may have
+pub plain_modes : (text : List ℕ) (t : ProgramTree) (g h : Ground) → HasModes text t g → IsStatementGroundOf t h → (n : Name) → is_counter (origin_of h n) ≡ false → classes.HasModes h n
+plain_modes text t g h has is_h n apart = name_modes text t g h has is_h n apart
 
 pub results_known : ResultsLaw
 results_known text t g h has is_h d p at is = result_known text t g h has is_h d p at is

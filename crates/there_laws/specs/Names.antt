@@ -1,15 +1,14 @@
 -- The laws of what is known of definitions and names in the ground that knows counters.
-use Rattle.std.specs.Prelude.{◌≡◌, ℕ, false, List, [], Some, IsSome, slice_get}
+use Rattle.std.specs.Prelude.{◌≡◌, ℕ, List, [], Some, IsSome, slice_get}
 use Rattle.chill_tree.specs.declared.tree.name.Name.{Name}
 use Rattle.chill_tree.specs.SimpleTree.{ControlTree}
 use Rattle.chill_tree.specs.ItemTree.{ProgramTree, ProcedureTree, SignalTree}
 use Rattle.checks_model.specs.ActionRules.{told_control}
-use Rattle.checks_model.specs.Ground.{Ground, Entry, a_counter, a_received, a_procedure, a_signal, origin_of, mode_of_entry}
+use Rattle.checks_model.specs.Ground.{Ground, Entry, a_counter, a_received, a_procedure, a_signal, mode_of_entry}
 use Rattle.checks_model.specs.Table.{IsStatementGroundOf}
 use Rattle.checks_model.specs.Diagnoses.{HasModes, BreaksNoRule}
 use Rattle.elaborated_laws.specs.Known.{IsKnownName}
 use Rattle.elaborated_laws.specs.Classes as classes
-use Rattle.order_laws.specs.Texts.{is_counter}
 use Rattle.written_laws.specs.Written.{Each}
 use Rattle.there_laws.specs.Table.{IsThereBy}
 
@@ -21,9 +20,9 @@ NumbersThereLaw = (text : List ℕ) (t : ProgramTree) (g h : Ground) → HasMode
 abbrev pub NamesKnownLaw : Type 0
 NamesKnownLaw = (text : List ℕ) (t : ProgramTree) (g h : Ground) → HasModes text t g → IsStatementGroundOf t h → (n : Name) → IsKnownName h n
 
--- The modes of what a name stands for, but for a counter, are such modes.
+-- The modes of what a name stands for are such modes.
 abbrev pub NameModesLaw : Type 0
-NameModesLaw = (text : List ℕ) (t : ProgramTree) (g h : Ground) → HasModes text t g → IsStatementGroundOf t h → (n : Name) → is_counter (origin_of h n) ≡ false → classes.HasModes h n
+NameModesLaw = (text : List ℕ) (t : ProgramTree) (g h : Ground) → HasModes text t g → IsStatementGroundOf t h → (n : Name) → classes.HasModes h n
 
 -- A procedure that returns something has the mode of its result.
 abbrev pub ResultsLaw : Type 0

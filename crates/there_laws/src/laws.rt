@@ -37,9 +37,9 @@ pub fn told_law()
 {}
 
 /// In a text that breaks no rule on names, modes and constants what is needed of definitions and names is there in the ground
-/// that knows counters too: by numbers; what is known of names that constants and modes look up; and, but for counters, the
-/// modes of what names stand for, those of results and those of the parts of signals. Where no rule is broken received names
-/// have modes, and nothing is told of the loops of counters.
+/// that knows counters too: by numbers; what is known of names that constants and modes look up; the modes of what names stand
+/// for, those of results and those of the parts of signals. Where no rule is broken received names have modes, and nothing is
+/// told of the loops of counters.
 pub fn names_law()
     ensures numbers { NumbersThereLaw }
     ensures known { NamesKnownLaw }
