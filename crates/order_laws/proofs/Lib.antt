@@ -6,3 +6,4 @@ pub mod Depths
 pub mod Nodes
 pub mod Selves
 pub mod TextCounters
+pub mod GroundThere

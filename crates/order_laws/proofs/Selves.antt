@@ -316,8 +316,8 @@ module _ (text_of_t : List ℕ) (t : ProgramTree) (es : List Entry) (has : HasNa
 
   -- ---- received names
 
-  abbrev is_message_at : Option ℕ → Bool
-  is_message_at None = true
+  abbrev pub is_message_at : Option ℕ → Bool
+  is_message_at None = false
   is_message_at (Some d) = is_kind_at is_message (with_predefined (definitions_of t)) d
 
   -- what a message's name stands for may be sent to
@@ -363,10 +363,11 @@ module _ (text_of_t : List ℕ) (t : ProgramTree) (es : List Entry) (has : HasNa
   never_sent e (a_modulion kind items) at is sent = true≢false (sym is)
   never_sent e (a_predefined p) at is sent = true≢false (sym is)
 
+  pub message_stands : (d : ℕ) (n : Name) (count part : ℕ) → slice_get (origins_of t) d ≡ Some (a_received n count part) → is_message_at (number_at g.uses n.at) ≡ true
+  message_stands d n count part at = (each_there (TextPasses is_sent) (text_origins t) d (a_received n count part) all_sent (in_text d (a_received n count part) at (λ none. none))).0
+
   pub sent_to : (d e : ℕ) (n : Name) (count part : ℕ) → slice_get (origins_of t) d ≡ Some (a_received n count part) → Contains (some_number (number_at g.uses n.at)) e → is_kind_at is_message all e ≡ true
-  sent_to d e n count part at c =
-      let sent = each_there (TextPasses is_sent) (text_origins t) d (a_received n count part) all_sent (in_text d (a_received n count part) at (λ none. none)) in
-      subst (λ k. is_message_at k ≡ true) (one_number (number_at g.uses n.at) e c) sent.0
+  sent_to d e n count part at c = subst (λ k. is_message_at k ≡ true) (one_number (number_at g.uses n.at) e c) (message_stands d n count part at)
 
   abbrev origin : ℕ → Option Origin
   origin d = slice_get (origins_of t) d

@@ -1,5 +1,5 @@
 -- The laws of orders in a text that breaks no rule on names: that one leads through its definitions, since none of them needs itself; so
--- that the text has one ground alone, and that this differs from the one that knows counters in counters alone.
+-- that the text has a ground, and one alone, and that this differs from the one that knows counters in counters alone.
 use Rattle.std.specs.Prelude.{◌≡◌, ℕ, Bool, true, false, List, Option, Some, slice_get}
 use Rattle.chill_tree.specs.ItemTree.{ProgramTree}
 use Rattle.checks_model.specs.Ground.{Ground, Origin, a_counter}
@@ -16,7 +16,10 @@ NoneItselfLaw = (text : List ℕ) (t : ProgramTree) (g : Ground) → HasNames te
 abbrev pub TextOrderLaw : Type 0
 TextOrderLaw = (text : List ℕ) (t : ProgramTree) (g : Ground) → HasNames text t → g ≡ ground_with t g.entries → (order : List ℕ) × IsOrder g order
 
--- It has one ground for the phase of modes and constants.
+-- It has a ground for the phase of modes and constants, and one alone.
+abbrev pub GroundThereLaw : Type 0
+GroundThereLaw = (text : List ℕ) (t : ProgramTree) → HasNames text t → (g : Ground) × IsGroundOf t g
+
 abbrev pub OneGroundLaw : Type 0
 OneGroundLaw = (text : List ℕ) (t : ProgramTree) (g h : Ground) → HasNames text t → IsGroundOf t g → IsGroundOf t h → g ≡ h
 

@@ -1,7 +1,7 @@
 // Laws of orders of definitions. Each is a fact about the definitions, which a caller learns by calling the function.
 ghost use Rattle.order_laws.specs.Counters.{CountersLaw};
 ghost use Rattle.order_laws.specs.Orders.{OrderLaw};
-ghost use Rattle.order_laws.specs.Texts.{NoneItselfLaw, OneGroundLaw, TextCountersLaw, TextOrderLaw};
+ghost use Rattle.order_laws.specs.Texts.{GroundThereLaw, NoneItselfLaw, OneGroundLaw, TextCountersLaw, TextOrderLaw};
 
 /// Where no definition needs itself, over others or at once, an order leads through all of them in which each stands behind
 /// those that it needs. In a text that breaks no rule on names none needs itself, so there is such an order of its definitions.
@@ -18,7 +18,8 @@ pub fn counters_law()
     ensures text { TextCountersLaw }
 {}
 
-/// A text that breaks no rule on names has one ground for the phase of modes and constants.
+/// A text that breaks no rule on names has a ground for the phase of modes and constants, and one alone.
 pub fn ground_law()
-    ensures { OneGroundLaw }
+    ensures there { GroundThereLaw }
+    ensures one { OneGroundLaw }
 {}
