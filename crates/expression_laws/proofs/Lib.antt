@@ -12,3 +12,5 @@ pub mod Program
 pub mod Things
 pub mod KnownNames
 pub mod Exceptions
+pub mod Placed
+pub mod TextRows

@@ -4,3 +4,4 @@ pub mod Statements
 pub mod Program
 pub mod Things
 pub mod Exceptions
+pub mod Placed
