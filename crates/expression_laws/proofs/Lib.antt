@@ -14,3 +14,6 @@ pub mod KnownNames
 pub mod Exceptions
 pub mod Placed
 pub mod TextRows
+pub mod Exits
+pub mod Nodes
+pub mod Text

@@ -5,3 +5,6 @@ pub mod Program
 pub mod Things
 pub mod Exceptions
 pub mod Placed
+pub mod Exits
+pub mod Nodes
+pub mod Text
