@@ -5,7 +5,6 @@ use Rattle.chill_tree.specs.ItemTree.{ProgramTree}
 use Rattle.checks_model.specs.Ground.{Ground, Origin, a_synonym, a_mode, a_location, a_parameter}
 use Rattle.checks_model.specs.Table.{ground_with, IsStatementGroundOf}
 use Rattle.checks_model.specs.Diagnoses.{HasNames, HasModes}
-use Rattle.table_laws.specs.OneTable.{IsOrder}
 use Rattle.there_laws.specs.Table.{TuplesNamed, ModeNamed, SomeModeNamed, IsNameThere}
 
 -- the names in what defines something that constants and modes look up stand for modes where they have to
@@ -23,11 +22,10 @@ AllNamedSo g = (d : ℕ) (o : Origin) → slice_get g.origins d ≡ Some o → I
 abbrev pub NamedSoLaw : Type 0
 NamedSoLaw = (text : List ℕ) (t : ProgramTree) (g : Ground) → HasNames text t → g ≡ ground_with t g.entries → AllNamedSo g
 
--- In a text that breaks no rule on names, modes and constants each name has what constants and modes need, where an order leads through
--- its definitions.
+-- In a text that breaks no rule on names, modes and constants each name has what constants and modes need.
 abbrev pub TextThereLaw : Type 0
-TextThereLaw = (text : List ℕ) (t : ProgramTree) (g : Ground) (order : List ℕ) → HasModes text t g → IsOrder g order → (n : Name) → IsNameThere g n
+TextThereLaw = (text : List ℕ) (t : ProgramTree) (g : Ground) → HasModes text t g → (n : Name) → IsNameThere g n
 
 -- So it does where its ground knows counters.
 abbrev pub CountersThereLaw : Type 0
-CountersThereLaw = (text : List ℕ) (t : ProgramTree) (g h : Ground) (order : List ℕ) → HasModes text t g → IsStatementGroundOf t h → IsOrder g order → (n : Name) → IsNameThere h n
+CountersThereLaw = (text : List ℕ) (t : ProgramTree) (g h : Ground) → HasModes text t g → IsStatementGroundOf t h → (n : Name) → IsNameThere h n

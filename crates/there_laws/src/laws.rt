@@ -19,8 +19,9 @@ pub fn modes_law()
 {}
 
 /// In a table that an order of its definitions leads through, and of which nothing is told, what constants and modes need of
-/// names is there of each name. In a text that breaks no rule on names these stand for modes where they have to; so what is
-/// needed is there in a text that breaks no rule on names, modes and constants, and where its counters are known too.
+/// names is there of each name. In a text that breaks no rule on names these stand for modes where they have to, and an order
+/// leads through its definitions; so what is needed is there in a text that breaks no rule on names, modes and constants, and
+/// where its counters are known too.
 pub fn table_law()
     ensures table { TableThereLaw }
     ensures named { NamedSoLaw }

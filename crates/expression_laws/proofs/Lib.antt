@@ -1,0 +1,14 @@
+pub mod Values
+pub mod Operators
+pub mod Known
+pub mod Parts
+pub mod Applied
+pub mod Places
+pub mod Expressions
+pub mod Constants
+pub mod Actions
+pub mod Statements
+pub mod Program
+pub mod Things
+pub mod KnownNames
+pub mod Exceptions
