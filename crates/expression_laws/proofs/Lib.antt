@@ -12,3 +12,8 @@ pub mod Program
 pub mod Things
 pub mod KnownNames
 pub mod Exceptions
+pub mod Placed
+pub mod TextRows
+pub mod Exits
+pub mod Nodes
+pub mod Text

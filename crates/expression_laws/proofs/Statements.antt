@@ -10,6 +10,7 @@ use Rattle.modes.specs.ModeTree.{ModeTree, ClassTree}
 use Rattle.modes.specs.Form.{form_of}
 use Rattle.diagnostics.specs.declared.diagnostic.Diagnostic.{Diagnostic}
 use Rattle.diagnostics.specs.declared.rule.Rule.TheVariants as rules
+use Rattle.names_model.specs.StatementParts.{labelled}
 use Rattle.program_trees.specs.ExprTree as made
 use Rattle.program_trees.specs.StatementTree as done
 use Rattle.checks_model.specs.Alike.{is_int, is_instance, is_powerset, is_discrete, is_meeting, class_is}
@@ -35,7 +36,7 @@ use Rattle.elaboration_model.specs.Exceptions.{exception_number}
 use Rattle.elaboration_model.specs.Expressions.{Target, expr_alone, received_by, target, mode_defined}
 use Rattle.elaboration_model.specs.Statements.{Around, within, priority, label, plain, base_defined, locals_among, set_locals, declared_as, first_mode, declaration, declarations, before, action_of, low_of, members_loop, steps_loop, control, some_names, first_is_buffer, receives_from, set_location, source_used, with_receive, delayed, is_labelled, statement, holding, each, choices, cases, delays, receives, otherwise_done, or_else, handled, exceptions, body}
 use Rattle.expression_laws.specs.Names.{stands_for_location, takes_parts, IsPlace, MessageKnown, IsWellNamed, AllNamesKnown}
-use Rattle.expression_laws.specs.Statements.{AreDeclared, ControlStands, IsNodeClean, IsAround, labels_in, ExitsStand, BracketedExits, EachExits, BranchExits, CaseExits, NamedExits, ReceiveExits, ElseExits, HandlerExits, BodyExits, StatementThereLaw, BodyThereLaw, HandlerThereLaw}
+use Rattle.expression_laws.specs.Statements.{AreDeclared, ControlStands, IsNodeClean, IsAround, ExitsStand, BracketedExits, EachExits, BranchExits, CaseExits, NamedExits, ReceiveExits, ElseExits, HandlerExits, BodyExits, StatementThereLaw, BodyThereLaw, HandlerThereLaw}
 use Rattle.expression_laws.proofs.Values.{goes_place, class_valued, instance_valued}
 use Rattle.expression_laws.proofs.Operators.{map_there}
 use Rattle.expression_laws.proofs.Parts.{made_there, three_there, is_there, value_goes}
@@ -151,7 +152,7 @@ control_there s (for_steps at n from step down to c) known clean_is =
 
 -- ---- declarations
 
-each_made : {A B : Type 0} (f : A → Option B) (xs : List A) → Each (λ x. IsSome (f x)) xs → IsSome (made_each f xs)
+pub each_made : {A B : Type 0} (f : A → Option B) (xs : List A) → Each (λ x. IsSome (f x)) xs → IsSome (made_each f xs)
 each_made f [] all = refl
 each_made f (x ∷ xs) all = made_there (λ y ys. y ∷ ys) (f x) (made_each f xs) all.0 (each_made f xs all.1)
 
@@ -241,7 +242,7 @@ receive_made (Some k) (Some ks) (Some ss) None first second third fourth = absur
 
 -- ---- labels
 
-within_labels : (l : Option Name) (a : Around) → labels_in l a.labels ≡ (within l a).labels
+within_labels : (l : Option Name) (a : Around) → labelled l a.labels ≡ (within l a).labels
 within_labels None a = refl
 within_labels (Some l) a = refl
 

@@ -105,8 +105,8 @@ record RowThing (rs : List Row) (d : ℕ) (r : Row) : Type 0 where
   body : has_body r.origin ≡ true → IsSome (body_in (local_in rs d r (body_around rs r.inside)))
 
 -- what stands in a body meets at nothing
-never_inner : {A : Type 0} (r : Row) (m : ModeTree) (how : Meeting) → IsRowPlaced r → same_meeting meets_nothing how ≡ false → is_direct r.inside ≡ false → r.mode ≡ Some m → meeting_of m ≡ how → A
-never_inner r m how placed apart inner mode is = absurd (true≢false (ap (same_meeting meets_nothing) (sym (meets_none m (placed.values inner m mode)) ∙ is) ∙ apart))
+never_inner : {A : Type 0} (r : Row) (m : ModeTree) (how : Meeting) → IsRowPlaced r → is_location r.origin ≡ true → same_meeting meets_nothing how ≡ false → is_direct r.inside ≡ false → r.mode ≡ Some m → meeting_of m ≡ how → A
+never_inner r m how placed location apart inner mode is = absurd (true≢false (ap (same_meeting meets_nothing) (sym (meets_none m (placed.values location inner m mode)) ∙ is) ∙ apart))
 
 signal_origin : (o : Origin) → is_signal o ≡ true → (is_location o ≡ false) × ((has_body o || is_signal o) ≡ true)
 signal_origin (a_signal s) is = (refl, refl)
@@ -141,11 +141,11 @@ row_thing rs d r placed = record {
 
     by_event : is_location r.origin ≡ true → (m : ModeTree) → r.mode ≡ Some m → meeting_of m ≡ meets_event → (b : Bool) → is_direct r.inside ≡ b → IsSome (event_number (local_in rs d r (body_around rs r.inside)))
     by_event location m mode is true direct = ap (λ x. is_some (event_number x)) (shared_thing rs d r m meets_event location direct mode is)
-    by_event location m mode is false inner = never_inner r m meets_event placed refl inner mode is
+    by_event location m mode is false inner = never_inner r m meets_event placed location refl inner mode is
 
     by_buffer : is_location r.origin ≡ true → (m : ModeTree) → r.mode ≡ Some m → meeting_of m ≡ meets_buffer → (b : Bool) → is_direct r.inside ≡ b → IsSome (buffer_number (local_in rs d r (body_around rs r.inside)))
     by_buffer location m mode is true direct = ap (λ x. is_some (buffer_number x)) (shared_thing rs d r m meets_buffer location direct mode is)
-    by_buffer location m mode is false inner = never_inner r m meets_buffer placed refl inner mode is
+    by_buffer location m mode is false inner = never_inner r m meets_buffer placed location refl inner mode is
 
 -- ---- names
 

@@ -4,3 +4,7 @@ pub mod Statements
 pub mod Program
 pub mod Things
 pub mod Exceptions
+pub mod Placed
+pub mod Exits
+pub mod Nodes
+pub mod Text

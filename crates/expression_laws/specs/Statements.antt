@@ -3,6 +3,7 @@ use Rattle.std.specs.Prelude.{◌≡◌, Bool, true, List, [], ◌∷◌, Option
 use Rattle.chill_tree.specs.declared.tree.name.Name.{Name}
 use Rattle.chill_tree.specs.SimpleTree.{SimpleTree, assign, update, call_of, exit, return_with, result_of, assert_that, cause, stop, start_of, delay, continue_event, send, ControlTree, while_holds, for_ever, for_members, for_steps}
 use Rattle.chill_tree.specs.StatementTree.{StatementTree, BracketedTree, StatementNodes, ElsIfNodes, CaseNodes, NamedNodes, ReceiveNodes, OtherwiseNode, HandlerNode, BodyNodes, empty, simple, bracketed, if_then, case_of, do_loop, begin_end, delay_case, receive_case, no_statements, more_statements, no_branches, more_branches, no_cases, more_cases, no_named, more_named, no_receives, more_receives, no_otherwise, otherwise, no_handler, handler, no_parts, more_locals, more_actions}
+use Rattle.names_model.specs.StatementParts.{labelled}
 use Rattle.modes.specs.ModeTree.{ModeTree}
 use Rattle.modes.specs.Form.{form_of}
 use Rattle.checks_model.specs.Alike.{is_meeting}
@@ -71,16 +72,12 @@ abbrev pub ExitStands : List Name → SimpleTree → Type 0
 ExitStands labels (exit at n) = IsSome (outwards n labels)
 ExitStands labels a = Unit {0}
 
-abbrev pub labels_in : Option Name → List Name → List Name
-labels_in None labels = labels
-labels_in (Some l) labels = l ∷ labels
-
 abbrev mutual
   -- each EXIT has the label of an action around it
   pub ExitsStand : List Name → StatementTree → Type 0
   ExitsStand labels (empty at) = Unit {0}
   ExitsStand labels (simple at a h) = ExitStands labels a × HandlerExits labels h
-  ExitsStand labels (bracketed at l b h closing) = BracketedExits (labels_in l labels) b × HandlerExits (labels_in l labels) h
+  ExitsStand labels (bracketed at l b h closing) = BracketedExits (labelled l labels) b × HandlerExits (labelled l labels) h
 
   pub BracketedExits : List Name → BracketedTree → Type 0
   BracketedExits labels (if_then at c ss bs o) = EachExits labels ss × (BranchExits labels bs × ElseExits labels o)

@@ -19,7 +19,7 @@ use Rattle.expression_laws.specs.Names.{ArePlaces, AreFormals, IsNameKnown}
 pub record IsRowPlaced (r : Row) : Type 0 where
   pub direct : (has_body r.origin || is_signal r.origin) ≡ true → is_direct r.inside ≡ true
   pub inner : (may_be_local r.origin && not (is_location r.origin)) ≡ true → is_direct r.inside ≡ false
-  pub values : is_direct r.inside ≡ false → (m : ModeTree) → r.mode ≡ Some m → not (is_meeting (form_of m)) ≡ true
+  pub values : is_location r.origin ≡ true → is_direct r.inside ≡ false → (m : ModeTree) → r.mode ≡ Some m → not (is_meeting (form_of m)) ≡ true
 
 -- the row of a definition of the text
 pub record RowAt (s : Source) (d : ℕ) (o : Origin) : Type 0 where

@@ -6,4 +6,6 @@
 
 mod laws;
 
-pub use laws::{exceptions_law, expressions_law, names_law, program_law, statements_law};
+pub use laws::{
+    exceptions_law, exits_law, expressions_law, names_law, nodes_law, program_law, statements_law,
+};
