@@ -91,7 +91,7 @@ none_at f (y ∷ xs) x none c = elim (in_cases y xs x c) [
 ]
 
 -- nothing is told of a node where nothing is told of names
-untold_here : (t : ProgramTree) (k : Node) → broken_names (level_of t) ≡ [] → Contains (nodes (outermost (level_of t)) 0 (level_of t)) k → told_here (text_definitions (level_of t)) k.reach k.part ≡ []
+pub untold_here : (t : ProgramTree) (k : Node) → broken_names (level_of t) ≡ [] → Contains (nodes (outermost (level_of t)) 0 (level_of t)) k → told_here (text_definitions (level_of t)) k.reach k.part ≡ []
 untold_here t k none c =
     let ps = level_of t in
     let text = text_definitions ps in

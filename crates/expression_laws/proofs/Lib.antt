@@ -17,3 +17,6 @@ pub mod TextRows
 pub mod Exits
 pub mod Nodes
 pub mod Text
+pub mod Mentions
+pub mod Named
+pub mod WellNamed

@@ -8,3 +8,4 @@ pub mod Placed
 pub mod Exits
 pub mod Nodes
 pub mod Text
+pub mod Named

@@ -67,35 +67,52 @@ MayStand g true (name n) otherwise = (stands_for_value (origin_of g n) || stands
 MayStand g measured e otherwise = otherwise
 
 abbrev mutual
-  -- The names in an expression stand for what they have to; those before tuples are spoken of apart. Of a RECEIVE P3 isn't told.
-  pub Stands : Ground → ExprTree → Type 0
-  Stands g (whole at n) = Unit {0}
-  Stands g (character at n) = Unit {0}
-  Stands g (text at n) = Unit {0}
-  Stands g (this_instance at) = Unit {0}
-  Stands g (paren at e) = Stands g e
-  Stands g (receive at n) = (stands_for_location (origin_of g n) ≡ true) × (told_misfit g for_messages n ≡ [])
-  Stands g (start at n es) = (stands_for_process (origin_of g n) ≡ true) × EachStands g false es
-  Stands g (tuple at n b rs) = RangesStand g rs
-  Stands g (uniform at n b e) = Stands g e
-  Stands g (name n) = stands_for_value (origin_of g n) ≡ true
-  Stands g (apply at e es) = Stands g e × EachStands g (measures (callee_of g e)) es
-  Stands g (field at e n) = Stands g e
-  Stands g (prefixed at o e) = Stands g e
-  Stands g (binary at l o p r) = Stands g l × Stands g r
+  -- The names in an expression stand for what they have to, and more is so of those from which it receives; those before tuples are spoken of
+  -- apart.
+  pub StandsBy : (Name → Type 0) → Ground → ExprTree → Type 0
+  StandsBy P g (whole at n) = Unit {0}
+  StandsBy P g (character at n) = Unit {0}
+  StandsBy P g (text at n) = Unit {0}
+  StandsBy P g (this_instance at) = Unit {0}
+  StandsBy P g (paren at e) = StandsBy P g e
+  StandsBy P g (receive at n) = (stands_for_location (origin_of g n) ≡ true) × P n
+  StandsBy P g (start at n es) = (stands_for_process (origin_of g n) ≡ true) × EachStandsBy P g false es
+  StandsBy P g (tuple at n b rs) = RangesStandBy P g rs
+  StandsBy P g (uniform at n b e) = StandsBy P g e
+  StandsBy P g (name n) = stands_for_value (origin_of g n) ≡ true
+  StandsBy P g (apply at e es) = StandsBy P g e × EachStandsBy P g (measures (callee_of g e)) es
+  StandsBy P g (field at e n) = StandsBy P g e
+  StandsBy P g (prefixed at o e) = StandsBy P g e
+  StandsBy P g (binary at l o p r) = StandsBy P g l × StandsBy P g r
 
   -- arguments, which may be measured
-  pub EachStands : Ground → Bool → ExprNodes → Type 0
-  EachStands g measured no_exprs = Unit {0}
-  EachStands g measured (more_exprs e es) = MayStand g measured e (Stands g e) × EachStands g measured es
+  pub EachStandsBy : (Name → Type 0) → Ground → Bool → ExprNodes → Type 0
+  EachStandsBy P g measured no_exprs = Unit {0}
+  EachStandsBy P g measured (more_exprs e es) = MayStand g measured e (StandsBy P g e) × EachStandsBy P g measured es
 
-  pub RangeStands : Ground → RangeTree → Type 0
-  RangeStands g (alone e) = Stands g e
-  RangeStands g (between l h) = Stands g l × Stands g h
+  pub RangeStandsBy : (Name → Type 0) → Ground → RangeTree → Type 0
+  RangeStandsBy P g (alone e) = StandsBy P g e
+  RangeStandsBy P g (between l h) = StandsBy P g l × StandsBy P g h
 
-  pub RangesStand : Ground → RangeNodes → Type 0
-  RangesStand g no_ranges = Unit {0}
-  RangesStand g (more_ranges r rs) = RangeStands g r × RangesStand g rs
+  pub RangesStandBy : (Name → Type 0) → Ground → RangeNodes → Type 0
+  RangesStandBy P g no_ranges = Unit {0}
+  RangesStandBy P g (more_ranges r rs) = RangeStandsBy P g r × RangesStandBy P g rs
+
+-- P3 isn't told of a name from which something is received
+abbrev pub IsMet : Ground → Name → Type 0
+IsMet g n = told_misfit g for_messages n ≡ []
+
+abbrev pub Stands : Ground → ExprTree → Type 0
+Stands g e = StandsBy (IsMet g) g e
+
+abbrev pub EachStands : Ground → Bool → ExprNodes → Type 0
+EachStands g measured es = EachStandsBy (IsMet g) g measured es
+
+abbrev pub RangeStands : Ground → RangeTree → Type 0
+RangeStands g r = RangeStandsBy (IsMet g) g r
+
+abbrev pub RangesStand : Ground → RangeNodes → Type 0
+RangesStand g rs = RangesStandBy (IsMet g) g rs
 
 -- an expression as a text has it that breaks no rule on names, and P3 not in it
 pub record IsWellNamed (g : Ground) (e : ExprTree) : Type 0 where

@@ -3,6 +3,7 @@
 ghost use Rattle.expression_laws.specs.Exceptions.{ExceptionsLaw};
 ghost use Rattle.expression_laws.specs.Exits.{ExitsLaw};
 ghost use Rattle.expression_laws.specs.Expressions.{ExprThereLaw};
+ghost use Rattle.expression_laws.specs.Named.{NodesNamedLaw, WellNamedLaw};
 ghost use Rattle.expression_laws.specs.Nodes.{NodesLaw};
 ghost use Rattle.expression_laws.specs.Placed.{RowsPlacedLaw};
 ghost use Rattle.expression_laws.specs.Program.{ProgramThereLaw};
@@ -54,4 +55,11 @@ pub fn exits_law()
 /// body.
 pub fn nodes_law()
     ensures { NodesLaw }
+{}
+
+/// In a text that breaks no rule on names these stand for what they have to at its nodes; so its expressions are as a text has
+/// them, where nothing is told of processes.
+pub fn named_law()
+    ensures named { NodesNamedLaw }
+    ensures well { WellNamedLaw }
 {}

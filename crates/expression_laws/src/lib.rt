@@ -7,5 +7,6 @@
 mod laws;
 
 pub use laws::{
-    exceptions_law, exits_law, expressions_law, names_law, nodes_law, program_law, statements_law,
+    exceptions_law, exits_law, expressions_law, named_law, names_law, nodes_law, program_law,
+    statements_law,
 };
