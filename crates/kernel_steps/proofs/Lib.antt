@@ -1,6 +1,7 @@
 pub mod Shuffled
 pub mod Keyed
 pub mod Queued
+pub mod Queueing
 pub mod Placed
 pub mod Idle
 pub mod Steps
