@@ -10,6 +10,8 @@ mod gathering;
 #[cfg(test)]
 mod serves;
 #[cfg(test)]
+mod stopped;
+#[cfg(test)]
 mod texts;
 #[cfg(test)]
 mod unguarded;
