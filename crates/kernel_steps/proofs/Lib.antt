@@ -6,6 +6,7 @@ pub mod Placed
 pub mod Idle
 pub mod Steps
 pub mod Delays
+pub mod Beginning
 pub mod Counts
 pub mod Keeping
 pub mod Trading

@@ -1,6 +1,6 @@
 -- Who waits to lock each region, as phases change.
-use Rattle.std.proofs.Common.{◌≡◌, ℕ, zero, suc, List, [], ◌∷◌, ◌++◌, length, replicate, true, false, refl, sym, ap, ◌∙◌, inl, inr, Option, Some, None, slice_get, slice_set, subst, eq-eqb}
-use Rattle.std.specs.Prelude.{◌==◌, if◌then◌else◌}
+use Rattle.std.proofs.Common.{◌≡◌, ℕ, zero, suc, List, [], ◌∷◌, ◌++◌, length, replicate, true, false, refl, sym, ap, inl, inr, Some, None, slice_get, slice_set, subst, eq-eqb}
+use Rattle.std.specs.Prelude.{◌==◌}
 use Rattle.std.specs.Option.{option_and_then}
 use Rattle.std.proofs.lemmas.Bool.{cases_Bool, eqb-true}
 use Rattle.kernel_base.specs.declared.answer.Answer.{Answer}

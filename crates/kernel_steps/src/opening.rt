@@ -32,7 +32,6 @@ fn new_seats(alloc: Global, facts: &Facts) -> Result<Seats, Memory>
     })
 }
 
-#[tactic(auto, using(crate::proofs::Delays::sleeps_open))]
 fn new_queues(alloc: Global, facts: &Facts) -> Result<Queues, Memory>
     ensures sleeps { IfOk result (λ q. Sleeps facts.now (worlds.opening facts.now) q.events) }
     ensures trades { IfOk result (λ q. Trades facts.now (worlds.opening facts.now) q.buffers) }
