@@ -80,7 +80,7 @@ const READS: [Case; 7] = [
     },
 ];
 
-const PUTS: [Case; 7] = [
+const PUTS: [Case; 8] = [
     Case {
         words: "run f",
         text: RAISED,
@@ -112,6 +112,14 @@ const PUTS: [Case; 7] = [
         status: 5,
         out: "",
         err: "1:1:",
+    },
+    Case {
+        words: "run f",
+        text: "M: MODULE n := 1; END M;",
+        faults: Faults { err: 1, ..NONE },
+        status: 5,
+        out: "",
+        err: "",
     },
     Case {
         words: "format f",
@@ -162,16 +170,39 @@ fn faults_of_writing(rt: HostRuntime) -> Result<(), Fail> {
     Ok(())
 }
 
-#[test]
-fn an_output_that_breaks_off(rt: HostRuntime) -> Result<(), Fail> {
-    let case = Case {
+// The shared counter, over ports that fail.
+fn counted(faults: Faults, status: u8, out: &'static str) -> Case {
+    Case {
         words: "run f",
         text: SHARED_COUNTER,
-        faults: Faults { out: 4, ..NONE },
-        status: 5,
-        out: "200",
+        faults,
+        status,
+        out,
         err: "",
-    };
-    assert!(rt; comes(&rt, rt.alloc(), &case)?);
+    }
+}
+
+#[test]
+fn a_library_that_breaks_off(rt: HostRuntime) -> Result<(), Fail> {
+    for read in 1..3u32 {
+        let case = counted(Faults { read, ..NONE }, 4, "");
+        assert!(rt; comes(&rt, rt.alloc(), &case)?, "read {read}");
+    }
+    Ok(())
+}
+
+#[test]
+fn an_output_that_breaks_off(rt: HostRuntime) -> Result<(), Fail> {
+    for put in 1..6u32 {
+        let (status, out) = match put {
+            1 => (5, ""),
+            2 => (5, "2"),
+            3 => (5, "20"),
+            4 => (5, "200"),
+            _ => (0, "2000"),
+        };
+        let case = counted(Faults { out: put, ..NONE }, status, out);
+        assert!(rt; comes(&rt, rt.alloc(), &case)?, "put {put}");
+    }
     Ok(())
 }

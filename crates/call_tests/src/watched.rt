@@ -66,6 +66,32 @@ fn the_journal_of_a_shared_counter_is_watched(rt: HostRuntime) -> Result<(), Fai
 }
 
 #[test]
+fn watchers_that_all_refuse_are_dropped(rt: HostRuntime) -> Result<(), Fail> {
+    let alloc = rt.alloc();
+    let mut ports = Ports::new(alloc, SHARED_COUNTER, b"", &NONE)?;
+    let mut watchers: Watchers = Vec::new(alloc);
+    let first: Box<dyn Watcher> = Box::new(alloc, Refusing { left: 0 })?;
+    watchers.push(first)?;
+    let second: Box<dyn Watcher> = Box::new(alloc, Refusing { left: 0 })?;
+    watchers.push(second)?;
+    let third: Box<dyn Watcher> = Box::new(alloc, Refusing { left: 0 })?;
+    watchers.push(third)?;
+    let answered = call(
+        &rt,
+        alloc,
+        "run f --watch",
+        &mut ports,
+        &OpenGate,
+        &mut watchers,
+    )?;
+    assert_eq!(rt; answered.status, 0);
+    assert_eq!(rt; answered.dropped.as_slice(), [0u32, 1, 2].as_slice());
+    assert!(rt; watchers.is_empty());
+    assert!(rt; ports.took("2000", ""));
+    Ok(())
+}
+
+#[test]
 fn without_the_word_nobody_watches(rt: HostRuntime) -> Result<(), Fail> {
     let alloc = rt.alloc();
     let mut ports = Ports::new(alloc, SUM, b"", &NONE)?;

@@ -1,2 +1,9 @@
 pub mod ResultFits
 pub mod Computing
+pub mod Grounds
+pub mod Outside
+pub mod ReadValues
+pub mod Laying
+pub mod Measures
+pub mod LaidParts
+pub mod Texts

@@ -13,6 +13,7 @@ use Rattle.checks_model.specs.Classes.{both_classes}
 use Rattle.checks_model.specs.Constants.{applied}
 use Rattle.checks_model.specs.ConstantRules.{raises}
 use Rattle.constant_values.specs.Fits.{fit_together}
+use Rattle.constant_operators.specs.declared.evaluation.Entry.{Entry}
 use Rattle.constant_operators.specs.declared.known.Known.{Known}
 use Rattle.constant_operators.specs.declared.operators.Computed.{Computed}
 use Rattle.constant_operators.specs.declared.operators.Computed.TheVariants as computed
@@ -23,6 +24,20 @@ pub record Holds (c : Option ClassTree) (flat : Option (List ℤ)) (k : Known) :
   pub value : k.value ≡ flat
   pub is_constant : k.is_constant ≡ true
   pub is_clean : k.is_clean ≡ true
+
+-- what isn't constant, with its class where that is known
+pub record IsVarying (c : Option ClassTree) (clean : Bool) (k : Known) : Type 0 where
+  pub class : option_map class_tree k.class ≡ c
+  pub value : k.value ≡ None
+  pub is_constant : k.is_constant ≡ false
+  pub is_clean : k.is_clean ≡ clean
+
+-- that in which something is told
+pub record IsTold (constant : Bool) (k : Known) : Type 0 where
+  pub class : k.class ≡ None
+  pub value : k.value ≡ None
+  pub is_constant : k.is_constant ≡ constant
+  pub is_clean : k.is_clean ≡ false
 
 -- this is known of what has a class and a value
 pub record IsKnown (c : Option ClassTree) (v : Option ValueTree) (k : Known) : Type 0 where
@@ -35,6 +50,10 @@ pub record IsKnownConstant (c : Option ClassTree) (v : Option ValueTree) (k : Kn
   pub known : IsKnown c v k
   pub is_constant : k.is_constant ≡ true
   pub is_clean : k.is_clean ≡ true
+
+-- the constant that a definition keeps
+abbrev pub IsOfEntry : Entry → Known → Type 0
+IsOfEntry e k = Holds (option_map class_tree e.class) e.value k
 
 -- what is known where there is a class, and nothing where there is none
 abbrev pub IsMeasure : Option ClassTree → Option ValueTree → Option Known → Type 0

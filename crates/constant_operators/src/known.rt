@@ -1,11 +1,14 @@
 // What is known of an expression.
-ghost use Rattle.std.specs.Prelude.{◌≡◌, not, Some, None, option_map};
-ghost use Rattle.modes.specs.ModeTree.{mode_tree, class_tree};
-ghost use Rattle.modes.specs.Bounds.{values_of};
+ghost use Rattle.std.specs.Prelude.{◌≡◌, ◌&&◌, not, int_le, true, false, Option, Some, None, slice_get, option_map, option_and_then};
+ghost use Rattle.modes.specs.ModeTree.{ClassTree, mode_tree, class_tree, nothing};
+ghost use Rattle.modes.specs.Bounds.{bounds_of, values_of};
+ghost use Rattle.checks_model.specs.ValueTrees.{ValueTree};
 ghost use Rattle.checks_model.specs.Told.{holds_of};
 ghost use Rattle.checks_model.specs.Alike.{goes_with};
-ghost use Rattle.constant_operators.specs.Known.{Holds};
+ghost use Rattle.checks_model.specs.ConstantRules.{is_outside};
+ghost use Rattle.constant_operators.specs.Known.{Holds, IsVarying, IsTold, IsKnown};
 
+use checks_model::tests_law;
 use chill_base::Scalars;
 use class_operators::goes;
 use modes::{Bounds, Class, Mode, bounds, number_of_values};
@@ -37,7 +40,9 @@ impl Drop for Known {
 
 impl Known {
     /// What isn't constant, of a class.
-    pub fn of_class(class: Class) -> Known {
+    pub fn of_class(class: Class) -> Known
+        ensures { IsVarying (Some (class_tree class)) true result }
+    {
         Known {
             class: Some(class),
             value: None,
@@ -47,7 +52,9 @@ impl Known {
     }
 
     /// What doesn't have the form of a constant, and isn't asked for its class.
-    pub fn varying(is_clean: bool) -> Known {
+    pub fn varying(is_clean: bool) -> Known
+        ensures { IsVarying None is_clean result }
+    {
         Known {
             class: None,
             value: None,
@@ -57,7 +64,9 @@ impl Known {
     }
 
     /// That at which or in which something is told.
-    pub fn told(is_constant: bool) -> Known {
+    pub fn told(is_constant: bool) -> Known
+        ensures { IsTold is_constant result }
+    {
         Known {
             class: None,
             value: None,
@@ -79,7 +88,9 @@ impl Known {
     }
 
     /// That of which nothing is known: a rule is broken at it or in it, or what it uses isn't known.
-    pub fn unknown() -> Known {
+    pub fn unknown() -> Known
+        ensures { IsVarying None true result }
+    {
         Known {
             class: None,
             value: None,
@@ -89,7 +100,9 @@ impl Known {
     }
 
     /// What gives no value.
-    pub fn no_value() -> Known {
+    pub fn no_value() -> Known
+        ensures { IsVarying (Some nothing) true result }
+    {
         Known::of_class(Class::Nothing)
     }
 
@@ -118,7 +131,9 @@ impl Known {
     }
 
     /// Its class and its value.
-    pub fn into_parts(self) -> (Option<Class>, Option<Scalars>) {
+    pub fn into_parts(self) -> (Option<Class>, Option<Scalars>)
+        ensures { (result.0 ≡ self.class) × (result.1 ≡ self.value) }
+    {
         let Known {
             class,
             value,
@@ -129,10 +144,13 @@ impl Known {
     }
 
     /// The value of a constant of a discrete mode.
-    pub fn number(&self) -> Option<i64> {
-        self.value
-            .as_ref()
-            .and_then(|value| value.as_slice().first().copied())
+    pub fn number(&self) -> Option<i64>
+        ensures { result ≡ option_and_then (λ flat. slice_get flat 0) self.now.value }
+    {
+        match &self.value {
+            None => None,
+            Some(value) => value.as_slice().first().copied(),
+        }
     }
 
     /// Whether its class is there and doesn't go with a mode.
@@ -146,12 +164,27 @@ impl Known {
     }
 
     /// Whether its value is there and lies outside a discrete mode.
-    pub fn lies_outside(&self, mode: &Mode) -> bool {
-        match (self.number(), bounds(mode)) {
-            (Some(number), Some(Bounds { low, high })) => number < low || number > high,
-            (None, _) | (_, None) => false,
-        }
+    #[tactic(auto, using(crate::proofs::Outside::outside, crate::proofs::Outside::no_number, crate::proofs::Outside::no_bounds))]
+    pub fn lies_outside(&self, mode: &Mode) -> bool
+        ensures { (c : Option ClassTree) (v : Option ValueTree) → IsKnown c v self.now → holds_of (λ c. not (goes_with c (mode_tree mode.now))) c ≡ false →
+            result ≡ holds_of (is_outside (bounds_of (mode_tree mode.now))) v }
+    {
+        tests_law();
+        let Some(number) = self.number() else {
+            return false;
+        };
+        let Some(bounds) = bounds(mode) else {
+            return false;
+        };
+        !is_within(number, bounds)
     }
+}
+
+// Whether a number lies within bounds.
+fn is_within(number: i64, bounds: Bounds) -> bool
+    ensures { result ≡ (int_le bounds.low number && int_le number bounds.high) }
+{
+    bounds.low <= number && number <= bounds.high
 }
 
 /// How many members a powerset of a mode's values may have.

@@ -6,6 +6,7 @@
 
 mod evaluation;
 mod known;
+mod laws;
 mod literals;
 mod measuring;
 mod operators;
@@ -14,5 +15,6 @@ mod routines;
 pub use constant_values::{GREATEST, add_members, empty_set, single};
 pub use evaluation::{Entry, Evaluation, Plain, shared};
 pub use known::{Known, member_count};
+pub use laws::values_law;
 pub use measuring::Measured;
 pub use operators::Computed;

@@ -19,7 +19,7 @@ use Rattle.order_laws.specs.Counters.{IsEvaluatedWithCounters, is_looked_up, Cou
 abbrev SameOfDone : Ground → Ground → List ℕ → Type 0
 SameOfDone g h done = (d : ℕ) → Contains done d → is_looked_up (slice_get g.origins d) ≡ true → slice_get g.entries d ≡ slice_get h.entries d
 
-looked_up : (o : Option Origin) → is_read o ≡ true → is_looked_up o ≡ true
+pub looked_up : (o : Option Origin) → is_read o ≡ true → is_looked_up o ≡ true
 looked_up (Some (a_predefined p)) read = refl
 looked_up (Some (a_synonym s)) read = refl
 looked_up (Some (a_mode novel m)) read = refl
@@ -34,7 +34,7 @@ looked_up (Some (a_signal s)) read = read
 looked_up (Some (a_modulion kind items)) read = read
 looked_up None read = read
 
-number_same : (g h : Ground) (n : Name) → SameText g h → number_at g.uses n.at ≡ number_at h.uses n.at
+pub number_same : (g h : Ground) (n : Name) → SameText g h → number_at g.uses n.at ≡ number_at h.uses n.at
 number_same g h n text = ap (λ us. number_at us n.at) text.uses
 
 pub origin_same : (g h : Ground) (n : Name) → SameText g h → origin_of g n ≡ origin_of h n

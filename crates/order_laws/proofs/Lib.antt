@@ -1,2 +1,11 @@
 pub mod Orders
 pub mod Counters
+pub mod Numbered
+pub mod Used
+pub mod Depths
+pub mod Nodes
+pub mod Selves
+pub mod TextCounters
+pub mod GroundThere
+pub mod Loops
+pub mod CounterDepths

@@ -7,4 +7,4 @@
 
 mod laws;
 
-pub use laws::{counters_law, order_law};
+pub use laws::{counters_law, ground_law, order_law};

@@ -1,5 +1,4 @@
-//! Tests of the crates that a text goes through, from what all share to what names stand for: each public call once with ample
-//! memory, and tables of what must come, written by hand.
+//! Tests of what all crates share and of the tokens of texts: tables of what must come, written by hand.
 //!
 //! It proves nothing of its own. Tests stand in a crate at the top because a crate with tests is proved twice.
 #![tactic(auto)]
@@ -7,10 +6,4 @@
 #[cfg(test)]
 mod base;
 #[cfg(test)]
-mod expressions;
-#[cfg(test)]
-mod parts;
-#[cfg(test)]
 mod tokens;
-#[cfg(test)]
-mod walk;

@@ -6,13 +6,14 @@ use Rattle.checks_model.specs.Ground.{Ground, Origin, Entry, a_synonym, a_mode, 
 use Rattle.table_laws.specs.OneTable.{SameText}
 use Rattle.order_laws.specs.Counters.{is_looked_up}
 use Rattle.order_laws.proofs.Counters.{counters_apart, origin_same}
+use Rattle.order_laws.proofs.Selves.{text_order}
 use Rattle.elaborated_laws.proofs.Told.{no_some}
 use Rattle.there_laws.specs.Table.{IsThereBy, IsNameThere}
 use Rattle.there_laws.specs.Plain.{CountersThereLaw}
 use Rattle.there_laws.proofs.Plain.{text_there}
 
 -- nothing is needed of what constants and modes don't look up
-unneeded : (e : Option Entry) (k : Option ℕ) (o : Option Origin) → is_looked_up o ≡ false → IsThereBy e k o
+pub unneeded : (e : Option Entry) (k : Option ℕ) (o : Option Origin) → is_looked_up o ≡ false → IsThereBy e k o
 unneeded e k None up = record { value = λ is. absurd (true≢false (sym is)); shape = λ c v class value. no_some v value; mode = λ is. absurd (true≢false (sym is)); located = tt }
 unneeded e k (Some (a_counter l)) up = record { value = λ is. absurd (true≢false (sym is)); shape = λ c v class value. no_some v value; mode = λ is. absurd (true≢false (sym is)); located = tt }
 unneeded e k (Some (a_received n count part)) up = record { value = λ is. absurd (true≢false (sym is)); shape = λ c v class value. no_some v value; mode = λ is. absurd (true≢false (sym is)); located = tt }
@@ -42,12 +43,13 @@ name_there g h n text same there = subst (λ o. IsThereBy (entry_of h n) (number
     by false up = unneeded (entry_of h n) (number_at h.uses n.at) (origin_of g n) up
 
 pub counted_there : CountersThereLaw
-counted_there text t g h order has is_ground is_order n =
+counted_there text t g h has is_ground n =
     let plain = has.is_ground.names in
+    let order = text_order text t g has.has_names plain in
     let with_counters = is_ground.names in
     let same : SameText g h = record {
       uses = ap (λ (x : Ground). x.uses) plain ∙ sym (ap (λ (x : Ground). x.uses) with_counters);
       defined = ap (λ (x : Ground). x.defined) plain ∙ sym (ap (λ (x : Ground). x.defined) with_counters);
       origins = ap (λ (x : Ground). x.origins) plain ∙ sym (ap (λ (x : Ground). x.origins) with_counters);
     } in
-    name_there g h n same (counters_apart g h order same is_order has.is_ground.entries is_ground.entries) (text_there text t g order has is_order n)
+    name_there g h n same (counters_apart g h order.0 same order.1 has.is_ground.entries is_ground.entries) (text_there text t g has n)

@@ -8,5 +8,7 @@ pub mod ShownStatement
 pub mod ShownItem
 pub mod Sets
 pub mod Texts
+pub mod Rows
 pub mod Defining
 pub mod WrittenSo
+pub mod Mentioned

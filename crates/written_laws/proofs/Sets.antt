@@ -54,7 +54,7 @@ length-map : {A B : Type 0} (f : A → B) (xs : List A) → length (map f xs) �
 length-map f [] = refl
 length-map f (x ∷ xs) = ap suc (length-map f xs)
 
-length-numbers : (from count : ℕ) → length (numbers_on from count) ≡ count
+pub length-numbers : (from count : ℕ) → length (numbers_on from count) ≡ count
 length-numbers from zero = refl
 length-numbers from (suc count) = ap suc (length-numbers (suc from) count)
 

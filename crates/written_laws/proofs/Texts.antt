@@ -3,14 +3,15 @@ use Rattle.std.proofs.Common.{◌≡◌, ℕ, Bool, true, List, [], ◌∷◌, �
 use Rattle.std.specs.Prelude.{flat_map, replicate}
 use Rattle.chill_tree.specs.declared.tree.name.Name.{Name}
 use Rattle.chill_tree.specs.ModeTree as written
+use Rattle.names_model.specs.declared.kind.Need.TheVariants as needs
 use Rattle.names_model.specs.declared.part.Mention.{Mention}
 use Rattle.names_model.specs.declared.part.Clause.{Clause}
 use Rattle.names_model.specs.Parts.{PartTree, PartNodes, define, mention, seize, seize_all, grant, grant_all, stray, modulion, routine, block, no_parts, more_parts, part_nodes}
 use Rattle.names_model.specs.Definitions.{numbers_on}
-use Rattle.names_model.specs.ExprMentions.{mentions_of}
+use Rattle.names_model.specs.ExprMentions.{used, mentions_of}
 use Rattle.names_model.specs.ModeMentions.{mentions_of_mode, mentions_of_some_mode}
 use Rattle.names_model.specs.ItemParts.{mentions_of_parts}
-use Rattle.checks_model.specs.Ground.{Origin, a_synonym, a_mode, an_element, a_location, a_parameter, a_procedure, a_signal}
+use Rattle.checks_model.specs.Ground.{Origin, a_synonym, a_mode, an_element, a_location, a_parameter, a_received, a_procedure, a_signal}
 use Rattle.checks_model.specs.Origins.{sets_in, elements, elements_of, elements_of_some}
 use Rattle.written_laws.specs.Written.{Each}
 use Rattle.written_laws.proofs.Shown.{each_append, each_map, each_any, each_flat, each_same}
@@ -27,10 +28,10 @@ abbrev pub HeadPasses : (Mention → Bool) → List Clause → List Mention → 
 HeadPasses test params result = Each (ClausePasses test) params × AllPass test result
 
 abbrev mutual
-  -- the test holds in what defines something in a part and in the parts inside it
+  -- the test holds in a part and in the parts inside it
   pub PartPasses : (Mention → Bool) → PartTree → Type 0
   PartPasses test (define c) = ClausePasses test c
-  PartPasses test (mention m) = Unit {0}
+  PartPasses test (mention m) = test m ≡ true
   PartPasses test (seize n) = Unit {0}
   PartPasses test (seize_all at) = Unit {0}
   PartPasses test (grant n) = Unit {0}
@@ -59,8 +60,13 @@ text_of (a_procedure p) = mentions_of_some_mode p.returns
 text_of (a_signal s) = mentions_of_parts s.parts
 text_of o = []
 
+-- and what is mentioned for it: a received name's message stands before its block
+abbrev pub mentioned_for : Origin → List Mention
+mentioned_for (a_received n count part) = used needs.Message n
+mentioned_for o = text_of o
+
 abbrev pub TextPasses : (Mention → Bool) → Origin → Type 0
-TextPasses test o = AllPass test (text_of o)
+TextPasses test o = AllPass test (mentioned_for o)
 
 -- elements have no text
 element_passes : (test : Mention → Bool) (owner : Option (Name × Bool)) (ns : List Name) → Each (TextPasses test) (elements owner ns)

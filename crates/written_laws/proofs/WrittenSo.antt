@@ -35,6 +35,7 @@ use Rattle.written_laws.proofs.Shown.{each_append, each_any, each_flat}
 use Rattle.written_laws.proofs.ShownMode.{IsFilledBase, AreFilled, IsFilled}
 use Rattle.written_laws.proofs.ShownLocal.{IsSomeFilled, AreSomeFilled, IsShaped}
 use Rattle.written_laws.proofs.ShownItem.{program_fine}
+use Rattle.written_laws.proofs.Rows.{same_length}
 use Rattle.written_laws.proofs.Sets.{IsFirstIn, HasElements, HasSets, each_more, sets_of, sets_of_some, sets_of_parts}
 use Rattle.written_laws.proofs.Defining.{IsNamedAt, IsSomeNamed, has_element, IsOwned, program_defining}
 
@@ -79,12 +80,6 @@ names_few t none =
     few_definitions ds (none_later (told_in ds (outermost ps) 0 ps ++ told_selves ds (groups_in ds (outermost ps) 0 ps)) (told_surplus ds) (none_listed (told_of_names ps) none))
 
 -- ---- definitions and what defines them
-
-same_length : (os : List Origin) (ds : List Definition) → AllDefine os ds → length os ≡ length ds
-same_length [] [] all = refl
-same_length (o ∷ os) (d ∷ ds) all = ap suc (same_length os ds all.1)
-same_length [] (d ∷ ds) all = absurd all
-same_length (o ∷ os) [] all = absurd all
 
 -- of two lists the first define each other where the later are of one length
 first_define : (os ps : List Origin) (ds es : List Definition) → length ps ≡ length es → AllDefine (os ++ ps) (ds ++ es) → AllDefine os ds

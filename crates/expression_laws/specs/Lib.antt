@@ -1,0 +1,11 @@
+pub mod Names
+pub mod Expressions
+pub mod Statements
+pub mod Program
+pub mod Things
+pub mod Exceptions
+pub mod Placed
+pub mod Exits
+pub mod Nodes
+pub mod Text
+pub mod Named
