@@ -1,0 +1,9 @@
+mod Bursts
+mod Events
+mod Talks
+mod Answered
+mod Noted
+mod Followed
+mod Opening
+mod Held
+mod Steps
