@@ -1,6 +1,6 @@
 // Small codes, and the journals of their runs.
 use crate::stage::Noted::{Did, Goes, Runs, Waits};
-use crate::stage::{Noted, Scene, misfits, shows, stops};
+use crate::stage::{Noted, Scene, is_none, is_run, misfits, shows, stops};
 use code_types::Instr;
 use code_types::Instr::{Again, Finish, Pop, Push, PutInt, PutLine, Read};
 use kernel_base::Alternative;
@@ -108,6 +108,46 @@ fn two_processes_take_turns_in_a_region(rt: HostRuntime) -> Result<(), Fail> {
 fn a_run_is_stopped_behind_each_commit(rt: HostRuntime) -> Result<(), Fail> {
     stops(&rt, rt.alloc(), &SLEEPS, SLEPT, 1, Still)?;
     stops(&rt, rt.alloc(), &SHARES, SHARED, 9, AllEnded)
+}
+
+// The first process is in the region before the second one, which is no choice of the serial run.
+const SHARED_THE_OTHER_WAY: &[Noted] = &[
+    Did(1, Start(1, &[]), Instance(2)),
+    Did(1, Enter(0), Done),
+    Did(1, Put("1"), Done),
+    Waits(2, Enter(0)),
+    Did(1, Leave(0), Done),
+    Goes(2, Done),
+    Did(1, End(Normal), Done),
+    Did(2, Put("2"), Done),
+    Did(2, Leave(0), Done),
+    Did(2, End(Normal), Done),
+];
+
+// The second one puts a number that its code doesn't put.
+const PUT_WRONGLY: &[Noted] = &[
+    Did(1, Start(1, &[]), Instance(2)),
+    Did(2, Enter(0), Done),
+    Did(2, Put("3"), Done),
+];
+
+// Both are in the region.
+const SHARED_BY_BOTH: &[Noted] = &[
+    Did(1, Start(1, &[]), Instance(2)),
+    Did(2, Enter(0), Done),
+    Did(1, Enter(0), Done),
+];
+
+#[test]
+fn journals_are_runs_up_to_an_event_that_cannot_come(rt: HostRuntime) -> Result<(), Fail> {
+    let alloc = rt.alloc();
+    is_run(&rt, alloc, &SHARES, SHARED, Some(AllEnded))?;
+    is_run(&rt, alloc, &SHARES, SHARED_THE_OTHER_WAY, Some(AllEnded))?;
+    is_run(&rt, alloc, &SLEEPS, SLEPT, Some(Still))?;
+    is_run(&rt, alloc, &LOOPS, LOOPED, Some(Spent))?;
+    is_run(&rt, alloc, &PUTS, &[], None)?;
+    is_none(&rt, alloc, &SHARES, PUT_WRONGLY, 2)?;
+    is_none(&rt, alloc, &SHARES, SHARED_BY_BOTH, 2)
 }
 
 // There is no location.

@@ -7,10 +7,12 @@ use code_guard::{Guarded, guard};
 use code_types::{BodyRow, Code, Instr};
 use kernel_base::{Event, Facts, Over};
 use played_turns::{Asked, Given, answer_of, request_of};
+use run_checker::{Verdict, check_run};
 use serial_run::{Driven, RunRefusal, Stopped, attempt, attempt_some};
 use std::alloc::{AllocError, Global};
 use std::process::Abort;
 use std::test::Fail;
+use world_check::have_few_members;
 
 /// An event as a table can hold it.
 pub enum Noted {
@@ -129,6 +131,67 @@ fn tells(rt: &impl Abort, alloc: Global, events: &[Event], table: &[Noted]) -> R
     }
     assert!(rt; events.len() == table.len(), "more events");
     Ok(())
+}
+
+/// The events of a table.
+fn events_of(alloc: Global, table: &[Noted]) -> Result<Vec<Event>, AllocError> {
+    let mut events = Vec::new(alloc);
+    for noted in table {
+        events.push(event_of(alloc, noted)?)?;
+    }
+    Ok(events)
+}
+
+/// What the events of a table are to a scene's code.
+fn verdict_of(alloc: Global, scene: &Scene, table: &[Noted]) -> Result<Verdict, Fail> {
+    if scene.units == 0 || scene.units > 10_000_000 {
+        return Err(Fail::from("a budget out of range"));
+    }
+    let guarded = guarded(alloc, scene)?;
+    let facts = facts(alloc, scene.units)?;
+    if !have_few_members(&facts) {
+        return Err(Fail::from("a powerset with too many members"));
+    }
+    let events = events_of(alloc, table)?;
+    match check_run(alloc, &guarded, &facts, events.as_slice()) {
+        Ok(verdict) => Ok(verdict),
+        Err(_) => Err(Fail::from("a journal that isn't decided")),
+    }
+}
+
+/// The table is a run of the scene, which is over so, or isn't over.
+pub fn is_run(
+    rt: &impl Abort,
+    alloc: Global,
+    scene: &Scene,
+    table: &[Noted],
+    ends: Option<Over>,
+) -> Result<(), Fail> {
+    match verdict_of(alloc, scene, table)? {
+        Verdict::Yes { count, over } => {
+            assert!(rt; count as usize == table.len());
+            assert!(rt; over == ends);
+            Ok(())
+        }
+        Verdict::No { at } => panic!(rt; "none from event {at} on"),
+    }
+}
+
+/// The table is no run of the scene from this event on.
+pub fn is_none(
+    rt: &impl Abort,
+    alloc: Global,
+    scene: &Scene,
+    table: &[Noted],
+    from: u32,
+) -> Result<(), Fail> {
+    match verdict_of(alloc, scene, table)? {
+        Verdict::Yes { .. } => panic!(rt; "a run"),
+        Verdict::No { at } => {
+            assert!(rt; at == from);
+            Ok(())
+        }
+    }
 }
 
 /// Runs a scene, whose journal is the table, with so many machines, and which is over so.
