@@ -1,11 +1,21 @@
 // Constants, and the rules on them: what is known of each expression in the phase of modes (Z.200, chapter on values).
+ghost use Rattle.std.specs.Prelude.{◌≡◌, ◌&&◌, false, [], option_map, if◌then◌else◌, IfOk, IsTrue, pos, neg_ℤ, None};
+ghost use Rattle.chill_tree.specs.ExprTree.{expr_tree, expr_trees, range_tree, range_trees, expr_nodes, range_nodes, prefixed};
+ghost use Rattle.chill_tree.specs.ExprTree.{name as tree_of_name};
+ghost use Rattle.checks_model.specs.Classes.{class_of};
+ghost use Rattle.checks_model.specs.Constants.{constant_of, has_form};
+ghost use Rattle.checks_model.specs.ConstantRules.{told_of_constants, told_in_each};
+ghost use Rattle.constant_operators.specs.Grounds.{ground_of, HasGround};
+ghost use Rattle.constant_rules.specs.Found.{IsFound, Varies};
+ghost use Rattle.constant_rules.specs.Walks.{FindsExpr, FindsLiteral, FindsNeeded, told_in_all, told_in_ends, is_apply, minus_literal};
+
 use crate::calls::routine;
 use crate::forms::{has_form, have_form};
 use crate::operators::{binary, unary};
 use crate::tuples::{named_parts, named_uniform};
 use chill_base::{Memory, Pos};
 use chill_tree::tree::{Expr, Name, Prefix, ValueRange};
-use constant_operators::{Evaluation, GREATEST, Known};
+use constant_operators::{Evaluation, Known};
 use definition_origins::{CheckRule, Told};
 
 /// What is known of an expression where a constant is needed, or none where something is told in it or at it.
@@ -29,20 +39,42 @@ pub fn needed(
 #[cycle(expr)]
 pub fn known(ground: &Evaluation<'_>, expr: &Expr, told: &mut Told) -> Result<Known, Memory> {
     match expr {
-        Expr::Whole { at, value } => whole(ground, *at, *value, told),
-        Expr::Char { value, .. } => ground.character(*value),
-        Expr::Text { value, .. } => ground.text(value),
-        Expr::This { .. } | Expr::Receive { .. } => Ok(Known::varying(true)),
-        Expr::Paren { inner, .. } => known(ground, inner, told),
-        Expr::Start { args, .. } => varying_parts(ground, args.as_slice(), told),
+        Expr::Whole { at, value } => {
+            let literal = whole(ground, *at, *value, told)?;
+            Ok(literal)
+        }
+        Expr::Char { value, .. } => {
+            let character = ground.character(*value)?;
+            Ok(character)
+        }
+        Expr::Text { value, .. } => {
+            let text = ground.text(value)?;
+            Ok(text)
+        }
+        Expr::This { .. } => Ok(Known::varying(true)),
+        Expr::Receive { .. } => Ok(Known::varying(true)),
+        Expr::Paren { inner, .. } => {
+            let inner = known(ground, inner, told)?;
+            Ok(inner)
+        }
+        Expr::Start { args, .. } => {
+            let args = varying_parts(ground, args.as_slice(), told)?;
+            Ok(args)
+        }
         Expr::Tuple {
             mode,
             bracket,
             parts,
             ..
         } => match name_if(mode, have_form(ground, parts.as_slice())) {
-            Some(name) => named_parts(ground, *bracket, parts.as_slice(), name, told),
-            None => varying_ranges(ground, parts.as_slice(), told),
+            Some(name) => {
+                let tuple = named_parts(ground, *bracket, parts.as_slice(), name, told)?;
+                Ok(tuple)
+            }
+            None => {
+                let ranges = varying_ranges(ground, parts.as_slice(), told)?;
+                Ok(ranges)
+            }
         },
         Expr::Uniform {
             mode,
@@ -50,17 +82,35 @@ pub fn known(ground: &Evaluation<'_>, expr: &Expr, told: &mut Told) -> Result<Kn
             value,
             ..
         } => match name_if(mode, has_form(ground, value, true)) {
-            Some(name) => named_uniform(ground, *bracket, value, name, told),
-            None => varying_part(ground, value, told),
+            Some(name) => {
+                let all = named_uniform(ground, *bracket, value, name, told)?;
+                Ok(all)
+            }
+            None => {
+                let one = varying_part(ground, value, told)?;
+                Ok(one)
+            }
         },
-        Expr::Name(name) => named(ground, name),
-        Expr::Apply { .. } => applied(ground, expr, told),
-        Expr::Field { of, .. } => varying_part(ground, of, told),
+        Expr::Name(name) => {
+            let constant = named(ground, name)?;
+            Ok(constant)
+        }
+        Expr::Apply { .. } => {
+            let call = applied(ground, expr, told)?;
+            Ok(call)
+        }
+        Expr::Field { of, .. } => {
+            let field = varying_part(ground, of, told)?;
+            Ok(field)
+        }
         Expr::Prefixed {
             at,
             operator,
             operand,
-        } => prefixed(ground, *at, *operator, operand, told),
+        } => {
+            let own = prefixed(ground, *at, *operator, operand, told)?;
+            Ok(own)
+        }
         Expr::Binary {
             left,
             operator,
@@ -68,15 +118,18 @@ pub fn known(ground: &Evaluation<'_>, expr: &Expr, told: &mut Told) -> Result<Kn
             right,
             ..
         } => {
-            let left = known(ground, left, told)?;
-            let right = known(ground, right, told)?;
-            binary(ground, *operator, *sign, &left, &right, told)
+            let one = known(ground, left, told)?;
+            let other = known(ground, right, told)?;
+            let both = binary(ground, *operator, *sign, &one, &other, told)?;
+            Ok(both)
         }
     }
 }
 
 // The name of a tuple's mode, where the tuple has the form of a constant.
-fn name_if(mode: &Option<Name>, has_form: bool) -> Option<&Name> {
+fn name_if(mode: &Option<Name>, has_form: bool) -> Option<&Name>
+    ensures { option_map (λ n. n.now) result ≡ (if has_form then mode.now else None) }
+{
     match mode {
         None => None,
         Some(name) => {
@@ -88,35 +141,75 @@ fn name_if(mode: &Option<Name>, has_form: bool) -> Option<&Name> {
     }
 }
 
+// The greatest value of INT.
+const MOST: u64 = 2_147_483_647;
+
 // A literal, which is one of INT.
-fn whole(ground: &Evaluation<'_>, at: Pos, value: u64, told: &mut Told) -> Result<Known, Memory> {
-    match i64::try_from(value) {
-        Ok(number) if number <= GREATEST => ground.int(number),
-        Ok(_) | Err(_) => {
-            told.tell(CheckRule::M11, at)?;
-            Ok(Known::told(true))
-        }
+#[tactic(auto, using(crate::proofs::OfKinds::literal_found, crate::proofs::OfKinds::literal_told))]
+fn whole(ground: &Evaluation<'_>, at: Pos, value: u64, told: &mut Told) -> Result<Known, Memory>
+    ensures { HasGround ground.now → IfOk result (λ k. FindsLiteral at 2147483647 value (pos value) told.old told.new k) }
+{
+    if value > MOST {
+        told.tell(CheckRule::M11, at)?;
+        return Ok(Known::told(true));
+    }
+    ground.int(value as i64)
+}
+
+// A literal.
+#[derive(Clone, Copy)]
+struct Literal {
+    at: Pos,
+    value: u64,
+}
+
+// The literal that makes one number with a minus before it.
+#[tactic(auto, using(chill_tree::proofs::ExprViews::expr_built))]
+fn minus_literal(operator: Prefix, operand: &Expr) -> Option<Literal>
+    ensures { option_map (λ l. (l.at, l.value)) result ≡ minus_literal operator (expr_tree operand.now) }
+{
+    match operator {
+        Prefix::Not => None,
+        Prefix::Minus => match operand {
+            Expr::Whole { at, value } => Some(Literal {
+                at: *at,
+                value: *value,
+            }),
+            Expr::Char { .. }
+            | Expr::Text { .. }
+            | Expr::This { .. }
+            | Expr::Paren { .. }
+            | Expr::Receive { .. }
+            | Expr::Start { .. }
+            | Expr::Tuple { .. }
+            | Expr::Uniform { .. }
+            | Expr::Name(_)
+            | Expr::Apply { .. }
+            | Expr::Field { .. }
+            | Expr::Prefixed { .. }
+            | Expr::Binary { .. } => None,
+        },
     }
 }
 
-// A literal behind a minus, which makes one number with it.
-fn negative(
-    ground: &Evaluation<'_>,
-    at: Pos,
-    value: u64,
-    told: &mut Told,
-) -> Result<Known, Memory> {
-    match i64::try_from(value) {
-        Ok(number) if number <= GREATEST + 1 => ground.int(-number),
-        Ok(_) | Err(_) => {
-            told.tell(CheckRule::M11, at)?;
-            Ok(Known::told(true))
-        }
+// The number of a literal behind a minus.
+#[tactic(auto, using(crate::proofs::OfKinds::negative_literal, crate::proofs::OfKinds::literal_told))]
+fn negative(ground: &Evaluation<'_>, at: Pos, value: u64, told: &mut Told) -> Result<Known, Memory>
+    ensures { HasGround ground.now → IfOk result (λ k. FindsLiteral at 2147483648 value (neg_ℤ (pos value)) told.old told.new k) }
+{
+    if value > MOST + 1 {
+        told.tell(CheckRule::M11, at)?;
+        return Ok(Known::told(true));
     }
+    ground.int(-(value as i64))
 }
 
 // A name alone: a synonym, an element, TRUE, FALSE and NULL are constants.
-fn named(ground: &Evaluation<'_>, name: &Name) -> Result<Known, Memory> {
+#[tactic(auto, using(crate::proofs::OfKinds::name_unknown, crate::proofs::OfKinds::name_varying, crate::proofs::OfKinds::name_found))]
+fn named(ground: &Evaluation<'_>, name: &Name) -> Result<Known, Memory>
+    ensures { HasGround ground.now → IfOk result (λ k.
+        IsFound (has_form (ground_of ground.now) false (tree_of_name name.now)) [] (class_of (ground_of ground.now) (tree_of_name name.now)) (constant_of (ground_of ground.now) (tree_of_name name.now)) k) }
+{
     match ground.used_at(name.at) {
         None => Ok(Known::varying(true)),
         Some(number) => {
@@ -132,16 +225,31 @@ fn named(ground: &Evaluation<'_>, name: &Name) -> Result<Known, Memory> {
 // is computed.
 #[cycle(expr)]
 fn applied(ground: &Evaluation<'_>, expr: &Expr, told: &mut Told) -> Result<Known, Memory> {
-    let Expr::Apply { of, args, .. } = expr else {
-        return Ok(Known::varying(true));
-    };
-    match ground.routine_called(of) {
-        Some(own) => routine(ground, of.at(), own, args.as_slice(), told),
-        None => {
-            let base = known(ground, of, told)?;
-            let parts = varying_parts(ground, args.as_slice(), told)?;
-            Ok(Known::varying(base.is_clean && parts.is_clean))
-        }
+    match expr {
+        Expr::Apply { of, args, .. } => match ground.routine_called(of) {
+            Some(own) => {
+                let known = routine(ground, of.at(), own, args.as_slice(), told)?;
+                Ok(known)
+            }
+            None => {
+                let base = known(ground, of, told)?;
+                let parts = varying_parts(ground, args.as_slice(), told)?;
+                Ok(Known::varying(both(base.is_clean, parts.is_clean)))
+            }
+        },
+        Expr::Whole { .. }
+        | Expr::Char { .. }
+        | Expr::Text { .. }
+        | Expr::This { .. }
+        | Expr::Paren { .. }
+        | Expr::Receive { .. }
+        | Expr::Start { .. }
+        | Expr::Tuple { .. }
+        | Expr::Uniform { .. }
+        | Expr::Name(_)
+        | Expr::Field { .. }
+        | Expr::Prefixed { .. }
+        | Expr::Binary { .. } => Ok(Known::varying(true)),
     }
 }
 
@@ -154,11 +262,13 @@ fn prefixed(
     operand: &Expr,
     told: &mut Told,
 ) -> Result<Known, Memory> {
-    if let (Prefix::Minus, Expr::Whole { at, value }) = (operator, operand) {
-        return negative(ground, *at, *value, told);
+    if let Some(own) = minus_literal(operator, operand) {
+        let literal = negative(ground, own.at, own.value, told)?;
+        return Ok(literal);
     }
-    let operand = known(ground, operand, told)?;
-    unary(ground, operator, at, &operand, told)
+    let found = known(ground, operand, told)?;
+    let own = unary(ground, operator, at, &found, told)?;
+    Ok(own)
 }
 
 /// What isn't constant, whose part may be broken by itself.
@@ -182,7 +292,7 @@ pub fn varying_parts(
     let mut is_clean = true;
     for part in parts {
         let part = known(ground, part, told)?;
-        is_clean = is_clean && part.is_clean;
+        is_clean = both(is_clean, part.is_clean);
     }
     Ok(Known::varying(is_clean))
 }
@@ -196,12 +306,32 @@ pub fn varying_ranges(
 ) -> Result<Known, Memory> {
     let mut is_clean = true;
     for part in parts {
-        let first = known(ground, &part.first, told)?;
-        is_clean = is_clean && first.is_clean;
-        if let Some(last) = &part.last {
-            let last = known(ground, last, told)?;
-            is_clean = is_clean && last.is_clean;
-        }
+        let part = varying_ends(ground, part, told)?;
+        is_clean = both(is_clean, part.is_clean);
     }
     Ok(Known::varying(is_clean))
+}
+
+// An expression, or two with what lies between them.
+#[cycle(expr)]
+fn varying_ends(
+    ground: &Evaluation<'_>,
+    part: &ValueRange,
+    told: &mut Told,
+) -> Result<Known, Memory> {
+    let first = known(ground, &part.first, told)?;
+    match &part.last {
+        None => Ok(Known::varying(first.is_clean)),
+        Some(last) => {
+            let last = known(ground, last, told)?;
+            Ok(Known::varying(both(first.is_clean, last.is_clean)))
+        }
+    }
+}
+
+// Whether nothing is told in two parts.
+fn both(first: bool, second: bool) -> bool
+    ensures { result ≡ (first && second) }
+{
+    first && second
 }

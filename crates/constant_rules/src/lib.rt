@@ -8,11 +8,12 @@ mod calls;
 mod constants;
 mod forms;
 mod operators;
+mod parts;
 mod tuple_value;
 mod tuples;
 
 pub use calls::routine;
 pub use constants::{known, needed};
-pub use forms::is_constant_tuple;
+pub use parts::has_parts;
 pub use tuple_value::TupleValue;
-pub use tuples::{has_parts, tuple_of_synonym};
+pub use tuples::synonym_value;

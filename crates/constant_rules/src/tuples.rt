@@ -1,53 +1,31 @@
 // Tuples of constants (Z.200, chapter on values).
-use crate::constants::{known, varying_part, varying_ranges};
-use crate::tuple_value::TupleValue;
+ghost use Rattle.std.specs.Prelude.{◌≡◌, ◌++◌, true, List, option_map, IfOk, OnOk, IsTrue};
+ghost use Rattle.chill_base.specs.declared.pos.Pos.{Pos};
+ghost use Rattle.diagnostics.specs.declared.diagnostic.Diagnostic.{Diagnostic};
+ghost use Rattle.chill_tree.specs.ExprTree.{expr_tree, range_tree, range_trees, range_nodes, tuple, uniform};
+ghost use Rattle.modes.specs.ModeTree.{mode_tree};
+ghost use Rattle.modes.specs.Form.{form_of};
+ghost use Rattle.checks_model.specs.Told.{is_none_told};
+ghost use Rattle.checks_model.specs.Classes.{shape_fits};
+ghost use Rattle.checks_model.specs.Constants.{has_form, have_form, range_has_form};
+ghost use Rattle.checks_model.specs.ConstantRules.{told_of_synonym_value};
+ghost use Rattle.constant_operators.specs.Grounds.{ground_of, HasGround};
+ghost use Rattle.constant_rules.specs.Found.{IsFound};
+ghost use Rattle.constant_rules.specs.Walks.{FindsExpr, is_own, is_unnamed_tuple, synonym_value};
+ghost use Rattle.constant_rules.specs.Tuples.{FindsTupled, FindsPart, FindsSpan, FindsSpans, IsSynonymValue, FindsSynonym, Receives};
+
+use crate::constants::{known, needed, varying_part, varying_ranges};
+use crate::forms::is_constant_tuple;
+use crate::parts::{
+    Blame, Part, Place, Span, Tupled, array_in, known_of_tuple, misfit_where, part_mode, part_of,
+    part_of_tuple, shape_fits, tupled_of_spans, tupled_uniform,
+};
 use chill_base::{Memory, Pos, Scalars};
 use chill_tree::tree::{Expr, Name, ValueRange};
 use constant_operators::{Evaluation, Known};
 use definition_origins::{CheckRule, Told};
-use modes::{Class, Field, Form, Mode, form_of, number_of_values};
+use modes::Mode;
 use std::rc::Rc;
-
-/// How it is told that a tuple of constants doesn't fit its mode: of one with a mode's name, each misfit by itself; of the
-/// value of a synonym, one rule of the whole, where nothing else is told in it.
-#[derive(Clone, Copy)]
-enum Blame {
-    Each,
-    Whole,
-}
-
-// Where a tuple stands, and how its misfits are told.
-#[derive(Clone, Copy)]
-struct Place {
-    bracket: Pos,
-    blame: Blame,
-}
-
-// What comes of a tuple of constants that goes to a mode.
-#[derive(Drop)]
-enum Tupled {
-    // It fits. It has no value where a part of it has none.
-    Fits(Option<Scalars>),
-    // It doesn't fit, and nothing is told in it or of it.
-    Misfit,
-    // Something is told in it, or of it.
-    Told,
-}
-
-// A part of a tuple: its first token, what is known of it, and whether it fits as far as it is a tuple itself.
-#[derive(Drop)]
-struct Part {
-    at: Pos,
-    known: Known,
-    fits: bool,
-}
-
-// The members from one to another, or one alone.
-#[derive(Drop)]
-struct Span {
-    first: Part,
-    last: Option<Part>,
-}
 
 /// A tuple of constants with the name of its mode.
 #[cycle(expr)]
@@ -58,15 +36,18 @@ pub fn named_parts(
     name: &Name,
     told: &mut Told,
 ) -> Result<Known, Memory> {
-    let Some(mode) = ground.mode_of_name(name)? else {
-        let parts = varying_ranges(ground, parts, told)?;
-        return Ok(constant_of_unknown(parts.is_clean));
+    let named = ground.mode_of_name(name)?;
+    let Some(mode) = named else {
+        let varying = varying_ranges(ground, parts, told)?;
+        return Ok(constant_of_unknown(varying.is_clean));
     };
     let place = Place {
         bracket,
         blame: Blame::Each,
     };
-    known_of_tuple(parts_value(ground, place, parts, &mode, told)?, &mode)
+    let tupled = parts_value(ground, place, parts, &mode, told)?;
+    let known = known_of_tuple(tupled, &mode)?;
+    Ok(known)
 }
 
 /// A tuple of one constant for all elements, with the name of its mode.
@@ -78,127 +59,130 @@ pub fn named_uniform(
     name: &Name,
     told: &mut Told,
 ) -> Result<Known, Memory> {
-    let Some(mode) = ground.mode_of_name(name)? else {
-        let part = varying_part(ground, value, told)?;
-        return Ok(constant_of_unknown(part.is_clean));
+    let named = ground.mode_of_name(name)?;
+    let Some(mode) = named else {
+        let varying = varying_part(ground, value, told)?;
+        return Ok(constant_of_unknown(varying.is_clean));
     };
     let place = Place {
         bracket,
         blame: Blame::Each,
     };
-    known_of_tuple(uniform_value(ground, place, value, &mode, told)?, &mode)
+    let tupled = uniform_value(ground, place, value, &mode, told)?;
+    let known = known_of_tuple(tupled, &mode)?;
+    Ok(known)
 }
 
 // A constant of a mode that isn't known.
-fn constant_of_unknown(is_clean: bool) -> Known {
+#[tactic(auto, using(crate::proofs::SpanFound::unknown_so, crate::proofs::SpanFound::unknown_told))]
+fn constant_of_unknown(is_clean: bool) -> Known
+    ensures { (t : List Diagnostic) → is_clean ≡ is_none_told t → IsFound true t None None result }
+{
     if is_clean {
         return Known::unknown_constant();
     }
     Known::told(true)
 }
 
-/// The value of a tuple without a mode's name that a synonym's written mode receives, where that is there. Rule M12 is told
-/// of the whole.
-pub fn tuple_of_synonym(
+/// The value of a synonym's expression that the written mode receives, where that is there and the value fits it: M10, M11 and
+/// M1 of the expression, then M12 of the whole.
+pub fn synonym_value(
     ground: &Evaluation<'_>,
     expr: &Expr,
     mode: &Option<Rc<Mode>>,
     told: &mut Told,
 ) -> Result<Option<Scalars>, Memory> {
     let Some(mode) = mode else {
-        let _ = known(ground, expr, told)?;
+        let value = value_without_mode(ground, expr, told)?;
+        return Ok(value);
+    };
+    if is_constant_tuple(ground, expr) {
+        let value = tuple_of_synonym(ground, expr, mode, told)?;
+        return Ok(value);
+    }
+    let Some(known) = needed(ground, expr, told)? else {
         return Ok(None);
     };
-    let Part { at, known, fits } = known_part(ground, expr, mode, Blame::Whole, told)?;
-    if !known.is_clean {
-        return Ok(None);
-    }
-    if !fits {
-        told.tell(CheckRule::M12, at)?;
-        return Ok(None);
-    }
-    let (_, value) = known.into_parts();
+    let value = value_received(part_of(expr.at(), known, mode), told)?;
     Ok(value)
 }
 
+// What is told of a synonym's expression whose written mode isn't there; it has no value.
+fn value_without_mode(
+    ground: &Evaluation<'_>,
+    expr: &Expr,
+    told: &mut Told,
+) -> Result<Option<Scalars>, Memory> {
+    if is_constant_tuple(ground, expr) {
+        let _ = known(ground, expr, told)?;
+        return Ok(None);
+    }
+    let _ = needed(ground, expr, told)?;
+    Ok(None)
+}
+
+// The value of a tuple without a mode's name, of which the parts are asked.
+fn tuple_of_synonym(
+    ground: &Evaluation<'_>,
+    expr: &Expr,
+    mode: &Rc<Mode>,
+    told: &mut Told,
+) -> Result<Option<Scalars>, Memory> {
+    let part = known_part(ground, expr, mode, Blame::Whole, told)?;
+    if !part.known.is_clean {
+        return Ok(None);
+    }
+    let value = value_received(part, told)?;
+    Ok(value)
+}
+
+// The value of what the written mode of a synonym receives, with rule M12 where it doesn't fit.
+fn value_received(part: Part, told: &mut Told) -> Result<Option<Scalars>, Memory>
+    ensures { IfOk result (λ v. Receives part told.old told.new v) }
+{
+    if !part.fits() {
+        told.tell(CheckRule::M12, part.at)?;
+        return Ok(None);
+    }
+    Ok(part.into_value())
+}
+
+// What comes of a tuple that goes to a mode.
 #[cycle(expr)]
 fn parts_value(
     ground: &Evaluation<'_>,
     place: Place,
     parts: &[ValueRange],
-    mode: &Mode,
+    mode: &Rc<Mode>,
     told: &mut Told,
 ) -> Result<Tupled, Memory> {
-    match form_of(mode) {
-        Form::Powerset(member) => powerset_value(ground, place, parts, member, told),
-        Form::Array { index, element, .. } => {
-            if !has_parts(parts, number_of_values(index)) {
-                return misfit_parts(ground, place, parts, told);
-            }
-            array_value(ground, place, parts, element, told)
-        }
-        Form::Struct { fields, .. } => {
-            if !has_parts(parts, fields.len() as u64) {
-                return misfit_parts(ground, place, parts, told);
-            }
-            structure_value(ground, place, parts, fields.as_slice(), told)
-        }
-        Form::Int
-        | Form::Bool
-        | Form::Char
-        | Form::Instance
-        | Form::Set { .. }
-        | Form::Chars(_)
-        | Form::Meeting => misfit_parts(ground, place, parts, told),
+    if !shape_fits(parts, mode) {
+        let parts = varying_ranges(ground, parts, told)?;
+        let misfit = misfit_where(place, parts.is_clean, told)?;
+        return Ok(misfit);
     }
+    let spans = known_spans(ground, parts, mode, place.blame, told)?;
+    let tupled = tupled_of_spans(ground.alloc, place, spans.as_slice(), mode, told)?;
+    Ok(tupled)
 }
 
-// A tuple that hasn't the form of its mode.
-#[cycle(expr)]
-fn misfit_parts(
-    ground: &Evaluation<'_>,
-    place: Place,
-    parts: &[ValueRange],
-    told: &mut Told,
-) -> Result<Tupled, Memory> {
-    let parts = varying_ranges(ground, parts, told)?;
-    misfit_where(place, parts.is_clean, told)
-}
-
-// A tuple that doesn't fit its mode, with what is told of that where nothing is told in its parts.
-fn misfit_where(place: Place, is_clean: bool, told: &mut Told) -> Result<Tupled, Memory> {
-    if !is_clean {
-        return Ok(Tupled::Told);
-    }
-    tell_misfit(place, told)?;
-    Ok(misfit_of(place))
-}
-
-// A tuple of one value for all elements of an array.
+// What comes of a tuple of one value for all elements of an array.
 #[cycle(expr)]
 fn uniform_value(
     ground: &Evaluation<'_>,
     place: Place,
     value: &Expr,
-    mode: &Mode,
+    mode: &Rc<Mode>,
     told: &mut Told,
 ) -> Result<Tupled, Memory> {
-    let Form::Array { index, element, .. } = form_of(mode) else {
-        let part = varying_part(ground, value, told)?;
-        return misfit_where(place, part.is_clean, told);
+    let Some(array) = array_in(mode) else {
+        let varying = varying_part(ground, value, told)?;
+        let misfit = misfit_where(place, varying.is_clean, told)?;
+        return Ok(misfit);
     };
-    let part = known_part(ground, value, element, place.blame, told)?;
-    if !part.known.is_clean {
-        return Ok(Tupled::Told);
-    }
-    if !is_received(place, &part, element, told)? {
-        return Ok(misfit_of(place));
-    }
-    let mut all = TupleValue::of_parts(ground.alloc);
-    for _ in 0..number_of_values(index) {
-        all.add(&part.known)?;
-    }
-    Ok(Tupled::Fits(all.into_value()))
+    let part = known_part(ground, value, array.element, place.blame, told)?;
+    let tupled = tupled_uniform(ground.alloc, place, &part, array.index, told)?;
+    Ok(tupled)
 }
 
 // What is known of a part that goes to a mode.
@@ -210,39 +194,38 @@ fn known_part(
     blame: Blame,
     told: &mut Told,
 ) -> Result<Part, Memory> {
-    let at = expr.at();
     match expr {
-        Expr::Paren { inner, .. } => {
-            let Part { at: _, known, fits } = known_part(ground, inner, mode, blame, told)?;
-            Ok(Part { at, known, fits })
+        Expr::Paren { at, inner } => {
+            let part = known_part(ground, inner, mode, blame, told)?;
+            Ok(part.placed(*at))
         }
         Expr::Tuple {
+            at,
             mode: None,
             bracket,
             parts,
-            ..
         } => {
             let place = Place {
                 bracket: *bracket,
                 blame,
             };
-            part_of_tuple(
-                at,
-                parts_value(ground, place, parts.as_slice(), mode, told)?,
-                mode,
-            )
+            let tupled = parts_value(ground, place, parts.as_slice(), mode, told)?;
+            let tuple = part_of_tuple(*at, blame, tupled, mode)?;
+            Ok(tuple)
         }
         Expr::Uniform {
+            at,
             mode: None,
             bracket,
             value,
-            ..
         } => {
             let place = Place {
                 bracket: *bracket,
                 blame,
             };
-            part_of_tuple(at, uniform_value(ground, place, value, mode, told)?, mode)
+            let all = uniform_value(ground, place, value, mode, told)?;
+            let uniform = part_of_tuple(*at, blame, all, mode)?;
+            Ok(uniform)
         }
         Expr::Tuple { mode: Some(_), .. }
         | Expr::Uniform { mode: Some(_), .. }
@@ -256,212 +239,60 @@ fn known_part(
         | Expr::Apply { .. }
         | Expr::Field { .. }
         | Expr::Prefixed { .. }
-        | Expr::Binary { .. } => {
-            let known = known(ground, expr, told)?;
-            Ok(Part {
-                at,
-                known,
-                fits: true,
-            })
-        }
+        | Expr::Binary { .. } => own_part(ground, expr, mode, blame, told),
     }
 }
 
-// A part that is a tuple itself.
-fn part_of_tuple(at: Pos, tupled: Tupled, mode: &Rc<Mode>) -> Result<Part, Memory> {
-    let fits = matches!(&tupled, Tupled::Fits(_));
-    let known = known_of_tuple(tupled, mode)?;
-    Ok(Part { at, known, fits })
-}
-
+// What is known of a part that isn't in parentheses, and no tuple without a mode's name.
 #[cycle(expr)]
-fn array_value(
+fn own_part(
     ground: &Evaluation<'_>,
-    place: Place,
-    parts: &[ValueRange],
-    element: &Rc<Mode>,
+    expr: &Expr,
+    mode: &Rc<Mode>,
+    blame: Blame,
     told: &mut Told,
-) -> Result<Tupled, Memory> {
-    let mut known = Vec::new(ground.alloc);
-    let mut is_clean = true;
-    for range in parts {
-        let own = known_part(ground, &range.first, element, place.blame, told)?;
-        is_clean = is_clean && own.known.is_clean;
-        known.push(own)?;
-    }
-    if !is_clean {
-        return Ok(Tupled::Told);
-    }
-    let mut all = TupleValue::of_parts(ground.alloc);
-    let mut fits = true;
-    for own in &known {
-        fits = is_received(place, own, element, told)? && fits;
-        all.add(&own.known)?;
-    }
-    Ok(tupled_of(place, all, fits))
+) -> Result<Part, Memory> {
+    let known = known(ground, expr, told)?;
+    Ok(part_of(expr.at(), known, mode))
 }
 
+// What is known of the parts of a tuple that has the form of its mode.
 #[cycle(expr)]
-fn structure_value(
+fn known_spans(
     ground: &Evaluation<'_>,
-    place: Place,
     parts: &[ValueRange],
-    fields: &[Field],
+    mode: &Rc<Mode>,
+    blame: Blame,
     told: &mut Told,
-) -> Result<Tupled, Memory> {
-    let mut known = Vec::new(ground.alloc);
-    let mut is_clean = true;
-    for (range, field) in parts.iter().zip(fields.iter()) {
-        let own = known_part(ground, &range.first, &field.mode, place.blame, told)?;
-        is_clean = is_clean && own.known.is_clean;
-        known.push(own)?;
-    }
-    if !is_clean {
-        return Ok(Tupled::Told);
-    }
-    let mut all = TupleValue::of_parts(ground.alloc);
-    let mut fits = true;
-    for (own, field) in known.iter().zip(fields.iter()) {
-        fits = is_received(place, own, &field.mode, told)? && fits;
-        all.add(&own.known)?;
-    }
-    Ok(tupled_of(place, all, fits))
-}
-
-// The members that a powerset's tuple lists, each by itself or as a range.
-#[cycle(expr)]
-fn powerset_value(
-    ground: &Evaluation<'_>,
-    place: Place,
-    parts: &[ValueRange],
-    member: &Rc<Mode>,
-    told: &mut Told,
-) -> Result<Tupled, Memory> {
+) -> Result<Vec<Span>, Memory> {
     let mut spans = Vec::new(ground.alloc);
-    let mut is_clean = true;
-    for range in parts {
-        let own = known_span(ground, range, member, place.blame, told)?;
-        is_clean = is_clean && is_span_clean(&own);
-        spans.push(own)?;
+    for (place, range) in parts.iter().enumerate() {
+        let Some(own) = part_mode(mode, place) else {
+            return Ok(spans);
+        };
+        spans.push(known_span(ground, range, own, blame, told)?)?;
     }
-    if !is_clean {
-        return Ok(Tupled::Told);
-    }
-    let mut all = TupleValue::of_members(ground.alloc, member)?;
-    let mut fits = true;
-    for span in &spans {
-        fits = is_span_received(place, span, member, told)? && fits;
-        let last = span.last.as_ref().unwrap_or(&span.first);
-        all.add_span(member, &span.first.known, &last.known);
-    }
-    Ok(tupled_of(place, all, fits))
+    Ok(spans)
 }
 
-// The members from one to another, or one alone.
+// What is known of a part, which may be a range between two.
 #[cycle(expr)]
 fn known_span(
     ground: &Evaluation<'_>,
     range: &ValueRange,
-    member: &Rc<Mode>,
+    mode: &Rc<Mode>,
     blame: Blame,
     told: &mut Told,
 ) -> Result<Span, Memory> {
-    let first = known_part(ground, &range.first, member, blame, told)?;
-    let last = match &range.last {
-        None => None,
-        Some(last) => Some(known_part(ground, last, member, blame, told)?),
-    };
-    Ok(Span { first, last })
-}
-
-// Whether nothing is told in the ends of a range of members.
-fn is_span_clean(span: &Span) -> bool {
-    match &span.last {
-        None => span.first.known.is_clean,
-        Some(last) => span.first.known.is_clean && last.known.is_clean,
-    }
-}
-
-/// Whether a tuple has so many parts, none of which is a range.
-pub fn has_parts(parts: &[ValueRange], count: u64) -> bool {
-    for part in parts {
-        if part.last.is_some() {
-            return false;
+    let first = known_part(ground, &range.first, mode, blame, told)?;
+    match &range.last {
+        None => Ok(Span { first, last: None }),
+        Some(last) => {
+            let last = known_part(ground, last, mode, blame, told)?;
+            Ok(Span {
+                first,
+                last: Some(last),
+            })
         }
-    }
-    parts.len() as u64 == count
-}
-
-// What is known of a tuple of a mode: its class wherever it fits.
-fn known_of_tuple(tupled: Tupled, mode: &Rc<Mode>) -> Result<Known, Memory> {
-    match tupled {
-        Tupled::Misfit => Ok(Known::unknown_constant()),
-        Tupled::Told => Ok(Known::told(true)),
-        Tupled::Fits(value) => Ok(Known {
-            class: Some(Class::Value(mode.clone()?)),
-            value,
-            is_constant: true,
-            is_clean: true,
-        }),
-    }
-}
-
-// What comes of a tuple whose parts are added.
-fn tupled_of(place: Place, all: TupleValue, fits: bool) -> Tupled {
-    if fits {
-        Tupled::Fits(all.into_value())
-    } else {
-        misfit_of(place)
-    }
-}
-
-// A tuple that doesn't fit, of which that is told where it has a mode's name.
-fn misfit_of(place: Place) -> Tupled {
-    match place.blame {
-        Blame::Each => Tupled::Told,
-        Blame::Whole => Tupled::Misfit,
-    }
-}
-
-// Rule M10 of a tuple with a mode's name that doesn't fit its mode.
-fn tell_misfit(place: Place, told: &mut Told) -> Result<(), Memory> {
-    match place.blame {
-        Blame::Each => told.tell(CheckRule::M10, place.bracket),
-        Blame::Whole => Ok(()),
-    }
-}
-
-// Rule M11 of a part, at a place, of a tuple with a mode's name.
-fn tell_outside(place: Place, at: Pos, told: &mut Told) -> Result<(), Memory> {
-    match place.blame {
-        Blame::Each => told.tell(CheckRule::M11, at),
-        Blame::Whole => Ok(()),
-    }
-}
-
-// Whether a part goes with a mode and lies in it; what is told else.
-fn is_received(place: Place, part: &Part, mode: &Mode, told: &mut Told) -> Result<bool, Memory> {
-    if part.known.goes_not_with(mode) {
-        tell_misfit(place, told)?;
-        return Ok(false);
-    }
-    if part.known.lies_outside(mode) {
-        tell_outside(place, part.at, told)?;
-        return Ok(false);
-    }
-    Ok(part.fits)
-}
-
-// The same of both ends of a range of members.
-fn is_span_received(
-    place: Place,
-    span: &Span,
-    member: &Mode,
-    told: &mut Told,
-) -> Result<bool, Memory> {
-    let is_first_received = is_received(place, &span.first, member, told)?;
-    match &span.last {
-        None => Ok(is_first_received),
-        Some(last) => Ok(is_received(place, last, member, told)? && is_first_received),
     }
 }

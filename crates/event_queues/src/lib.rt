@@ -1,7 +1,7 @@
 //! Who is delayed on events: when an event is full, who is delayed, and whom CONTINUE chooses, which is one of highest
 //! priority and among equals the one that came first.
 //!
-//! It stands on `world_model`, whose delayed processes its list holds in the order in which they came, and below
+//! It stands on `wait_queues`, which holds those that are delayed on each event in the order of choice, and below
 //! `kernel_core`.
 #![tactic(auto)]
 

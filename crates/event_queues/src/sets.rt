@@ -1,51 +1,61 @@
 // Events and those that are delayed on them (Z.200, chapter on concurrent execution).
-ghost use Rattle.std.specs.Prelude.{◌≡◌, ◌+◌, ◌<◌, ◌≤◌, ◌++◌, ◌∷◌, [], None, slice_get, slice_index_or, Some, IfOk, IfSome, IfNone, OnOk, length};
-ghost use Rattle.kernel_lists.specs.Best.{IsBest};
-ghost use Rattle.kernel_lists.specs.Once.{entry_of, others, AreOnce};
-ghost use Rattle.event_queues.specs.Delayed.{who_of, count_on, is_full_on, is_full_for, rank_on, Wakes, NobodyOn};
+ghost use Rattle.std.specs.Prelude.{◌≡◌, ℕ, ◌+◌, ◌<◌, ◌≤◌, [], None, Some, option_copied, length, replicate, slice_get, slice_index_or, IfOk, IfSome, IfNone, OnOk};
+ghost use Rattle.std.specs.Option.{option_map, option_and_then};
+ghost use Rattle.kernel_lists.specs.Once.{entry_of};
+ghost use Rattle.wait_queues.specs.Waiting.{AreOrdered, AreTied, waiter_of, waiting_at};
+ghost use Rattle.event_queues.specs.Delayed.{Comes, NobodyOn, Wakes, delayed_on, events_of, is_full_for, is_full_on, listed_in};
 
 use chill_base::{Item, Lengths, Memory};
+use indexmap::IndexMap;
 use kernel_base::{Alternative, Alternatives};
-use kernel_lists::{Best, Rank, better};
 use std::alloc::Global;
 use std::marker::Model;
-use world_model::{number_at, number_for};
+use wait_queues::{WaitQueues, Waiters};
+use world_model::number_at;
 
-/// A process that is delayed, with the alternatives that it waits for and its priority.
+/// What a process that is delayed waits for, and its priority.
 #[derive(Drop)]
 pub struct Delayed {
-    pub who: u32,
     pub events: Alternatives,
     pub priority: u32,
 }
 
-/// The events, and who is delayed on them.
+/// The events, and who is delayed on them: by process what it waits for, and by event those that wait.
 #[derive(Drop)]
 pub struct EventSets {
     lengths: Lengths,
-    delayed: Vec<Delayed>,
+    delayed: IndexMap<u32, Delayed>,
+    waits: WaitQueues,
 }
 
 impl Model for EventSets {
-    ghost use Rattle.kernel_lists.specs.Room.{spare};
-    ghost use Rattle.kernel_lists.specs.Once.{AreOnce};
-    ghost use Rattle.event_queues.specs.Delayed.{Sets, who_of};
+    ghost use Rattle.std.specs.Prelude.{min};
+    ghost use Rattle.indexmap.specs.IndexMap.{spare};
+    ghost use Rattle.event_queues.specs.Delayed.{AreKept, Sets};
 
     ghost Value = { Sets };
 
-    ghost view = { λ s. record { lengths = s.lengths; delayed = s.delayed.items; spare = spare s.delayed } };
+    ghost view = { λ s. record {
+      lengths = s.lengths;
+      delayed = s.delayed.entries;
+      waiting = s.waits.waiting;
+      spare = min (spare s.delayed) s.waits.room;
+    } };
 
-    ghost invariant = { λ s. AreOnce who_of s.delayed.items };
+    ghost invariant = { λ s. AreKept s.lengths s.delayed.entries s.waits.waiting };
 }
 
 impl EventSets {
     /// The events of these lengths, on which nobody is delayed.
     pub fn new(alloc: Global, lengths: &Lengths) -> Result<EventSets, Memory>
-        ensures { IfOk result (λ s. (s.lengths ≡ lengths.now) × (s.delayed ≡ [])) }
+        ensures lengths { IfOk result (λ s. s.lengths ≡ lengths.now) }
+        ensures delayed { IfOk result (λ s. s.delayed ≡ []) }
+        ensures waiting { IfOk result (λ s. s.waiting ≡ replicate (length lengths.now) []) }
     {
         Ok(EventSets {
             lengths: lengths.copy()?,
-            delayed: Vec::new(alloc),
+            delayed: IndexMap::new(alloc),
+            waits: WaitQueues::new(alloc, lengths.len())?,
         })
     }
 
@@ -54,17 +64,40 @@ impl EventSets {
         ensures room { OnOk result (n ≤ self.new.spare) }
         ensures lengths { self.new.lengths ≡ self.old.lengths }
         ensures delayed { self.new.delayed ≡ self.old.delayed }
+        ensures waiting { self.new.waiting ≡ self.old.waiting }
         ensures spare { self.old.spare ≤ self.new.spare }
     {
         self.delayed.reserve(n as usize)?;
+        self.waits.reserve(n as usize)?;
         Ok(())
     }
 
-    /// No process is delayed twice.
-    pub fn each_once(&self)
-        ensures { AreOnce who_of self.now.delayed }
+    /// On each event exactly those wait that list it, each once, by falling priority.
+    pub fn each_waits(&self)
+        ensures each { length self.now.waiting ≡ length self.now.lengths }
+        ensures tied { AreTied delayed_on self.now.delayed self.now.waiting }
+        ensures order { AreOrdered self.now.waiting }
     {
-        let _delayed = &self.delayed;
+        self.waits.in_order();
+    }
+
+    /// Those that are delayed on an event, in the order in which CONTINUE chooses them.
+    pub fn waiting(&self, event: u32) -> &Waiters
+        requires { event < length self.now.lengths }
+        ensures is { slice_get self.now.waiting event ≡ Some result.now.waiters }
+        ensures exactly { (who : ℕ) → entry_of waiter_of result.now.waiters who ≡ option_and_then (delayed_on event who) (listed_in self.now.delayed who) }
+    {
+        self.waits.at(event)
+    }
+
+    /// What a process is delayed on; none exactly where it is delayed on nothing.
+    pub fn listed(&self, who: u32) -> Option<&Alternatives>
+        ensures { option_copied result ≡ option_map events_of (listed_in self.now.delayed who) }
+    {
+        match self.delayed.get(&who) {
+            Some(delayed) => Some(&delayed.events),
+            None => None,
+        }
     }
 
     /// Whether one of the events has as many delayed processes as its length.
@@ -73,84 +106,52 @@ impl EventSets {
     {
         events.as_slice().iter().any(|event| is_full_at(
             self.lengths.as_slice(),
-            &self.delayed,
+            &self.waits,
             event.thing,
         ))
     }
 
-    /// A process is delayed that is not delayed already. It takes no memory.
+    /// A process is delayed that is not delayed already. On each event it comes to wait directly behind those of its own
+    /// or a higher priority. It takes no memory.
     pub fn delay(&mut self, who: u32, events: Alternatives, priority: u32)
         requires spare { 0 < self.old.spare }
-        requires once { entry_of who_of self.old.delayed who ≡ None }
+        requires once { listed_in self.old.delayed who ≡ None }
+        ensures comes { Comes self.old self.new who (record { events = events; priority = priority }) }
         ensures lengths { self.new.lengths ≡ self.old.lengths }
-        ensures delayed { self.new.delayed ≡ self.old.delayed ++ record { who = who; events = events; priority = priority } ∷ [] }
         ensures spare { self.old.spare ≤ self.new.spare + 1 }
     {
-        self.delayed.push_reserved(Delayed {
-            who,
-            events,
-            priority,
-        });
+        self.waits.join(who, priority, events.as_slice());
+        let _none = self
+            .delayed
+            .insert(who, Delayed { events, priority })
+            .unwrap();
     }
 
     /// Takes out the process that CONTINUE chooses, with the number of the alternative through which it goes on; none
     /// exactly where nobody is delayed on the event. It takes no memory.
     pub fn wake(&mut self, event: u32) -> Option<Alternative>
-        ensures some { IfSome result (Wakes event self.old.delayed self.new.delayed) }
-        ensures none { IfNone result (NobodyOn event self.old.delayed × (self.new.delayed ≡ self.old.delayed)) }
+        requires { event < length self.old.lengths }
+        ensures some { IfSome result (Wakes event self.old self.new) }
+        ensures none { IfNone result (NobodyOn event self.old.delayed × (self.new.delayed ≡ self.old.delayed) × (self.new.waiting ≡ self.old.waiting)) }
         ensures lengths { self.new.lengths ≡ self.old.lengths }
         ensures spare { self.old.spare ≤ self.new.spare }
     {
-        let best = best_on(&self.delayed, event)?;
-        let woken = self.delayed.remove(best.place);
-        let number = number_for(woken.events.as_slice(), event).unwrap();
+        self.waits.in_order();
+        let first = self.waits.at(event).first()?;
+        let woken = self.delayed.swap_remove(&first.who).unwrap();
+        self.waits.leave(first.who, woken.events.as_slice());
         Some(Alternative {
-            thing: woken.who,
-            number,
+            thing: first.who,
+            number: first.number,
         })
     }
 }
 
-fn count_on_event(delayed: &[Delayed], event: u32) -> usize
-    ensures { result ≡ count_on delayed.now event }
-{
-    let mut count = 0;
-    for one in delayed {
-        if number_for(one.events.as_slice(), event).is_some() {
-            count += 1;
-        }
-    }
-    count
-}
-
-fn is_full_at(lengths: &[Option<u32>], delayed: &[Delayed], event: u32) -> bool
-    ensures { result ≡ is_full_on lengths.now delayed.now event }
+fn is_full_at(lengths: &[Option<u32>], waits: &WaitQueues, event: u32) -> bool
+    ensures { result ≡ is_full_on lengths.now waits.now.waiting event }
 {
     match number_at(lengths, event) {
-        Some(most) => most as usize <= count_on_event(delayed, event),
+        Some(most) => most as usize <= waits.count(event),
         None => false,
     }
-}
-
-fn rank_of(one: &Delayed, event: u32) -> Option<Rank>
-    ensures { result ≡ rank_on event one.now }
-{
-    match number_for(one.events.as_slice(), event) {
-        Some(_) => Some(Rank {
-            priority: one.priority,
-            arrival: 0,
-        }),
-        None => None,
-    }
-}
-
-fn best_on(delayed: &[Delayed], event: u32) -> Option<Best>
-    ensures some { IfSome result (IsBest (rank_on event) delayed.now) }
-    ensures none { IfNone result (NobodyOn event delayed.now) }
-{
-    let mut found = None;
-    for place in 0..delayed.len() {
-        found = better(found, place, rank_of(&delayed[place], event));
-    }
-    found
 }

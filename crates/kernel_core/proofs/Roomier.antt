@@ -10,7 +10,8 @@ use Rattle.world_model.specs.World.{world_of, stored_in}
 use Rattle.region_kernel.specs.declared.regions.Lock.{Lock}
 use Rattle.region_kernel.specs.Regions.{held_by}
 use Rattle.event_queues.specs.declared.sets.Delayed.{Delayed}
-use Rattle.event_queues.specs.Delayed.{count_on}
+use Rattle.event_queues.specs.Delayed.{listed_in}
+use Rattle.wait_queues.specs.declared.waiters.Waiter.{Waiter}
 use Rattle.world_model.specs.declared.world.StoredValue.{StoredValue}
 use Rattle.value_queues.specs.Queues.{values_in}
 use Rattle.kernel_steps.specs.declared.seats.Copies.{Copies}
@@ -20,7 +21,7 @@ use Rattle.kernel_steps.specs.declared.state.Ready.{Ready}
 use Rattle.kernel_steps.specs.declared.state.State.{State}
 use Rattle.kernel_steps.specs.Queued.{Sleeps, Trades, Hears}
 use Rattle.kernel_steps.specs.Shuffled.{Shuffled}
-use Rattle.kernel_steps.specs.Seated.{Seated}
+use Rattle.kernel_steps.specs.Seated.{AreQueuedBy, Seated}
 use Rattle.kernel_steps.specs.Kept.{world_in, width_in, IsBook, Rests, IsKept}
 use Rattle.kernel_steps.proofs.Served.{argues_same}
 use Rattle.kernel_core.specs.Roomier.{SameSeats, SameQueues, SameState}
@@ -32,7 +33,7 @@ seated_roomier w s t h k = record {
     phases = h.phases ∙ k.placed.phases;
     occupants = h.occupants ∙ k.placed.occupants;
     held = λ who. ap (λ (l : List Lock). held_by l who) h.locks ∙ k.placed.held who;
-    queue = rw h.queue k.placed.queue;
+    queues = subst (λ (qs : List (List ℕ)). AreQueuedBy qs w.phases) (sym h.queues) k.placed.queues;
     backs = λ who request send back at. ap (λ (l : List (Option ℕ)). slice_get l who) h.backs ∙ k.placed.backs who request send back at;
     there = k.placed.there;
     answers = λ who answer back at. ap (λ (l : List (Option Copies)). slice_get l who) h.chosen ∙ k.placed.answers who answer back at;
@@ -48,8 +49,9 @@ seated_roomier w s t h k = record {
 sleeps_roomier : (facts : Facts) (w : World) (q q' : Queues) → SameQueues q q' → Sleeps facts w q.events → Sleeps facts w q'.events
 sleeps_roomier facts w q q' h r = record {
   lengths = h.event_lengths ∙ r.lengths;
-  delayed = rw h.delayed r.delayed;
-  counts = λ event. ap (λ (l : List Delayed). count_on l event) h.delayed ∙ r.counts event;
+  each = ap (λ (l : List (List Waiter)). length l) h.waiting ∙ r.each;
+  delayed = λ who. ap (λ (l : List (ℕ × Delayed)). listed_in l who) h.delayed ∙ r.delayed who;
+  counts = λ event ws there. r.counts event ws (ap (λ (l : List (List Waiter)). slice_get l event) (sym h.waiting) ∙ there);
 }
 
 trades_roomier : (facts : Facts) (w : World) (q q' : Queues) → SameQueues q q' → Trades facts w q.buffers → Trades facts w q'.buffers

@@ -12,7 +12,7 @@ pub record SameSeats (s new : Seats) : Type 0 where
   pub phases : new.instances.phases ≡ s.instances.phases
   pub occupants : new.regions.occupants ≡ s.regions.occupants
   pub locks : new.regions.locks ≡ s.regions.locks
-  pub queue : new.regions.queue ≡ s.regions.queue
+  pub queues : new.regions.queues ≡ s.regions.queues
   pub backs : new.backs.items ≡ s.backs.items
   pub chosen : new.chosen.items ≡ s.chosen.items
   pub unfetched : new.unfetched.items ≡ s.unfetched.items
@@ -21,6 +21,7 @@ pub record SameSeats (s new : Seats) : Type 0 where
 pub record SameQueues (q new : Queues) : Type 0 where
   pub event_lengths : new.events.lengths ≡ q.events.lengths
   pub delayed : new.events.delayed ≡ q.events.delayed
+  pub waiting : new.events.waiting ≡ q.events.waiting
   pub buffer_lengths : new.buffers.lengths ≡ q.buffers.lengths
   pub stored : new.buffers.stored ≡ q.buffers.stored
   pub senders : new.buffers.senders ≡ q.buffers.senders

@@ -26,18 +26,16 @@ use Rattle.world_model.proofs.ChangedLists.{written_here, read_is, stands_there}
 use Rattle.world_model.proofs.HeldIsOccupied.{HoldsOccupied, StandsIn, journal_holds, freed_holds, step_holds}
 use Rattle.instance_table.specs.declared.phase.Phase.TheVariants as kinds
 use Rattle.journal_book.specs.Book.{Book}
-use Rattle.region_kernel.specs.declared.regions.Lock.{Lock}
-use Rattle.region_kernel.specs.Regions.{SeenRegions, process_of}
+use Rattle.region_kernel.specs.Regions.{SeenRegions}
 use Rattle.kernel_steps.specs.declared.seats.Going.{Going}
 use Rattle.kernel_steps.specs.declared.seats.Seats.{Seats}
 use Rattle.kernel_steps.specs.declared.state.Ready.{Ready}
 use Rattle.kernel_steps.specs.declared.state.State.{State}
-use Rattle.kernel_steps.specs.Keyed.{Mirrors}
-use Rattle.kernel_steps.specs.Seated.{gone_on, suspended_in, Seated, Settles}
+use Rattle.kernel_steps.specs.Seated.{AreQueuedBy, gone_on, Seated, Settles}
 use Rattle.kernel_steps.specs.Kept.{world_in, Rests, IsBook, IsKept}
 use Rattle.kernel_steps.specs.View.{IsGoing, handed, handed_by}
 use Rattle.kernel_steps.specs.Serving.{CanServe, Serves, goes_of}
-use Rattle.kernel_steps.proofs.Keyed.{mirror_stay}
+use Rattle.kernel_steps.proofs.Queueing.{queues_stay}
 use Rattle.kernel_steps.proofs.Placed.{Rewrites, map_set, set_set, set_cases, within, some_instance, placed_phase}
 use Rattle.kernel_base.specs.Facts.{IsSound}
 use Rattle.kernel_steps.specs.declared.reply.Reply.TheVariants.{Now}
@@ -124,13 +122,13 @@ to_ended w s s' who how active p ph rs bs cs us h =
     let k = h.placed in
     let some = some_instance w s who Active k active (λ e. let f : ⊥ = cc in f) in
     let new = Ended how in
-    let queue = subst (λ (xs : List Lock). Mirrors process_of suspended_in xs (slice_set w.phases who new)) (sym (ap (λ (x : SeenRegions). x.queue) rs)) (mirror_stay process_of suspended_in s.regions.queue w.phases who Active new active refl refl k.queue) in
+    let queues = subst (λ (qs : List (List ℕ)). AreQueuedBy qs (slice_set w.phases who new)) (sym (ap (λ (x : SeenRegions). x.queues) rs)) (queues_stay s.regions.queues w.phases who Active new active refl refl k.queues) in
     let r : Rewrites w s s' who new = record {
       processes = p;
       phases = ph;
       occupants = ap (λ (x : SeenRegions). x.occupants) rs;
       locks = ap (λ (x : SeenRegions). x.locks) rs;
-      queue = queue;
+      queues = queues;
       backs = λ q apart. ap (λ l. slice_get l.items q) bs;
       back = λ request send back e. absurd (let f : ⊥ = cc in f);
       there = λ request send region e. absurd (let f : ⊥ = cc in f);

@@ -6,7 +6,7 @@ use Rattle.std.proofs.lemmas.Bool.{cases_Bool, eqb-true}
 use Rattle.world_model.specs.declared.world.Phase.{Phase}
 use Rattle.world_model.proofs.ChangedLists.{written_here, written_elsewhere, pushed_or_old}
 use Rattle.world_model.proofs.Stores.{in_filter}
-use Rattle.kernel_steps.specs.Keyed.{Mirrors}
+use Rattle.kernel_steps.specs.Keyed.{AreTold, Mirrors}
 use Rattle.kernel_lists.specs.Once.{entry_of, others}
 
 -- what is found with one more item
@@ -153,3 +153,37 @@ mirror_more key tell xs phases new is h = record {
   ];
   once = h.once;
 }
+
+-- What is listed, as phases change.
+apart_from : (i who : ℕ) → (who == i) ≡ false → i ≢ who
+apart_from i who other same = let t : (who == i) ≡ true = eq-eqb who i (sym same) in let f : ⊥ = cc in f
+
+module _ {X : Type 0} (tell : ℕ → Phase → Option X) (listed : ℕ → Option X) (phases : List Phase) where
+  -- a phase that tells nothing came in place of one that told nothing
+  pub told_stay : (who : ℕ) (old new : Phase) → slice_get phases who ≡ Some old → tell who old ≡ None → tell who new ≡ None → AreTold tell listed phases → AreTold tell listed (slice_set phases who new)
+  told_stay who old new at was is h i = elim (cases_Bool (who == i)) [
+    | inl same ↦ (let e : who ≡ i = eqb-true who i same in rw (← e) (h who ∙ ap (option_and_then (tell who)) at ∙ was ∙ sym is ∙ sym (told_here tell phases who old new at)))
+    | inr other ↦ h i ∙ sym (told_elsewhere tell phases who i new (apart_from i who other))
+  ]
+
+  -- one whose phase tells this now is listed so
+  pub told_begin : (listed' : ℕ → Option X) (who : ℕ) (old new : Phase) (x : X) → slice_get phases who ≡ Some old → tell who new ≡ Some x → ((i : ℕ) → listed' i ≡ (if who == i then Some x else listed i)) → AreTold tell listed phases → AreTold tell listed' (slice_set phases who new)
+  told_begin listed' who old new x at is updates h i = elim (cases_Bool (who == i)) [
+    | inl same ↦ (let e : who ≡ i = eqb-true who i same in updates i ∙ rw same (rw (← e) (sym is ∙ sym (told_here tell phases who old new at))))
+    | inr other ↦ updates i ∙ rw other (h i ∙ sym (told_elsewhere tell phases who i new (apart_from i who other)))
+  ]
+
+  -- nothing is listed of one whose phase tells nothing any more
+  pub told_stop : (listed' : ℕ → Option X) (who : ℕ) (old new : Phase) → slice_get phases who ≡ Some old → tell who new ≡ None → ((i : ℕ) → listed' i ≡ (if who == i then None else listed i)) → AreTold tell listed phases → AreTold tell listed' (slice_set phases who new)
+  told_stop listed' who old new at is updates h i = elim (cases_Bool (who == i)) [
+    | inl same ↦ (let e : who ≡ i = eqb-true who i same in updates i ∙ rw same (rw (← e) (sym is ∙ sym (told_here tell phases who old new at))))
+    | inr other ↦ updates i ∙ rw other (h i ∙ sym (told_elsewhere tell phases who i new (apart_from i who other)))
+  ]
+
+  -- one more phase, which tells nothing
+  pub told_more : (new : Phase) → tell (length phases) new ≡ None → AreTold tell listed phases → AreTold tell listed (phases ++ new ∷ [])
+  told_more new is h i = elim (cases_Bool (i == length phases)) [
+    | inl same ↦ (let e : i ≡ length phases = eqb-true i (length phases) same in rw e (h (length phases) ∙ ap (option_and_then (tell (length phases))) (past_all phases) ∙ sym is ∙ sym (ap (option_and_then (tell (length phases))) (pushed_at phases new))))
+    | inr other ↦ (let apart : i ≢ length phases = λ e. (let t : (i == length phases) ≡ true = eq-eqb i (length phases) e in let f : ⊥ = cc in f) in
+        h i ∙ sym (ap (option_and_then (tell i)) (pushed_apart phases new i apart)))
+  ]

@@ -1,10 +1,12 @@
 pub mod Shuffled
 pub mod Keyed
 pub mod Queued
+pub mod Queueing
 pub mod Placed
 pub mod Idle
 pub mod Steps
 pub mod Delays
+pub mod Beginning
 pub mod Counts
 pub mod Keeping
 pub mod Trading

@@ -15,10 +15,10 @@ use Rattle.world_model.specs.World as worlds
 use Rattle.world_model.specs.World.{with_phase, locked, freed}
 use Rattle.world_model.proofs.ChangedLists.{written_elsewhere, read_elsewhere}
 use Rattle.region_kernel.specs.declared.regions.Lock.{Lock}
-use Rattle.region_kernel.specs.Regions.{process_of, held_by, is_lock, locks_but}
+use Rattle.region_kernel.specs.Regions.{held_by, is_lock, locks_but, queue_of}
 use Rattle.kernel_steps.specs.declared.seats.Seats.{Seats}
-use Rattle.kernel_steps.specs.Keyed.{Mirrors}
-use Rattle.kernel_steps.specs.Seated.{kind_of, suspended_in, twice, Placed}
+use Rattle.kernel_steps.specs.Seated.{AreQueuedBy, kind_of, twice, Placed}
+use Rattle.kernel_steps.proofs.Queueing.{queues_same}
 
 -- what stands at q after a write at i
 pub set_cases : {X : Type 0} (xs : List X) (i q : ℕ) (new y : X) → slice_get (slice_set xs i new) q ≡ Some y → ((q ≡ i) × (y ≡ new)) ⊎ ((q ≢ i) × (slice_get xs q ≡ Some y))
@@ -65,7 +65,7 @@ placed_same w w' s p ph o h k = record {
   phases = k.phases ∙ sym (ap (map kind_of) ph);
   occupants = k.occupants ∙ sym o;
   held = λ who. k.held who ∙ sym (ap (λ (hs : List (List ℕ)). slice_index_or hs who []) h);
-  queue = subst (λ (phases : List Phase). Mirrors process_of suspended_in s.regions.queue phases) (sym ph) k.queue;
+  queues = subst (λ (phases : List Phase). AreQueuedBy s.regions.queues phases) (sym ph) k.queues;
   backs = λ who request send back at. k.backs who request send back (ap (λ (l : List Phase). slice_get l who) (sym ph) ∙ at);
   there = λ who request send region at. rw o (k.there who request send region (ap (λ (l : List Phase). slice_get l who) (sym ph) ∙ at));
   answers = λ who answer back at. k.answers who answer back (ap (λ (l : List Phase). slice_get l who) (sym ph) ∙ at);
@@ -87,7 +87,7 @@ pub record Rewrites (w : World) (s s' : Seats) (who : ℕ) (new : Phase) : Type 
   pub phases : s'.instances.phases ≡ slice_set s.instances.phases who (kind_of new)
   pub occupants : s'.regions.occupants ≡ s.regions.occupants
   pub locks : s'.regions.locks ≡ s.regions.locks
-  pub queue : Mirrors process_of suspended_in s'.regions.queue (slice_set w.phases who new)
+  pub queues : AreQueuedBy s'.regions.queues (slice_set w.phases who new)
   pub backs : (q : ℕ) → q ≢ who → slice_get s'.backs.items q ≡ slice_get s.backs.items q
   pub back : (request : Request) (send back : Option ℕ) → new ≡ Waiting request send back → slice_get s'.backs.items who ≡ Some back
   pub there : (request : Request) (send : Option ℕ) (region : ℕ) → new ≡ Waiting request send (Some region) → region < length w.occupants
@@ -103,7 +103,7 @@ placed_phase w s s' who new some r k = record {
   phases = r.phases ∙ ap (λ l. slice_set l who (kind_of new)) k.phases ∙ sym (map_set kind_of w.phases who new);
   occupants = r.occupants ∙ k.occupants;
   held = λ q. ap (λ l. held_by l q) r.locks ∙ k.held q;
-  queue = r.queue;
+  queues = r.queues;
   backs = λ q request send back at. elim (set_cases w.phases who q new (Waiting request send back) at) [
     | inl here ↦ ap (slice_get s'.backs.items) here.0 ∙ r.back request send back (sym here.1)
     | inr there ↦ r.backs q there.0 ∙ k.backs q request send back there.1
@@ -142,7 +142,7 @@ held_locked (lock ∷ locks) region who q = elim (cases_Bool (lock.who == q)) [
   | inr other ↦ rw other (held_locked locks region who q)
 ]
 
-pub placed_locked : (w : World) (s s' : Seats) (who region : ℕ) → who < length w.held → Stays s s' → s'.regions.occupants ≡ slice_set s.regions.occupants region (Some who) → s'.regions.locks ≡ s.regions.locks ++ record { region = region; who = who } ∷ [] → s'.regions.queue ≡ s.regions.queue → Placed w s → Placed (locked w who region) s'
+pub placed_locked : (w : World) (s s' : Seats) (who region : ℕ) → who < length w.held → Stays s s' → s'.regions.occupants ≡ slice_set s.regions.occupants region (Some who) → s'.regions.locks ≡ s.regions.locks ++ record { region = region; who = who } ∷ [] → s'.regions.queues ≡ s.regions.queues → Placed w s → Placed (locked w who region) s'
 placed_locked w s s' who region made t o l q k = record {
   processes = t.processes ∙ k.processes;
   phases = t.phases ∙ k.phases;
@@ -153,7 +153,7 @@ placed_locked w s s' who region made t o l q k = record {
         ∙ sym (subst (λ (n : ℕ). slice_index_or (slice_set w.held who (worlds.held_by w who ++ region ∷ [])) n [] ≡ worlds.held_by w n ++ region ∷ []) e (read_written w.held who (worlds.held_by w who ++ region ∷ []) [] made))))
     | inr apart ↦ rw apart (k.held p ∙ sym (read_elsewhere w.held who p (worlds.held_by w who ++ region ∷ []) [] (λ e. let f : (who == p) ≡ true = eq-eqb who p (sym e) in let g : ⊥ = cc in g)))
   ];
-  queue = subst (λ (xs : List Lock). Mirrors process_of suspended_in xs w.phases) (sym q) k.queue;
+  queues = subst (λ (qs : List (List ℕ)). AreQueuedBy qs w.phases) (sym q) k.queues;
   backs = λ p request send back at. ap (λ l. slice_get l p) t.backs ∙ k.backs p request send back at;
   there = λ p request send r at. rw length-set (k.there p request send r at);
   answers = λ p a back at. ap (λ l. slice_get l p) t.chosen ∙ k.answers p a back at;
@@ -184,7 +184,7 @@ held_but : (locks : List Lock) (region who q : ℕ) → held_by (filter (λ lock
 held_but [] region who q = elim (cases_Bool (who == q)) [ inl same ↦ rw same refl | inr apart ↦ rw apart refl ]
 held_but (lock ∷ locks) region who q = held_but_cons locks lock region who q (held_but locks region who q) (cases_Bool (lock.region == region)) (cases_Bool (lock.who == who)) (cases_Bool (who == q)) (cases_Bool (lock.who == q))
 
-pub placed_freed : (w : World) (s s' : Seats) (who region : ℕ) → Stays s s' → s'.regions.occupants ≡ slice_set s.regions.occupants region None → s'.regions.locks ≡ locks_but s.regions.locks region (Some who) → s'.regions.queue ≡ s.regions.queue → Placed w s → Placed (freed w who region) s'
+pub placed_freed : (w : World) (s s' : Seats) (who region : ℕ) → Stays s s' → s'.regions.occupants ≡ slice_set s.regions.occupants region None → s'.regions.locks ≡ locks_but s.regions.locks region (Some who) → ((r : ℕ) → queue_of s'.regions.queues r ≡ queue_of s.regions.queues r) → Placed w s → Placed (freed w who region) s'
 placed_freed w s s' who region t o l q k = record {
   processes = t.processes ∙ k.processes;
   phases = t.phases ∙ k.phases;
@@ -195,7 +195,7 @@ placed_freed w s s' who region t o l q k = record {
         ∙ sym (subst (λ (n : ℕ). slice_index_or (slice_set w.held who (without region (worlds.held_by w who))) n [] ≡ without region (worlds.held_by w n)) e (read_changed (without region) w.held who [] refl))))
     | inr apart ↦ rw apart (k.held p ∙ sym (read_elsewhere w.held who p (without region (worlds.held_by w who)) [] (λ e. let f : (who == p) ≡ true = eq-eqb who p (sym e) in let g : ⊥ = cc in g)))
   ];
-  queue = subst (λ (xs : List Lock). Mirrors process_of suspended_in xs w.phases) (sym q) k.queue;
+  queues = queues_same s.regions.queues s'.regions.queues w.phases q k.queues;
   backs = λ p request send back at. ap (λ l. slice_get l p) t.backs ∙ k.backs p request send back at;
   there = λ p request send r at. rw length-set (k.there p request send r at);
   answers = λ p a back at. ap (λ l. slice_get l p) t.chosen ∙ k.answers p a back at;

@@ -9,13 +9,13 @@ use Rattle.world_model.specs.declared.world.Phase.{Phase}
 use Rattle.world_model.specs.declared.world.World.{World}
 use Rattle.world_model.specs.declared.world.StoredValue.{StoredValue}
 use Rattle.world_model.specs.Waiting.{sleeper_in, count_of_sleepers}
-use Rattle.event_queues.specs.Delayed.{Sets, who_of}
+use Rattle.event_queues.specs.Delayed.{Sets, listed_in}
 use Rattle.buffers_signals.specs.Lists.{sender_of, receiver_of}
 use Rattle.buffers_signals.specs.Buffers.{SeenBuffers}
 use Rattle.buffers_signals.specs.Signals.{SeenSignals}
-use Rattle.kernel_steps.specs.Keyed.{Mirrors}
+use Rattle.kernel_steps.specs.Keyed.{AreTold, Mirrors}
 use Rattle.kernel_steps.specs.Queued.{delayed_in, sending_in, receiving_in, hearing_in, Sleeps, Trades, Hears}
-use Rattle.kernel_steps.proofs.Keyed.{mirror_stay}
+use Rattle.kernel_steps.proofs.Keyed.{mirror_stay, told_stay}
 use Rattle.kernel_steps.specs.Shuffled.{Shuffled}
 use Rattle.value_queues.specs.Queues.{values_in}
 
@@ -38,14 +38,15 @@ pub sleeps_stay : (facts : Facts) (w w' : World) (s : Sets) (who : ℕ) (old new
     → delayed_in who old ≡ None → delayed_in who new ≡ None → ((event : ℕ) → sleeper_in event old ≡ None) → ((event : ℕ) → sleeper_in event new ≡ None) → Sleeps facts w s → Sleeps facts w' s
 sleeps_stay facts w w' s who old new at is was now was' now' h = record {
   lengths = h.lengths;
-  delayed = subst (λ (phases : List Phase). Mirrors who_of delayed_in s.delayed phases) (sym is) (mirror_stay who_of delayed_in s.delayed w.phases who old new at was now h.delayed);
-  counts = λ event.
+  each = h.each;
+  delayed = subst (λ (phases : List Phase). AreTold delayed_in (listed_in s.delayed) phases) (sym is) (told_stay delayed_in (listed_in s.delayed) w.phases who old new at was now h.delayed);
+  counts = λ event ws there.
       let p : Phase → Bool = λ phase. is_some (sleeper_in event phase) in
       let changed = count_set p w.phases who new old at in
       let a : one_if (p old) ≡ 0 = ap (λ o. one_if (is_some o)) (was' event) in
       let b : one_if (p new) ≡ 0 = ap (λ o. one_if (is_some o)) (now' event) in
       let same : count_of_sleepers w' event ≡ count_by p (slice_set w.phases who new) = ap (count_by p) is in
-      h.counts event ∙ (let e : count_by p w.phases ≡ count_by p (slice_set w.phases who new) = omega (arith, changed, a, b) in e) ∙ sym same;
+      h.counts event ws there ∙ (let e : count_by p w.phases ≡ count_by p (slice_set w.phases who new) = omega (arith, changed, a, b) in e) ∙ sym same;
 }
 
 pub trades_stay : (facts : Facts) (w w' : World) (b : SeenBuffers) (who : ℕ) (old new : Phase) → slice_get w.phases who ≡ Some old → w'.phases ≡ slice_set w.phases who new → w'.processes ≡ w.processes → w'.stored ≡ w.stored

@@ -10,7 +10,7 @@ use Rattle.world_model.specs.declared.world.StoredValue.{StoredValue}
 use Rattle.world_model.specs.declared.world.World.{World}
 use Rattle.world_model.specs.Waiting.{sleeper_in}
 use Rattle.world_model.specs.Allowed.{Answers, MustWait}
-use Rattle.event_queues.specs.Delayed.{Sets, who_of}
+use Rattle.event_queues.specs.Delayed.{Sets, listed_in}
 use Rattle.buffers_signals.specs.Lists.{sender_of}
 use Rattle.buffers_signals.specs.Buffers.{SeenBuffers}
 use Rattle.buffers_signals.specs.Signals.{SeenSignals}
@@ -19,7 +19,7 @@ use Rattle.kernel_steps.specs.declared.seats.Going.{Going}
 use Rattle.kernel_steps.specs.declared.seats.Seats.{Seats}
 use Rattle.kernel_steps.specs.declared.state.Queues.{Queues}
 use Rattle.kernel_steps.specs.declared.state.State.{State}
-use Rattle.kernel_steps.specs.Keyed.{Mirrors}
+use Rattle.kernel_steps.specs.Keyed.{AreTold, Mirrors}
 use Rattle.kernel_steps.specs.Queued.{delayed_in, sending_in, receiving_in, hearing_in, Sleeps, Trades, Hears}
 use Rattle.kernel_steps.specs.Seated.{Seated, Settles}
 use Rattle.kernel_steps.specs.Kept.{world_in, Rests, Argues, IsKept}
@@ -43,7 +43,7 @@ seated_same w w' s p ph o h k = record {
 }
 
 pub sleeps_same : (facts : Facts) (w w' : World) (s : Sets) → w'.phases ≡ w.phases → Sleeps facts w s → Sleeps facts w' s
-sleeps_same facts w w' s ph h = record { lengths = h.lengths; delayed = subst (λ (l : List Phase). Mirrors who_of delayed_in s.delayed l) (sym ph) h.delayed; counts = λ event. h.counts event ∙ sym (ap (count_by (λ phase. is_some (sleeper_in event phase))) ph) }
+sleeps_same facts w w' s ph h = record { lengths = h.lengths; each = h.each; delayed = subst (λ (l : List Phase). AreTold delayed_in (listed_in s.delayed) l) (sym ph) h.delayed; counts = λ event ws there. h.counts event ws there ∙ sym (ap (count_by (λ phase. is_some (sleeper_in event phase))) ph) }
 
 pub trades_same : (facts : Facts) (w w' : World) (b : SeenBuffers) → w'.phases ≡ w.phases → w'.processes ≡ w.processes → w'.stored ≡ w.stored → Trades facts w b → Trades facts w' b
 trades_same facts w w' b ph p st h = record {

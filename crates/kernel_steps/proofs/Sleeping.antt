@@ -12,8 +12,8 @@ use Rattle.world_model.specs.Lists.{last_of}
 use Rattle.world_model.specs.Ranges.{IsNumber, IsInRange}
 use Rattle.world_model.specs.Waiting.{is_full}
 use Rattle.world_model.specs.World.{after, chosen, with_phase, held_by}
-use Rattle.kernel_lists.specs.Once.{AreOnce}
-use Rattle.event_queues.specs.Delayed.{who_of, Wakes}
+use Rattle.wait_queues.specs.Waiting.{AreOrdered, AreTied}
+use Rattle.event_queues.specs.Delayed.{Comes, Wakes, delayed_on}
 use Rattle.kernel_steps.specs.declared.reply.Reply.TheVariants.{Now, Later}
 use Rattle.kernel_steps.specs.declared.seats.Going.{Going}
 use Rattle.kernel_steps.specs.declared.state.Ready.{Ready}
@@ -42,9 +42,9 @@ pub record KeepsOthers (s s' : State) : Type 0 where
   pub argued : s'.arguments ≡ s.arguments
 
 pub delay_serves : (s s' : State) (who ticks : ℕ) (events : List Alternative) (priority : ℕ) (r : Ready) (going : Option Going) → CanServe s who (Delay events priority) r → IsNumber who → IsNumber ticks → IsFalse (is_full s.facts (world_in s) events) → KeepsOthers s s'
-    → s'.queues.events.lengths ≡ s.queues.events.lengths → s'.queues.events.delayed ≡ s.queues.events.delayed ++ record { who = who; events = events; priority = priority } ∷ []
+    → s'.queues.events.lengths ≡ s.queues.events.lengths → Comes s.queues.events s'.queues.events who (record { events = events; priority = priority })
     → s'.journal.events ≡ (s.journal.events ++ Waits who ticks (Delay events priority) ∷ []) ++ goes_of going → IfSome going (λ g. IsInRange (Goes g.who g.answer)) → Settles (waiting (world_in s) who (Delay events priority) None) s.seats s'.seats going → Serves s s' who ticks (Delay events priority) Later
-delay_serves s s' who ticks events priority r going can w_in t_in full o lengths more journal range settles =
+delay_serves s s' who ticks events priority r going can w_in t_in full o lengths comes journal range settles =
     let k = can.kept in
     let w = world_in s in
     let back = last_of (held_by w who) in
@@ -67,7 +67,7 @@ delay_serves s s' who ticks events priority r going can w_in t_in full o lengths
       in_range = range;
       settles = settles;
       rests = record {
-        sleeps = sleeps_begin s.facts w w1 s.queues.events s'.queues.events who events priority None back active phases lengths more k.rests.sleeps;
+        sleeps = sleeps_begin s.facts w w1 s.queues.events s'.queues.events who events priority None back active phases lengths comes k.rests.sleeps;
         trades = subst (λ b. Trades s.facts w1 b) (sym o.buffers) (trades_stay s.facts w w1 s.queues.buffers who Active new active phases same.processes same.stored refl refl refl refl k.rests.trades);
         hears = subst (λ h. Hears s.facts w1 h) (sym o.signals) (hears_stay s.facts w w1 s.queues.signals who Active new active phases same.processes same.pending refl refl k.rests.hears);
         sends = o.sends ∙ k.rests.sends ∙ sym same.sends;
@@ -80,18 +80,18 @@ delay_serves s s' who ticks events priority r going can w_in t_in full o lengths
       };
     }) o.taken
 
-pub resume_serves : (s s' : State) (who ticks event : ℕ) (chose : Alternative) (r : Ready) (going : Option Going) → CanServe s who (Continue event) r → IsNumber who → IsNumber ticks → IsNumber chose.thing → AreOnce who_of s.queues.events.delayed → Wakes event s.queues.events.delayed s'.queues.events.delayed chose → KeepsOthers s s'
+pub resume_serves : (s s' : State) (who ticks event : ℕ) (chose : Alternative) (r : Ready) (going : Option Going) → CanServe s who (Continue event) r → IsNumber who → IsNumber ticks → IsNumber chose.thing → AreTied delayed_on s.queues.events.delayed s.queues.events.waiting → AreOrdered s.queues.events.waiting → Wakes event s.queues.events s'.queues.events chose → KeepsOthers s s'
     → s'.queues.events.lengths ≡ s.queues.events.lengths → s'.journal.events ≡ (s.journal.events ++ Did who ticks (Continue event) (Chose (Some chose.thing)) None ∷ []) ++ goes_of going → IfSome going (λ g. IsInRange (Goes g.who g.answer))
     → ((t : delays.Woken (world_in s) event chose) → Settles (with_phase (world_in s) chose.thing (Chosen (Woken chose.number who) t.back)) s.seats s'.seats going) → Serves s s' who ticks (Continue event) (Now (Chose (Some chose.thing)))
-resume_serves s s' who ticks event chose r going can w_in t_in p_in once wakes o lengths journal range settles =
+resume_serves s s' who ticks event chose r going can w_in t_in p_in tied order wakes o lengths journal range settles =
     let k = can.kept in
     let w = world_in s in
     let p = chose.thing in
-    let t = woken s.facts w s.queues.events s'.queues.events.delayed event chose wakes k.rests.sleeps in
+    let t = woken s.facts w s.queues.events s'.queues.events event chose wakes k.rests.sleeps in
     let new = Chosen (Woken chose.number who) t.back in
     let w1 = with_phase w p new in
     let world : after s.facts w (Did who ticks (Continue event) (Chose (Some p)) None) ≡ w1 = ap (λ found. chosen w p found (λ a. Woken a who)) t.found in
-    let may = highest_sleeper s.facts w s.queues.events s'.queues.events.delayed event chose wakes k.rests.sleeps in
+    let may = highest_sleeper s.facts w s.queues.events s'.queues.events event chose wakes k.rests.sleeps in
     serves_now s s' who ticks (Continue event) (Chose (Some p)) None going k (refl, may) (record {
       may = record {
         allowed = record { in_range = (w_in, t_in, can.in_range, p_in, tt); possible = (record { active = can.may.goes.active; fits = can.may.fits }, (refl, may)) };
@@ -106,7 +106,7 @@ resume_serves s s' who ticks event chose r going can w_in t_in p_in once wakes o
       in_range = range;
       settles = subst (λ (x : World). Settles x s.seats s'.seats going) (sym world) (settles t);
       rests = subst (λ (x : World). Rests s.facts x s') (sym world) (record {
-        sleeps = sleeps_stop s.facts w w1 s.queues.events s'.queues.events p t.events t.priority t.send t.back new t.is refl refl (λ e. refl) once lengths wakes.rest k.rests.sleeps;
+        sleeps = sleeps_stop s.facts w w1 s.queues.events s'.queues.events p t.events t.priority t.send t.back new t.is refl refl (λ e. refl) tied order lengths wakes.goes k.rests.sleeps;
         trades = subst (λ b. Trades s.facts w1 b) (sym o.buffers) (trades_stay s.facts w w1 s.queues.buffers p (Waiting (Delay t.events t.priority) t.send t.back) new t.is refl refl refl refl refl refl refl k.rests.trades);
         hears = subst (λ h. Hears s.facts w1 h) (sym o.signals) (hears_stay s.facts w w1 s.queues.signals p (Waiting (Delay t.events t.priority) t.send t.back) new t.is refl refl refl refl refl k.rests.hears);
         sends = o.sends ∙ k.rests.sends;

@@ -15,7 +15,7 @@ use Rattle.world_model.specs.declared.world.World.{World}
 use Rattle.world_model.specs.Waiting.{sleeper_in, count_of_live}
 use Rattle.world_model.specs.Allowed.{most_live}
 use Rattle.world_model.proofs.ChangedLists.{pushed_or_old}
-use Rattle.event_queues.specs.Delayed.{Sets, who_of}
+use Rattle.event_queues.specs.Delayed.{Sets, listed_in}
 use Rattle.buffers_signals.specs.declared.messages.Receiver.{Receiver}
 use Rattle.buffers_signals.specs.Lists.{sender_of, receiver_of}
 use Rattle.kernel_steps.specs.declared.reply.Reply.TheVariants.{Now}
@@ -26,7 +26,7 @@ use Rattle.kernel_steps.specs.Queued.{delayed_in, sending_in, receiving_in, hear
 use Rattle.kernel_steps.specs.Seated.{Seated, started}
 use Rattle.kernel_steps.specs.Kept.{world_in, Rests, IsKept}
 use Rattle.kernel_steps.specs.Serving.{CanServe, Serves}
-use Rattle.kernel_steps.proofs.Keyed.{mirror_more}
+use Rattle.kernel_steps.proofs.Keyed.{mirror_more, told_more}
 use Rattle.kernel_steps.proofs.Keeping.{kept_with}
 use Rattle.kernel_steps.proofs.Numbered.{IsNumbered, world_numbered}
 use Rattle.kernel_steps.proofs.Placed.{within}
@@ -88,8 +88,9 @@ pub record StartsState (s s' : State) (who ticks process : ℕ) (scalars : List 
 sleeps_started : (facts : Facts) (w : World) (process : ℕ) (scalars : List ℤ) (s : Sets) → Sleeps facts w s → Sleeps facts (started w process scalars) s
 sleeps_started facts w process scalars s h = record {
   lengths = h.lengths;
-  delayed = mirror_more who_of delayed_in s.delayed w.phases Active refl h.delayed;
-  counts = λ event. let c = count_push (λ phase. is_some (sleeper_in event phase)) w.phases Active in h.counts event ∙ (let e : count_by (λ phase. is_some (sleeper_in event phase)) w.phases ≡ count_by (λ phase. is_some (sleeper_in event phase)) (w.phases ++ Active ∷ []) = omega (arith, c) in e);
+  each = h.each;
+  delayed = told_more delayed_in (listed_in s.delayed) w.phases Active refl h.delayed;
+  counts = λ event ws there. let c = count_push (λ phase. is_some (sleeper_in event phase)) w.phases Active in h.counts event ws there ∙ (let e : count_by (λ phase. is_some (sleeper_in event phase)) w.phases ≡ count_by (λ phase. is_some (sleeper_in event phase)) (w.phases ++ Active ∷ []) = omega (arith, c) in e);
 }
 
 rests_started : (s s' : State) (who ticks process : ℕ) (scalars : List ℤ) → IsNumbered (world_in s) → StartsState s s' who ticks process scalars → Rests s.facts (world_in s) s → Rests s.facts (started (world_in s) process scalars) s'

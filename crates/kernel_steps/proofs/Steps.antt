@@ -13,27 +13,25 @@ use Rattle.world_model.specs.World.{with_phase, locked, freed, freed_last, enter
 use Rattle.world_model.specs.Allowed.{IsFree, Occupies, MayLockBack}
 use Rattle.world_model.proofs.ChangedLists.{written_here, written_elsewhere, read_is, pushed_or_old, pushed_keeps, read_pushed, stands_there}
 use Rattle.instance_table.specs.declared.phase.Phase.TheVariants as kinds
-use Rattle.region_kernel.specs.declared.regions.Lock.{Lock}
 use Rattle.std.proofs.lemmas.Option.{slice_get-get_or, get_or_from_slice_get}
 use Rattle.std.proofs.lemmas.List.{length_push, map-append, length-map}
 use Rattle.kernel_base.specs.declared.ends.How.TheVariants.{Normal}
-use Rattle.region_kernel.specs.Regions.{SeenRegions, process_of, occupant_of, held_by, occupants_locked, locks_locked, locks_but, with_lock, first_waiting, queue_but}
+use Rattle.region_kernel.specs.Regions.{Changes, SeenRegions, occupant_of, held_by, occupants_locked, locks_locked, locks_but, with_lock, first_waiting, queue_but, queue_of}
 use Rattle.kernel_steps.specs.declared.seats.Going.{Going}
 use Rattle.kernel_steps.specs.declared.seats.Seats.{Seats}
-use Rattle.kernel_steps.specs.Keyed.{Mirrors}
-use Rattle.kernel_steps.specs.Seated.{kind_of, suspended_in, twice, Placed, IsIdle, Seated, OwnsLast, waiting, started, gone_on, GoesOn, NobodyGoes, Settles}
-use Rattle.kernel_steps.proofs.Keyed.{mirror_stay, mirror_stop, mirror_begin, mirror_more}
+use Rattle.kernel_steps.specs.Seated.{AreQueuedBy, kind_of, suspended_in, twice, Placed, IsIdle, Seated, OwnsLast, waiting, started, gone_on, GoesOn, NobodyGoes, Settles}
+use Rattle.kernel_steps.proofs.Queueing.{none_taken, queues_begin, queues_more, queues_stay, queues_stop}
 use Rattle.kernel_steps.proofs.Placed.{Rewrites, Stays, set_set, within, placed_same, placed_phase, placed_locked, placed_freed, some_instance, set_cases}
 use Rattle.kernel_steps.proofs.Idle.{idle_fewer, chosen_before, idle_locked, idle_freed, free_swapped}
 
 -- nothing changed but what is to be fetched
-pub placed_stays : (w : World) (s s' : Seats) → Stays s s' → s'.regions.occupants ≡ s.regions.occupants → s'.regions.locks ≡ s.regions.locks → s'.regions.queue ≡ s.regions.queue → Placed w s → Placed w s'
+pub placed_stays : (w : World) (s s' : Seats) → Stays s s' → s'.regions.occupants ≡ s.regions.occupants → s'.regions.locks ≡ s.regions.locks → s'.regions.queues ≡ s.regions.queues → Placed w s → Placed w s'
 placed_stays w s s' t o l q k = record {
   processes = t.processes ∙ k.processes;
   phases = t.phases ∙ k.phases;
   occupants = o ∙ k.occupants;
   held = λ p. ap (λ ls. held_by ls p) l ∙ k.held p;
-  queue = subst (λ (xs : List Lock). Mirrors process_of suspended_in xs w.phases) (sym q) k.queue;
+  queues = subst (λ (qs : List (List ℕ)). AreQueuedBy qs w.phases) (sym q) k.queues;
   backs = λ p request send back at. ap (λ bs. slice_get bs p) t.backs ∙ k.backs p request send back at;
   there = k.there;
   answers = λ p a back at. ap (λ cs. slice_get cs p) t.chosen ∙ k.answers p a back at;
@@ -49,7 +47,7 @@ pub made : (w : World) (s : Seats) (who : ℕ) (phase : Phase) → Placed w s �
 made w s who phase k at = rw k.held_each (within w.phases who phase at)
 
 entered_free : (w : World) (s s' : Seats) (who region : ℕ) → IsActive w who → IsFree w region → Stays s s' → s'.unfetched.items ≡ s.unfetched.items
-    → s'.regions.occupants ≡ occupants_locked s.regions.occupants region who (occupant_of s.regions region) → s'.regions.locks ≡ locks_locked s.regions.locks region who (occupant_of s.regions region) → s'.regions.queue ≡ s.regions.queue
+    → s'.regions.occupants ≡ occupants_locked s.regions.occupants region who (occupant_of s.regions region) → s'.regions.locks ≡ locks_locked s.regions.locks region who (occupant_of s.regions region) → s'.regions.queues ≡ s.regions.queues
     → Seated w s → NobodyGoes (entered w who region (occupant w region)) s s'
 entered_free w s s' who region active free t u os ls q h =
     let here : occupant w region ≡ None = read_is w.occupants region None None free in
@@ -61,7 +59,7 @@ entered_free w s s' who region active free t u os ls q h =
     (record { seated = record { placed = placed_locked w s s' who region low t o l q h.placed; idle = idle_locked w who region h.idle }; answer = u })
 
 entered_own : (w : World) (s s' : Seats) (who region : ℕ) → Occupies w who region → Stays s s' → s'.unfetched.items ≡ s.unfetched.items
-    → s'.regions.occupants ≡ occupants_locked s.regions.occupants region who (occupant_of s.regions region) → s'.regions.locks ≡ locks_locked s.regions.locks region who (occupant_of s.regions region) → s'.regions.queue ≡ s.regions.queue
+    → s'.regions.occupants ≡ occupants_locked s.regions.occupants region who (occupant_of s.regions region) → s'.regions.locks ≡ locks_locked s.regions.locks region who (occupant_of s.regions region) → s'.regions.queues ≡ s.regions.queues
     → Seated w s → NobodyGoes (entered w who region (occupant w region)) s s'
 entered_own w s s' who region owns t u os ls q h =
     let here : occupant w region ≡ Some who = read_is w.occupants region None (Some who) owns in
@@ -72,7 +70,7 @@ entered_own w s s' who region owns t u os ls q h =
     (record { seated = record { placed = placed_stays w s s' t o l q h.placed; idle = h.idle }; answer = u })
 
 pub enters : (w : World) (s s' : Seats) (who region : ℕ) → IsActive w who → IsFree w region ⊎ Occupies w who region → Stays s s' → s'.unfetched.items ≡ s.unfetched.items
-    → s'.regions.occupants ≡ occupants_locked s.regions.occupants region who (occupant_of s.regions region) → s'.regions.locks ≡ locks_locked s.regions.locks region who (occupant_of s.regions region) → s'.regions.queue ≡ s.regions.queue
+    → s'.regions.occupants ≡ occupants_locked s.regions.occupants region who (occupant_of s.regions region) → s'.regions.locks ≡ locks_locked s.regions.locks region who (occupant_of s.regions region) → s'.regions.queues ≡ s.regions.queues
     → Seated w s → NobodyGoes (entered w who region (occupant w region)) s s'
 enters w s s' who region active (inl free) t u os ls q h = entered_free w s s' who region active free t u os ls q h
 enters w s s' who region active (inr owns) t u os ls q h = entered_own w s s' who region owns t u os ls q h
@@ -100,7 +98,7 @@ pub record Suspends (s s' : Seats) (who region : ℕ) (answer : Answer) : Type 0
   pub phases : s'.instances.phases ≡ slice_set s.instances.phases who kinds.Suspended
   pub occupants : s'.regions.occupants ≡ s.regions.occupants
   pub locks : s'.regions.locks ≡ s.regions.locks
-  pub queue : s'.regions.queue ≡ s.regions.queue ++ record { region = region; who = who } ∷ []
+  pub queues : Changes region (queue_of s.regions.queues region ++ who ∷ []) s.regions.queues s'.regions.queues
   pub backs : s'.backs.items ≡ s.backs.items
   pub chosen : s'.chosen.items ≡ slice_set s.chosen.items who (Some (twice answer))
   pub unfetched : s'.unfetched.items ≡ s.unfetched.items
@@ -110,15 +108,13 @@ suspended w s s' who region other phase answer at tells occupied some c h =
     let k = h.placed in
     let low : who < length s.chosen.items = rw k.answer_each (within w.phases who phase at) in
     let was = slice_get-get_or s.chosen.items who None low in
-    let queue : Mirrors process_of suspended_in s'.regions.queue (slice_set w.phases who (Chosen answer (Some region))) =
-    subst (λ (xs : List Lock). Mirrors process_of suspended_in xs (slice_set w.phases who (Chosen answer (Some region)))) (sym c.queue)
-    (mirror_begin process_of suspended_in s.regions.queue w.phases who phase (Chosen answer (Some region)) (record { region = region; who = who }) at tells refl refl k.queue) in
+    let queues = queues_begin s.regions.queues s'.regions.queues w.phases who region phase answer c.queues at tells k.queues in
     let r : Rewrites w s s' who (Chosen answer (Some region)) = record {
       processes = c.processes;
       phases = c.phases;
       occupants = c.occupants;
       locks = c.locks;
-      queue = queue;
+      queues = queues;
       backs = λ q apart. ap (λ l. slice_get l q) c.backs;
       back = λ request send back e. absurd (let f : ⊥ = cc in f);
       there = λ request send r e. absurd (let f : ⊥ = cc in f);
@@ -147,14 +143,14 @@ pub record Starts (s s' : Seats) (who : ℕ) (answer : Answer) : Type 0 where
   pub answer_each : length s'.chosen.items ≡ length s.chosen.items
   pub unfetched : s'.unfetched.items ≡ slice_set s.unfetched.items who (Some answer)
 
--- to active, with the regions and the queue as they are
-to_active : (w : World) (s s' : Seats) (who : ℕ) (answer : Answer) → 0 < who → Starts s s' who answer → s'.regions.occupants ≡ s.regions.occupants → s'.regions.locks ≡ s.regions.locks → Mirrors process_of suspended_in s'.regions.queue (slice_set w.phases who Active) → Placed w s → Placed (with_phase w who Active) s'
-to_active w s s' who answer some c o l queue k = placed_phase w s s' who Active some (record {
+-- to active, with the regions and the queues as they are
+to_active : (w : World) (s s' : Seats) (who : ℕ) (answer : Answer) → 0 < who → Starts s s' who answer → s'.regions.occupants ≡ s.regions.occupants → s'.regions.locks ≡ s.regions.locks → AreQueuedBy s'.regions.queues (slice_set w.phases who Active) → Placed w s → Placed (with_phase w who Active) s'
+to_active w s s' who answer some c o l queues k = placed_phase w s s' who Active some (record {
   processes = c.processes;
   phases = c.phases;
   occupants = o;
   locks = l;
-  queue = queue;
+  queues = queues;
   backs = λ q apart. ap (λ bs. slice_get bs q) c.backs;
   back = λ request send back e. absurd (let f : ⊥ = cc in f);
   there = λ request send r e. absurd (let f : ⊥ = cc in f);
@@ -176,8 +172,8 @@ chosen_goes w s s' who request send answer going at owner is c r h =
     let k = h.placed in
     let w1 = with_phase w who (Chosen answer None) in
     let some = some_instance w s who (Waiting request send None) k at (λ e. let f : ⊥ = cc in f) in
-    let queue = subst (λ (xs : List Lock). Mirrors process_of suspended_in xs (slice_set w.phases who Active)) (sym (ap (λ (x : SeenRegions). x.queue) r)) (mirror_stay process_of suspended_in s.regions.queue w.phases who (Waiting request send None) Active at refl refl k.queue) in
-    let placed = to_active w s s' who answer some c (ap (λ (x : SeenRegions). x.occupants) r) (ap (λ (x : SeenRegions). x.locks) r) queue k in
+    let queues = subst (λ (qs : List (List ℕ)). AreQueuedBy qs (slice_set w.phases who Active)) (sym (ap (λ (x : SeenRegions). x.queues) r)) (queues_stay s.regions.queues w.phases who (Waiting request send None) Active at refl refl k.queues) in
+    let placed = to_active w s s' who answer some c (ap (λ (x : SeenRegions). x.occupants) r) (ap (λ (x : SeenRegions). x.locks) r) queues k in
     let same = twice_set w.phases who (Chosen answer None) Active in
     goes_on w1 s s' who answer None going owner is (written_here w.phases who (Chosen answer None) _ at) tt
     (placed_same (with_phase w who Active) (with_phase w1 who Active) s' refl same refl refl placed)
@@ -186,16 +182,16 @@ chosen_goes w s s' who request send answer going at owner is c r h =
 
 -- one that waited, whose region is free
 pub chosen_goes_back : (w : World) (s s' : Seats) (who region : ℕ) (request : Request) (send : Option ℕ) (answer : Answer) (going : Going) → phase_of w who ≡ Some (Waiting request send (Some region)) → IsFree w region → going.who ≡ who → going.answer ≡ answer
-    → Starts s s' who answer → s'.regions.occupants ≡ slice_set s.regions.occupants region (Some who) → s'.regions.locks ≡ s.regions.locks ++ record { region = region; who = who } ∷ [] → s'.regions.queue ≡ s.regions.queue → Seated w s → GoesOn (with_phase w who (Chosen answer (Some region))) s s' going
+    → Starts s s' who answer → s'.regions.occupants ≡ slice_set s.regions.occupants region (Some who) → s'.regions.locks ≡ s.regions.locks ++ record { region = region; who = who } ∷ [] → s'.regions.queues ≡ s.regions.queues → Seated w s → GoesOn (with_phase w who (Chosen answer (Some region))) s s' going
 chosen_goes_back w s s' who region request send answer going at free owner is c o l q h =
     let k = h.placed in
     let w1 = with_phase w who (Chosen answer (Some region)) in
     let some = some_instance w s who (Waiting request send (Some region)) k at (λ e. let f : ⊥ = cc in f) in
     let s1 : Seats = record s { regions = record s.regions { occupants = slice_set s.regions.occupants region (Some who); locks = s.regions.locks ++ record { region = region; who = who } ∷ [] } } in
     let k1 = placed_locked w s s1 who region (made w s who (Waiting request send (Some region)) k at) (record { processes = refl; phases = refl; backs = refl; chosen = refl; fetch_each = refl }) refl refl refl k in
-    let queue = subst (λ (xs : List Lock). Mirrors process_of suspended_in xs (slice_set w.phases who Active)) (sym q) (mirror_stay process_of suspended_in s.regions.queue w.phases who (Waiting request send (Some region)) Active at refl refl k.queue) in
+    let queues = subst (λ (qs : List (List ℕ)). AreQueuedBy qs (slice_set w.phases who Active)) (sym q) (queues_stay s.regions.queues w.phases who (Waiting request send (Some region)) Active at refl refl k.queues) in
     let c1 : Starts s1 s' who answer = record { processes = c.processes; phases = c.phases; backs = c.backs; chosen = c.chosen; answer_each = c.answer_each; unfetched = c.unfetched } in
-    let placed = to_active (locked w who region) s1 s' who answer some c1 o l queue k1 in
+    let placed = to_active (locked w who region) s1 s' who answer some c1 o l queues k1 in
     let same = twice_set w.phases who (Chosen answer (Some region)) Active in
     goes_on w1 s s' who answer (Some region) going owner is (written_here w.phases who (Chosen answer (Some region)) _ at) free
     (placed_same (with_phase (locked w who region) who Active) (with_phase (locked w1 who region) who Active) s' refl same refl refl placed)
@@ -203,15 +199,15 @@ chosen_goes_back w s s' who region request send answer going at free owner is c 
     c.unfetched
 
 -- a region is freed, and nobody waits for it
-pub frees : (w : World) (s s' : Seats) (who region : ℕ) → Occupies w who region → first_waiting s.regions.queue region ≡ None → Stays s s' → s'.unfetched.items ≡ s.unfetched.items → s'.regions.occupants ≡ slice_set s.regions.occupants region None → s'.regions.locks ≡ locks_but s.regions.locks region (occupant_of s.regions region) → s'.regions.queue ≡ s.regions.queue → Seated w s → NobodyGoes (freed w who region) s s'
+pub frees : (w : World) (s s' : Seats) (who region : ℕ) → Occupies w who region → first_waiting s.regions.queues region ≡ None → Stays s s' → s'.unfetched.items ≡ s.unfetched.items → s'.regions.occupants ≡ slice_set s.regions.occupants region None → s'.regions.locks ≡ locks_but s.regions.locks region (occupant_of s.regions region) → Changes region (queue_but (queue_of s.regions.queues region) None) s.regions.queues s'.regions.queues → Seated w s → NobodyGoes (freed w who region) s s'
 frees w s s' who region owns none t u o l q h =
     let here : occupant_of s.regions region ≡ Some who = ap (λ (os : List (Option ℕ)). slice_index_or os region None) h.placed.occupants ∙ read_is w.occupants region None (Some who) owns in
     let locks : s'.regions.locks ≡ locks_but s.regions.locks region (Some who) = l ∙ ap (locks_but s.regions.locks region) here in
-    record { seated = record { placed = placed_freed w s s' who region t o locks q h.placed; idle = idle_freed w s who region none h.placed h.idle }; answer = u }
+    record { seated = record { placed = placed_freed w s s' who region t o locks (none_taken s.regions.queues s'.regions.queues region q) h.placed; idle = idle_freed w s who region none h.placed h.idle }; answer = u }
 
 -- a region is freed, and the first that waits for it goes on
 pub frees_to : (w : World) (s s' : Seats) (who region p : ℕ) (answer : Answer) (going : Going) → Occupies w who region → phase_of w p ≡ Some (Chosen answer (Some region)) → going.who ≡ p → going.answer ≡ answer → Starts s s' p answer
-    → s'.regions.occupants ≡ slice_set s.regions.occupants region (Some p) → s'.regions.locks ≡ with_lock (locks_but s.regions.locks region (occupant_of s.regions region)) region (Some p) → s'.regions.queue ≡ queue_but s.regions.queue (Some p) → Seated w s → GoesOn (freed w who region) s s' going
+    → s'.regions.occupants ≡ slice_set s.regions.occupants region (Some p) → s'.regions.locks ≡ with_lock (locks_but s.regions.locks region (occupant_of s.regions region)) region (Some p) → Changes region (queue_but (queue_of s.regions.queues region) (Some p)) s.regions.queues s'.regions.queues → Seated w s → GoesOn (freed w who region) s s' going
 frees_to w s s' who region p answer going owns at owner is c o l q h =
     let k = h.placed in
     let here : occupant_of s.regions region ≡ Some who = ap (λ (os : List (Option ℕ)). slice_index_or os region None) k.occupants ∙ read_is w.occupants region None (Some who) owns in
@@ -219,13 +215,13 @@ frees_to w s s' who region p answer going owns at owner is c o l q h =
     let s1 : Seats = record s { regions = record s.regions { occupants = slice_set s.regions.occupants region None; locks = locks_but s.regions.locks region (Some who) } } in
     let s2 : Seats = record s1 { regions = record s1.regions { occupants = slice_set s1.regions.occupants region (Some p); locks = s1.regions.locks ++ record { region = region; who = p } ∷ [] } } in
     let w1 = freed w who region in
-    let k1 = placed_freed w s s1 who region (record { processes = refl; phases = refl; backs = refl; chosen = refl; fetch_each = refl }) refl refl refl k in
+    let k1 = placed_freed w s s1 who region (record { processes = refl; phases = refl; backs = refl; chosen = refl; fetch_each = refl }) refl refl (λ r. refl) k in
     let k2 = placed_locked w1 s1 s2 p region (made w1 s1 p (Chosen answer (Some region)) k1 at) (record { processes = refl; phases = refl; backs = refl; chosen = refl; fetch_each = refl }) refl refl refl k1 in
-    let queue = subst (λ (xs : List Lock). Mirrors process_of suspended_in xs (slice_set w.phases p Active)) (sym q) (mirror_stop process_of suspended_in s.regions.queue w.phases p (Chosen answer (Some region)) Active at refl k.queue) in
+    let queues = queues_stop s.regions.queues s'.regions.queues w.phases p region answer q at k.queues in
     let c2 : Starts s2 s' p answer = record { processes = c.processes; phases = c.phases; backs = c.backs; chosen = c.chosen; answer_each = c.answer_each; unfetched = c.unfetched } in
     let o2 : s'.regions.occupants ≡ s2.regions.occupants = o ∙ sym (set_set s.regions.occupants region None (Some p)) in
     let l2 : s'.regions.locks ≡ s2.regions.locks = l ∙ ap (λ found. with_lock (locks_but s.regions.locks region found) region (Some p)) here in
-    let placed = to_active (locked w1 p region) s2 s' p answer some c2 o2 l2 queue k2 in
+    let placed = to_active (locked w1 p region) s2 s' p answer some c2 o2 l2 queues k2 in
     goes_on w1 s s' p answer (Some region) going owner is at (written_here w.occupants region None (Some who) owns)
     placed
     (idle_fewer w (with_phase (locked w1 p region) p Active) (λ r free. free_swapped w who p region r free) (λ x a back chosen. chosen_before w.phases p Active x a back (λ e. let f : ⊥ = cc in f) chosen) h.idle)
@@ -251,13 +247,13 @@ to_waiting w s s' who request send back active owns is c h =
     let low : who < length s.backs.items = rw k.back_each (within w.phases who Active active) in
     let was = slice_get-get_or s.backs.items who None low in
     let new = Waiting request send back in
-    let queue = subst (λ (xs : List Lock). Mirrors process_of suspended_in xs (slice_set w.phases who new)) (sym (ap (λ (x : SeenRegions). x.queue) c.regions)) (mirror_stay process_of suspended_in s.regions.queue w.phases who Active new active refl refl k.queue) in
+    let queues = subst (λ (qs : List (List ℕ)). AreQueuedBy qs (slice_set w.phases who new)) (sym (ap (λ (x : SeenRegions). x.queues) c.regions)) (queues_stay s.regions.queues w.phases who Active new active refl refl k.queues) in
     let r : Rewrites w s s' who new = record {
       processes = c.processes;
       phases = c.phases;
       occupants = ap (λ (x : SeenRegions). x.occupants) c.regions;
       locks = ap (λ (x : SeenRegions). x.locks) c.regions;
-      queue = queue;
+      queues = queues;
       backs = λ q apart. ap (λ l. slice_get l q) c.backs ∙ written_elsewhere s.backs.items who q back apart;
       back = λ req se b e. ap (λ l. slice_get l who) c.backs ∙ written_here s.backs.items who back _ was ∙ (let same : back ≡ b = cc in ap Some same);
       there = λ req se region e. owned_there w who region (owns region (sym is ∙ (let same : back ≡ Some region = cc in same)));
@@ -312,7 +308,7 @@ starts_new w s s' process scalars p ph r b c u h =
         phases = ph ∙ ap (λ l. l ++ kinds.Active ∷ []) k.phases ∙ sym (map-append kind_of w.phases (Active ∷ []));
         occupants = ap (λ (x : SeenRegions). x.occupants) r ∙ k.occupants;
         held = λ q. ap (λ (x : SeenRegions). held_by x.locks q) r ∙ k.held q ∙ sym (read_pushed w.held q []);
-        queue = subst (λ (x : SeenRegions). Mirrors process_of suspended_in x.queue (w.phases ++ Active ∷ [])) (sym r) (mirror_more process_of suspended_in s.regions.queue w.phases Active refl k.queue);
+        queues = subst (λ (x : SeenRegions). AreQueuedBy x.queues (w.phases ++ Active ∷ [])) (sym r) (queues_more s.regions.queues w.phases Active refl k.queues);
         backs = λ q request send back at. ap (λ l. slice_get l q) b ∙ pushed_keeps s.backs.items q None back (k.backs q request send back (pushed_waiting w.phases q request send back at));
         there = λ q request send region at. k.there q request send region (pushed_waiting w.phases q request send (Some region) at);
         answers = λ q answer back at. ap (λ l. slice_get l q) c ∙ pushed_keeps s.chosen.items q None (Some (twice answer)) (k.answers q answer back (pushed_chosen w.phases q answer back at));

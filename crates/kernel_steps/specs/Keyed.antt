@@ -9,3 +9,7 @@ use Rattle.kernel_lists.specs.Once.{entry_of}
 pub record Mirrors {X : Type 0} (key : X → ℕ) (tell : ℕ → Phase → Option X) (xs : List X) (phases : List Phase) : Type 0 where
   pub each : (who : ℕ) → entry_of key xs who ≡ option_and_then (tell who) (slice_get phases who)
   pub once : (k : ℕ) (x : X) → slice_get xs k ≡ Some x → entry_of key xs (key x) ≡ Some x
+
+-- What is listed of each is what its phase tells.
+abbrev pub AreTold : {X : Type 0} → (ℕ → Phase → Option X) → (ℕ → Option X) → List Phase → Type 0
+AreTold tell listed phases = (who : ℕ) → listed who ≡ option_and_then (tell who) (slice_get phases who)

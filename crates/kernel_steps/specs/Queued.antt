@@ -1,5 +1,5 @@
 -- How those that wait for events, buffers and signals, and what was sent, stand for a world.
-use Rattle.std.specs.Prelude.{◌≡◌, ℕ, List, length, slice_index_or, Some, None}
+use Rattle.std.specs.Prelude.{◌≡◌, ℕ, List, length, slice_get, slice_index_or, Some, None}
 use Rattle.std.specs.declared.option.Option.{Option}
 use Rattle.kernel_base.specs.declared.facts.Facts.{Facts}
 use Rattle.kernel_base.specs.declared.request.Request.TheVariants.{Delay, SendBuffer, ReceiveBuffer, ReceiveSignal}
@@ -9,19 +9,20 @@ use Rattle.world_model.specs.declared.world.World.{World}
 use Rattle.world_model.specs.Waiting.{count_of_sleepers}
 use Rattle.world_model.specs.World.{stored_in}
 use Rattle.event_queues.specs.declared.sets.Delayed.{Delayed}
-use Rattle.event_queues.specs.Delayed.{Sets, who_of, count_on}
+use Rattle.event_queues.specs.Delayed.{Sets, listed_in}
+use Rattle.wait_queues.specs.declared.waiters.Waiter.{Waiter}
 use Rattle.buffers_signals.specs.declared.messages.Held.{Held}
 use Rattle.buffers_signals.specs.declared.messages.Receiver.{Receiver}
 use Rattle.value_queues.specs.Queues.{values_in}
 use Rattle.buffers_signals.specs.Lists.{sender_of, receiver_of}
 use Rattle.buffers_signals.specs.Buffers.{SeenBuffers}
 use Rattle.buffers_signals.specs.Signals.{SeenSignals}
-use Rattle.kernel_steps.specs.Keyed.{Mirrors}
+use Rattle.kernel_steps.specs.Keyed.{AreTold, Mirrors}
 use Rattle.kernel_steps.specs.Shuffled.{Shuffled}
 
--- one that is delayed
+-- what one that is delayed waits for
 abbrev pub delayed_in : ℕ → Phase → Option Delayed
-delayed_in who (Waiting (Delay events priority) send back) = Some (record { who = who; events = events; priority = priority })
+delayed_in who (Waiting (Delay events priority) send back) = Some (record { events = events; priority = priority })
 delayed_in who phase = None
 
 -- one that waits to send to a buffer
@@ -42,8 +43,9 @@ hearing_in processes who phase = None
 -- those that are delayed on events are those of the world
 pub record Sleeps (facts : Facts) (w : World) (s : Sets) : Type 0 where
   pub lengths : s.lengths ≡ facts.events
-  pub delayed : Mirrors who_of delayed_in s.delayed w.phases
-  pub counts : (event : ℕ) → count_on s.delayed event ≡ count_of_sleepers w event
+  pub each : length s.waiting ≡ length facts.events
+  pub delayed : AreTold delayed_in (listed_in s.delayed) w.phases
+  pub counts : (event : ℕ) (ws : List Waiter) → slice_get s.waiting event ≡ Some ws → length ws ≡ count_of_sleepers w event
 
 -- the values in buffers, and those that wait to send and to receive, are those of the world
 pub record Trades (facts : Facts) (w : World) (b : SeenBuffers) : Type 0 where

@@ -1,5 +1,5 @@
 -- How what is kept of the instances and the regions stands for a world.
-use Rattle.std.specs.Prelude.{◌≡◌, ℕ, ◌<◌, ◌⊎◌, List, [], ◌∷◌, ◌++◌, ℤ, length, map, slice_get, slice_set, Some, None}
+use Rattle.std.specs.Prelude.{◌≡◌, ℕ, ◌<◌, ◌==◌, ◌⊎◌, List, [], ◌∷◌, ◌++◌, ℤ, length, map, slice_get, slice_set, if◌then◌else◌, Some, None}
 use Rattle.std.specs.declared.option.Option.{Option}
 use Rattle.kernel_base.specs.declared.request.Request.{Request}
 use Rattle.kernel_base.specs.declared.answer.Answer.{Answer}
@@ -15,7 +15,7 @@ use Rattle.kernel_base.specs.declared.ends.How.TheVariants.{Normal}
 use Rattle.instance_table.specs.declared.phase.Phase as tables
 use Rattle.instance_table.specs.declared.phase.Phase.TheVariants as kinds
 use Rattle.region_kernel.specs.declared.regions.Lock.{Lock}
-use Rattle.region_kernel.specs.Regions.{process_of, held_by}
+use Rattle.region_kernel.specs.Regions.{held_by, itself, queue_of}
 use Rattle.kernel_steps.specs.declared.seats.Copies.{Copies}
 use Rattle.kernel_steps.specs.declared.seats.Going.{Going}
 use Rattle.kernel_steps.specs.declared.seats.Seats.{Seats}
@@ -33,6 +33,18 @@ abbrev pub suspended_in : ℕ → Phase → Option Lock
 suspended_in who (Chosen answer (Some region)) = Some (record { region = region; who = who })
 suspended_in who phase = None
 
+-- one that waits to lock this region
+abbrev pub waits_for : ℕ → Option Lock → Option ℕ
+waits_for region None = None
+waits_for region (Some lock) = if lock.region == region then Some lock.who else None
+
+abbrev pub queued_in : ℕ → ℕ → Phase → Option ℕ
+queued_in region who phase = waits_for region (suspended_in who phase)
+
+-- in each region's queue those stand whose phases tell that they wait for it
+abbrev pub AreQueuedBy : List (List ℕ) → List Phase → Type 0
+AreQueuedBy queues phases = (region : ℕ) → Mirrors itself (queued_in region) (queue_of queues region) phases
+
 -- an answer, for the journal and to be fetched
 abbrev pub twice : Answer → Copies
 twice answer = record { noted = answer; handed = answer }
@@ -43,7 +55,7 @@ pub record Placed (w : World) (s : Seats) : Type 0 where
   pub phases : s.instances.phases ≡ map kind_of w.phases
   pub occupants : s.regions.occupants ≡ w.occupants
   pub held : (who : ℕ) → held_by s.regions.locks who ≡ worlds.held_by w who
-  pub queue : Mirrors process_of suspended_in s.regions.queue w.phases
+  pub queues : AreQueuedBy s.regions.queues w.phases
   pub backs : (who : ℕ) (request : Request) (send back : Option ℕ) → phase_of w who ≡ Some (Waiting request send back) → slice_get s.backs.items who ≡ Some back
   pub there : (who : ℕ) (request : Request) (send : Option ℕ) (region : ℕ) → phase_of w who ≡ Some (Waiting request send (Some region)) → region < length w.occupants
   pub answers : (who : ℕ) (answer : Answer) (back : Option ℕ) → phase_of w who ≡ Some (Chosen answer back) → slice_get s.chosen.items who ≡ Some (Some (twice answer))

@@ -18,6 +18,7 @@ use region_kernel::Regions;
 use shared_store::Store;
 use std::alloc::Global;
 
+#[tactic(auto, using(crate::proofs::Queueing::queues_open))]
 fn new_seats(alloc: Global, facts: &Facts) -> Result<Seats, Memory>
     ensures seated { IfOk result (Seated (worlds.opening facts.now)) }
     ensures unfetched { IfOk result (λ s. s.unfetched.items ≡ None ∷ None ∷ []) }

@@ -52,7 +52,7 @@ pub fn resume(s: &mut State, who: u32, ticks: u32, event: u32, ready: Ready) -> 
     requires { CanServe s.old who (requests.Continue event) ready }
     ensures { Serves s.old s.new who ticks (requests.Continue event) result }
 {
-    s.queues.events.each_once();
+    s.queues.events.each_waits();
     match s.queues.events.wake(event) {
         Some(woken) => {
             let chosen = Answer::Chose(Some(woken.thing));

@@ -1,9 +1,9 @@
 // The modes, classes and values of all definitions, each evaluated once, behind those that it depends on.
-use chill_base::{Item, Memory, Scalars};
+use chill_base::{Item, Memory};
 use chill_tree::tree::{Declaration, ModeDefinition, Name, Signal, Synonym, Tree};
 use class_operators::copied;
-use constant_operators::{Entry, Evaluation, Known, shared, single};
-use constant_rules::{is_constant_tuple, needed, tuple_of_synonym};
+use constant_operators::{Entry, Evaluation, shared, single};
+use constant_rules::{needed, synonym_value};
 use definition_origins::{CheckRule, Element, Origin, Owner, Predefined, Told, in_order};
 use modes::{Class, Mode, holds_read};
 use names_model::Names;
@@ -228,34 +228,9 @@ pub fn synonym_entry(
         return Ok(entry);
     };
     entry.mode = written_mode(ground, written, Standing::Part, told)?;
-    entry.value = synonym_value(ground, own, &entry.mode, told)?;
+    entry.value = synonym_value(ground, &own.value, &entry.mode, told)?;
     if let Some(mode) = &entry.mode {
         entry.class = Some(Class::Value(mode.clone()?));
     }
     Ok(entry)
-}
-
-// The value of a synonym with a written mode.
-fn synonym_value(
-    ground: &Evaluation<'_>,
-    own: &Synonym,
-    mode: &Option<Rc<Mode>>,
-    told: &mut Told,
-) -> Result<Option<Scalars>, Memory> {
-    if is_constant_tuple(ground, &own.value) {
-        return tuple_of_synonym(ground, &own.value, mode, told);
-    }
-    let (Some(known), Some(mode)) = (needed(ground, &own.value, told)?, mode) else {
-        return Ok(None);
-    };
-    if synonym_value_outside_its_mode(&known, mode) {
-        told.tell(CheckRule::M12, own.value.at())?;
-        return Ok(None);
-    }
-    Ok(known.into_parts().1)
-}
-
-// Rule M12: the value doesn't go with the written mode, or lies outside it.
-fn synonym_value_outside_its_mode(value: &Known, mode: &Mode) -> bool {
-    value.goes_not_with(mode) || value.lies_outside(mode)
 }

@@ -6,3 +6,6 @@ pub mod Depths
 pub mod Nodes
 pub mod Selves
 pub mod TextCounters
+pub mod GroundThere
+pub mod Loops
+pub mod CounterDepths

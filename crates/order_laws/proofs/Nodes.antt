@@ -183,7 +183,7 @@ module _ (text : List Definition) (all : List Node) (f : ℕ → ℕ) (language 
       )
 
   -- where the body of a routine begins
-  body_stand : (from depth : ℕ) (params : List Clause) (result : List Mention) (ps : PartNodes) → Stand f from ((depth ∷ depths_of_params depth params ++ replicate (length (elements_in result)) depth) ++ depths_in (suc depth) ps)
+  pub body_stand : (from depth : ℕ) (params : List Clause) (result : List Mention) (ps : PartNodes) → Stand f from ((depth ∷ depths_of_params depth params ++ replicate (length (elements_in result)) depth) ++ depths_in (suc depth) ps)
       → Stand f (from + head_size params result) (depths_in (suc depth) ps)
   body_stand from depth params result ps stand =
       let own = depths_of_params depth params in
@@ -194,7 +194,7 @@ module _ (text : List Definition) (all : List Node) (f : ℕ → ℕ) (language 
       let size : from + length (depth ∷ own ++ inner) ≡ from + head_size params result = omega (arith, first, later, both) in
       at_moved (λ d x. f d ≡ x) (from + length (depth ∷ own ++ inner)) (from + head_size params result) (depths_in (suc depth) ps) size (stand_later f from (depth ∷ own ++ inner) (depths_in (suc depth) ps) stand)
 
-  head_within : (from depth : ℕ) (params : List Clause) (result : List Mention) → Stand f from (depth ∷ depths_of_params depth params ++ replicate (length (elements_in result)) depth) → (d : ℕ) → Contains (flat_map (λ e. e.numbers) (param_names (suc from) params)) d → f d ≤ suc depth
+  pub head_within : (from depth : ℕ) (params : List Clause) (result : List Mention) → Stand f from (depth ∷ depths_of_params depth params ++ replicate (length (elements_in result)) depth) → (d : ℕ) → Contains (flat_map (λ e. e.numbers) (param_names (suc from) params)) d → f d ≤ suc depth
   head_within from depth params result stand d c = param_names_within f depth (suc from) params (routine_stand f depth (suc from) params (elements_in result) stand.1).0 d c
 
   mutual

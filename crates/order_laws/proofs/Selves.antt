@@ -184,16 +184,16 @@ module _ (text_of_t : List ℕ) (t : ProgramTree) (es : List Entry) (has : HasNa
   abbrev g : Ground
   g = ground_with t es
 
-  abbrev level : PartNodes
+  abbrev pub level : PartNodes
   level = level_of t
 
-  abbrev text : List Definition
+  abbrev pub text : List Definition
   text = definitions_of t
 
   abbrev all : List Definition
   all = with_predefined (definitions_of t)
 
-  abbrev every : List Node
+  abbrev pub every : List Node
   every = nodes (outermost (level_of t)) 0 (level_of t)
 
   abbrev groups : List Group
@@ -207,10 +207,10 @@ module _ (text_of_t : List ℕ) (t : ProgramTree) (es : List Entry) (has : HasNa
 
   -- ---- how deep definitions stand
 
-  deep : ℕ → ℕ
+  pub deep : ℕ → ℕ
   deep d = slice_index_or (depths_in 0 (level_of t)) d 0
 
-  deep_stands : Stand deep 0 (depths_in 0 level)
+  pub deep_stands : Stand deep 0 (depths_in 0 level)
   unfolding deep
   deep_stands = stands_from deep 0 (depths_in 0 level) (λ k. let same : 0 + k ≡ k = omega arith in ap (λ d. slice_index_or (depths_in 0 (level_of t)) d 0) same)
 
@@ -226,7 +226,7 @@ module _ (text_of_t : List ℕ) (t : ProgramTree) (es : List Entry) (has : HasNa
       let of_depths = depths.parts_length 0 level (program_sized t) in
       omega (arith, defined, first, later, language, listed, mapped, of_rows, of_depths)
 
-  outside : LanguageOutside deep text
+  pub outside : LanguageOutside deep text
   unfolding deep
   outside d is = let same = same_counts in let behind = is.behind in let none = default_past (depths_in 0 level) d (omega (arith, same, behind)) in omega (arith, none)
 
@@ -294,7 +294,7 @@ module _ (text_of_t : List ℕ) (t : ProgramTree) (es : List Entry) (has : HasNa
   by_names d e o at c = let h = flat_map_in (read_number g) (needed_in_text o) e c in name_step d e o h.0 at h.1 (read_in h.0 e h.2)
 
   -- a definition that isn't predefined stands in the text
-  in_text : (d : ℕ) (o : Origin) → slice_get (origins_of t) d ≡ Some o → (NeedsNothing o → ⊥) → slice_get (text_origins t) d ≡ Some o
+  pub in_text : (d : ℕ) (o : Origin) → slice_get (origins_of t) d ≡ Some o → (NeedsNothing o → ⊥) → slice_get (text_origins t) d ≡ Some o
   in_text d o at some = elim (got_append (text_origins t) predefined_origins d o at) [
     | inl first ↦ first
     | inr language ↦ absurd (some (each_in NeedsNothing predefined_origins o predefined_alone language))
@@ -316,8 +316,8 @@ module _ (text_of_t : List ℕ) (t : ProgramTree) (es : List Entry) (has : HasNa
 
   -- ---- received names
 
-  abbrev is_message_at : Option ℕ → Bool
-  is_message_at None = true
+  abbrev pub is_message_at : Option ℕ → Bool
+  is_message_at None = false
   is_message_at (Some d) = is_kind_at is_message (with_predefined (definitions_of t)) d
 
   -- what a message's name stands for may be sent to
@@ -363,10 +363,11 @@ module _ (text_of_t : List ℕ) (t : ProgramTree) (es : List Entry) (has : HasNa
   never_sent e (a_modulion kind items) at is sent = true≢false (sym is)
   never_sent e (a_predefined p) at is sent = true≢false (sym is)
 
+  pub message_stands : (d : ℕ) (n : Name) (count part : ℕ) → slice_get (origins_of t) d ≡ Some (a_received n count part) → is_message_at (number_at g.uses n.at) ≡ true
+  message_stands d n count part at = (each_there (TextPasses is_sent) (text_origins t) d (a_received n count part) all_sent (in_text d (a_received n count part) at (λ none. none))).0
+
   pub sent_to : (d e : ℕ) (n : Name) (count part : ℕ) → slice_get (origins_of t) d ≡ Some (a_received n count part) → Contains (some_number (number_at g.uses n.at)) e → is_kind_at is_message all e ≡ true
-  sent_to d e n count part at c =
-      let sent = each_there (TextPasses is_sent) (text_origins t) d (a_received n count part) all_sent (in_text d (a_received n count part) at (λ none. none)) in
-      subst (λ k. is_message_at k ≡ true) (one_number (number_at g.uses n.at) e c) sent.0
+  sent_to d e n count part at c = subst (λ k. is_message_at k ≡ true) (one_number (number_at g.uses n.at) e c) (message_stands d n count part at)
 
   abbrev origin : ℕ → Option Origin
   origin d = slice_get (origins_of t) d

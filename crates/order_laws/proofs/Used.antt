@@ -67,7 +67,7 @@ mutual
   ranges_used no_ranges = refl
   ranges_used (more_ranges r rs) = both (mentions_in_range r) (mentions_in_ranges rs) (names_in_range r) (names_in_ranges rs) (range_used r) (ranges_used rs)
 
-one_used : (e : ExprTree) → Are (mentions_of e) (names_in e)
+pub one_used : (e : ExprTree) → Are (mentions_of e) (names_in e)
 one_used e = expr_used e None
 
 two_used : (l h : ExprTree) → Are (mentions_of l ++ mentions_of h) (names_in l ++ names_in h)
@@ -159,7 +159,7 @@ text_used (a_signal s) = parts_used s.parts
 text_used (a_modulion kind items) = refl
 text_used (a_predefined p) = refl
 
-in_map : {X Y : Type 0} (f : X → Y) (xs : List X) (x : X) → Contains xs x → Contains (map f xs) (f x)
+pub in_map : {X Y : Type 0} (f : X → Y) (xs : List X) (x : X) → Contains xs x → Contains (map f xs) (f x)
 in_map f [] x c = absurd (none_in x c)
 in_map f (y ∷ xs) x c = elim (in_cases y xs x c) [
   | inl is ↦ here_in (f y) (map f xs) (f x) (ap f is)

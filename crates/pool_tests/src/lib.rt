@@ -10,8 +10,6 @@ mod gathering;
 #[cfg(test)]
 mod serves;
 #[cfg(test)]
-mod stopped;
-#[cfg(test)]
 mod texts;
 #[cfg(test)]
 mod unguarded;

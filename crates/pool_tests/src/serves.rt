@@ -40,7 +40,7 @@ START p(3, TRUE); RECEIVE CASE (here): ESAC; sync();
 DO FOR i := 1 TO 3; wake(); RECEIVE CASE (done): ESAC; OD; END M;";
 
 // A process that delays itself frees the region that it locked last, and no other.
-pub const OUTER_REGION_HELD: &str =
+const OUTER_REGION_HELD: &str =
     "B: REGION GRANT sleep; DCL e EVENT; sleep: PROC (); DELAY e; END sleep; END B;
 A: REGION GRANT hold, look; SEIZE sleep, inside;
 hold: PROC (); SEND inside; sleep(); END hold; look: PROC (); END look; END A;

@@ -5,12 +5,7 @@ use Rattle.std.proofs.lemmas.List.{take_more, append-nil}
 use Rattle.std.proofs.lemmas.List.Elements.{filter_map-append}
 use Rattle.world_model.specs.Lists.{last_of}
 use Rattle.region_kernel.specs.declared.regions.Lock.{Lock}
-use Rattle.std.specs.List.{remove}
-use Rattle.std.proofs.lemmas.Option.{get_or_from_slice_get}
-use Rattle.kernel_lists.specs.First.{IsFirst}
-use Rattle.kernel_lists.specs.Once.{others, AreOnce}
-use Rattle.kernel_lists.proofs.Entries.{once_remove, once_others}
-use Rattle.region_kernel.specs.Regions.{process_of, region_for, held_by, is_for, who_in, first_waiting}
+use Rattle.region_kernel.specs.Regions.{region_for, held_by}
 
 last_push : (xs : List ℕ) (x : ℕ) → last_of (xs ++ x ∷ []) ≡ Some x
 last_push [] x = refl
@@ -33,19 +28,3 @@ last_no locks who i d low is =
 -- one more lock
 pub held_push : (locks : List Lock) (lock : Lock) (who : ℕ) → held_by (locks ++ lock ∷ []) who ≡ held_by locks who ++ held_by (lock ∷ []) who
 held_push locks lock who = filter_map-append (region_for who) locks (lock ∷ [])
-
--- the one that waits longest for the region is taken out
-pub record FirstTaken (old new : List Lock) (region who : ℕ) : Type 0 where
-  pub first : Some who ≡ first_waiting old region
-  pub rest : new ≡ others process_of old who
-  pub once : AreOnce process_of new
-
-pub first_taken : (old new : List Lock) (region place : ℕ) (lock : Lock) → IsFirst (is_for region) old place → AreOnce process_of old → lock ≡ get_or old place lock → new ≡ remove old place → FirstTaken old new region lock.who
-first_taken old new region place lock f once at removed =
-    let same : lock ≡ f.item = at ∙ get_or_from_slice_get old place f.item lock f.at in
-    let rest = removed ∙ once_remove process_of old place f.item once f.at ∙ ap (λ (p : ℕ). others process_of old p) (ap process_of (sym same)) in
-    record {
-      first = ap (λ (l : Lock). Some l.who) same ∙ sym (ap who_in f.found);
-      rest = rest;
-      once = rw rest (once_others process_of old lock.who once);
-    }

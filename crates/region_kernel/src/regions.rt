@@ -1,17 +1,15 @@
 // Regions (Z.200, chapter on concurrent execution; who locks a region that becomes free is our own choice).
-ghost use Rattle.std.specs.Prelude.{◌≡◌, ◌+◌, ◌<◌, ◌≤◌, ◌++◌, ◌∷◌, [], None, Some, length, replicate, slice_get, slice_set, IfOk, IfSome, IfNone, OnOk};
-ghost use Rattle.std.specs.List.{find};
-ghost use Rattle.kernel_lists.specs.First.{IsFirst};
-ghost use Rattle.kernel_lists.specs.Once.{entry_of, AreOnce};
+ghost use Rattle.std.specs.Prelude.{◌≡◌, ℕ, ◌+◌, ◌<◌, ◌≤◌, ◌++◌, ◌∷◌, [], None, length, replicate, slice_get, slice_set, vec_len, vec_capacity, IfOk, OnOk};
+ghost use Rattle.kernel_lists.specs.Once.{AreOnce};
 ghost use Rattle.kernel_lists.specs.Room.{spare};
 ghost use Rattle.world_model.specs.Lists.{last_of};
-ghost use Rattle.region_kernel.specs.Regions.{process_of, occupant_of, held_by, may_lock, occupants_locked, locks_locked, IsOccupied, locks_but, with_lock, first_waiting, queue_but, is_for};
+ghost use Rattle.region_kernel.specs.Regions.{AreAlone, Changes, IsOccupied, WaitsNowhere, first_waiting, held_by, itself, locks_but, locks_locked, may_lock, occupant_of, occupants_locked, queue_but, queue_of, with_lock};
 
 use chill_base::Memory;
 use std::alloc::Global;
 use std::marker::Model;
 
-/// A region, and a process that locked it or waits to lock it.
+/// A region, and a process that locked it.
 #[derive(Clone, Copy)]
 pub struct Lock {
     pub region: u32,
@@ -23,25 +21,25 @@ pub struct Lock {
 pub struct Regions {
     occupants: Vec<Option<u32>>,
     locks: Vec<Lock>,
-    queue: Vec<Lock>,
+    queues: Vec<Vec<u32>>,
+    room: usize,
 }
 
 impl Model for Regions {
-    ghost use Rattle.std.specs.Prelude.{min};
+    ghost use Rattle.std.specs.Prelude.{map, min};
     ghost use Rattle.kernel_lists.specs.Room.{spare};
-    ghost use Rattle.kernel_lists.specs.Once.{AreOnce};
-    ghost use Rattle.region_kernel.specs.Regions.{SeenRegions, process_of};
+    ghost use Rattle.region_kernel.specs.Regions.{AreFit, AreQueued, SeenRegions, items_of};
 
     ghost Value = { SeenRegions };
 
     ghost view = { λ r. record {
       occupants = r.occupants.items;
       locks = r.locks.items;
-      queue = r.queue.items;
-      spare = min (spare r.locks) (spare r.queue);
+      queues = map items_of r.queues.items;
+      spare = min (spare r.locks) r.room;
     } };
 
-    ghost invariant = { λ r. AreOnce process_of r.queue.items };
+    ghost invariant = { λ r. AreFit r.room r.queues.items × AreQueued r.occupants.items (map items_of r.queues.items) };
 }
 
 impl Regions {
@@ -49,16 +47,19 @@ impl Regions {
     pub fn new(alloc: Global, count: u32) -> Result<Regions, Memory>
         ensures occupants { IfOk result (λ r. r.occupants ≡ replicate count None) }
         ensures locks { IfOk result (λ r. r.locks ≡ []) }
-        ensures queue { IfOk result (λ r. r.queue ≡ []) }
+        ensures queues { IfOk result (λ r. r.queues ≡ replicate count []) }
     {
         let mut occupants = Vec::new(alloc);
+        let mut queues = Vec::new(alloc);
         for _ in 0..count {
             occupants.push(None)?;
+            queues.push(Vec::new(alloc))?;
         }
         Ok(Regions {
             occupants,
             locks: Vec::new(alloc),
-            queue: Vec::new(alloc),
+            queues,
+            room: 0,
         })
     }
 
@@ -67,19 +68,35 @@ impl Regions {
         ensures room { OnOk result (n ≤ self.new.spare) }
         ensures occupants { self.new.occupants ≡ self.old.occupants }
         ensures locks { self.new.locks ≡ self.old.locks }
-        ensures queue { self.new.queue ≡ self.old.queue }
+        ensures queues { self.new.queues ≡ self.old.queues }
         ensures spare { self.old.spare ≤ self.new.spare }
     {
         self.locks.reserve(n)?;
-        self.queue.reserve(n)?;
+        if n <= self.room {
+            return Ok(());
+        }
+        for region in 0..self.queues.len() {
+            self.queues[region].reserve(n)?;
+        }
+        self.room = n;
         Ok(())
     }
 
-    /// No process waits to lock two regions.
+    /// No process waits twice to lock a region, and none waits for two.
     pub fn each_once(&self)
-        ensures { AreOnce process_of self.now.queue }
+        ensures once { (region : ℕ) → AreOnce itself (queue_of self.now.queues region) }
+        ensures alone { AreAlone self.now.queues }
     {
-        let _queue = &self.queue;
+        let _queues = &self.queues;
+    }
+
+    /// Those that wait to lock a region, the longest waiting first.
+    pub fn queue(&self, region: u32) -> &[u32]
+        requires { region < length self.now.occupants }
+        ensures is { result.now ≡ queue_of self.now.queues region }
+        ensures once { AreOnce itself result.now }
+    {
+        &self.queues[region as usize]
     }
 
     /// The occupant of a region; none exactly where it is free.
@@ -98,7 +115,7 @@ impl Regions {
         ensures answer { result ≡ may_lock (occupant_of self.old region) who }
         ensures occupants { self.new.occupants ≡ occupants_locked self.old.occupants region who (occupant_of self.old region) }
         ensures locks { self.new.locks ≡ locks_locked self.old.locks region who (occupant_of self.old region) }
-        ensures queue { self.new.queue ≡ self.old.queue }
+        ensures queues { self.new.queues ≡ self.old.queues }
         ensures spare { self.old.spare ≤ self.new.spare + 1 }
     {
         match self.occupants[region as usize] {
@@ -115,13 +132,14 @@ impl Regions {
     pub fn wait(&mut self, region: u32, who: u32)
         requires spare { 0 < self.old.spare }
         requires occupied { IsOccupied self.old region }
-        requires once { entry_of process_of self.old.queue who ≡ None }
+        requires nowhere { WaitsNowhere self.old.queues who }
         ensures occupants { self.new.occupants ≡ self.old.occupants }
         ensures locks { self.new.locks ≡ self.old.locks }
-        ensures queue { self.new.queue ≡ self.old.queue ++ record { region = region; who = who } ∷ [] }
+        ensures queues { Changes region (queue_of self.old.queues region ++ who ∷ []) self.old.queues self.new.queues }
         ensures spare { self.old.spare ≤ self.new.spare + 1 }
     {
-        self.queue.push_reserved(Lock { region, who });
+        self.room -= 1;
+        self.queues[region as usize].push_reserved(who);
     }
 
     /// Frees a region. The process that waits longest for it occupies it now and is named; none exactly where nobody
@@ -129,14 +147,14 @@ impl Regions {
     pub fn free(&mut self, region: u32) -> Option<u32>
         requires spare { 0 < self.old.spare }
         requires there { region < length self.old.occupants }
-        ensures answer { result ≡ first_waiting self.old.queue region }
+        ensures answer { result ≡ first_waiting self.old.queues region }
         ensures occupants { self.new.occupants ≡ slice_set self.old.occupants region result }
         ensures locks { self.new.locks ≡ with_lock (locks_but self.old.locks region (occupant_of self.old region)) region result }
-        ensures queue { self.new.queue ≡ queue_but self.old.queue result }
+        ensures queues { Changes region (queue_but (queue_of self.old.queues region) result) self.old.queues self.new.queues }
         ensures spare { self.old.spare ≤ self.new.spare + 1 }
     {
         unlock(&mut self.locks, region, self.occupants[region as usize]);
-        let next = take_first(&mut self.queue, region);
+        let next = take_first(&mut self.queues[region as usize]);
         self.occupants[region as usize] = next;
         if let Some(who) = next {
             self.locks.push_reserved(Lock { region, who });
@@ -169,28 +187,17 @@ fn unlock(locks: &mut Vec<Lock>, region: u32, occupant: Option<u32>)
     }
 }
 
-// Takes out the process that waits longest for a region.
-fn take_first(queue: &mut Vec<Lock>, region: u32) -> Option<u32>
-    requires { AreOnce process_of queue.old.items }
-    ensures answer { result ≡ first_waiting queue.old.items region }
+// Takes out the process that waits longest.
+fn take_first(queue: &mut Vec<u32>) -> Option<u32>
+    requires { AreOnce itself queue.old.items }
+    ensures answer { result ≡ slice_get queue.old.items 0 }
     ensures queue { queue.new.items ≡ queue_but queue.old.items result }
-    ensures once { AreOnce process_of queue.new.items }
-    ensures room { spare queue.old ≤ spare queue.new }
+    ensures once { AreOnce itself queue.new.items }
+    ensures len { vec_len queue.new ≤ vec_len queue.old }
+    ensures capacity { vec_capacity queue.new ≡ vec_capacity queue.old }
 {
-    match place_of_first(queue, region) {
-        Some(place) => Some(queue.remove(place).who),
-        None => None,
+    if queue.is_empty() {
+        return None;
     }
-}
-
-fn place_of_first(queue: &[Lock], region: u32) -> Option<usize>
-    ensures some { IfSome result (IsFirst (is_for region) queue.now) }
-    ensures none { IfNone result (find (is_for region) queue.now ≡ None) }
-{
-    for place in 0..queue.len() {
-        if queue[place].region == region {
-            return Some(place);
-        }
-    }
-    None
+    Some(queue.remove(0))
 }

@@ -2,54 +2,60 @@
 use chill_base::Pos;
 use chill_lexer::lex;
 use chill_parser::parse;
-use chill_tree::tree::Tree;
 use diagnostics::{Diagnostics, Rule};
 use mode_rules::{evaluate, told_of_modes};
-use names_model::Names;
 use process_checks::check_processes;
 use static_checks::check_statements;
 use std::alloc::Global;
 use std::test::Fail;
 use visibility::{Refusal, resolve};
 
-const MODES: &[u8] = b"M: MODULE DCL x INT (5:3); END M;";
+// How long a text may be.
+const LONGEST: usize = 2000;
 
-const STATEMENTS: &[u8] = b"M: MODULE DCL x INT; x := TRUE; END M;";
-
-const PROCESSES: &[u8] = b"R: REGION p: PROCESS (); END p; END R;";
-
-// The tree of a text, and what its names stand for.
-fn read(alloc: Global, text: &[u8]) -> Option<(Tree, Names)> {
-    if text.len() > 100 {
+// All that is told of a text's modes and constants, or none where it isn't read or a name isn't resolved.
+fn of_modes(alloc: Global, text: &[u8]) -> Option<Diagnostics> {
+    if text.len() > LONGEST {
         return None;
     }
     let tokens = lex(alloc, text).ok()?;
     let tree = parse(alloc, tokens.as_slice()).ok()?;
     let names = resolve(alloc, &tree).ok()?;
-    Some((tree, names))
-}
-
-fn of_modes(alloc: Global) -> Option<Diagnostics> {
-    let (tree, names) = read(alloc, MODES)?;
     told_of_modes(alloc, &tree, &names).ok()
 }
 
-fn of_statements(alloc: Global) -> Option<Diagnostics> {
-    let (tree, names) = read(alloc, STATEMENTS)?;
+// All that is told of a text's statements, or none where it isn't read or a name isn't resolved.
+fn of_statements(alloc: Global, text: &[u8]) -> Option<Diagnostics> {
+    if text.len() > LONGEST {
+        return None;
+    }
+    let tokens = lex(alloc, text).ok()?;
+    let tree = parse(alloc, tokens.as_slice()).ok()?;
+    let names = resolve(alloc, &tree).ok()?;
     let mut evaluation = evaluate(alloc, &tree, &names).ok()?;
     match check_statements(&mut evaluation, &tree) {
+        Ok(()) => Some(Diagnostics::new(alloc)),
         Err(Refusal::Broken(list)) => Some(list),
-        _ => None,
+        Err(Refusal::Memory) => None,
     }
 }
 
-fn of_processes(alloc: Global) -> Option<Diagnostics> {
-    let (tree, names) = read(alloc, PROCESSES)?;
+// All that is told of a text's processes, or none where another rule is broken.
+fn of_processes(alloc: Global, text: &[u8]) -> Option<Diagnostics> {
+    if text.len() > LONGEST {
+        return None;
+    }
+    let tokens = lex(alloc, text).ok()?;
+    let tree = parse(alloc, tokens.as_slice()).ok()?;
+    let names = resolve(alloc, &tree).ok()?;
     let mut evaluation = evaluate(alloc, &tree, &names).ok()?;
-    check_statements(&mut evaluation, &tree).ok()?;
+    if check_statements(&mut evaluation, &tree).is_err() {
+        return None;
+    }
     match check_processes(&evaluation, &tree) {
+        Ok(()) => Some(Diagnostics::new(alloc)),
         Err(Refusal::Broken(list)) => Some(list),
-        _ => None,
+        Err(Refusal::Memory) => None,
     }
 }
 
@@ -66,18 +72,21 @@ fn is_told(list: Option<Diagnostics>, rule: Rule, column: u32) -> bool {
 
 #[test]
 fn a_bound_above_the_other(rt: HostRuntime) -> Result<(), Fail> {
-    assert!(rt; is_told(of_modes(rt.alloc()), Rule::M2, 22));
+    let told = of_modes(rt.alloc(), b"M: MODULE DCL x INT (5:3); END M;");
+    assert!(rt; is_told(told, Rule::M2, 22));
     Ok(())
 }
 
 #[test]
 fn a_value_of_another_mode(rt: HostRuntime) -> Result<(), Fail> {
-    assert!(rt; is_told(of_statements(rt.alloc()), Rule::S2, 27));
+    let told = of_statements(rt.alloc(), b"M: MODULE DCL x INT; x := TRUE; END M;");
+    assert!(rt; is_told(told, Rule::S2, 27));
     Ok(())
 }
 
 #[test]
 fn a_process_in_a_region(rt: HostRuntime) -> Result<(), Fail> {
-    assert!(rt; is_told(of_processes(rt.alloc()), Rule::P1, 11));
+    let told = of_processes(rt.alloc(), b"R: REGION p: PROCESS (); END p; END R;");
+    assert!(rt; is_told(told, Rule::P1, 11));
     Ok(())
 }

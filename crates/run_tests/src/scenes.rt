@@ -1,6 +1,6 @@
 // Small codes, and the journals of their runs.
 use crate::stage::Noted::{Did, Goes, Runs, Waits};
-use crate::stage::{Noted, Scene, misfits, shows};
+use crate::stage::{Noted, Scene, misfits, shows, stops};
 use code_types::Instr;
 use code_types::Instr::{Again, Finish, Pop, Push, PutInt, PutLine, Read};
 use kernel_base::Alternative;
@@ -101,6 +101,13 @@ const SHARED: &[Noted] = &[
 #[test]
 fn two_processes_take_turns_in_a_region(rt: HostRuntime) -> Result<(), Fail> {
     shows(&rt, rt.alloc(), &SHARES, SHARED, 2, AllEnded)
+}
+
+// Going on is no commit: of the ten events nine are.
+#[test]
+fn a_run_is_stopped_behind_each_commit(rt: HostRuntime) -> Result<(), Fail> {
+    stops(&rt, rt.alloc(), &SLEEPS, SLEPT, 1, Still)?;
+    stops(&rt, rt.alloc(), &SHARES, SHARED, 9, AllEnded)
 }
 
 // There is no location.

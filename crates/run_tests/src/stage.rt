@@ -7,7 +7,7 @@ use code_guard::{Guarded, guard};
 use code_types::{BodyRow, Code, Instr};
 use kernel_base::{Event, Facts, Over};
 use played_turns::{Asked, Given, answer_of, request_of};
-use serial_run::{Driven, RunRefusal, attempt};
+use serial_run::{Driven, RunRefusal, Stopped, attempt, attempt_some};
 use std::alloc::{AllocError, Global};
 use std::process::Abort;
 use std::test::Fail;
@@ -149,6 +149,40 @@ pub fn shows(
         }
         Err(_) => Err(Fail::from("a run that is refused")),
     }
+}
+
+/// The run of a scene, stopped behind so many commits, where its budget is one that a run may have.
+fn some_run(alloc: Global, scene: &Scene, most: u64) -> Result<Stopped, Fail> {
+    if scene.units == 0 || scene.units > 10_000_000 {
+        return Err(Fail::from("a budget out of range"));
+    }
+    let guarded = guarded(alloc, scene)?;
+    match attempt_some(alloc, &guarded, facts(alloc, scene.units)?, most) {
+        Ok(stopped) => Ok(stopped),
+        Err(_) => Err(Fail::from("a run that is refused")),
+    }
+}
+
+/// Stops a scene behind no commit, behind one, and so on up to the end, which comes behind so many and is over so. Behind no
+/// commit there is no event.
+pub fn stops(
+    rt: &impl Abort,
+    alloc: Global,
+    scene: &Scene,
+    table: &[Noted],
+    commits: u64,
+    over: Over,
+) -> Result<(), Fail> {
+    for most in 0..commits {
+        let stopped = some_run(alloc, scene, most)?;
+        assert!(rt; stopped.made == most, "{most}");
+        assert!(rt; stopped.over.is_none(), "{most}");
+        assert!(rt; stopped.events.is_empty() == (most == 0), "{most}");
+    }
+    let stopped = some_run(alloc, scene, commits)?;
+    assert!(rt; stopped.over == Some(over));
+    assert!(rt; stopped.made == commits);
+    tells(rt, alloc, stopped.events.as_slice(), table)
 }
 
 /// Whether the run of a scene is refused as a misfit.

@@ -13,7 +13,7 @@ use Rattle.there_laws.specs.Plain.{CountersThereLaw}
 use Rattle.there_laws.proofs.Plain.{text_there}
 
 -- nothing is needed of what constants and modes don't look up
-unneeded : (e : Option Entry) (k : Option ℕ) (o : Option Origin) → is_looked_up o ≡ false → IsThereBy e k o
+pub unneeded : (e : Option Entry) (k : Option ℕ) (o : Option Origin) → is_looked_up o ≡ false → IsThereBy e k o
 unneeded e k None up = record { value = λ is. absurd (true≢false (sym is)); shape = λ c v class value. no_some v value; mode = λ is. absurd (true≢false (sym is)); located = tt }
 unneeded e k (Some (a_counter l)) up = record { value = λ is. absurd (true≢false (sym is)); shape = λ c v class value. no_some v value; mode = λ is. absurd (true≢false (sym is)); located = tt }
 unneeded e k (Some (a_received n count part)) up = record { value = λ is. absurd (true≢false (sym is)); shape = λ c v class value. no_some v value; mode = λ is. absurd (true≢false (sym is)); located = tt }

@@ -5,8 +5,12 @@ pub mod ConstantShapes
 pub mod Modes
 pub mod Needs
 pub mod Table
+pub mod Nodes
 pub mod Told
 pub mod NamedTrees
 pub mod Named
 pub mod Plain
 pub mod Counted
+pub mod Names
+pub mod Received
+pub mod CounterModes

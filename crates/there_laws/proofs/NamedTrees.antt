@@ -1,6 +1,6 @@
 -- What is so of each mention of an expression or mode makes its names stand for modes where they have to.
 use Rattle.std.proofs.Common.{◌≡◌, ℕ, Bool, true, List, [], ◌∷◌, ◌++◌, length, Option, Some, None, refl, true≢false, sym}
-use Rattle.std.specs.Prelude.{IsSome, option_map}
+use Rattle.std.specs.Prelude.{IsSome, flat_map, option_map}
 use Rattle.chill_tree.specs.declared.tree.name.Name.{Name}
 use Rattle.chill_tree.specs.ExprTree.{ExprTree, ExprNodes, RangeTree, RangeNodes, whole, character, text, this_instance, paren, receive, start, tuple, uniform, name, apply, field, prefixed, binary, no_exprs, more_exprs, alone, between, no_ranges, more_ranges}
 use Rattle.chill_tree.specs.ModeTree as written
@@ -10,16 +10,17 @@ use Rattle.names_model.specs.declared.kind.Need.TheVariants as needs
 use Rattle.names_model.specs.declared.part.Mention.{Mention}
 use Rattle.names_model.specs.declared.part.Mention.TheVariants.{Use, Argument, Element}
 use Rattle.names_model.specs.ExprMentions.{tuple_mode, callee_of, mentions_as, mentions_in_each, mentions_in_range, mentions_in_ranges, mentions_of, mentions_of_some}
+use Rattle.names_model.specs.ItemParts.{mentions_of_parts}
 use Rattle.names_model.specs.ModeMentions.{mentions_of_discrete, mentions_of_index, mentions_of_place, mentions_of_some_place, mentions_of_spread, mentions_of_base, mentions_of_fields, mentions_of_mode, mentions_of_some_mode}
-use Rattle.checks_model.specs.Ground.{Ground, Origin, a_synonym, a_mode, a_location, a_parameter, origin_at, number_at}
+use Rattle.checks_model.specs.Ground.{Ground, Origin, a_synonym, a_mode, a_location, a_parameter, a_procedure, a_signal, origin_at, number_at}
 use Rattle.checks_model.specs.Origins.{set_in_discrete, sets_in_base, sets_in_fields, sets_in}
 use Rattle.checks_model.specs.WrittenModes.{set_named}
 use Rattle.written_laws.specs.Written.{Each}
 use Rattle.written_laws.proofs.ShownMode.{has_some, IsFilledDiscrete, IsFilledBase, AreFilled, IsFilled}
-use Rattle.written_laws.proofs.ShownLocal.{IsSomeFilled, IsShaped}
-use Rattle.written_laws.proofs.Sets.{sets_of, sets_of_some}
+use Rattle.written_laws.proofs.ShownLocal.{IsSomeFilled, AreSomeFilled, IsShaped}
+use Rattle.written_laws.proofs.Sets.{sets_of, sets_of_some, sets_of_parts}
 use Rattle.written_laws.proofs.Texts.{AllPass, TextPasses}
-use Rattle.there_laws.specs.Table.{stands_for_mode, IsSomeModeName, TuplesNamed, EachTuplesNamed, RangeTuplesNamed, RangesTuplesNamed, SomeTuplesNamed, DiscreteNamed, IndexNamed, PlaceNamed, SomePlaceNamed, SpreadNamed, BaseNamed, FieldsNamed, ModeNamed, SomeModeNamed}
+use Rattle.there_laws.specs.Table.{stands_for_mode, IsSomeModeName, TuplesNamed, EachTuplesNamed, RangeTuplesNamed, RangesTuplesNamed, SomeTuplesNamed, DiscreteNamed, IndexNamed, PlaceNamed, SomePlaceNamed, SpreadNamed, BaseNamed, FieldsNamed, ModeNamed, SomeModeNamed, EachModeNamed, SomeModesNamed}
 use Rattle.there_laws.specs.Plain.{IsNamedSo}
 
 abbrev pub needed_so : Need → Bool → Bool
@@ -178,6 +179,17 @@ some_mode_named : (g : Ground) (w : Option written.ModeTree) → IsSomeFilled w 
 some_mode_named g None filled defined so = tt
 some_mode_named g (Some w) filled defined so = mode_named g w filled defined so
 
+each_mode_named : (g : Ground) (ws : List written.ModeTree) → Each IsFilled ws → AreSetsDefined g (flat_map sets_in ws) → AreSo g (flat_map mentions_of_mode ws) → EachModeNamed g ws
+each_mode_named g [] filled defined so = tt
+each_mode_named g (w ∷ ws) filled defined so = (
+  mode_named g w filled.0 (sets_first g (sets_in w) (flat_map sets_in ws) defined) (so_first g (mentions_of_mode w) (flat_map mentions_of_mode ws) so),
+  each_mode_named g ws filled.1 (sets_later g (sets_in w) (flat_map sets_in ws) defined) (so_later g (mentions_of_mode w) (flat_map mentions_of_mode ws) so),
+)
+
+parts_named : (g : Ground) (ws : Option (List written.ModeTree)) → AreSomeFilled ws → AreSetsDefined g (sets_of_parts ws) → AreSo g (mentions_of_parts ws) → SomeModesNamed g ws
+parts_named g None filled defined so = tt
+parts_named g (Some ws) filled defined so = each_mode_named g ws filled defined so
+
 -- ---- what defines something
 
 pub named_so : (g : Ground) (o : Origin) → IsShaped o → AreSetsDefined g (sets_of o) → TextPasses (is_so g) o → IsNamedSo g o
@@ -187,4 +199,6 @@ named_so g (a_synonym s) shaped defined so =
 named_so g (a_mode novel w) shaped defined so = mode_named g w shaped defined so
 named_so g (a_location d) shaped defined so = mode_named g d.mode shaped defined so
 named_so g (a_parameter w) shaped defined so = mode_named g w shaped defined so
+named_so g (a_procedure p) shaped defined so = some_mode_named g p.returns shaped defined so
+named_so g (a_signal s) shaped defined so = parts_named g s.parts shaped defined so
 named_so g o shaped defined so = tt

@@ -24,7 +24,8 @@ use Rattle.checks_model.specs.WrittenModes.{mode_of, some_mode_of, told_of_some_
 use Rattle.checks_model.specs.Table.{entry_by, set_mode, named_set, told_of_synonym, value_within, synonym_entry}
 use Rattle.table_laws.specs.Names.{names_in, names_in_mode, names_in_some_mode, names_needed}
 use Rattle.table_laws.specs.Frames.{is_read}
-use Rattle.table_laws.specs.OneTable.{IsEvaluated, AllDone, NeedsDone, NeedsEarlier}
+use Rattle.table_laws.specs.OneTable.{IsEvaluated, IsOrder, AllDone, NeedsDone, NeedsEarlier}
+use Rattle.elaborated_laws.specs.Table.{AreDefined}
 use Rattle.elaborated_laws.specs.Known.{IsDeclarable}
 use Rattle.elaborated_laws.specs.Modes.{IsWritten}
 use Rattle.elaborated_laws.specs.Entries.{IsSomeWritten, IsWrittenSo, AllWrittenSo}
@@ -61,7 +62,7 @@ unread_there e k o is = record { value = λ form. absurd (true≢false (sym form
 
 -- ---- by numbers
 
-abbrev IsNumberThere : Ground → ℕ → Type 0
+abbrev pub IsNumberThere : Ground → ℕ → Type 0
 IsNumberThere g d = IsThereBy (slice_get g.entries d) (Some d) (slice_get g.origins d)
 
 abbrev AllThere : Ground → List ℕ → Type 0
@@ -221,8 +222,8 @@ all_there g done (e ∷ order) evaluated known there is_written sound earlier d 
 
 -- ---- the law
 
-pub table_there : TableThereLaw
-table_there g order evaluated is_order defined is_written sound n = by_number g (number_at g.uses n.at) (λ d at. any_number d)
+pub numbers_there : (g : Ground) (order : List ℕ) → IsEvaluated g → IsOrder g order → AreDefined g → AllWrittenSo g → AllSound g → (d : ℕ) → IsNumberThere g d
+numbers_there g order evaluated is_order defined is_written sound d = any_number d
   where
     known : AllKnown g
     known k = table_known g order evaluated is_order defined k
@@ -235,3 +236,6 @@ table_there g order evaluated is_order defined is_written sound n = by_number g 
       | inl less ↦ all_there g [] order evaluated known none_done is_written sound is_order.earlier d (is_order.all d less)
       | inr past ↦ number_there g [] d evaluated known none_done is_written sound (subst (NeedsDone g []) (sym (slice_get_past g.origins d past)) tt)
     ]
+
+pub table_there : TableThereLaw
+table_there g order evaluated is_order defined is_written sound n = by_number g (number_at g.uses n.at) (λ d at. numbers_there g order evaluated is_order defined is_written sound d)

@@ -4,3 +4,4 @@ pub mod Modes
 pub mod Table
 pub mod Told
 pub mod Plain
+pub mod Names

@@ -2,17 +2,19 @@
 use Rattle.std.specs.Prelude.{◌≡◌, ℕ, List, Some, slice_get}
 use Rattle.chill_tree.specs.declared.tree.name.Name.{Name}
 use Rattle.chill_tree.specs.ItemTree.{ProgramTree}
-use Rattle.checks_model.specs.Ground.{Ground, Origin, a_synonym, a_mode, a_location, a_parameter}
+use Rattle.checks_model.specs.Ground.{Ground, Origin, a_synonym, a_mode, a_location, a_parameter, a_procedure, a_signal}
 use Rattle.checks_model.specs.Table.{ground_with, IsStatementGroundOf}
 use Rattle.checks_model.specs.Diagnoses.{HasNames, HasModes}
-use Rattle.there_laws.specs.Table.{TuplesNamed, ModeNamed, SomeModeNamed, IsNameThere}
+use Rattle.there_laws.specs.Table.{TuplesNamed, ModeNamed, SomeModeNamed, SomeModesNamed, IsNameThere}
 
--- the names in what defines something that constants and modes look up stand for modes where they have to
+-- the names in what defines something stand for modes where they have to
 abbrev pub IsNamedSo : Ground → Origin → Type 0
 IsNamedSo g (a_synonym s) = SomeModeNamed g s.mode × TuplesNamed g s.value
 IsNamedSo g (a_mode novel w) = ModeNamed g w
 IsNamedSo g (a_location d) = ModeNamed g d.mode
 IsNamedSo g (a_parameter w) = ModeNamed g w
+IsNamedSo g (a_procedure p) = SomeModeNamed g p.returns
+IsNamedSo g (a_signal s) = SomeModesNamed g s.parts
 IsNamedSo g o = Unit {0}
 
 abbrev pub AllNamedSo : Ground → Type 0

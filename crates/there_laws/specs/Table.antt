@@ -1,5 +1,5 @@
 -- The law that names have what constants and modes need of them, in a table of which nothing is told.
-use Rattle.std.specs.Prelude.{◌≡◌, ℕ, Bool, true, false, List, [], Option, Some, None, IsSome, slice_get}
+use Rattle.std.specs.Prelude.{◌≡◌, ℕ, Bool, true, false, List, [], ◌∷◌, Option, Some, None, IsSome, slice_get}
 use Rattle.chill_tree.specs.declared.tree.name.Name.{Name}
 use Rattle.chill_tree.specs.ExprTree.{ExprTree, ExprNodes, RangeTree, RangeNodes, whole, character, text, this_instance, paren, receive, start, tuple, uniform, name, apply, field, prefixed, binary, no_exprs, more_exprs, alone, between, no_ranges, more_ranges}
 use Rattle.chill_tree.specs.ModeTree as written
@@ -107,6 +107,14 @@ ModeNamed g (written.buffer_mode at l b) = SomeTuplesNamed g l × BaseNamed g b
 abbrev pub SomeModeNamed : Ground → Option written.ModeTree → Type 0
 SomeModeNamed g None = Unit {0}
 SomeModeNamed g (Some w) = ModeNamed g w
+
+abbrev pub EachModeNamed : Ground → List written.ModeTree → Type 0
+EachModeNamed g [] = Unit {0}
+EachModeNamed g (w ∷ ws) = ModeNamed g w × EachModeNamed g ws
+
+abbrev pub SomeModesNamed : Ground → Option (List written.ModeTree) → Type 0
+SomeModesNamed g None = Unit {0}
+SomeModesNamed g (Some ws) = EachModeNamed g ws
 
 -- ---- definitions
 

@@ -1,6 +1,7 @@
 // Laws of what is there where nothing is told. Each is a fact about the definitions, which a caller learns by calling the function.
 ghost use Rattle.there_laws.specs.Constants.{ConstantThereLaw};
 ghost use Rattle.there_laws.specs.Modes.{WrittenThereLaw};
+ghost use Rattle.there_laws.specs.Names.{ControlsLaw, NameModesLaw, NamesKnownLaw, NumbersThereLaw, ReceivedLaw, ResultsLaw, SignalsLaw};
 ghost use Rattle.there_laws.specs.Plain.{CountersThereLaw, NamedSoLaw, TextThereLaw};
 ghost use Rattle.there_laws.specs.Shapes.{ConstantShapeLaw};
 ghost use Rattle.there_laws.specs.Table.{TableThereLaw};
@@ -33,4 +34,18 @@ pub fn table_law()
 /// defined by.
 pub fn told_law()
     ensures { UntoldLaw }
+{}
+
+/// In a text that breaks no rule on names, modes and constants what is needed of definitions and names is there in the ground
+/// that knows counters too: by numbers; what is known of names that constants and modes look up; the modes of what names stand
+/// for, those of results and those of the parts of signals. Where no rule is broken received names have modes, and nothing is
+/// told of the loops of counters.
+pub fn names_law()
+    ensures numbers { NumbersThereLaw }
+    ensures known { NamesKnownLaw }
+    ensures modes { NameModesLaw }
+    ensures results { ResultsLaw }
+    ensures signals { SignalsLaw }
+    ensures received { ReceivedLaw }
+    ensures controls { ControlsLaw }
 {}

@@ -7,4 +7,4 @@
 
 mod laws;
 
-pub use laws::{constants_law, modes_law, table_law, told_law};
+pub use laws::{constants_law, modes_law, names_law, table_law, told_law};

@@ -141,11 +141,11 @@ definitions_split inside from (p ∷ ps) qs =
     let h = definitions_split inside (from + size_of p) ps qs in
     (h.0, ap (λ ds. definitions_of inside from p ++ ds) h.1 ∙ sym (append_assoc (definitions_of inside from p) (definitions_in inside (from + size_of p) (part_nodes ps)) (definitions_in inside h.0 (part_nodes qs))))
 
-nothing : (ps : List PartTree) → DefineNothing ps → Defining [] ps
+pub nothing : (ps : List PartTree) → DefineNothing ps → Defining [] ps
 nothing ps none = record { closed = tt; owned = λ inside from. tt; passing = λ test before pass. tt; rows = sym (no_rows ps none); sized = nothing_sized ps none }
 
 -- parts that mention names
-mentions_alone : (ms : List Mention) → Defining [] (mentioned ms)
+pub mentions_alone : (ms : List Mention) → Defining [] (mentioned ms)
 mentions_alone ms = nothing (mentioned ms) (mentions_define ms)
 
 -- what has no owner
@@ -153,7 +153,7 @@ unowned : {before : List Mention} (os : List Origin) (ps : List PartTree) → Cl
     → map row_of os ≡ rows_in (part_nodes ps) → AreSized (part_nodes ps) → DefiningBehind before os ps
 unowned os ps closed owned passing rows sized = record { closed = closed; owned = λ inside from. owned (definitions_in inside from (part_nodes ps)); passing = passing; rows = rows; sized = sized }
 
-joined : {before : List Mention} {os us : List Origin} {ps qs : List PartTree} → DefiningBehind before os ps → DefiningBehind before us qs → DefiningBehind before (os ++ us) (ps ++ qs)
+pub joined : {before : List Mention} {os us : List Origin} {ps qs : List PartTree} → DefiningBehind before os ps → DefiningBehind before us qs → DefiningBehind before (os ++ us) (ps ++ qs)
 joined {os = os} {us = us} {ps = ps} {qs = qs} m k = record {
   closed = closed_both os us m.closed k.closed;
   owned = λ inside from.
@@ -177,14 +177,14 @@ one_part {os = os} {p = p} closed h passing rows sized = record {
   sized = (sized, tt);
 }
 
-blocked : {before : List Mention} {os : List Origin} {ps : List PartTree} → DefiningBehind before os ps → DefiningBehind before os (block_of ps ∷ [])
+pub blocked : {before : List Mention} {os : List Origin} {ps : List PartTree} → DefiningBehind before os ps → DefiningBehind before os (block_of ps ∷ [])
 blocked m = one_part m.closed (λ inside from. m.owned (within inside) from) m.passing m.rows (refl, m.sized)
 
 -- what is mentioned before doesn't matter, or is mentioned at the head of the parts
-behind : {before : List Mention} {os : List Origin} {ps : List PartTree} → Defining os ps → DefiningBehind before os ps
+pub behind : {before : List Mention} {os : List Origin} {ps : List PartTree} → Defining os ps → DefiningBehind before os ps
 behind m = record { closed = m.closed; owned = m.owned; passing = λ test before pass. m.passing test tt pass; rows = m.rows; sized = m.sized }
 
-headed : {os : List Origin} {ps : List PartTree} (m : Mention) → DefiningBehind (m ∷ []) os ps → Defining os (mention m ∷ ps)
+pub headed : {os : List Origin} {ps : List PartTree} (m : Mention) → DefiningBehind (m ∷ []) os ps → Defining os (mention m ∷ ps)
 headed m k = record { closed = k.closed; owned = λ inside from. k.owned inside (from + 0); passing = λ test before pass. k.passing test (pass.0, tt) pass.1; rows = k.rows; sized = (tt, k.sized) }
 
 -- ---- definition statements
@@ -234,7 +234,7 @@ declarations_defining : (ds : List DeclarationTree) → Defining (flat_map origi
 declarations_defining [] = nothing [] tt
 declarations_defining (d ∷ ds) = joined (declaration_defining d) (declarations_defining ds)
 
-local_defining : (l : LocalTree) → Defining (origins_of_local l) (local_parts l)
+pub local_defining : (l : LocalTree) → Defining (origins_of_local l) (local_parts l)
 local_defining (synonyms at ss) = synonyms_defining ss
 local_defining (syn_modes at ds) = modes_defining false ds
 local_defining (new_modes at ds) = modes_defining true ds
@@ -245,7 +245,7 @@ local_defining (locations at ds) = declarations_defining ds
 counter_rows : (ms : List Mention) → no_text ∷ [] ≡ no_text ∷ rows_in (part_nodes (mentioned ms))
 counter_rows ms = ap (λ rs. no_text ∷ rs) (sym (no_rows (mentioned ms) (mentions_define ms)))
 
-counters_defining : (c : ControlTree) → Defining (counters_in c) (turn_parts c)
+pub counters_defining : (c : ControlTree) → Defining (counters_in c) (turn_parts c)
 counters_defining (while_holds at c) = mentions_alone (mentions_of c)
 counters_defining (for_ever at) = nothing [] tt
 counters_defining (for_members at n s c) = unowned (a_counter (for_members at n s c) ∷ []) (turn_parts (for_members at n s c)) (tt, tt) (λ ds. (tt, tt)) (λ test before pass. (tt, tt)) (counter_rows (mentions_of_some c)) (tt, nothing_sized (mentioned (mentions_of_some c)) (mentions_define (mentions_of_some c)))
@@ -255,7 +255,7 @@ received_rows : (n : Name) (count : ℕ) (ks : List ℕ) → map row_of (map (a_
 received_rows n count [] = refl
 received_rows n count (k ∷ ks) = ap (λ rs. no_text ∷ rs) (received_rows n count ks)
 
-received_defining : (n : Name) (r : Option (List Name)) → DefiningBehind (used needs.Message n) (received_in n r) (received_parts r)
+pub received_defining : (n : Name) (r : Option (List Name)) → DefiningBehind (used needs.Message n) (received_in n r) (received_parts r)
 received_defining n None = behind (nothing [] tt)
 received_defining n (Some ns) =
     let numbers = numbers_on 0 (length ns) in
@@ -265,12 +265,12 @@ received_defining n (Some ns) =
     (received_rows n (length ns) numbers ∙ ap (λ k. replicate k no_text) (length-numbers 0 (length ns) ∙ sym (length-map ns identifier)) ∙ sym (append-nil (replicate (length (identifiers ns)) no_text)) ∙ sym (append-nil (replicate (length (identifiers ns)) no_text ++ []))) (tt, tt)
 
 mutual
-  statement_defining : (s : StatementTree) (labels : List Name) → Defining (origins_in s) (statement_parts labels s)
+  pub statement_defining : (s : StatementTree) (labels : List Name) → Defining (origins_in s) (statement_parts labels s)
   statement_defining (empty at) labels = nothing [] tt
   statement_defining (simple at a h) labels = joined (nothing (simple_parts labels a) (simple_defines labels a)) (handler_defining h labels)
   statement_defining (bracketed at l a h closing) labels = joined (bracketed_defining a (labelled l labels)) (handler_defining h (labelled l labels))
 
-  bracketed_defining : (a : BracketedTree) (labels : List Name) → Defining (origins_in_bracketed a) (bracketed_parts labels a)
+  pub bracketed_defining : (a : BracketedTree) (labels : List Name) → Defining (origins_in_bracketed a) (bracketed_parts labels a)
   bracketed_defining (if_then at c ss bs o) labels = joined (joined (joined (mentions_alone (mentions_of c)) (each_defining ss labels)) (branches_defining bs labels)) (otherwise_defining o labels)
   bracketed_defining (case_of at e as' o) labels = joined (joined (mentions_alone (mentions_of e)) (cases_defining as' labels)) (otherwise_defining o labels)
   bracketed_defining (do_loop at c ss) labels = joined (nothing (control_parts c) (control_defines c)) (blocked (joined (counters_defining c) (each_defining ss labels)))
@@ -278,39 +278,39 @@ mutual
   bracketed_defining (delay_case at set p as') labels = joined (mentions_alone (mentions_of_some set ++ mentions_of_some p)) (events_defining as' labels)
   bracketed_defining (receive_case at set as' o) labels = joined (joined (mentions_alone (mentions_of_some set)) (receives_defining as' labels)) (otherwise_defining o labels)
 
-  each_defining : (ss : StatementNodes) (labels : List Name) → Defining (origins_in_each ss) (action_parts labels ss)
+  pub each_defining : (ss : StatementNodes) (labels : List Name) → Defining (origins_in_each ss) (action_parts labels ss)
   each_defining no_statements labels = nothing [] tt
   each_defining (more_statements s ss) labels = joined (statement_defining s labels) (each_defining ss labels)
 
-  branches_defining : (bs : ElsIfNodes) (labels : List Name) → Defining (origins_in_branches bs) (branch_parts labels bs)
+  pub branches_defining : (bs : ElsIfNodes) (labels : List Name) → Defining (origins_in_branches bs) (branch_parts labels bs)
   branches_defining no_branches labels = nothing [] tt
   branches_defining (more_branches at c ss bs) labels = joined (joined (mentions_alone (mentions_of c)) (each_defining ss labels)) (branches_defining bs labels)
 
-  cases_defining : (as' : CaseNodes) (labels : List Name) → Defining (origins_in_cases as') (case_parts labels as')
+  pub cases_defining : (as' : CaseNodes) (labels : List Name) → Defining (origins_in_cases as') (case_parts labels as')
   cases_defining no_cases labels = nothing [] tt
   cases_defining (more_cases at ls ss as') labels = joined (joined (mentions_alone (mentions_of_ranges ls)) (each_defining ss labels)) (cases_defining as' labels)
 
-  events_defining : (as' : NamedNodes) (labels : List Name) → Defining (origins_in_named as') (event_parts labels as')
+  pub events_defining : (as' : NamedNodes) (labels : List Name) → Defining (origins_in_named as') (event_parts labels as')
   events_defining no_named labels = nothing [] tt
   events_defining (more_named at ns ss as') labels = joined (joined (mentions_alone (flat_map (used needs.Location) ns)) (blocked (each_defining ss labels))) (events_defining as' labels)
 
-  receives_defining : (as' : ReceiveNodes) (labels : List Name) → Defining (origins_in_receives as') (receive_parts labels as')
+  pub receives_defining : (as' : ReceiveNodes) (labels : List Name) → Defining (origins_in_receives as') (receive_parts labels as')
   receives_defining no_receives labels = nothing [] tt
   receives_defining (more_receives at n r ss as') labels = joined (headed (Use (identifier n) needs.Message) (blocked (joined (received_defining n r) (behind (each_defining ss labels))))) (receives_defining as' labels)
 
-  otherwise_defining : (o : OtherwiseNode) (labels : List Name) → Defining (origins_in_otherwise o) (otherwise_parts labels o)
+  pub otherwise_defining : (o : OtherwiseNode) (labels : List Name) → Defining (origins_in_otherwise o) (otherwise_parts labels o)
   otherwise_defining no_otherwise labels = nothing [] tt
   otherwise_defining (otherwise ss) labels = each_defining ss labels
 
-  handler_defining : (h : HandlerNode) (labels : List Name) → Defining (origins_in_handler h) (handler_parts labels h)
+  pub handler_defining : (h : HandlerNode) (labels : List Name) → Defining (origins_in_handler h) (handler_parts labels h)
   handler_defining no_handler labels = nothing [] tt
   handler_defining (handler at as' o) labels = blocked (joined (exceptions_defining as' labels) (otherwise_defining o labels))
 
-  exceptions_defining : (as' : NamedNodes) (labels : List Name) → Defining (origins_in_named as') (exception_parts labels as')
+  pub exceptions_defining : (as' : NamedNodes) (labels : List Name) → Defining (origins_in_named as') (exception_parts labels as')
   exceptions_defining no_named labels = nothing [] tt
   exceptions_defining (more_named at ns ss as') labels = joined (each_defining ss labels) (exceptions_defining as' labels)
 
-  body_defining : (ps : BodyNodes) (labels : List Name) → Defining (origins_in_parts ps) (body_parts labels ps)
+  pub body_defining : (ps : BodyNodes) (labels : List Name) → Defining (origins_in_parts ps) (body_parts labels ps)
   body_defining no_parts labels = nothing [] tt
   body_defining (more_locals l ps) labels = joined (local_defining l) (body_defining ps labels)
   body_defining (more_actions s ps) labels = joined (statement_defining s labels) (body_defining ps labels)
@@ -406,10 +406,10 @@ routine_defining os body n kind params result ps closed owned inner passing rows
     (λ test before pass. each_append (TextPasses test) os body (passing test pass.0) (inner.passing test tt pass.1))
     (map-append row_of os body ∙ ap (λ rs. rs ++ map row_of body) rows ∙ ap (λ rs. ((false, result) ∷ rows_of_params params ++ replicate (length (elements_in result)) no_text) ++ rs) inner.rows) (refl, inner.sized)
 
-body_of_defining : (ps : List BodyTree) (h : Option HandlerTree) → Defining (origins_in_parts (body_nodes ps) ++ origins_in_handler (handler_node h)) (whole_body ps h)
+pub body_of_defining : (ps : List BodyTree) (h : Option HandlerTree) → Defining (origins_in_parts (body_nodes ps) ++ origins_in_handler (handler_node h)) (whole_body ps h)
 body_of_defining ps h = joined (body_defining (body_nodes ps) []) (handler_defining (handler_node h) [])
 
-procedure_defining : (p : ProcedureTree) → Defining (origins_of_procedure p) (procedure_part p ∷ [])
+pub procedure_defining : (p : ProcedureTree) → Defining (origins_of_procedure p) (procedure_part p ∷ [])
 procedure_defining p =
     let params = flat_map origins_of_param p.params in
     let result = elements_of_some p.returns in
@@ -420,7 +420,7 @@ procedure_defining p =
     (ap (λ rs. (false, mentions_of_some_mode p.returns) ∷ rs)
     (map-append row_of params result ∙ ap (λ rs. rs ++ map row_of result) (params_rows p.params) ∙ ap (λ rs. rows_of_params (map param_clause p.params) ++ rs) (no_text_rows result (some_without p.returns) ∙ ap (λ k. replicate k no_text) (some_count p.returns))))
 
-process_defining : (p : ProcessTree) → Defining (origins_of_process p) (process_part p ∷ [])
+pub process_defining : (p : ProcessTree) → Defining (origins_of_process p) (process_part p ∷ [])
 process_defining p =
     routine_defining (a_process p ∷ flat_map origins_of_formal p.formals) (origins_in_parts (body_nodes p.body) ++ origins_in_handler (handler_node p.handler)) (identifier p.name) kinds.Process (map formal_clause p.formals) [] (whole_body p.body p.handler)
     (with_elements 1 (a_process p) (flat_map origins_of_formal p.formals) tt (formals_closed p.formals)) (λ ds. (tt, formals_owned ds p.formals)) (body_of_defining p.body p.handler) (λ test pass. (tt, formals_pass test p.formals pass.0))
@@ -429,7 +429,7 @@ process_defining p =
 -- ---- items
 
 mutual
-  item_defining : (i : ItemTree) → Defining (origins_of_item i) (item_parts i)
+  pub item_defining : (i : ItemTree) → Defining (origins_of_item i) (item_parts i)
   item_defining (seize_item at w) = nothing (seized w) (seized_define w)
   item_defining (grant_item at w) = nothing (granted w) (granted_define w)
   item_defining (local_item l) = local_defining l
@@ -443,7 +443,7 @@ mutual
       (tt, each_more (IsOwned es) (IsOwned (defined inside kinds.Modulion (identifier n) ∷ es)) (owned_later (defined inside kinds.Modulion (identifier n) ∷ []) es) (origins_of_items items ++ origins_in_handler (handler_node h)) (inner.owned (Modulion from) (suc from)))) (λ test before pass. (tt, inner.passing test tt pass)) (ap (λ rs. no_text ∷ rs) inner.rows) (refl, inner.sized)
   item_defining (action s) = statement_defining s []
 
-  items_defining : (is : ItemNodes) → Defining (origins_of_items is) (each_item is)
+  pub items_defining : (is : ItemNodes) → Defining (origins_of_items is) (each_item is)
   items_defining no_items = nothing [] tt
   items_defining (more_items i is) = joined (item_defining i) (items_defining is)
 

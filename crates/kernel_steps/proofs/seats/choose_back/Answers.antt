@@ -48,5 +48,5 @@ returns-clause-settles c = λ w request send h at e.
     })
     (ap (λ (x : SeenRegions). x.occupants) c.go.ensures.regions ∙ c.lock-locked.ensures.occupants ∙ ap (occupants_locked s.regions.occupants c.args.region c.args.who) none)
     (ap (λ (x : SeenRegions). x.locks) c.go.ensures.regions ∙ c.lock-locked.ensures.locks ∙ ap (locks_locked s.regions.locks c.args.region c.args.who) none)
-    (ap (λ (x : SeenRegions). x.queue) c.go.ensures.regions ∙ c.lock-locked.ensures.queue)
+    (ap (λ (x : SeenRegions). x.queues) c.go.ensures.regions ∙ c.lock-locked.ensures.queues)
     h

@@ -1,0 +1,4 @@
+pub mod Circles
+pub mod Found
+pub mod NameViews
+pub mod Waiting

@@ -1,0 +1,6 @@
+mod Gates
+mod NamedModes
+mod PlainGrounds
+mod FewLemmas
+mod LaidLemmas
+pub mod FoundModes

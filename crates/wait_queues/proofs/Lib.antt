@@ -1,0 +1,4 @@
+pub mod Fits
+pub mod Placed
+pub mod Stepping
+pub mod Ties
