@@ -20,3 +20,5 @@ pub mod Text
 pub mod Mentions
 pub mod Named
 pub mod WellNamed
+pub mod Declared
+pub mod Outside

@@ -23,7 +23,7 @@ use Rattle.expression_laws.proofs.Placed.{fits_kind, FitsPlace, text_placed}
 
 -- ---- definitions by what defines them
 
-definition_there : (os : List Origin) (ds : List Definition) (k : ℕ) (o : Origin) → AllDefine os ds → slice_get os k ≡ Some o → (d : Definition) × ((slice_get ds k ≡ Some d) × Defines o d)
+pub definition_there : (os : List Origin) (ds : List Definition) (k : ℕ) (o : Origin) → AllDefine os ds → slice_get os k ≡ Some o → (d : Definition) × ((slice_get ds k ≡ Some d) × Defines o d)
 definition_there [] [] k o all at = no_some o at
 definition_there [] (e ∷ ds) k o all at = absurd all
 definition_there (x ∷ os) [] k o all at = absurd all
@@ -96,7 +96,7 @@ stands_inner o d is fit holds = absurd (true≢false (sym holds))
 
 -- ---- rows
 
-abbrev row_of : Definition → Origin → Entry → Row
+abbrev pub row_of : Definition → Origin → Entry → Row
 row_of d o e = record { name = d.name.spelling; inside = d.inside; origin = o; mode = e.mode }
 
 row_there : (ds : List Definition) (os : List Origin) (es : List Entry) (k : ℕ) (d : Definition) (o : Origin) (e : Entry) → slice_get ds k ≡ Some d → slice_get os k ≡ Some o → slice_get es k ≡ Some e

@@ -10,7 +10,7 @@ use Rattle.names_model.specs.declared.definition.Inside.TheVariants as insides
 use Rattle.checks_model.specs.Alike.{is_meeting}
 use Rattle.checks_model.specs.Ground.{Origin, a_location, a_parameter, a_counter, a_received, a_procedure, a_process, a_signal, a_modulion, a_predefined, number_at, origin_of, entry_of, mode_of_entry}
 use Rattle.checks_model.specs.Told.{holds_of}
-use Rattle.checks_model.specs.ProcessRules.{Meeting, meets_event, meets_buffer, meets_signal, meets_nothing, meeting_of}
+use Rattle.checks_model.specs.ProcessRules.{Meeting, meets_event, meets_buffer, meets_signal, meets_nothing, meeting_of, is_event_or_buffer}
 use Rattle.elaborated_laws.proofs.Told.{no_some, same_some, of_both, not_true}
 use Rattle.elaboration_model.specs.Numbering.{Source, Row, is_direct, is_location, may_be_local, has_body, is_signal, is_region_origin, is_shared, same_meeting, count_before, body_number, body_of, body_around, is_local_of, Thing, a_shared, a_local, an_event, a_buffer, a_message, a_region, a_body, no_thing, thing_directly, local_in, thing_by, thing_of, thing_used, event_number, buffer_number, body_in}
 use Rattle.elaboration_model.specs.Expressions.{base_of}
@@ -105,8 +105,8 @@ record RowThing (rs : List Row) (d : ℕ) (r : Row) : Type 0 where
   body : has_body r.origin ≡ true → IsSome (body_in (local_in rs d r (body_around rs r.inside)))
 
 -- what stands in a body meets at nothing
-never_inner : {A : Type 0} (r : Row) (m : ModeTree) (how : Meeting) → IsRowPlaced r → is_location r.origin ≡ true → same_meeting meets_nothing how ≡ false → is_direct r.inside ≡ false → r.mode ≡ Some m → meeting_of m ≡ how → A
-never_inner r m how placed location apart inner mode is = absurd (true≢false (ap (same_meeting meets_nothing) (sym (meets_none m (placed.values location inner m mode)) ∙ is) ∙ apart))
+never_inner : {A : Type 0} (r : Row) (m : ModeTree) (how : Meeting) → IsRowPlaced r → is_location r.origin ≡ true → is_event_or_buffer how ≡ true → is_direct r.inside ≡ false → r.mode ≡ Some m → meeting_of m ≡ how → A
+never_inner r m how placed location meets inner mode is = absurd (true≢false (sym meets ∙ (ap is_event_or_buffer (sym is) ∙ placed.values location inner m mode)))
 
 signal_origin : (o : Origin) → is_signal o ≡ true → (is_location o ≡ false) × ((has_body o || is_signal o) ≡ true)
 signal_origin (a_signal s) is = (refl, refl)

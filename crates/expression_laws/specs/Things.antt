@@ -6,7 +6,7 @@ use Rattle.modes.specs.ModeTree.{ModeTree}
 use Rattle.modes.specs.Form.{form_of}
 use Rattle.checks_model.specs.Alike.{is_meeting}
 use Rattle.checks_model.specs.Ground.{Origin, a_counter, a_received, a_procedure, a_predefined, origin_of, entry_of, mode_of_entry, message_parts}
-use Rattle.checks_model.specs.ProcessRules.{meets_event, meets_buffer, meeting_of}
+use Rattle.checks_model.specs.ProcessRules.{meets_event, meets_buffer, meeting_of, is_event_or_buffer}
 use Rattle.elaboration_model.specs.Numbering.{Source, Row, is_direct, is_location, may_be_local, has_body, is_signal, thing_used, event_number, buffer_number, body_in, Thing, a_message}
 use Rattle.elaborated_laws.specs.Known.{IsKnownName}
 use Rattle.elaborated_laws.specs.Classes.{HasModes}
@@ -19,7 +19,7 @@ use Rattle.expression_laws.specs.Names.{ArePlaces, AreFormals, IsNameKnown}
 pub record IsRowPlaced (r : Row) : Type 0 where
   pub direct : (has_body r.origin || is_signal r.origin) ≡ true → is_direct r.inside ≡ true
   pub inner : (may_be_local r.origin && not (is_location r.origin)) ≡ true → is_direct r.inside ≡ false
-  pub values : is_location r.origin ≡ true → is_direct r.inside ≡ false → (m : ModeTree) → r.mode ≡ Some m → not (is_meeting (form_of m)) ≡ true
+  pub values : is_location r.origin ≡ true → is_direct r.inside ≡ false → (m : ModeTree) → r.mode ≡ Some m → is_event_or_buffer (meeting_of m) ≡ false
 
 -- the row of a definition of the text
 pub record RowAt (s : Source) (d : ℕ) (o : Origin) : Type 0 where

@@ -5,7 +5,7 @@ ghost use Rattle.expression_laws.specs.Exits.{ExitsLaw};
 ghost use Rattle.expression_laws.specs.Expressions.{ExprThereLaw};
 ghost use Rattle.expression_laws.specs.Named.{NodesNamedLaw, WellNamedLaw};
 ghost use Rattle.expression_laws.specs.Nodes.{NodesLaw};
-ghost use Rattle.expression_laws.specs.Placed.{RowsPlacedLaw};
+ghost use Rattle.expression_laws.specs.Placed.{MeetsOutsideLaw, RowsPlacedLaw};
 ghost use Rattle.expression_laws.specs.Program.{ProgramThereLaw};
 ghost use Rattle.expression_laws.specs.Statements.{ActionThereLaw, BodyThereLaw, HandlerThereLaw, StatementThereLaw};
 ghost use Rattle.expression_laws.specs.Text.{TextElaboratedLaw};
@@ -34,11 +34,12 @@ pub fn program_law()
 /// Where the rows of definitions stand as a text has them, what names stand for is in the lists of the elaborated program:
 /// locations and other places of values, events, buffers, signals and bodies. So all is known of a name that elaborated
 /// expressions need, where the ground tells what it does of the names of a text. In a text in which no event and no buffer is
-/// declared in a body the rows stand so.
+/// declared in a body the rows stand so, and none is where nothing is told of processes.
 pub fn names_law()
     ensures things { ThingsLaw }
     ensures known { NamesKnownLaw }
     ensures placed { RowsPlacedLaw }
+    ensures outside { MeetsOutsideLaw }
 {}
 
 /// Each exception of a text has its number.
