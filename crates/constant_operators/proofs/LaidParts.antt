@@ -23,7 +23,7 @@ use Rattle.checks_model.specs.Operations.{field_in, field_of_form, element_of_fo
 use Rattle.checks_model.specs.Classes.{Measured, a_mode_of, misfit, other, measured_part, located_name, located, measured_name, measured}
 use Rattle.constant_operators.specs.Laid.{step_is_laid, are_apart, is_laid, fields_are_laid}
 use Rattle.constant_operators.specs.Measures.{or_misfit, or_other}
-use Rattle.constant_operators.specs.Grounds.{ground_of, mode_of_predefined, HasLaidMode, HasGround}
+use Rattle.constant_operators.specs.Grounds.{ground_of, mode_of_predefined, is_measured_origin, HasLaidMode, HasGround}
 use Rattle.constant_operators.specs.declared.evaluation.Evaluation.{Evaluation}
 use Rattle.constant_operators.proofs.Grounds.{origins-there}
 use Rattle.constant_operators.proofs.Measures.{part-found, name-predefined}
@@ -101,14 +101,14 @@ entry_laid : (x : Option Entry) → HasLaidMode x → (m : ModeTree) → mode_of
 entry_laid None h m is = absurd (cc)
 entry_laid (Some e) h m is = h m is
 
-used_laid : (es : List Entry) (o : Option ℕ) → ((d : ℕ) → HasLaidMode (slice_get es d)) → HasLaidMode (option_and_then (slice_get es) o)
-used_laid es None h = tt
-used_laid es (Some d) h = h d
+used_laid : (os : List Origin) (es : List Entry) (o : Option ℕ) → ((d : ℕ) → is_measured_origin (slice_get os d) ≡ true → HasLaidMode (slice_get es d)) → is_measured_origin (option_and_then (slice_get os) o) ≡ true → HasLaidMode (option_and_then (slice_get es) o)
+used_laid os es None h is = tt
+used_laid os es (Some d) h is = h d is
 
-location_laid : (e : Option Entry) (o : Option Origin) → HasLaidMode e → IsLaidMeasure (located_name e o)
+location_laid : (e : Option Entry) (o : Option Origin) → (is_measured_origin o ≡ true → HasLaidMode e) → IsLaidMeasure (located_name e o)
 location_laid e None h = tt
-location_laid e (Some (a_location d)) h = some_laid (mode_of_entry e) (entry_laid e h)
-location_laid e (Some (a_parameter m)) h = some_laid (mode_of_entry e) (entry_laid e h)
+location_laid e (Some (a_location d)) h = some_laid (mode_of_entry e) (entry_laid e (h refl))
+location_laid e (Some (a_parameter m)) h = some_laid (mode_of_entry e) (entry_laid e (h refl))
 location_laid e (Some (a_synonym s)) h = tt
 location_laid e (Some (a_mode novel m)) h = tt
 location_laid e (Some (an_element ns part owner)) h = tt
@@ -120,8 +120,8 @@ location_laid e (Some (a_signal s)) h = tt
 location_laid e (Some (a_modulion kind items)) h = tt
 location_laid e (Some (a_predefined p)) h = tt
 
-name_laid : (e : Evaluation) (n : Name) → HasGround e → HasLaidMode (entry_of (ground_of e) n)
-name_laid e n h = used_laid (ground_of e).entries (number_at (ground_of e).uses n.at) h.modes
+name_laid : (e : Evaluation) (n : Name) → HasGround e → is_measured_origin (origin_of (ground_of e) n) ≡ true → HasLaidMode (entry_of (ground_of e) n)
+name_laid e n h = used_laid (ground_of e).origins (ground_of e).entries (number_at (ground_of e).uses n.at) h.modes
 
 pub located_laid : (e : Evaluation) (x : ExprTree) → HasGround e → IsLaidMeasure (located (ground_of e) x)
 located_laid e (name n) h = location_laid (entry_of (ground_of e) n) (origin_of (ground_of e) n) (name_laid e n h)
@@ -221,9 +221,9 @@ predefined_measured model.put_nl k = tt
 predefined_measured model.get_int k = tt
 
 -- by what the name stands for
-name_measured : (e : Option Entry) (d : Option ℕ) (o : Option Origin) → HasLaidMode e → IsTrue (is_laid (mode_of_some o)) → IsLaidMeasure (measured_name (named_mode e d o) e o)
+name_measured : (e : Option Entry) (d : Option ℕ) (o : Option Origin) → (is_measured_origin o ≡ true → HasLaidMode e) → IsTrue (is_laid (mode_of_some o)) → IsLaidMeasure (measured_name (named_mode e d o) e o)
 name_measured e d None h k = tt
-name_measured e d (Some (a_mode novel w)) h k = by_name e d novel w h
+name_measured e d (Some (a_mode novel w)) h k = by_name e d novel w (h refl)
 name_measured e d (Some (a_predefined p)) h k = subst IsLaidMeasure (sym (name-predefined (named_mode e d (Some (a_predefined p))) e p)) (predefined_measured p k)
 name_measured e d (Some (a_location x)) h k = location_laid e (Some (a_location x)) h
 name_measured e d (Some (a_parameter m)) h k = location_laid e (Some (a_parameter m)) h

@@ -1,6 +1,6 @@
 -- The ground of an evaluation: what each name stands for, what each definition is defined by, and what is known of it; and when
 -- an evaluation keeps just that.
-use Rattle.std.specs.Prelude.{◌≡◌, ℕ, Bool, true, List, [], map, replicate, slice_get, length, Option, Some, None, option_map, option_and_then, IsTrue}
+use Rattle.std.specs.Prelude.{◌≡◌, ℕ, Bool, true, false, List, [], map, replicate, slice_get, length, Option, Some, None, option_map, option_and_then, IsTrue}
 use Rattle.chill_base.specs.declared.pos.Pos.{Pos}
 use Rattle.chill_tree.specs.ExprTree.{ExprTree, name}
 use Rattle.chill_tree.specs.ItemTree.{ProgramTree}
@@ -9,7 +9,7 @@ use Rattle.names_model.specs.declared.names.Names.{Names}
 use Rattle.names_laws.specs.Rising.{Rise, use_places}
 use Rattle.checks_model.specs.ValueTrees.{ValueTree, scalars_in}
 use Rattle.checks_model.specs.Ground as model
-use Rattle.checks_model.specs.Ground.{Ground, Origin, Predefined, a_predefined, of_mode, number_at, origin_of}
+use Rattle.checks_model.specs.Ground.{Ground, Origin, Predefined, a_mode, a_location, a_parameter, a_predefined, of_mode, number_at, origin_of}
 use Rattle.checks_model.specs.Origins.{origins_of}
 use Rattle.checks_model.specs.Table.{numbered}
 use Rattle.checks_model.specs.Classes.{class_of_origin}
@@ -95,17 +95,24 @@ abbrev pub IsKeptAt : Option ClassTree → Option ValueTree → Option Entry →
 IsKeptAt c v None = ⊥
 IsKeptAt c v (Some e) = IsKept c v e
 
+-- whether UPPER, LOWER and SIZE may measure what is defined so
+abbrev pub is_measured_origin : Option Origin → Bool
+is_measured_origin (Some (a_mode novel m)) = true
+is_measured_origin (Some (a_location d)) = true
+is_measured_origin (Some (a_parameter m)) = true
+is_measured_origin _ = false
+
 abbrev pub HasLaidMode : Option model.Entry → Type 0
 HasLaidMode None = Unit {0}
 HasLaidMode (Some e) = (m : ModeTree) → e.mode ≡ Some m → IsTrue (is_laid m)
 
 -- An evaluation keeps its ground: places can be looked up, each definition has its entry, the scalars of each constant are
--- those of its value, and each mode is one whose scalars have places. Of a synonym that isn't evaluated yet nothing is known;
--- elements and predefined names need nothing, and are known first.
+-- those of its value, and each mode that can be measured is one whose scalars have places. Of a synonym that isn't evaluated
+-- yet nothing is known; elements and predefined names need nothing, and are known first.
 pub record HasGround (e : Evaluation) : Type 0 where
   pub uses : Rise (use_places e.names.now.uses)
   pub defined : Rise (use_places e.defined)
   pub entries : length e.entries.items ≡ length e.origins
   pub plain : IsPlain e.plain
   pub constants : (d : ℕ) → is_constant_origin (slice_get (ground_of e).origins d) ≡ true → IsKeptAt (class_defined (ground_of e) d) (value_defined (ground_of e) d) (slice_get e.entries.items d)
-  pub modes : (d : ℕ) → HasLaidMode (slice_get (ground_of e).entries d)
+  pub modes : (d : ℕ) → is_measured_origin (slice_get (ground_of e).origins d) ≡ true → HasLaidMode (slice_get (ground_of e).entries d)

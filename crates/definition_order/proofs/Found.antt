@@ -15,7 +15,7 @@ use Rattle.table_laws.specs.OneTable as tables
 use Rattle.graph_order.specs.Needs.{needs_of, AreInside, NeedsBefore, EachOnce, HasCircle}
 use Rattle.definition_origins.specs.declared.origin.Origin.{Origin}
 use Rattle.definition_origins.specs.OriginTrees.{origin_tree, origin_trees}
-use Rattle.definition_order.specs.Firsts.{first_of, FirstsAgree}
+use Rattle.definition_origins.specs.Firsts.{first_of, FirstsAgree}
 use Rattle.definition_order.specs.Needs.{waited, other_first, first_or, needs_from, needs_in, IsGroundWith}
 use Rattle.definition_order.proofs.Waiting.{HasTrees, IsOther, origin_there, waited_done, waited_needed, waited_within, predefined_waits}
 use Rattle.definition_order.proofs.Circles.{IsClauses, IsClosed, StandsBehind, other_is_first, waits_done, no_circle}

@@ -12,7 +12,7 @@ use Rattle.table_laws.specs.Frames.{is_read}
 use Rattle.definition_origins.specs.declared.origin.Origin.{Origin}
 use Rattle.definition_origins.specs.OriginTrees.{origin_tree, origin_trees}
 use Rattle.definition_order.specs.Places.{places_of}
-use Rattle.definition_order.specs.Firsts.{first_of, FirstsAgree}
+use Rattle.definition_origins.specs.Firsts.{first_of, FirstsAgree}
 
 abbrev pub is_predefined : model.Origin → Bool
 is_predefined (a_predefined p) = true

@@ -2,7 +2,7 @@
 ghost use Rattle.std.specs.Prelude.{◌≡◌, ◌+◌, ◌++◌, [], ◌∷◌, IfOk, OnOk, length};
 ghost use Rattle.names_laws.specs.Rising.{Rise, use_places};
 ghost use Rattle.definition_origins.specs.OriginTrees.{origin_tree, origin_trees};
-ghost use Rattle.definition_order.specs.Firsts.{first_of};
+ghost use Rattle.definition_origins.specs.Firsts.{first_of};
 ghost use Rattle.definition_order.specs.Needs.{is_asked_for, waits_for, number_waited, numbers_waited, waited, other_first, needs_at, needs_in};
 
 use crate::needed::needed_places;

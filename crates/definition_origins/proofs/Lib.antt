@@ -1,3 +1,4 @@
 pub mod OfChecks
+pub mod OriginLists
 pub mod RisingRows
 pub mod Views

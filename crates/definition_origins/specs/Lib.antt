@@ -1,4 +1,5 @@
 pub mod CheckRules
+pub mod Firsts
 pub mod OriginTrees
 pub mod Told
 pub mod Uses

@@ -8,9 +8,10 @@ ghost use Rattle.definition_origins.specs.OriginTrees.{origin_trees};
 
 use crate::locals::add_local;
 use crate::mode_elements::{add_mode, add_modes, add_some_mode};
-use crate::origin::{Origin, Origins, add_names, next};
+use crate::origin::Origin;
+use crate::origin_list::{Origins, add_names};
 use crate::statements::{add_body, add_some_handler, add_statement};
-use chill_base::{List, Memory};
+use chill_base::Memory;
 use chill_tree::tree::{Formal, Item, Modulion, Param, Passing, Procedure, Process, Signal, Tree};
 use class_operators::{PREDEFINED, Predefined};
 use std::alloc::Global;
@@ -41,7 +42,7 @@ fn add_signals<'a>(signals: &'a [Signal], found: &mut Origins<'a>) -> Result<(),
 fn add_param<'a>(param: &'a Param, found: &mut Origins<'a>) -> Result<(), Memory>
     ensures { OnOk result (origin_trees found.new ≡ origin_trees found.old ++ origins_of_param (param_tree param.now)) }
 {
-    let first = next(found);
+    let first = found.next()?;
     let origin = Origin::Parameter {
         mode: &param.mode,
         passing: param.passing.unwrap_or(Passing::In),
@@ -66,7 +67,7 @@ fn add_params<'a>(params: &'a [Param], found: &mut Origins<'a>) -> Result<(), Me
 fn add_formal<'a>(formal: &'a Formal, found: &mut Origins<'a>) -> Result<(), Memory>
     ensures { OnOk result (origin_trees found.new ≡ origin_trees found.old ++ origins_of_formal (formal_tree formal.now)) }
 {
-    let first = next(found);
+    let first = found.next()?;
     let origin = Origin::Parameter {
         mode: &formal.mode,
         passing: Passing::In,
@@ -184,11 +185,12 @@ fn add_modulions<'a>(modulions: &'a [Modulion], found: &mut Origins<'a>) -> Resu
     Ok(())
 }
 
-/// The origins of all definitions in a tree, in the order of the text, and of the predefined ones behind them.
+/// The origins of all definitions in a tree, in the order of the text, and of the predefined ones behind them. It answers
+/// `Memory` also where no `u32` numbers all definitions.
 pub fn origins<'a>(alloc: Global, tree: &'a Tree) -> Result<Origins<'a>, Memory>
     ensures { IfOk result (λ found. origin_trees found ≡ origins_of (program_tree tree.now)) }
 {
-    let mut found = List::new(alloc);
+    let mut found = Origins::new(alloc);
     add_modulions(tree.modulions.as_slice(), &mut found)?;
     add_all_predefined(&PREDEFINED, &mut found)?;
     Ok(found)

@@ -6,7 +6,8 @@ ghost use Rattle.definition_origins.specs.OriginTrees.{owner_tree, origin_trees}
 ghost use Rattle.definition_origins.specs.Walks.{owner_by};
 
 use crate::mode_elements::{add_mode, add_some_mode};
-use crate::origin::{Origin, Origins, Owner, add_names, next};
+use crate::origin::{Origin, Owner};
+use crate::origin_list::{Origins, add_names};
 use chill_base::Memory;
 use chill_tree::tree::{Declaration, Local, ModeDefinition, Synonym};
 
@@ -14,7 +15,7 @@ use chill_tree::tree::{Declaration, Local, ModeDefinition, Synonym};
 fn add_synonym<'a>(synonym: &'a Synonym, found: &mut Origins<'a>) -> Result<(), Memory>
     ensures { OnOk result (origin_trees found.new ≡ origin_trees found.old ++ origins_of_synonym (synonym_tree synonym.now)) }
 {
-    let first = next(found);
+    let first = found.next()?;
     add_names(
         synonym.names.as_slice(),
         Origin::Synonym { synonym, first },
@@ -88,7 +89,7 @@ fn add_new_modes<'a>(modes: &'a [ModeDefinition], found: &mut Origins<'a>) -> Re
 fn add_declaration<'a>(declaration: &'a Declaration, found: &mut Origins<'a>) -> Result<(), Memory>
     ensures { OnOk result (origin_trees found.new ≡ origin_trees found.old ++ origins_of_declaration (declaration_tree declaration.now)) }
 {
-    let first = next(found);
+    let first = found.next()?;
     let origin = Origin::Location { declaration, first };
     add_names(declaration.names.as_slice(), origin, found)?;
     add_mode(&declaration.mode, None, found)

@@ -5,7 +5,8 @@ ghost use Rattle.checks_model.specs.Origins.{set_in_discrete, elements, elements
 ghost use Rattle.definition_origins.specs.OriginTrees.{owner_tree, origin_trees};
 ghost use Rattle.definition_origins.specs.Walks.{elements_in_base, elements_in_fields, elements_of_owned};
 
-use crate::origin::{Element, Origin, Origins, Owner};
+use crate::origin::{Element, Origin, Owner};
+use crate::origin_list::Origins;
 use chill_base::Memory;
 use chill_tree::tree::{Base, Discrete, Field, Mode, Name};
 

@@ -1,8 +1,4 @@
 // What a definition is defined by.
-ghost use Rattle.std.specs.Prelude.{◌≡◌, ◌++◌, OnOk, length, replicate};
-ghost use Rattle.definition_origins.specs.OriginTrees.{origin_tree, origin_trees};
-
-use chill_base::{List, Memory};
 use chill_tree::tree::{
     Control, Declaration, Mode, ModeDefinition, Modulion, Name, Passing, Procedure, Process,
     ReceiveAlternative, Signal, Synonym,
@@ -57,27 +53,4 @@ pub enum Origin<'a> {
     Signal(&'a Signal),
     Modulion(&'a Modulion),
     Predefined(Predefined),
-}
-
-/// The origin of each definition of a program, by its number.
-pub type Origins<'a> = List<Origin<'a>>;
-
-/// The number of the next definition.
-pub fn next<'a>(found: &Origins<'a>) -> u32 {
-    u32::try_from(found.len()).unwrap_or(u32::MAX)
-}
-
-/// Puts definitions that have one origin behind others, one for each name.
-#[tactic(auto, using(crate::proofs::Views::owned_views))]
-pub fn add_names<'a>(
-    names: &'a [Name],
-    origin: Origin<'a>,
-    found: &mut Origins<'a>,
-) -> Result<(), Memory>
-    ensures { OnOk result (origin_trees found.new ≡ origin_trees found.old ++ replicate (length names.now) (origin_tree origin.entry)) }
-{
-    for _name in names {
-        found.push(origin)?;
-    }
-    Ok(())
 }

@@ -8,7 +8,8 @@ ghost use Rattle.definition_origins.specs.OriginTrees.{origin_trees, received_tr
 ghost use Rattle.definition_origins.specs.Walks.{held_origins, else_origins};
 
 use crate::locals::add_local;
-use crate::origin::{Origin, Origins};
+use crate::origin::Origin;
+use crate::origin_list::Origins;
 use chill_base::Memory;
 use chill_tree::tree::{
     BodyPart, Bracketed, CaseAlternative, Control, ElsIf, Handler, NamedAlternative,

@@ -22,7 +22,7 @@ use Rattle.checks_model.specs.WrittenModes.{is_large, told_large, unless_told, s
 use Rattle.diagnostics.specs.declared.rule.Rule.TheVariants as rules
 use Rattle.laid_laws.specs.Few.{HasFewScalars, AreFew}
 use Rattle.laid_laws.proofs.Gates.{kept_some, then_none, append_none, if_none, or_none}
-use Rattle.laid_laws.proofs.NamedModes.{is_plain, HasPlainModes, Keeps, IsKeptByNames, name_kept}
+use Rattle.laid_laws.proofs.NamedModes.{is_plain, HasPlainModes, Keeps, KeepsMeasured, IsKeptByNames, name_kept}
 
 -- ---- modes that are found
 
@@ -45,8 +45,8 @@ few-names = record { plain = plain; under = λ d novel m h. h }
     plain (read m) h = absurd (cc)
     plain (named d n m) h = absurd (cc)
 
-kept-few : (g : Ground) → AreFew g → (d : ℕ) → Keeps (λ m. is_large m ≡ false) (slice_get g.entries d)
-kept-few g h d = by_entry (slice_get g.entries d) (h d)
+kept-few : (g : Ground) → AreFew g → KeepsMeasured (λ m. is_large m ≡ false) g
+kept-few g h d is = by_entry (slice_get g.entries d) (h d is)
   where
     by_entry : (x : Option _) → HasFewScalars x → Keeps (λ m. is_large m ≡ false) x
     by_entry None h = tt

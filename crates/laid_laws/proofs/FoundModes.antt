@@ -16,7 +16,7 @@ kept-laid None h = tt
 kept-laid (Some e) h = h
 
 all-kept : (e : Evaluation) → HasGround e → AreLaid (ground_of e)
-all-kept e h = λ d. kept-laid (slice_get (ground_of e).entries d) (h.modes d)
+all-kept e h = λ d is. kept-laid (slice_get (ground_of e).entries d) (h.modes d is)
 
 pub all_laid : AreAllLaid
 all_laid = λ e h. mode_laid (ground_of e) (named_plain e) (all-kept e h)

@@ -20,7 +20,7 @@ use Rattle.checks_model.specs.WrittenModes as model
 use Rattle.checks_model.specs.WrittenModes.{unless_told, told_large, set_named, range_from, told_range, needed_number, mode_of_discrete, told_name, discrete_name, told_discrete_name, told_of_powerset, length_of, mode_of_base, told_at_array, array_from, told_spread, spread_there, step_misfits, holds_of_three, is_impossible_spread, mode_of_index, told_at_structure, told_fields, told_field, told_overlap, shares_with, is_twice, have_places, has_place, held_place, field_from, fields_from, structure_from, fields_there, fields_named, FieldThere, is_packed, place_there, place_has_no_int, if_whole, mode_of, some_length_of, buffer_from}
 use Rattle.constant_operators.specs.Laid.{step_is_laid, are_apart, is_laid, fields_are_laid}
 use Rattle.laid_laws.proofs.Gates.{kept_some, then_none, append_none, if_none, or_none}
-use Rattle.laid_laws.proofs.NamedModes.{is_plain, HasPlainModes, Keeps, IsKeptByNames, name_kept}
+use Rattle.laid_laws.proofs.NamedModes.{is_plain, HasPlainModes, KeepsMeasured, IsKeptByNames, name_kept}
 
 and-true : (a b : Bool) → IsTrue a → IsTrue b → IsTrue (a && b)
 and-true true b h k = k
@@ -40,7 +40,7 @@ laid-names = record { plain = plain; under = λ d novel m h. h }
 
 -- each mode that is known has places
 abbrev pub AreLaid : Ground → Type 0
-AreLaid g = (d : ℕ) → Keeps (λ m. IsTrue (is_laid m)) (slice_get g.entries d)
+AreLaid g = KeepsMeasured (λ m. IsTrue (is_laid m)) g
 
 set-laid : (o : Option ℕ) (k : ℕ) (m : ModeTree) → option_map (λ first. set_of first k) o ≡ Some m → IsTrue (is_laid m)
 set-laid None k m h = absurd (cc)

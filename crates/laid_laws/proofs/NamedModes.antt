@@ -7,6 +7,7 @@ use Rattle.chill_tree.specs.ModeTree as written
 use Rattle.modes.specs.ModeTree.{ModeTree, int, boolean, char, instance, named}
 use Rattle.checks_model.specs.Ground as model
 use Rattle.checks_model.specs.Ground.{Ground, Entry, Origin, a_synonym, a_mode, an_element, a_location, a_parameter, a_counter, a_received, a_procedure, a_process, a_signal, a_modulion, a_predefined, of_mode, number_at, entry_of, origin_of, mode_of_entry, mode_of_name, named_mode}
+use Rattle.constant_operators.specs.Grounds.{is_measured_origin}
 
 -- ---- predefined modes
 
@@ -67,17 +68,21 @@ mode_kept : (P : ModeTree → Type 0) → IsKeptByNames P → (e : Option Entry)
 mode_kept P k e h None novel w m is = absurd (cc)
 mode_kept P k e h (Some d) novel w m is = under_name P k e h d novel m is
 
-by_origin : (P : ModeTree → Type 0) → IsKeptByNames P → (e : Option Entry) → Keeps P e → (d : Option ℕ) (o : Option Origin) (m : ModeTree) → plain_origin o ≡ true → named_mode e d o ≡ Some m → P m
-by_origin P k e h d (Some (a_mode novel w)) m p is = mode_kept P k e h d novel w m is
-by_origin P k e h d (Some (a_predefined x)) m p is = predefined_kept P k x m p (sym (predefined-there e d x) ∙ is)
-by_origin P k e h None o m p is = absurd (cc)
-by_origin P k e h (Some d) o m p is = absurd (cc)
+by_origin : (P : ModeTree → Type 0) → IsKeptByNames P → (e : Option Entry) (d : Option ℕ) (o : Option Origin) (m : ModeTree) → (is_measured_origin o ≡ true → Keeps P e) → plain_origin o ≡ true → named_mode e d o ≡ Some m → P m
+by_origin P k e d (Some (a_mode novel w)) m h p is = mode_kept P k e (h refl) d novel w m is
+by_origin P k e d (Some (a_predefined x)) m h p is = predefined_kept P k x m p (sym (predefined-there e d x) ∙ is)
+by_origin P k e None o m h p is = absurd (cc)
+by_origin P k e (Some d) o m h p is = absurd (cc)
 
-used_kept : (P : ModeTree → Type 0) (g : Ground) → ((d : ℕ) → Keeps P (slice_get g.entries d)) → (d : Option ℕ) → Keeps P (option_and_then (slice_get g.entries) d)
-used_kept P g h None = tt
-used_kept P g h (Some d) = h d
+-- it holds of each mode that can be measured
+abbrev pub KeepsMeasured : (ModeTree → Type 0) → Ground → Type 0
+KeepsMeasured P g = (d : ℕ) → is_measured_origin (slice_get g.origins d) ≡ true → Keeps P (slice_get g.entries d)
 
-pub name_kept : (P : ModeTree → Type 0) → IsKeptByNames P → (g : Ground) → HasPlainModes g → ((d : ℕ) → Keeps P (slice_get g.entries d)) → (n : Name) (m : ModeTree) → mode_of_name g n ≡ Some m → P m
+used_kept : (P : ModeTree → Type 0) (g : Ground) → KeepsMeasured P g → (d : Option ℕ) → is_measured_origin (option_and_then (slice_get g.origins) d) ≡ true → Keeps P (option_and_then (slice_get g.entries) d)
+used_kept P g h None is = tt
+used_kept P g h (Some d) is = h d is
+
+pub name_kept : (P : ModeTree → Type 0) → IsKeptByNames P → (g : Ground) → HasPlainModes g → KeepsMeasured P g → (n : Name) (m : ModeTree) → mode_of_name g n ≡ Some m → P m
 name_kept P k g plain h n m is =
     let d = number_at g.uses n.at in
-    by_origin P k (entry_of g n) (used_kept P g h d) d (origin_of g n) m (plain d) is
+    by_origin P k (entry_of g n) d (origin_of g n) m (used_kept P g h d) (plain d) is

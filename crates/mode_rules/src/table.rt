@@ -4,7 +4,8 @@ use chill_tree::tree::{Declaration, ModeDefinition, Name, Signal, Synonym, Tree}
 use class_operators::copied;
 use constant_operators::{Entry, Evaluation, shared, single};
 use constant_rules::{needed, synonym_value};
-use definition_origins::{CheckRule, Element, Origin, Owner, Predefined, Told, in_order};
+use definition_order::in_order;
+use definition_origins::{CheckRule, Element, Origin, Owner, Predefined, Told};
 use modes::{Class, Mode, holds_read};
 use names_model::Names;
 use std::alloc::Global;
