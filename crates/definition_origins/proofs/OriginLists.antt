@@ -65,6 +65,11 @@ pub clause_pushed : (result : Result (Unit {0}) Memory) (old new : List Origin) 
 clause_pushed (Ok done) old new x ok err own agree = subst FirstsAgree (sym ok) (one_more_agree old x agree own)
 clause_pushed (Err memory) old new x ok err own agree = subst FirstsAgree (sym err) agree
 
+-- the same where what is asked speaks of what contracts see
+pub seen_pushed : (result : Result (Unit {0}) Memory) (seen old new : List Origin) (x : Origin) → old ≡ seen → OnOk result (new ≡ old ++ x ∷ []) → OnErr result (new ≡ old) → ((f : ℕ) → first_of x ≡ Some f → slice_get (seen ++ x ∷ []) f ≡ Some x) → FirstsAgree old → FirstsAgree new
+seen_pushed result seen old new x same ok err own agree =
+    clause_pushed result old new x ok err (subst (λ (os : List Origin). (f : ℕ) → first_of x ≡ Some f → slice_get (os ++ x ∷ []) f ≡ Some x) (sym same) own) agree
+
 pub alone_pushed : (result : Result (Unit {0}) Memory) (old new : List Origin) (x : Origin) → OnOk result (new ≡ old ++ x ∷ []) → OnErr result (new ≡ old) → first_of x ≡ None → FirstsAgree old → FirstsAgree new
 alone_pushed result old new x ok err none = clause_pushed result old new x ok err (λ f first. cc)
 

@@ -17,11 +17,18 @@ pub struct Origins<'a> {
 }
 
 impl<'a> Model for Origins<'a> {
-    ghost use Rattle.std.specs.Prelude.{List};
+    ghost use Rattle.std.specs.Prelude.{List, []};
     ghost use Rattle.definition_origins.specs.declared.origin.Origin.{Origin as Found};
     ghost use Rattle.definition_origins.specs.Firsts.{FirstsAgree};
+    ghost use Rattle.definition_origins.specs.contracts.origin.Origin as origin_row;
+    ghost use Rattle.std.specs.Coded.{coded_list};
+    ghost use denote.Ref.{NamedLft};
+    ghost use mir.Syntax.{static};
 
     ghost Value = { List Found };
+
+    // A code is the same at each lifetime.
+    ghost coded = { coded_list (origin_row.the_row record { mir = static; lft = [] }).coded };
 
     ghost view = { λ o. o.list };
 
@@ -92,7 +99,9 @@ impl<'a> Origins<'a> {
     /// The first of a definition's clause has the same origin.
     pub fn firsts_law(&self)
         ensures { FirstsAgree self.now }
-    {}
+    {
+        let _ = &self.list;
+    }
 }
 
 /// Puts the definitions of one clause behind others, one for each name.
