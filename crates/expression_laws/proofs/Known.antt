@@ -74,12 +74,12 @@ callee_called g e n is = not_call no_callee n refl is
 
 -- ---- what is measured
 
-measured_from : {A : Type 0} (m : Measured) → IsMeasurable m → A → MeasuredKnown m A
+pub measured_from : {A : Type 0} (m : Measured) → IsMeasurable m → A → MeasuredKnown m A
 measured_from (a_mode_of m) there argument = there
 measured_from misfit there argument = tt
 measured_from other there argument = argument
 
-name_measured : {A : Type 0} (own : Option ModeTree) (e : Option Entry) (o : Option Origin) → (stands_for_mode o ≡ true → IsSome own) → IsMeasurable (located_name e o) → (stands_for_value o ≡ true → A)
+pub name_measured : {A : Type 0} (own : Option ModeTree) (e : Option Entry) (o : Option Origin) → (stands_for_mode o ≡ true → IsSome own) → IsMeasurable (located_name e o) → (stands_for_value o ≡ true → A)
     → (stands_for_value o || stands_for_mode o) ≡ true → MeasuredKnown (measured_name own e o) A
 name_measured own e (Some (a_mode novel m)) mode there class stands = mode refl
 name_measured own e (Some (a_predefined (of_mode m))) mode there class stands = refl

@@ -30,7 +30,7 @@ use Rattle.expression_laws.proofs.Things.{things_known}
 
 -- ---- classes
 
-name_class : (e : Option Entry) (o : Option Origin) → (is_constant_origin o ≡ true → IsSome (class_of_origin e o)) → IsMeasurable (located_name e o) → (origin_is is_counted o ≡ true → IsSome (mode_of_entry e)) → stands_for_value o ≡ true → IsSome (class_of_origin e o)
+pub name_class : (e : Option Entry) (o : Option Origin) → (is_constant_origin o ≡ true → IsSome (class_of_origin e o)) → IsMeasurable (located_name e o) → (origin_is is_counted o ≡ true → IsSome (mode_of_entry e)) → stands_for_value o ≡ true → IsSome (class_of_origin e o)
 name_class e (Some (a_synonym s)) constant located counted stands = constant refl
 name_class e (Some (an_element names part owner)) constant located counted stands = constant refl
 name_class e (Some (a_location d)) constant located counted stands = map_there value (mode_of_entry e) located

@@ -64,16 +64,16 @@ defined_at bytes t k d has at =
 -- ---- rows
 
 -- what a row is made of
-record RowParts (ds : List Definition) (os : List Origin) (es : List Entry) (k : ℕ) (r : Row) : Type 0 where
-  definition : Definition
-  is : slice_get ds k ≡ Some definition
-  origin : slice_get os k ≡ Some r.origin
-  entry : Entry
-  has : slice_get es k ≡ Some entry
-  inside : r.inside ≡ definition.inside
-  mode : r.mode ≡ entry.mode
+pub record RowParts (ds : List Definition) (os : List Origin) (es : List Entry) (k : ℕ) (r : Row) : Type 0 where
+  pub definition : Definition
+  pub is : slice_get ds k ≡ Some definition
+  pub origin : slice_get os k ≡ Some r.origin
+  pub entry : Entry
+  pub has : slice_get es k ≡ Some entry
+  pub inside : r.inside ≡ definition.inside
+  pub mode : r.mode ≡ entry.mode
 
-row_parts : (ds : List Definition) (os : List Origin) (es : List Entry) (k : ℕ) (r : Row) → slice_get (rows ds os es) k ≡ Some r → RowParts ds os es k r
+pub row_parts : (ds : List Definition) (os : List Origin) (es : List Entry) (k : ℕ) (r : Row) → slice_get (rows ds os es) k ≡ Some r → RowParts ds os es k r
 row_parts [] os es k r at = no_some r at
 row_parts (d ∷ ds) [] es k r at = no_some r at
 row_parts (d ∷ ds) (o ∷ os) [] k r at = no_some r at
@@ -84,7 +84,7 @@ row_parts (d ∷ ds) (o ∷ os) (e ∷ es) (suc k) r at =
     let inner = row_parts ds os es k r at in
     record { definition = inner.definition; is = inner.is; origin = inner.origin; entry = inner.entry; has = inner.has; inside = inner.inside; mode = inner.mode }
 
-among_both : (ds es : List Definition) (k : ℕ) (d : Definition) → slice_get ds k ≡ Some d → slice_get (ds ++ es) k ≡ Some d
+pub among_both : (ds es : List Definition) (k : ℕ) (d : Definition) → slice_get ds k ≡ Some d → slice_get (ds ++ es) k ≡ Some d
 among_both [] es k d at = no_some d at
 among_both (x ∷ ds) es zero d at = at
 among_both (x ∷ ds) es (suc k) d at = among_both ds es k d at

@@ -38,6 +38,7 @@ abbrev pub fits_kind : Kind → Bool → Bool
 fits_kind kinds.Procedure direct = direct
 fits_kind kinds.Process direct = direct
 fits_kind kinds.Signal direct = direct
+fits_kind kinds.Modulion direct = direct
 fits_kind kinds.Parameter direct = not direct
 fits_kind kinds.Counter direct = not direct
 fits_kind kinds.Received direct = not direct
@@ -331,7 +332,7 @@ mutual
   item_placed (process p) = routine_placed (identifier p.name) kinds.Process (map formal_clause p.formals) [] (whole_body p.body p.handler) refl (formals_kind p.formals) (whole_placed p.body p.handler)
   item_placed (modulion_of n kind items h closing) =
       let inner = joined (items_placed items) (within_modulion (handler_placed (handler_node h) [])) in
-      one_part (λ i from ok. (refl, inner.by (Modulion from) (suc from) refl))
+      one_part (λ i from ok. (direct_in i ok, inner.by (Modulion from) (suc from) refl))
   item_placed (action s) = within_modulion (statement_placed s [])
 
   items_placed : (is : ItemNodes) → PlacedAt in_modulion (each_item is)
@@ -340,12 +341,19 @@ mutual
 
 -- modulions stand at the outermost level
 abbrev at_top : Inside → Bool
-at_top i = true
+at_top Outermost = true
+at_top _ = false
+
+direct_top : (i : Inside) → at_top i ≡ true → is_direct i ≡ true
+direct_top Outermost ok = refl
+direct_top (Modulion d) ok = absurd (true≢false (sym ok))
+direct_top (Body d) ok = absurd (true≢false (sym ok))
+direct_top (Block d) ok = absurd (true≢false (sym ok))
 
 modulion_placed : (m : ModulionTree) → PlacedAt at_top (item_parts (modulion_item m))
 modulion_placed m =
     let inner = joined (items_placed (item_nodes m.items)) (within_modulion (handler_placed (handler_node m.handler) [])) in
-    one_part (λ i from ok. (refl, inner.by (Modulion from) (suc from) refl))
+    one_part (λ i from ok. (direct_top i ok, inner.by (Modulion from) (suc from) refl))
 
 modulions_placed : (ms : List ModulionTree) → PlacedAt at_top (flat_map (λ m. item_parts (modulion_item m)) ms)
 modulions_placed [] = nothing

@@ -32,7 +32,7 @@ use Rattle.expression_laws.proofs.Nodes.{nodes_there}
 
 -- ---- members
 
-of_member : {A : Type 0} (P : A → Type 0) (xs : List A) (x : A) → Each P xs → Contains xs x → P x
+pub of_member : {A : Type 0} (P : A → Type 0) (xs : List A) (x : A) → Each P xs → Contains xs x → P x
 of_member P [] x all c = absurd (none_in x c)
 of_member P (y ∷ xs) x all c = elim (in_cases y xs x c) [
   | inl is ↦ subst P is all.0
@@ -43,7 +43,7 @@ of_members : {A : Type 0} (P : A → Type 0) (all xs : List A) → Each P all �
 of_members P all [] holds within = tt
 of_members P all (x ∷ xs) holds within = (of_member P all x holds within.0, of_members P all xs holds within.1)
 
-each_one : {A : Type 0} (P : A → Type 0) (xs : List A) → ((x : A) → Contains xs x → P x) → Each P xs
+pub each_one : {A : Type 0} (P : A → Type 0) (xs : List A) → ((x : A) → Contains xs x → P x) → Each P xs
 each_one P [] each = tt
 each_one P (x ∷ xs) each = (each x (here_in x xs x refl), each_one P xs (λ y c. each y (later_in x xs y c)))
 

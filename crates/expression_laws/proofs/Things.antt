@@ -43,7 +43,7 @@ directly rs (insides.Modulion d) is = refl
 directly rs (insides.Body d) is = absurd (true≢false (sym is))
 directly rs (insides.Block d) is = absurd (true≢false (sym is))
 
-in_body : (rs : List Row) (i : Inside) → is_direct i ≡ false → (b : ℕ) × (body_around rs i ≡ Some b)
+pub in_body : (rs : List Row) (i : Inside) → is_direct i ≡ false → (b : ℕ) × (body_around rs i ≡ Some b)
 in_body rs insides.Outermost is = absurd (true≢false is)
 in_body rs (insides.Modulion d) is = absurd (true≢false is)
 in_body rs (insides.Body d) is = (body_of rs d, refl)
@@ -65,7 +65,7 @@ is_shared_so how r m meets location direct mode is =
     ap (λ b. (b && is_direct r.inside) && holds_of (λ m. same_meeting how (meeting_of m)) r.mode) location
     ∙ (ap (λ b. (true && b) && holds_of (λ m. same_meeting how (meeting_of m)) r.mode) direct ∙ (ap (holds_of (λ m. same_meeting how (meeting_of m))) mode ∙ is))
 
-abbrev rest_of : List Row → ℕ → Row → Thing
+abbrev pub rest_of : List Row → ℕ → Row → Thing
 rest_of rs d r =
     if is_signal r.origin then a_message (count_before (λ r. is_signal r.origin) d rs)
     else (if is_region_origin r.origin then a_region (count_before (λ r. is_region_origin r.origin) d rs)
@@ -87,7 +87,7 @@ shared_thing rs d r m how location direct mode is =
     ∙ ap (λ b. thing_by_tests rs d r (same_meeting meets_nothing how) (same_meeting meets_event how) b) (is_shared_so meets_buffer r m (same_meeting meets_buffer how) location direct mode (ap (same_meeting meets_buffer) is))))
 
 -- what isn't a location isn't shared
-apart_thing : (rs : List Row) (d : ℕ) (r : Row) → is_location r.origin ≡ false → is_direct r.inside ≡ true → local_in rs d r (body_around rs r.inside) ≡ rest_of rs d r
+pub apart_thing : (rs : List Row) (d : ℕ) (r : Row) → is_location r.origin ≡ false → is_direct r.inside ≡ true → local_in rs d r (body_around rs r.inside) ≡ rest_of rs d r
 apart_thing rs d r location direct =
     let none : (how : Meeting) → is_shared how r ≡ false = λ how. ap (λ b. (b && is_direct r.inside) && holds_of (λ m. same_meeting how (meeting_of m)) r.mode) location in
     direct_thing rs d r direct

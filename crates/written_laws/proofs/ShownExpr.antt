@@ -6,8 +6,9 @@ use Rattle.chill_tree.specs.ExprTree.{ExprTree, expr_nodes, RangeTree, alone, be
 use Rattle.rules_model.specs.Marks.{Toks}
 use Rattle.rules_model.specs.ExprGrammar.{IsTupleHead, bare, of_mode, IsNamed, a_name, with_args, with_field, AreArgs, no_args, some_args, AreExprs, one_expr, and_expr, IsRange, is_alone, is_between, AreRanges, one_range, and_range, AreParts, no_parts, some_parts, IsOperand, is_whole, is_character, is_text, is_this, is_paren, is_receive, is_start, is_tuple, is_uniform, is_named, IsRanked, is_plain, is_minus, is_not, is_chain, IsChain, first, turn, IsExpr, IsLocation, is_loc}
 use Rattle.elaborated_laws.specs.Classes.{HasShortTexts, HaveShortTexts, RangesHaveShortTexts}
-use Rattle.checks_model.specs.Sites.{Site}
-use Rattle.written_laws.specs.Written.{Each, exprs_at, is_name_with_parts, HasNamed, HaveNamed, RangesHaveNamed}
+use Rattle.checks_model.specs.Phases.{some_expr, initial_expr}
+use Rattle.checks_model.specs.Sites.{Site, at_declaration}
+use Rattle.written_laws.specs.Written.{Each, exprs_at, is_some_name, is_name_with_parts, HasNamed, HaveNamed, RangesHaveNamed}
 use Rattle.written_laws.proofs.Shown.{Shown, none, skip, ends, both, behind, so, one, and_one}
 
 -- what is shown of an expression
@@ -18,8 +19,9 @@ abbrev pub RangeIsSpelled : RangeTree → Type 0
 RangeIsSpelled (alone e) = IsSpelled e
 RangeIsSpelled (between l h) = IsSpelled l × IsSpelled h
 
--- and of those at a node
+-- and of those at a node; a declaration has a name
 abbrev pub AreSpelled : Site → Type 0
+AreSpelled (at_declaration shared d) = Each IsSpelled (some_expr (initial_expr d.initial)) × (is_some_name d.names ≡ true)
 AreSpelled s = Each IsSpelled (exprs_at s)
 
 as_exprs : (es : List ExprTree) → Each IsSpelled es → HaveShortTexts (expr_nodes es) × HaveNamed (expr_nodes es)

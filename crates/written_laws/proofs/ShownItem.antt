@@ -6,6 +6,7 @@ use Rattle.chill_tree.specs.declared.tree.name.Name.{Name}
 use Rattle.chill_tree.specs.declared.tree.item.ModulionKind.{ModulionKind}
 use Rattle.chill_tree.specs.declared.tree.item.Passed.{Passed}
 use Rattle.chill_tree.specs.declared.tree.item.Passing.{Passing}
+use Rattle.chill_tree.specs.ExprTree.{ExprTree}
 use Rattle.chill_tree.specs.ModeTree.{ModeTree}
 use Rattle.chill_tree.specs.StatementTree.{BodyTree, HandlerTree, body_nodes, handler_node}
 use Rattle.chill_tree.specs.ItemTree.{SignalTree, ParamTree, FormalTree, ProcedureTree, ProcessTree, ItemTree, ItemNodes, item_nodes, ModulionTree, modulion_item, ProgramTree}
@@ -16,9 +17,10 @@ use Rattle.rules_model.specs.ItemGrammar.{IsPassed, pass_names, pass_all, AreSig
 use Rattle.rules_model.specs.Diagnoses.{HasTree}
 use Rattle.checks_model.specs.Ground.{a_parameter}
 use Rattle.checks_model.specs.Origins.{sets_in, elements_of, elements_of_some, origins_in_parts, origins_in_handler, origins_of_signal, origins_of_param, origins_of_formal, origins_of_body, origins_of_procedure, origins_of_process, origins_of_item, origins_of_items, text_origins}
-use Rattle.checks_model.specs.Sites.{Around, in_procedure, in_no_procedure, at_item, at_mode, at_body, sites_of_parts, sites_of_handler, sites_of_modes, sites_of_result, sites_of_body, sites_of_procedure, sites_of_process, sites_of_item, sites_of_items, locals_of_body, sites}
+use Rattle.checks_model.specs.Phases.{some_expr, exprs_of_simple, priority_of, exprs_of_control, exprs_of_labels, initial_expr}
+use Rattle.checks_model.specs.Sites.{Site, Around, in_procedure, in_no_procedure, at_item, at_synonym, at_mode_definition, at_declaration, at_mode, at_simple, at_condition, at_selector, at_labels, at_control, at_set, at_priority, at_event, at_source, at_received, at_exceptions, at_body, at_program, sites_of_parts, sites_of_handler, sites_of_modes, sites_of_result, sites_of_body, sites_of_procedure, sites_of_process, sites_of_item, sites_of_items, locals_of_body, sites}
 use Rattle.elaborated_laws.specs.Classes.{HasShortTexts}
-use Rattle.written_laws.specs.Written.{Each, exprs_at, HasShortExprs, HasNamed, HasNamedExprs, ShortTextsLaw, PathsLaw}
+use Rattle.written_laws.specs.Written.{Each, exprs_at, HasShortExprs, HasNamed, HasNamedExprs, DeclaresSome, ShortTextsLaw, PathsLaw, DeclarationsLaw}
 use Rattle.written_laws.proofs.Shown.{Shown, none, skip, ends, both, before, behind, so, Shows, listed, each_append, each_any, each_map, each_flat, and_one}
 use Rattle.written_laws.proofs.Tokens.{tokens_short}
 use Rattle.written_laws.proofs.Sets.{each_more}
@@ -206,8 +208,36 @@ program_fine text t has = by_tree has.tree_of
         let each = ((modulions_shown d).by (tokens_short text has.tokens has.are)).0 in
         ((tt, (tt, item_sites xs each)), each_flat ModulionIs IsShaped (λ m. origins_of_item (modulion_item m)) (λ m is. is.1) xs each)
 
+-- what is so of the expressions at nodes
+exprs_so : (P : ExprTree → Type 0) → ((e : ExprTree) → IsSpelled e → P e) → (s : Site) → AreSpelled s → Each P (exprs_at s)
+exprs_so P so (at_declaration shared d) spelled = each_more IsSpelled P so (some_expr (initial_expr d.initial)) spelled.0
+exprs_so P so (at_item kind all i) spelled = tt
+exprs_so P so (at_synonym s) spelled = (so s.value spelled.0, tt)
+exprs_so P so (at_mode_definition d) spelled = tt
+exprs_so P so (at_mode m) spelled = tt
+exprs_so P so (at_simple a s) spelled = each_more IsSpelled P so (exprs_of_simple s ++ some_expr (priority_of s)) spelled
+exprs_so P so (at_condition e) spelled = (so e spelled.0, tt)
+exprs_so P so (at_selector e) spelled = (so e spelled.0, tt)
+exprs_so P so (at_labels e ls) spelled = each_more IsSpelled P so (exprs_of_labels ls) spelled
+exprs_so P so (at_control c) spelled = each_more IsSpelled P so (exprs_of_control c) spelled
+exprs_so P so (at_set e) spelled = (so e spelled.0, tt)
+exprs_so P so (at_priority e) spelled = (so e spelled.0, tt)
+exprs_so P so (at_event earlier n) spelled = tt
+exprs_so P so (at_source earlier n) spelled = tt
+exprs_so P so (at_received n names) spelled = tt
+exprs_so P so (at_exceptions earlier ns) spelled = tt
+exprs_so P so (at_body n locals) spelled = tt
+exprs_so P so (at_program shared) spelled = tt
+
 pub short_texts : ShortTextsLaw
-short_texts text t has = each_more AreSpelled HasShortExprs (λ s each. each_more IsSpelled HasShortTexts (λ e spelled. spelled.0) (exprs_at s) each) (sites t) (program_fine text t has).0
+short_texts text t has = each_more AreSpelled HasShortExprs (exprs_so HasShortTexts (λ e spelled. spelled.0)) (sites t) (program_fine text t has).0
 
 pub named_paths : PathsLaw
-named_paths text t has = each_more AreSpelled HasNamedExprs (λ s each. each_more IsSpelled HasNamed (λ e spelled. spelled.1) (exprs_at s) each) (sites t) (program_fine text t has).0
+named_paths text t has = each_more AreSpelled HasNamedExprs (exprs_so HasNamed (λ e spelled. spelled.1)) (sites t) (program_fine text t has).0
+
+declaration_named : (s : Site) → AreSpelled s → DeclaresSome s
+declaration_named (at_declaration shared d) spelled = spelled.1
+declaration_named s spelled = tt
+
+pub declarations_named : DeclarationsLaw
+declarations_named text t has = each_more AreSpelled DeclaresSome declaration_named (sites t) (program_fine text t has).0

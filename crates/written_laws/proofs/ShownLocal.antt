@@ -1,5 +1,5 @@
 -- What is shown of definition statements: their nodes have short expressions, and what they define is written with fields.
-use Rattle.std.proofs.Common.{Bool, true, false, List, ◌∷◌, ◌++◌, Option, Some, None, length}
+use Rattle.std.proofs.Common.{◌≡◌, Bool, true, false, List, ◌∷◌, ◌++◌, Option, Some, None, length}
 use Rattle.std.specs.Prelude.{map, flat_map, replicate}
 use Rattle.chill_tree.specs.declared.tree.name.Name.{Name}
 use Rattle.chill_tree.specs.ModeTree as written
@@ -11,10 +11,10 @@ use Rattle.checks_model.specs.Ground.{Origin, a_synonym, a_mode, an_element, a_l
 use Rattle.checks_model.specs.Origins.{sets_in, elements, elements_of, elements_of_some, origins_of_names, origins_of_synonym, owner_of, origins_of_mode, origins_of_declaration, origins_of_local}
 use Rattle.checks_model.specs.Phases.{some_expr, initial_expr}
 use Rattle.checks_model.specs.Sites.{Site, at_synonym, at_mode_definition, at_declaration, sites_of_local}
-use Rattle.written_laws.specs.Written.{Each}
+use Rattle.written_laws.specs.Written.{Each, is_some_name}
 use Rattle.written_laws.proofs.Shown.{Shown, none, skip, ends, both, behind, so, Shows, listed, each_append, each_any, each_map, each_flat, each_same}
 use Rattle.written_laws.proofs.ShownExpr.{IsSpelled, AreSpelled, expr_shown}
-use Rattle.written_laws.proofs.ShownMode.{IsFilled, names_passed, mode_shown}
+use Rattle.written_laws.proofs.ShownMode.{IsFilled, names_passed, names_there, mode_shown}
 
 -- ---- what defines something is written with fields
 
@@ -95,10 +95,10 @@ initial_shown (by_sign d) = skip (so (λ short. (short, tt)) (expr_shown d))
 initial_shown (by_word d) = skip (skip (so (λ short. (short, tt)) (expr_shown d)))
 
 abbrev DeclarationIs : DeclarationTree → Type 0
-DeclarationIs d = IsFilled d.mode × Each IsSpelled (some_expr (initial_expr d.initial))
+DeclarationIs d = IsFilled d.mode × (Each IsSpelled (some_expr (initial_expr d.initial)) × (is_some_name d.names ≡ true))
 
 declaration_shown : Shows DeclarationIs IsDeclaration
-declaration_shown d toks rest (is_declaration ns o i) = behind (names_passed ns) (both (mode_shown o) (initial_shown i))
+declaration_shown d toks rest (is_declaration ns o i) = so (λ is. (is.0, (is.1, names_there ns))) (behind (names_passed ns) (both (mode_shown o) (initial_shown i)))
 
 declarations_fine : (shared : Bool) (ds : List DeclarationTree) → Each DeclarationIs ds → Fine (map (at_declaration shared) ds) (flat_map origins_of_declaration ds)
 declarations_fine shared ds each = (

@@ -10,7 +10,7 @@ use Rattle.rules_model.specs.ExprGrammar.{IsExpr}
 use Rattle.rules_model.specs.ListGrammar.{one_of, and_of, is_name, AreNames, IsFlag, no_flag, with_flag, IsLength, no_length, with_length, IsLabel, no_label, with_label, IsClosing, left_open, closed_by}
 use Rattle.rules_model.specs.ModeGrammar.{IsDiscrete, is_named_mode, is_bounded, is_set, IsIndex, is_index_name, is_index_range, IsPlace, up_to, of_length, IsFieldPlace, no_place, with_place, is_step, IsPacking, no_packing, packed, not_packed, IsSpread, no_spread, spread_packed, spread_not_packed, spread_by_step, IsBase, is_discrete, is_powerset, is_chars, is_structure, is_array, AreFields, one_field, and_field, IsField, is_field, IsMode, is_base_mode, is_read_mode, is_event_mode, is_buffer_mode}
 use Rattle.elaborated_laws.specs.Modes.{has_name}
-use Rattle.written_laws.specs.Written.{Each}
+use Rattle.written_laws.specs.Written.{Each, is_some_name}
 use Rattle.written_laws.proofs.Shown.{Shown, none, skip, ends, before, behind, so, passed, one, and_one}
 use Rattle.written_laws.proofs.ShownExpr.{expr_shown}
 
@@ -19,6 +19,15 @@ use Rattle.written_laws.proofs.ShownExpr.{expr_shown}
 pub names_passed : {ns : List Name} {toks rest : Toks} → AreNames ns toks rest → Shown (Unit {0}) toks rest
 names_passed (one_of is_name) = skip none
 names_passed (and_of l is_name) = behind (ends (names_passed l)) (skip none)
+
+-- some name is written
+pub names_there : {ns : List Name} {toks rest : Toks} → AreNames ns toks rest → is_some_name ns ≡ true
+names_there (one_of d) = refl
+names_there (and_of {xs = xs} {x = x} l d) = by xs x
+  where
+    by : (xs : List Name) (x : Name) → is_some_name (xs ++ x ∷ []) ≡ true
+    by [] x = refl
+    by (y ∷ ys) x = refl
 
 pub flag_passed : {w : Word} {b : Bool} {toks rest : Toks} → IsFlag w b toks rest → Shown (Unit {0}) toks rest
 flag_passed no_flag = none

@@ -1,6 +1,7 @@
 -- What a text with a tree writes: its text literals are short, names stand before parts, its structures have a field, and its SETs are
 -- small and defined.
 use Rattle.std.specs.Prelude.{◌≡◌, ℕ, Bool, true, false, List, [], ◌∷◌, ◌++◌}
+use Rattle.chill_tree.specs.declared.tree.name.Name.{Name}
 use Rattle.chill_tree.specs.ExprTree.{ExprTree, ExprNodes, RangeTree, RangeNodes, whole, character, text, this_instance, paren, receive, start, tuple, uniform, name, apply, field, prefixed, binary, no_exprs, more_exprs, alone, between, no_ranges, more_ranges}
 use Rattle.chill_tree.specs.ItemTree.{ProgramTree}
 use Rattle.rules_model.specs.Diagnoses.{HasTree}
@@ -83,6 +84,16 @@ abbrev mutual
 abbrev pub HasNamedExprs : Site → Type 0
 HasNamedExprs s = Each HasNamed (exprs_at s)
 
+-- some name is there
+abbrev pub is_some_name : List Name → Bool
+is_some_name [] = false
+is_some_name (n ∷ ns) = true
+
+-- a declaration declares some name
+abbrev pub DeclaresSome : Site → Type 0
+DeclaresSome (at_declaration shared d) = is_some_name d.names ≡ true
+DeclaresSome s = Unit {0}
+
 -- Each node of a text has short text literals.
 abbrev pub ShortTextsLaw : Type 0
 ShortTextsLaw = (text : List ℕ) (t : ProgramTree) → HasTree text t → Each HasShortExprs (sites t)
@@ -90,6 +101,10 @@ ShortTextsLaw = (text : List ℕ) (t : ProgramTree) → HasTree text t → Each 
 -- In each node of a text what stands before a field and before brackets is a name with parts.
 abbrev pub PathsLaw : Type 0
 PathsLaw = (text : List ℕ) (t : ProgramTree) → HasTree text t → Each HasNamedExprs (sites t)
+
+-- Each declaration of a text has a name.
+abbrev pub DeclarationsLaw : Type 0
+DeclarationsLaw = (text : List ℕ) (t : ProgramTree) → HasTree text t → Each DeclaresSome (sites t)
 
 -- What defines something in a text is written as the grammar, the tokens and the number of definitions allow it, and the elements of its
 -- SETs are defined, where no rule on names is broken.
