@@ -249,7 +249,7 @@ module _ (text : List ℕ) (t : ProgramTree) (h : Ground) (has : BreaksNoRule te
   origins : h.origins ≡ origins_of t
   origins = ap (λ (x : Ground). x.origins) has.is_ground.names
 
-  loop_well : (d : ℕ) (c : ControlTree) → slice_get h.origins d ≡ Some (a_counter c) → Each (IsWellNamed h) (exprs_of_control c)
+  pub loop_well : (d : ℕ) (c : ControlTree) → slice_get h.origins d ≡ Some (a_counter c) → Each (IsWellNamed h) (exprs_of_control c)
   loop_well d c at = each_there (IsWellLoop h) (origins_of t) d (a_counter c) (program_defined (IsWellAt h) (IsWellLoop h) (loops_given h) t sites_well) (sym (ap (λ os. slice_get os d) origins) ∙ at)
 
   -- what defines a counter is a loop that counts

@@ -7,6 +7,7 @@ use Rattle.chill_tree.specs.ModeTree as written
 use Rattle.chill_tree.specs.LocalTree.{DeclarationTree}
 use Rattle.chill_tree.specs.ItemTree.{ProcedureTree, SignalTree, ProgramTree}
 use Rattle.modes.specs.ModeTree.{ModeTree}
+use Rattle.modes.specs.Language.{IsOfLanguage}
 use Rattle.names_model.specs.declared.identifier.Identifier.{Identifier}
 use Rattle.names_model.specs.declared.kind.Need.TheVariants as needs
 use Rattle.names_model.specs.declared.definition.Definition.{Definition}
@@ -40,7 +41,7 @@ use Rattle.there_laws.proofs.Names.{all_numbers_there, names_known, results_know
 use Rattle.expression_laws.specs.Names.{stands_for_process, IsPlace, ArePlaces}
 use Rattle.expression_laws.proofs.Outside.{defined_at}
 use Rattle.expression_laws.proofs.Mentions.{IsGroundOfText, process_stands, use_stands}
-use Rattle.program_laws.proofs.Rows.{name_of_definition, all_names, IsDefinedAs, SiteSo, OriginSo, ModulionSo, SomeReceiver, SignalSo, text_held}
+use Rattle.program_laws.proofs.Rows.{name_of_definition, all_names, IsDefinedAs, SiteSo, OriginSo, ModulionSo, HeadsOk, SomeReceiver, SignalSo, text_held}
 
 -- ---- numbers
 
@@ -119,6 +120,10 @@ module _ (text : List ℕ) (t : ProgramTree) (h : Ground) (has : BreaksNoRule te
   unfolding names_list
   sites_so = (text_held (is_process_so h) t.modulions).held.at_sites
 
+  -- parameters stand behind each procedure and each process
+  pub heads_so : HeadsOk 0 (text_origins t) (text_definitions (level_of t))
+  heads_so = (text_held (is_process_so h) t.modulions).held.heads Outermost 0
+
   pub modulions_so : Each (ModulionSo (text_origins t) names_list) (items_of t)
   unfolding names_list
   modulions_so = (text_held (is_process_so h) t.modulions).modulions
@@ -146,17 +151,20 @@ module _ (text : List ℕ) (t : ProgramTree) (h : Ground) (has : BreaksNoRule te
   known : (n : Name) → IsKnownName h n
   known n = names_known text t has.plain_ground h has.has_modes has.is_ground n
 
-  written_so : AllWrittenSo h
+  pub written_so : AllWrittenSo h
   written_so = all_written text t h has.has_modes.has_names has.is_ground.names
 
   pub entry_at : (d : ℕ) (o : Origin) → slice_get h.origins d ≡ Some o → slice_get h.entries d ≡ Some (entry_with_counters h o)
   entry_at d o at = ap (λ es. slice_get es d) has.is_ground.entries ∙ slice_get-map (entry_with_counters h) h.origins d ∙ ap (option_map (entry_with_counters h)) at
 
-  own_mode : (d : ℕ) (o : Origin) (m : ModeTree) → slice_get h.origins d ≡ Some o → mode_of_entry (slice_get h.entries d) ≡ Some m → (entry_with_counters h o).mode ≡ Some m
+  pub own_mode : (d : ℕ) (o : Origin) (m : ModeTree) → slice_get h.origins d ≡ Some o → mode_of_entry (slice_get h.entries d) ≡ Some m → (entry_with_counters h o).mode ≡ Some m
   own_mode d o m at is = sym (ap mode_of_entry (entry_at d o at)) ∙ is
 
   located : (d : ℕ) (o : Origin) → slice_get h.origins d ≡ Some o → IsMeasurable (located_name (slice_get h.entries d) (Some o))
   located d o at = subst (λ x. IsMeasurable (located_name (slice_get h.entries d) x)) at (all_numbers_there text t has.plain_ground h has.has_modes has.is_ground d).located
+
+  pub part_language : (w : written.ModeTree) (m : ModeTree) → IsWritten w → mode_of h false w ≡ Some m → IsOfLanguage m
+  part_language w m shape is = mode_fits h false w m (each_known h (names_in_mode w) known) shape is
 
   part_fits : (w : written.ModeTree) (m : ModeTree) → IsWritten w → mode_of h false w ≡ Some m → IsDeclarable m
   part_fits w m shape is = language_declarable m (mode_fits h false w m (each_known h (names_in_mode w) known) shape is)

@@ -24,7 +24,7 @@ use Rattle.names_model.specs.declared.part.Mention.TheVariants.{Use}
 use Rattle.names_model.specs.declared.part.Clause.{Clause}
 use Rattle.names_model.specs.Identifiers.{identifier, identifiers}
 use Rattle.names_model.specs.Parts.{PartTree, PartNodes, define, mention, seize, seize_all, grant, grant_all, stray, modulion, routine, block, no_parts as no_part, more_parts, part_nodes}
-use Rattle.names_model.specs.Sizes.{elements_in, head_size, size_of, sizes_of, block_of}
+use Rattle.names_model.specs.Sizes.{elements_in, clauses_size, head_size, size_of, sizes_of, block_of}
 use Rattle.names_model.specs.Definitions.{within, defined, elements_defined, elements_with, names_defined, params_defined, definitions_of, definitions_in, numbers_on}
 use Rattle.names_model.specs.ExprMentions.{used, mentions_of, mentions_of_some, mentions_of_ranges}
 use Rattle.names_model.specs.ModeMentions.{mentions_of_mode, mentions_of_some_mode}
@@ -129,6 +129,36 @@ no_names (modulion n region size qs ∷ ps) none = absurd none.0
 no_names (routine n kind params result size qs ∷ ps) none = absurd none.0
 no_names (block size qs ∷ ps) none = absurd none.0
 
+definitions_length : (inside : Inside) (from : ℕ) (ps : PartNodes) → length (definitions_in inside from ps) ≡ length (names_in ps)
+definitions_length inside from ps = sym (length-map (definitions_in inside from ps) name_of_definition) ∙ ap length (all_names inside from ps)
+
+sizes_split : (ps qs : List PartTree) → sizes_of (part_nodes (ps ++ qs)) ≡ sizes_of (part_nodes ps) + sizes_of (part_nodes qs)
+sizes_split [] qs = omega arith
+sizes_split (p ∷ ps) qs = let rest = sizes_split ps qs in omega (arith, rest)
+
+definitions_split : (inside : Inside) (from : ℕ) (ps qs : List PartTree)
+    → definitions_in inside from (part_nodes (ps ++ qs)) ≡ definitions_in inside from (part_nodes ps) ++ definitions_in inside (from + sizes_of (part_nodes ps)) (part_nodes qs)
+definitions_split inside from [] qs = ap (λ k. definitions_in inside k (part_nodes qs)) (let same : from ≡ from + 0 = omega arith in same)
+definitions_split inside from (p ∷ ps) qs =
+    let own = definitions_of inside from p in
+    let rest = definitions_in inside (from + size_of p) (part_nodes ps) in
+    let same : (from + size_of p) + sizes_of (part_nodes ps) ≡ from + (size_of p + sizes_of (part_nodes ps)) = omega arith in
+    ap (λ ds. own ++ ds) (definitions_split inside (from + size_of p) ps qs) ∙ (sym (append_assoc own rest (definitions_in inside ((from + size_of p) + sizes_of (part_nodes ps)) (part_nodes qs)))
+    ∙ ap (λ k. (own ++ rest) ++ definitions_in inside k (part_nodes qs)) same)
+
+no_sizes : (ps : List PartTree) → DefineNothing ps → sizes_of (part_nodes ps) ≡ 0
+no_sizes [] none = refl
+no_sizes (mention m ∷ ps) none = let rest = no_sizes ps none.1 in omega (arith, rest)
+no_sizes (seize n ∷ ps) none = let rest = no_sizes ps none.1 in omega (arith, rest)
+no_sizes (seize_all at ∷ ps) none = let rest = no_sizes ps none.1 in omega (arith, rest)
+no_sizes (grant n ∷ ps) none = let rest = no_sizes ps none.1 in omega (arith, rest)
+no_sizes (grant_all at ∷ ps) none = let rest = no_sizes ps none.1 in omega (arith, rest)
+no_sizes (stray n ∷ ps) none = let rest = no_sizes ps none.1 in omega (arith, rest)
+no_sizes (define c ∷ ps) none = absurd none.0
+no_sizes (modulion n region size qs ∷ ps) none = absurd none.0
+no_sizes (routine n kind params result size qs ∷ ps) none = absurd none.0
+no_sizes (block size qs ∷ ps) none = absurd none.0
+
 -- ---- rows
 
 -- a name stands with what defines it, in two lists of one order
@@ -232,7 +262,7 @@ own_names (n ∷ ns) o us js =
     let is = identifiers ns ++ js in
     (inl (refl, refl), are_more os (o ∷ os) is (identifier n ∷ is) o (λ m x at. inr at) ns (own_names ns o us js))
 
-length-replicate : {A : Type 0} (k : ℕ) (x : A) → length (replicate k x) ≡ k
+pub length-replicate : {A : Type 0} (k : ℕ) (x : A) → length (replicate k x) ≡ k
 length-replicate zero x = refl
 length-replicate (suc k) x = ap suc (length-replicate k x)
 
@@ -250,7 +280,7 @@ both_same as' bs cs ds first later = let one = length-append as' bs in let other
 -- ---- parameters
 
 module _ {A : Type 0} (names : A → List Name) (mode : A → written.ModeTree) where
-  abbrev ParamOrigins : List A → List Origin
+  abbrev pub ParamOrigins : List A → List Origin
   ParamOrigins xs = flat_map (λ x. origins_of_names (names x) (a_parameter (mode x)) (elements_of None (mode x))) xs
 
   abbrev param_names : List A → List Identifier
@@ -275,6 +305,52 @@ module _ {A : Type 0} (names : A → List Name) (mode : A → written.ModeTree) 
             (λ y at. are_more us (os ++ us) js (is ++ js) (a_parameter (mode y)) (later_defined os us is js same) (names y) at) xs (params_rows xs),
       )
 
+-- ---- the heads of routines
+
+-- what is defined begins with the parameters of a routine, which stand in its body
+abbrev pub Begins : {A : Type 0} → (A → List Name) → (A → written.ModeTree) → ℕ → List A → List Origin → List Definition → Type 0
+Begins names mode from xs os ds =
+    (rest : List Origin) × (later : List Definition) × (around : Inside) × (os ≡ ParamOrigins names mode xs ++ rest) × (ds ≡ params_defined around (Body from) (map (λ x. clause kinds.Parameter (names x) (mentions_of_mode (mode x))) xs) ++ later)
+
+abbrev pub HeadOk : ℕ → Origin → List Origin → List Definition → Type 0
+HeadOk from (a_procedure p) os ds = Begins (λ (q : ParamTree). q.names) (λ q. q.mode) from p.params os ds
+HeadOk from (a_process p) os ds = Begins (λ (q : FormalTree). q.names) (λ q. q.mode) from p.formals os ds
+HeadOk from o os ds = Unit {0}
+
+-- so does what stands behind each procedure and each process, the first origin having this number
+abbrev pub HeadsOk : ℕ → List Origin → List Definition → Type 0
+HeadsOk from [] ds = Unit {0}
+HeadsOk from (o ∷ os) [] = Unit {0}
+HeadsOk from (o ∷ os) (d ∷ ds) = HeadOk from o os ds × HeadsOk (suc from) os ds
+
+begins_more : {A : Type 0} (names : A → List Name) (mode : A → written.ModeTree) (from : ℕ) (xs : List A) (os us : List Origin) (ds es : List Definition) → Begins names mode from xs os ds → Begins names mode from xs (os ++ us) (ds ++ es)
+begins_more names mode from xs os us ds es (rest, later, around, origins, definitions) =
+    let own = params_defined around (Body from) (map (λ x. clause kinds.Parameter (names x) (mentions_of_mode (mode x))) xs) in
+    (rest ++ us, later ++ es, around, ap (λ zs. zs ++ us) origins ∙ append_assoc (ParamOrigins names mode xs) rest us, ap (λ zs. zs ++ es) definitions ∙ append_assoc own later es)
+
+head_more : (from : ℕ) (o : Origin) (os us : List Origin) (ds es : List Definition) → HeadOk from o os ds → HeadOk from o (os ++ us) (ds ++ es)
+head_more from (a_procedure p) os us ds es ok = begins_more (λ (q : ParamTree). q.names) (λ q. q.mode) from p.params os us ds es ok
+head_more from (a_process p) os us ds es ok = begins_more (λ (q : FormalTree). q.names) (λ q. q.mode) from p.formals os us ds es ok
+head_more from o os us ds es ok = tt
+
+pub heads_both : (from : ℕ) (os us : List Origin) (ds es : List Definition) → length os ≡ length ds → HeadsOk from os ds → HeadsOk (from + length os) us es → HeadsOk from (os ++ us) (ds ++ es)
+heads_both from [] us [] es same first later = subst (λ n. HeadsOk n us es) (let back : from + 0 ≡ from = omega arith in back) later
+heads_both from [] us (d ∷ ds) es same first later = absurd (omega (arith, same))
+heads_both from (o ∷ os) us [] es same first later = absurd (omega (arith, same))
+heads_both from (o ∷ os) us (d ∷ ds) es same first later = (
+  head_more from o os us ds es first.0,
+  heads_both (suc from) os us ds es (let less : length os ≡ length ds = omega (arith, same) in less) first.1 (subst (λ n. HeadsOk n us es) (let next : from + suc (length os) ≡ suc from + length os = omega arith in next) later),
+)
+
+-- no procedure and no process
+abbrev NotRoutine : Origin → Type 0
+NotRoutine o = (from : ℕ) (os : List Origin) (ds : List Definition) → HeadOk from o os ds
+
+none_heads : (from : ℕ) (os : List Origin) (ds : List Definition) → Each NotRoutine os → HeadsOk from os ds
+none_heads from [] ds none = tt
+none_heads from (o ∷ os) [] none = tt
+none_heads from (o ∷ os) (d ∷ ds) none = (none.0 from os ds, none_heads (suc from) os ds none.1)
+
 -- ---- parts
 
 module _ (test : Mention → Bool) where
@@ -295,9 +371,11 @@ module _ (test : Mention → Bool) where
     pub origins : Each (OriginSo os names) os
     pub at_sites : Each (SiteSo os names) ss
     pub signal : PartsPass test (part_nodes ps) → Each SignalSo os
+    pub size : sizes_of (part_nodes ps) ≡ length os
+    pub heads : (inside : Inside) (from : ℕ) → HeadsOk from os (definitions_in inside from (part_nodes ps))
 
   nothing : (ps : List PartTree) → DefineNothing ps → Held [] ps []
-  nothing ps none = record { names = []; are = no_names ps none; same = refl; origins = tt; at_sites = tt; signal = λ pass. tt }
+  nothing ps none = record { names = []; are = no_names ps none; same = refl; origins = tt; at_sites = tt; signal = λ pass. tt; size = no_sizes ps none; heads = λ inside from. tt }
 
   joined : {os us : List Origin} {ps qs : List PartTree} {ss ts : List Site} → Held os ps ss → Held us qs ts → Held (os ++ us) (ps ++ qs) (ss ++ ts)
   joined {os = os} {us = us} {ps = ps} {qs = qs} {ss = ss} {ts = ts} m k =
@@ -314,10 +392,17 @@ module _ (test : Mention → Bool) where
         at_sites = each_append (SiteSo (os ++ us) (is ++ js)) ss ts (each_more (SiteSo os is) (SiteSo (os ++ us) (is ++ js)) (site_more os (os ++ us) is (is ++ js) early) ss m.at_sites)
             (each_more (SiteSo us js) (SiteSo (os ++ us) (is ++ js)) (site_more us (os ++ us) js (is ++ js) late) ts k.at_sites);
         signal = λ pass. (let two = parts_split test ps qs pass in each_append SignalSo os us (m.signal two.0) (k.signal two.1));
+        size = (let split = sizes_split ps qs in let one = m.size in let other = k.size in let both = length-append os us in omega (arith, split, one, other, both));
+        heads = λ inside from.
+            let one = definitions_in inside from (part_nodes ps) in
+            let other = definitions_in inside (from + sizes_of (part_nodes ps)) (part_nodes qs) in
+            let long : length os ≡ length one = m.same ∙ (ap length (sym m.are) ∙ sym (definitions_length inside from (part_nodes ps))) in
+            subst (λ ds. HeadsOk from (os ++ us) ds) (sym (definitions_split inside from ps qs))
+            (heads_both from os us one other long (m.heads inside from) (subst (λ n. HeadsOk (from + n) us other) m.size (k.heads inside (from + sizes_of (part_nodes ps)))));
       }
 
   with_site : {os : List Origin} {ps : List PartTree} {ss : List Site} (s : Site) → ((us : List Origin) (is : List Identifier) → SiteSo us is s) → Held os ps ss → Held os ps (s ∷ ss)
-  with_site {os = os} s so m = record { names = m.names; are = m.are; same = m.same; origins = m.origins; at_sites = (so os m.names, m.at_sites); signal = m.signal }
+  with_site {os = os} s so m = record { names = m.names; are = m.are; same = m.same; origins = m.origins; at_sites = (so os m.names, m.at_sites); signal = m.signal; size = m.size; heads = m.heads }
 
   abbrev Anywhere : List Site → Type 0
   Anywhere ss = Each (λ s. (us : List Origin) (is : List Identifier) → SiteSo us is s) ss
@@ -330,7 +415,7 @@ module _ (test : Mention → Bool) where
   no_more {os = os} {ps = ps} {ss = ss} m = subst (λ us. Held us ps ss) (append-nil os) m
 
   blocked : {os : List Origin} {ps : List PartTree} {ss : List Site} → Held os ps ss → Held os (block_of ps ∷ []) ss
-  blocked {ps = ps} m = record { names = m.names; are = append-nil (names_in (part_nodes ps)) ∙ m.are; same = m.same; origins = m.origins; at_sites = m.at_sites; signal = λ pass. m.signal pass.0 }
+  blocked {os = os} {ps = ps} m = record { names = m.names; are = append-nil (names_in (part_nodes ps)) ∙ m.are; same = m.same; origins = m.origins; at_sites = m.at_sites; signal = λ pass. m.signal pass.0; size = (let own = m.size in omega (arith, own)); heads = λ inside from. subst (λ ds. HeadsOk from os ds) (sym (append-nil (definitions_in (within inside) from (part_nodes ps)))) (m.heads (within inside) from) }
 
   mentions : (ms : List Mention) → Held [] (mentioned ms) []
   mentions ms = nothing (mentioned ms) (mentions_define ms)
@@ -347,22 +432,29 @@ module _ (test : Mention → Bool) where
       (λ ns fits. each_map (λ k. Unit {0}) SignalSo (λ part. an_element ns part owner) (λ k fits. tt) (numbers_on 0 (length ns)) (each_any (λ k. Unit {0}) (λ k. tt) (numbers_on 0 (length ns)))) sets
       (each_any (λ ns. Unit {0}) (λ ns. tt) sets)
 
+  elements_routines : (owner : Option (Name × Bool)) (sets : List (List Name)) → Each NotRoutine (flat_map (elements owner) sets)
+  elements_routines owner sets =
+      each_flat (λ ns. Unit {0}) NotRoutine (elements owner)
+      (λ ns fits. each_map (λ k. Unit {0}) NotRoutine (λ part. an_element ns part owner) (λ k fits from os ds. tt) (numbers_on 0 (length ns)) (each_any (λ k. Unit {0}) (λ k. tt) (numbers_on 0 (length ns)))) sets
+      (each_any (λ ns. Unit {0}) (λ ns. tt) sets)
+
   -- what stands behind the names of a clause
   record Behind (inside : List Origin) : Type 0 where
     any_origins : (us : List Origin) (is : List Identifier) → Each (OriginSo us is) inside
     no_signals : Each SignalSo inside
+    no_routines : Each NotRoutine inside
 
   elements_behind : (owner : Option (Name × Bool)) (sets : List (List Name)) → Behind (flat_map (elements owner) sets)
-  elements_behind owner sets = record { any_origins = λ us is. elements_origins us is owner sets; no_signals = elements_signals owner sets }
+  elements_behind owner sets = record { any_origins = λ us is. elements_origins us is owner sets; no_signals = elements_signals owner sets; no_routines = elements_routines owner sets }
 
   some_behind : (w : Option written.ModeTree) → Behind (elements_of_some w)
-  some_behind None = record { any_origins = λ us is. tt; no_signals = tt }
+  some_behind None = record { any_origins = λ us is. tt; no_signals = tt; no_routines = tt }
   some_behind (Some w) = elements_behind None (sets_in w)
 
   -- a clause alone
-  clause_held : (kind : Kind) (ns : List Name) (ms : List Mention) (o : Origin) (inside : List Origin) (s : Site) → ((us : List Origin) (is : List Identifier) → OriginSo us is o) → SignalSo o → Behind inside → length inside ≡ length (elements_in ms)
+  clause_held : (kind : Kind) (ns : List Name) (ms : List Mention) (o : Origin) (inside : List Origin) (s : Site) → ((us : List Origin) (is : List Identifier) → OriginSo us is o) → SignalSo o → NotRoutine o → Behind inside → length inside ≡ length (elements_in ms)
       → ((us : List Origin) (is : List Identifier) → AreDefinedAs us is o ns → SiteSo us is s) → Held (replicate (length ns) o ++ inside) (define (clause kind ns ms) ∷ []) (s ∷ [])
-  clause_held kind ns ms o inside s own signal behind count so =
+  clause_held kind ns ms o inside s own signal apart behind count so =
       let os = replicate (length ns) o ++ inside in
       let is = identifiers ns ++ elements_in ms in
       record {
@@ -372,6 +464,9 @@ module _ (test : Mention → Bool) where
         origins = each_append (OriginSo os is) (replicate (length ns) o) inside (each_same (OriginSo os is) (length ns) o (own os is)) (behind.any_origins os is);
         at_sites = (so os is (own_names ns o inside (elements_in ms)), tt);
         signal = λ pass. each_append SignalSo (replicate (length ns) o) inside (each_same SignalSo (length ns) o signal) behind.no_signals;
+        size =
+            (let first = length-append (replicate (length ns) o) inside in let own = length-replicate (length ns) o in let named = length-map ns identifier in omega (arith, first, own, named, count));
+        heads = λ around from. none_heads from os (definitions_in around from (part_nodes (define (clause kind ns ms) ∷ []))) (each_append NotRoutine (replicate (length ns) o) inside (each_same NotRoutine (length ns) o apart) behind.no_routines);
       }
 
   -- ---- definition statements
@@ -379,17 +474,17 @@ module _ (test : Mention → Bool) where
   synonyms_held : (ss : List SynonymTree) → Held (flat_map origins_of_synonym ss) (map synonym_part ss) (map at_synonym ss)
   synonyms_held [] = nothing [] tt
   synonyms_held (s ∷ ss) =
-      joined (clause_held kinds.Synonym s.names (mentions_of_some_mode s.mode ++ mentions_of s.value) (a_synonym s) (elements_of_some s.mode) (at_synonym s) (λ us is. tt) tt (some_behind s.mode) (synonym_count s) (λ us is at. tt)) (synonyms_held ss)
+      joined (clause_held kinds.Synonym s.names (mentions_of_some_mode s.mode ++ mentions_of s.value) (a_synonym s) (elements_of_some s.mode) (at_synonym s) (λ us is. tt) tt (λ from os ds. tt) (some_behind s.mode) (synonym_count s) (λ us is at. tt)) (synonyms_held ss)
 
   modes_held : (novel : Bool) (ds : List ModeDefinitionTree) → Held (flat_map (origins_of_mode novel) ds) (map mode_part ds) (map at_mode_definition ds)
   modes_held novel [] = nothing [] tt
   modes_held novel (d ∷ ds) =
-      joined (clause_held kinds.Mode (d.name ∷ []) (mentions_of_mode d.mode) (a_mode novel d.mode) (elements_of (owner_of novel d) d.mode) (at_mode_definition d) (λ us is. tt) tt (elements_behind (owner_of novel d) (sets_in d.mode)) (mode_elements_count (owner_of novel d) d.mode) (λ us is at. tt))
+      joined (clause_held kinds.Mode (d.name ∷ []) (mentions_of_mode d.mode) (a_mode novel d.mode) (elements_of (owner_of novel d) d.mode) (at_mode_definition d) (λ us is. tt) tt (λ from os ds. tt) (elements_behind (owner_of novel d) (sets_in d.mode)) (mode_elements_count (owner_of novel d) d.mode) (λ us is at. tt))
       (modes_held novel ds)
 
   declaration_held : (shared : Bool) (d : DeclarationTree) → Held (origins_of_declaration d) (declaration_parts d) (at_declaration shared d ∷ [])
   declaration_held shared d =
-      no_more (joined (clause_held kinds.Location d.names (mentions_of_mode d.mode) (a_location d) (elements_of None d.mode) (at_declaration shared d) (λ us is. tt) tt (elements_behind None (sets_in d.mode)) (mode_elements_count None d.mode) (λ us is at. at))
+      no_more (joined (clause_held kinds.Location d.names (mentions_of_mode d.mode) (a_location d) (elements_of None d.mode) (at_declaration shared d) (λ us is. tt) tt (λ from os ds. tt) (elements_behind None (sets_in d.mode)) (mode_elements_count None d.mode) (λ us is at. at))
       (nothing (initial_parts d.initial) (initial_defines d.initial)))
 
   declarations_held : (shared : Bool) (ds : List DeclarationTree) → Held (flat_map origins_of_declaration ds) (flat_map declaration_parts ds) (map (at_declaration shared) ds)
@@ -406,7 +501,7 @@ module _ (test : Mention → Bool) where
 
   counter_held : (c : ControlTree) (n : Name) → counter_in c ≡ n ∷ [] → Held (a_counter c ∷ []) (define (clause kinds.Counter (n ∷ []) []) ∷ []) (at_control c ∷ [])
   counter_held c n is =
-      clause_held kinds.Counter (n ∷ []) [] (a_counter c) [] (at_control c) (λ us js. tt) tt (record { any_origins = λ us js. tt; no_signals = tt }) refl (λ us js at. subst (λ ns. AreDefinedAs us js (a_counter c) ns) (sym is) at)
+      clause_held kinds.Counter (n ∷ []) [] (a_counter c) [] (at_control c) (λ us js. tt) tt (λ from os ds. tt) (record { any_origins = λ us js. tt; no_signals = tt; no_routines = tt }) refl (λ us js at. subst (λ ns. AreDefinedAs us js (a_counter c) ns) (sym is) at)
 
   turn_held : (c : ControlTree) → Held (counters_in c) (turn_parts c) (at_control c ∷ [])
   turn_held (while_holds at c) = with_site (at_control (while_holds at c)) (λ us is. tt) (mentions (mentions_of c))
@@ -439,6 +534,8 @@ module _ (test : Mention → Bool) where
         origins = received_any (OriginSo os (identifiers ns)) n (length ns) 0 ns (λ part. tt);
         at_sites = (received_rows n (length ns) 0 ns, tt);
         signal = λ pass. received_any SignalSo n (length ns) 0 ns (λ part. tt);
+        size = (let long = received_same n (length ns) 0 ns in omega (arith, long));
+        heads = λ around from. none_heads from os (definitions_in around from (part_nodes (received_parts (Some ns)))) (received_any NotRoutine n (length ns) 0 ns (λ part from os ds. tt));
       }
 
   set_anywhere : (e : Option ExprTree) → Anywhere (some_site at_set e)
@@ -541,6 +638,8 @@ module _ (test : Mention → Bool) where
         origins = (tt, (behind s.parts).any_origins os is);
         at_sites = parts_anywhere os is s.parts;
         signal = λ pass. (receiver_so s.process pass.1, (behind s.parts).no_signals);
+        size = (let long = count s.parts in let none = no_sizes (receiver_parts s.process) (receiver_defines s.process) in omega (arith, long, none));
+        heads = λ around from. none_heads from os (definitions_in around from (part_nodes (signal_parts s))) ((λ from os ds. tt), (behind s.parts).no_routines);
       }
     where
       count : (ws : Option (List written.ModeTree)) → length {A = Origin} (elim ws [ None ↦ [] | Some ms ↦ flat_map (elements_of None) ms ]) ≡ length (elements_in (mentions_of_parts ws))
@@ -548,10 +647,11 @@ module _ (test : Mention → Bool) where
       count (Some ms) = many_count ms
 
       behind : (ws : Option (List written.ModeTree)) → Behind (elim ws [ None ↦ [] | Some ms ↦ flat_map (elements_of None) ms ])
-      behind None = record { any_origins = λ us is. tt; no_signals = tt }
+      behind None = record { any_origins = λ us is. tt; no_signals = tt; no_routines = tt }
       behind (Some ms) = record {
         any_origins = λ us is. each_flat (λ w. Unit {0}) (OriginSo us is) (elements_of None) (λ w fits. elements_origins us is None (sets_in w)) ms (each_any (λ w. Unit {0}) (λ w. tt) ms);
         no_signals = each_flat (λ w. Unit {0}) SignalSo (elements_of None) (λ w fits. elements_signals None (sets_in w)) ms (each_any (λ w. Unit {0}) (λ w. tt) ms);
+        no_routines = each_flat (λ w. Unit {0}) NotRoutine (elements_of None) (λ w fits. elements_routines None (sets_in w)) ms (each_any (λ w. Unit {0}) (λ w. tt) ms);
       }
 
   signals_held : (ss : List SignalTree) → Held (flat_map origins_of_signal ss) (flat_map signal_parts ss) (flat_map (λ s. sites_of_modes s.parts) ss)
@@ -573,14 +673,29 @@ module _ (test : Mention → Bool) where
       (λ x fits. each_append SignalSo (replicate (length (names x)) (a_parameter (mode x))) (elements_of None (mode x)) (each_same SignalSo (length (names x)) (a_parameter (mode x)) tt) (elements_signals None (sets_in (mode x)))) xs
       (each_any (λ x. Unit {0}) (λ x. tt) xs)
 
+  params_routines : {A : Type 0} (names : A → List Name) (mode : A → written.ModeTree) (xs : List A) → Each NotRoutine (ParamOrigins names mode xs)
+  params_routines names mode xs =
+      each_flat (λ x. Unit {0}) NotRoutine (λ x. origins_of_names (names x) (a_parameter (mode x)) (elements_of None (mode x)))
+      (λ x fits. each_append NotRoutine (replicate (length (names x)) (a_parameter (mode x))) (elements_of None (mode x)) (each_same NotRoutine (length (names x)) (a_parameter (mode x)) (λ from os ds. tt)) (elements_routines None (sets_in (mode x)))) xs
+      (each_any (λ x. Unit {0}) (λ x. tt) xs)
+
+  params_count : (cs : List Clause) → length (names_of_params cs) ≡ clauses_size cs
+  params_count [] = refl
+  params_count (c ∷ cs) =
+      let own = length-append c.names (elements_in c.text) in
+      let both = length-append (names_of_clause c) (names_of_params cs) in
+      let rest = params_count cs in
+      omega (arith, own, both, rest)
+
   -- a routine: its own name, its head, and its body
   routine_held : {A : Type 0} (names : A → List Name) (mode : A → written.ModeTree) (o : Origin) (n : Name) (kind : Kind) (xs : List A) (result : Option written.ModeTree) (body : List Origin) (ps : List PartTree) (inner ss : List Site)
       → SignalSo o → ((us : List Origin) (is : List Identifier) → IsDefinedAs us is n o → Each (λ x. AreDefinedAs us is (a_parameter (mode x)) (names x)) xs → OriginSo us is o)
       → ((us : List Origin) (is : List Identifier) → Each (SiteSo us is) inner → Each (SiteSo us is) ss)
+      → ((from : ℕ) (us : List Origin) (ds : List Definition) → Begins names mode from xs us ds → HeadOk from o us ds)
       → Held body ps inner
       → Held (o ∷ (ParamOrigins names mode xs ++ elements_of_some result) ++ body)
       (routine (identifier n) kind (map (λ x. clause kinds.Parameter (names x) (mentions_of_mode (mode x))) xs) (mentions_of_some_mode result) (sizes_of (part_nodes ps)) (part_nodes ps) ∷ []) ss
-  routine_held names mode o n kind xs result body ps inner ss signal own around m =
+  routine_held names mode o n kind xs result body ps inner ss signal own around begins m =
       let params = ParamOrigins names mode xs in
       let es = elements_of_some result in
       let ks = param_names names mode xs in
@@ -590,6 +705,11 @@ module _ (test : Mention → Bool) where
       let head_same = both_same params es ks js (params_same names mode xs) (some_count result) in
       let os = o ∷ head ++ body in
       let all = identifier n ∷ is ++ m.names in
+      let cs = map (λ x. clause kinds.Parameter (names x) (mentions_of_mode (mode x))) xs in
+      let counted = params_count cs in
+      let in_params = params_same names mode xs in
+      let in_result = some_count result in
+      let head_long = length-append params es in
       let in_head : Carries params ks os all = λ k x at. inr (first_defined head body is m.names k x (first_defined params es ks js k x at)) in
       let in_body : Carries body m.names os all = λ k x at. inr (later_defined head body is m.names head_same k x at) in
       record {
@@ -605,6 +725,21 @@ module _ (test : Mention → Bool) where
         );
         at_sites = around os all (each_more (SiteSo body m.names) (SiteSo os all) (site_more body os m.names all in_body) inner m.at_sites);
         signal = λ pass. (signal, each_append SignalSo head body (each_append SignalSo params es (params_signals names mode xs) (some_behind result).no_signals) (m.signal pass.0.1));
+        size = (let inner_size = m.size in let whole = length-append head body in omega (arith, counted, in_params, in_result, head_long, inner_size, whole));
+        heads = λ inside from.
+            let ps_defined = params_defined inside (Body from) cs in
+            let es_defined = elements_defined inside js in
+            let body_defined = definitions_in (Body from) (from + head_size cs (mentions_of_some_mode result)) (part_nodes ps) in
+            let long_params = sym (length-map ps_defined name_of_definition) ∙ ap length (params_names inside (Body from) cs) in
+            let long_elements = length-map js (defined inside kinds.Element) in
+            let both_defined = length-append ps_defined es_defined in
+            let long : length head ≡ length (ps_defined ++ es_defined) = omega (arith, head_long, in_params, in_result, both_defined, long_params, long_elements) in
+            let at_body : from + head_size cs (mentions_of_some_mode result) ≡ suc from + length head = omega (arith, counted, in_params, in_result, head_long) in
+            let inner_heads : HeadsOk (suc from + length head) body body_defined = subst (λ k. HeadsOk k body body_defined) at_body (m.heads (Body from) (from + head_size cs (mentions_of_some_mode result))) in
+            subst (λ ds. HeadsOk from os ds) (sym (append-nil (definitions_of inside from (routine (identifier n) kind cs (mentions_of_some_mode result) (sizes_of (part_nodes ps)) (part_nodes ps))))) (
+              begins from (head ++ body) ((ps_defined ++ es_defined) ++ body_defined) (es ++ body, es_defined ++ body_defined, inside, append_assoc params es body, append_assoc ps_defined es_defined body_defined),
+              heads_both (suc from) head body (ps_defined ++ es_defined) body_defined long (none_heads (suc from) head (ps_defined ++ es_defined) (each_append NotRoutine params es (params_routines names mode xs) (some_behind result).no_routines)) inner_heads,
+            );
       }
 
   procedure_held : (p : ProcedureTree) → Held (origins_of_procedure p) (item_parts (procedure p)) (sites_of_procedure p)
@@ -613,7 +748,7 @@ module _ (test : Mention → Bool) where
       let inner = sites_of_body (in_procedure p) p.body p.handler in
       let own = at_body (Some p.name) (flat_map (λ q. q.names) p.params ++ locals_of_body p.body p.handler) in
       routine_held (λ (q : ParamTree). q.names) (λ q. q.mode) (a_procedure p) p.name kinds.Procedure p.params p.returns (origins_of_body p.body p.handler) (whole_body p.body p.handler) inner (sites_of_procedure p) tt (λ us is name all. (name, all))
-      (λ us is all. each_append (SiteSo us is) front (own ∷ inner) (each_append (SiteSo us is) (map (λ (q : ParamTree). at_mode q.mode) p.params) (sites_of_result p.returns) (modes us is p.params) (result_anywhere us is p.returns)) (tt, all))
+      (λ us is all. each_append (SiteSo us is) front (own ∷ inner) (each_append (SiteSo us is) (map (λ (q : ParamTree). at_mode q.mode) p.params) (sites_of_result p.returns) (modes us is p.params) (result_anywhere us is p.returns)) (tt, all)) (λ from us ds is. is)
       (whole_held (in_procedure p) p.body p.handler)
     where
       modes : (us : List Origin) (is : List Identifier) (ps : List ParamTree) → Each (SiteSo us is) (map (λ (q : ParamTree). at_mode q.mode) ps)
@@ -627,7 +762,7 @@ module _ (test : Mention → Bool) where
       let own = at_body (Some p.name) (flat_map (λ q. q.names) p.formals ++ locals_of_body p.body p.handler) in
       subst (λ os. Held (a_process p ∷ os ++ origins_of_body p.body p.handler) (item_parts (process p)) (sites_of_process p)) (append-nil (flat_map origins_of_formal p.formals))
       (routine_held (λ (q : FormalTree). q.names) (λ q. q.mode) (a_process p) p.name kinds.Process p.formals None (origins_of_body p.body p.handler) (whole_body p.body p.handler) inner (sites_of_process p) tt (λ us is name all. all)
-      (λ us is all. each_append (SiteSo us is) front (own ∷ inner) (modes us is p.formals) (tt, all)) (whole_held in_no_procedure p.body p.handler))
+      (λ us is all. each_append (SiteSo us is) front (own ∷ inner) (modes us is p.formals) (tt, all)) (λ from us ds is. is) (whole_held in_no_procedure p.body p.handler))
     where
       modes : (us : List Origin) (is : List Identifier) (ps : List FormalTree) → Each (SiteSo us is) (map (λ (q : FormalTree). at_mode q.mode) ps)
       modes us is [] = tt
@@ -672,6 +807,9 @@ module _ (test : Mention → Bool) where
             origins = (tt, each_more (OriginSo us m.names) (OriginSo os is) (origin_more us os m.names is inner) us m.origins);
             at_sites = each_more (SiteSo us m.names) (SiteSo os is) (site_more us os m.names is inner) (sites_of_items kind items items ++ sites_of_handler in_no_procedure (handler_node h)) m.at_sites;
             signal = λ pass. (tt, m.signal pass.0);
+            size = (let inner_size = m.size in omega (arith, inner_size));
+            heads = λ inside from.
+                subst (λ ds. HeadsOk from os ds) (sym (append-nil (defined inside kinds.Modulion (identifier n) ∷ definitions_in (Modulion from) (suc from) (part_nodes ps)))) (tt, m.heads (Modulion from) (suc from));
           };
           modulion = (inl (refl, refl), modulions_more (origins_of_items items) os all.held.names is front items all.modulions);
         }

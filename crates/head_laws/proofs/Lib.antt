@@ -1,0 +1,4 @@
+pub mod Rows
+pub mod Modes
+pub mod Parameters
+pub mod Heads
