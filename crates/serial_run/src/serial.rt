@@ -97,7 +97,7 @@ pub(crate) fn make_turn(
             let place = kernel.events().len();
             serve(guarded, kernel, &mut runners[k])?;
             turns.note(kernel.events(), place)?;
-            turns.from = k + 1;
+            turns.go_on(k);
             Ok(())
         }
         None => {

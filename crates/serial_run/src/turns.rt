@@ -3,13 +3,18 @@ use chill_base::Memory;
 use kernel_base::{Event, Request};
 use std::alloc::Global;
 
-/// The places of the machines that can go, rising, and the place from which the next one is looked for. Many processes may have
-/// been started, and may wait, while few can go: so these are asked first. No proof rests on the list, since all machines are
-/// asked where nobody on it can go.
+// A turn has so many ticks and requests.
+const TURN: u32 = 256;
+
+/// The places of the machines that can go, rising; the place from which the next one is looked for; and how many ticks and requests
+/// the turn has had. Many processes may have been started, and may wait, while few can go: so these are asked first. A machine that
+/// is answered at once keeps its turn, so that who is in a region leaves it before others come to it. No proof rests on this, since
+/// all machines are asked where nobody on the list can go.
 #[derive(Drop)]
 pub struct Turns {
     pub ready: Vec<usize>,
-    pub from: usize,
+    from: usize,
+    had: u32,
 }
 
 impl Turns {
@@ -18,6 +23,7 @@ impl Turns {
         Turns {
             ready: Vec::new(alloc),
             from: 0,
+            had: 0,
         }
     }
 
@@ -35,7 +41,8 @@ impl Turns {
         &self.ready[first..]
     }
 
-    /// Notes the events from a place on: who waits or has ended can't go, and who goes on can.
+    /// Notes the events from a place on, which came of a burst of the machine at that place in the list of all: who waits or has
+    /// ended can't go, and who goes on can.
     pub fn note(&mut self, events: &[Event], from: usize) -> Result<(), Memory> {
         for at in from..events.len() {
             match &events[at] {
@@ -44,12 +51,28 @@ impl Turns {
                     who,
                     request: Request::End { .. },
                     ..
-                } => self.remove(place_of(*who)),
+                } => {
+                    self.had = TURN;
+                    self.remove(place_of(*who));
+                }
                 Event::Goes { who, .. } => self.insert(place_of(*who))?,
-                Event::Did { .. } | Event::Runs { .. } => {}
+                Event::Did { ticks, .. } => {
+                    self.had = self.had.saturating_add(*ticks).saturating_add(1);
+                }
+                Event::Runs { .. } => self.had = TURN,
             }
         }
         Ok(())
+    }
+
+    /// Looks for the next machine from the one on that had the turn, or from the one behind it where its turn is over.
+    pub fn go_on(&mut self, place: usize) {
+        if self.had < TURN {
+            self.from = place;
+        } else {
+            self.from = place.saturating_add(1);
+            self.had = 0;
+        }
     }
 
     fn insert(&mut self, place: usize) -> Result<(), Memory> {
