@@ -41,8 +41,7 @@ impl Turns {
         &self.ready[first..]
     }
 
-    /// Notes the events from a place on, which came of a burst of the machine at that place in the list of all: who waits or has
-    /// ended can't go, and who goes on can.
+    /// Notes the events of a burst, those from a place on: who waits or has ended can't go, and who goes on can.
     pub fn note(&mut self, events: &[Event], from: usize) -> Result<(), Memory> {
         for at in from..events.len() {
             match &events[at] {
