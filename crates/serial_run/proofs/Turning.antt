@@ -21,8 +21,3 @@ pub is_up : (runners : List Runner) (k : ℕ) (d : Runner) → IsUpAt runners k 
 is_up [] k d h = absurd h
 is_up (r ∷ runners) zero d h = h
 is_up (r ∷ runners) (suc k) d h = is_up runners k d h
-
-pub is_within : (runners : List Runner) (k : ℕ) → IsUpAt runners k → k < length runners
-is_within [] k h = absurd h
-is_within (r ∷ runners) zero h = omega arith
-is_within (r ∷ runners) (suc k) h = let low = is_within runners k h in omega (arith, low)

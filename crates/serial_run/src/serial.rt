@@ -13,7 +13,7 @@ ghost use Rattle.serial_run.specs.Suiting.{IsRefused, IsUnsuited, RestFrom};
 use crate::runner::{fetch_all, next_from, next_listed};
 use crate::serving::serve;
 use crate::taking::take_all;
-use crate::turns::{Turns, is_end};
+use crate::turns::Turns;
 use crate::{Machines, Misfit, RunRefusal, Runner};
 use chill_base::List;
 use code_guard::Guarded;
@@ -29,7 +29,7 @@ pub struct Driven {
     pub over: Over,
 }
 
-// The place of the next machine that can make a burst: a live one from a place on, or else from the first on. All are asked
+// The place of the next machine that can make a burst: a listed one from a place on, or else from the first on. All are asked
 // where none of these can, which then holds of each.
 fn next_turn(
     kernel: &mut Kernel,
@@ -45,7 +45,7 @@ fn next_turn(
     if let Some(k) = next_listed(kernel, runners, turns.rest())? {
         return Ok(Some(k));
     }
-    if let Some(k) = next_listed(kernel, runners, &turns.live)? {
+    if let Some(k) = next_listed(kernel, runners, &turns.ready)? {
         return Ok(Some(k));
     }
     next_from(kernel, runners, 0)
@@ -96,10 +96,8 @@ pub(crate) fn make_turn(
         Some(k) => {
             let place = kernel.events().len();
             serve(guarded, kernel, &mut runners[k])?;
-            if is_end(kernel.events().get(place)) {
-                turns.remove(k);
-            }
-            turns.from = k + 1;
+            turns.note(kernel.events(), place)?;
+            turns.go_on(k);
             Ok(())
         }
         None => {

@@ -35,7 +35,7 @@ pub enum Wakes {
 /// A run has at most so many workers.
 pub const MAX_WORKERS: usize = 16;
 
-/// What came of a burst: its outcome, how many processes have gone on so far, and whom it wakes.
+/// What came of a burst: its outcome, how many processes of its worker have gone on so far, and whom it wakes.
 #[derive(Drop)]
 pub struct Committed {
     pub outcome: Outcome,
@@ -43,13 +43,13 @@ pub struct Committed {
     pub wakes: Wakes,
 }
 
-/// The kernel; and beside it whether the run was given up, how many processes have gone on so far, which worker has each process,
-/// and which workers wait and weren't woken. Contracts see it as its kernel.
+/// The kernel; and beside it whether the run was given up, how many processes of each worker have gone on so far, which worker has
+/// each process, and which workers wait and weren't woken. Contracts see it as its kernel.
 #[derive(Drop)]
 pub struct Desk {
     kernel: Kernel,
     stopped: bool,
-    went: u64,
+    went: [u64; MAX_WORKERS],
     owners: Vec<u32>,
     idle: [bool; MAX_WORKERS],
 }
@@ -133,7 +133,7 @@ impl Desk {
         Desk {
             kernel,
             stopped: false,
-            went: 0,
+            went: [0; MAX_WORKERS],
             owners: Vec::new(alloc),
             idle: [false; MAX_WORKERS],
         }
@@ -147,23 +147,18 @@ impl Desk {
         if self.stopped {
             return Ok(Committed {
                 outcome: Outcome::Over,
-                went: self.went,
+                went: self.went_of(who),
                 wakes: Wakes::Nobody,
             });
         }
         let before = self.kernel.events().len();
         let outcome = note_stop(&mut self.kernel, who, stop)?;
-        let others = self
-            .kernel
-            .events()
-            .len()
-            .saturating_sub(before.saturating_add(1));
-        self.went = self.went.wrapping_add(others as u64);
+        let others = self.note_goings(before.saturating_add(1));
         let finder = self.finder(&outcome, others);
         let wakes = self.wake(finder);
         Ok(Committed {
             outcome,
-            went: self.went,
+            went: self.went_of(who),
             wakes,
         })
     }
@@ -182,11 +177,37 @@ impl Desk {
         }
     }
 
+    // The worker that has a process.
+    fn owner(&self, who: u32) -> Option<u32> {
+        self.owners.get((who as usize).saturating_sub(1)).copied()
+    }
+
+    // How many processes of the worker that has this one have gone on so far.
+    fn went_of(&self, who: u32) -> u64 {
+        match self.owner(who) {
+            Some(worker) => self.went(worker),
+            None => 0,
+        }
+    }
+
+    // Notes whose processes went on by the events from a place on, and answers how many did.
+    fn note_goings(&mut self, from: usize) -> usize {
+        let until = self.kernel.events().len();
+        for at in from..until {
+            let who = self.kernel.events().get(at).map_or(0, instance_of);
+            if let Some(worker) = self.owner(who) {
+                let place = worker_place(worker);
+                self.went[place] = self.went[place].wrapping_add(1);
+            }
+        }
+        until.saturating_sub(from)
+    }
+
     // The worker that has the process of the last event.
     fn last_owner(&self) -> Wakes {
         let who = self.kernel.events().last().map_or(0, instance_of);
-        match self.owners.get((who as usize).saturating_sub(1)) {
-            Some(worker) => Wakes::One(*worker),
+        match self.owner(who) {
+            Some(worker) => Wakes::One(worker),
             None => Wakes::Nobody,
         }
     }
@@ -245,9 +266,9 @@ impl Desk {
         self.stopped || self.kernel.over().is_some()
     }
 
-    /// How many processes have gone on so far.
-    pub fn went(&self) -> u64 {
-        self.went
+    /// How many processes of a worker have gone on so far.
+    pub fn went(&self, worker: u32) -> u64 {
+        self.went[worker_place(worker)]
     }
 
     /// Notes that a worker begins to wait.

@@ -21,7 +21,7 @@ pub enum Next {
     Answer(usize, Answer),
     /// A process that was started.
     New(New),
-    /// Nothing; so many processes have gone on so far.
+    /// Nothing; so many of the worker's processes have gone on so far.
     Nothing(u64),
     /// The run is over, or was given up.
     Over,
@@ -66,14 +66,14 @@ impl Shared {
         Ok(committed)
     }
 
-    /// An answer that came for one of the logs, if there is one.
-    pub fn look(&self, rt: &impl Wait, logs: &[Log]) -> Next
+    /// An answer that came for one of the worker's logs, if there is one.
+    pub fn look(&self, rt: &impl Wait, worker: u32, logs: &[Log]) -> Next
         ensures { FitsLogs (length logs.now) result }
     {
         let mut desk = self.desk.lock(rt);
         match desk.fetch(logs) {
             Some((place, answer)) => Next::Answer(place, answer),
-            None => Next::Nothing(desk.went()),
+            None => Next::Nothing(desk.went(worker)),
         }
     }
 

@@ -28,7 +28,7 @@ pub struct Worker {
     ready: VecDeque<Log>,
     waiting: Vec<Log>,
     done: Vec<Log>,
-    /// How many processes had gone on when the worker last looked for answers.
+    /// How many of them had gone on when the worker last looked for answers.
     looked: u64,
     /// How many had gone on at its last commit.
     went: u64,
@@ -215,7 +215,8 @@ fn make_burst<R: Wait, G: Gate>(
     take_outcome(worker, log, committed.outcome)
 }
 
-// One turn: the next process that can go makes a burst. Answers are looked for where some came since the last look; and a process
+// One turn: the next process that can go makes a burst. Answers are looked for where one of the worker's own processes has gone
+// on since the last look; and a process
 // is taken only where none can go.
 fn make_turn<R: Wait, G: Gate>(
     rt: &R,
@@ -228,7 +229,7 @@ fn make_turn<R: Wait, G: Gate>(
     ensures { OnOk result (HasLogs guarded.now worker.new) }
 {
     if worker.went != worker.looked && !worker.waiting.is_empty() {
-        let next = shared.look(rt, &worker.waiting);
+        let next = shared.look(rt, worker.number, &worker.waiting);
         return take_next(guarded, worker, next);
     }
     match take_ready(worker) {
@@ -269,7 +270,7 @@ fn take_last(rt: &impl Wait, shared: &Shared, worker: &mut Worker) -> Result<(),
     ensures { OnOk result ((code : Code) → HasLogs code worker.old → HasLogs code worker.new) }
 {
     'answers: for _ in rt.forever() {
-        match shared.look(rt, &worker.waiting) {
+        match shared.look(rt, worker.number, &worker.waiting) {
             Next::Answer(place, answer) => match take_answer(worker, place, answer)? {
                 Turn::More => {}
                 Turn::Over | Turn::Misfit => return Ok(()),

@@ -1,4 +1,4 @@
-use Rattle.std.proofs.Common.{◌≡◌, ℕ, Option, arith, subst, sym}
+use Rattle.std.proofs.Common.{◌≡◌, ℕ, Option, subst, sym}
 use Rattle.std.specs.Prelude.{slice_index_or}
 use Rattle.serial_run.specs.declared.runner.Runner.{Runner}
 use Rattle.serial_run.specs.declared.refusal.RunRefusal.{RunRefusal}
@@ -8,7 +8,7 @@ use Rattle.serial_run.proofs.Finishing.{all_taken_kept}
 use Rattle.serial_run.proofs.Leading.{has_place, led_served}
 use Rattle.serial_run.proofs.Misfits.{none_rests}
 use Rattle.serial_run.proofs.Refusing.{if_err, open_kept, unserved_refused}
-use Rattle.serial_run.proofs.Turning.{IsUpAt, turn_at, is_there, is_up, is_within}
+use Rattle.serial_run.proofs.Turning.{IsUpAt, turn_at, is_there, is_up}
 use Rattle.serial_run.proofs.Stopping.{turn_makes}
 use Rattle.serial_run.proofs.serial.make_turn.Goals as goal
 
@@ -26,12 +26,6 @@ pub serve-requires-clause-place : goal.serve-requires-clause-place
 serve-requires-clause-place c =
     let up : IsUpAt c.next_turn.new.runners c.in-Some.k = turn_at c.next_turn.new.runners c.in_ok-k.field-0 c.in-Some.k c.in-Some.is c.in_ok-k.ensures.found in
     has_place c.args.guarded.now c.next_turn.new.kernel c.next_turn.new.runners c.in-Some.k (slice_index_or c.next_turn.new.runners c.in-Some.k c.index-runners-k.result) (c.in_ok-k.ensures.stand c.args.guarded.now c.requires.stand) (is_there c.next_turn.new.runners c.in-Some.k c.index-runners-k.result up)
-
-pub overflow_add-turns : goal.overflow_add-turns
-overflow_add-turns c =
-    let up : IsUpAt c.next_turn.new.runners c.in-Some.k = turn_at c.next_turn.new.runners c.in_ok-k.field-0 c.in-Some.k c.in-Some.is c.in_ok-k.ensures.found in
-    let low = is_within c.next_turn.new.runners c.in-Some.k up in
-    omega (arith, low)
 
 pub returns-clause-stand : goal.returns-clause-stand
 returns-clause-stand c =
