@@ -1,16 +1,18 @@
 -- Send numbers stay distinct as values are sent and taken.
-use Rattle.std.proofs.Common.{◌≡◌, ◌≢◌, ℕ, ◌+◌, ◌<◌, ◌≤◌, List, [], ◌∷◌, ◌++◌, length, cond, refl, sym, ap, ◌∙◌, inl, inr, arith, Some, slice_get, get_or}
-use Rattle.std.specs.Prelude.{◌==◌}
+use Rattle.std.proofs.Common.{◌≡◌, ◌≢◌, ℕ, zero, suc, ◌+◌, ◌<◌, ◌≤◌, List, [], ◌∷◌, ◌++◌, length, replicate, true, false, cond, refl, sym, ap, ◌∙◌, inl, inr, arith, Some, slice_get, get_or}
+use Rattle.std.specs.Prelude.{◌==◌, nat_lt}
 use Rattle.std.specs.List.{remove}
-use Rattle.std.proofs.lemmas.Bool.{cases_eq, ne_eqb}
-use Rattle.std.proofs.lemmas.List.Sums.{sum_by_push, sum_by-remove}
+use Rattle.std.proofs.lemmas.Bool.{cases_Bool, cases_eq, ne_eqb}
+use Rattle.std.proofs.lemmas.Bool.Decides.{nat_tests}
+use Rattle.std.proofs.lemmas.List.Sums.{sum_by-cons, sum_by_push, sum_by-remove}
 use Rattle.std.proofs.lemmas.Option.{same_Some, slice_get_within, slice_get-get_or}
 use Rattle.kernel_lists.specs.Once.{others, AreOnce}
 use Rattle.kernel_lists.proofs.Entries.{once_remove}
 use Rattle.world_model.specs.declared.world.StoredValue.{StoredValue}
-use Rattle.value_queues.specs.Queues.{placed, with_placed, values_in, stored_but, times_stored, TakesFirst}
+use Rattle.value_queues.specs.Queues.{placed, with_placed, values_in, stored_but, times_in, times_stored, TakesFirst}
 use Rattle.value_queues.proofs.Counted.{tells, tells_same, times_set, times_placed, times_taken, taken_but, none_stored}
 use Rattle.buffers_signals.specs.declared.messages.Held.{Held}
+use Rattle.buffers_signals.specs.Arrivals.{AreBefore}
 use Rattle.buffers_signals.specs.Lists.{sender_of, times_held}
 use Rattle.buffers_signals.specs.Buffers.{Values, times, AreDistinct}
 use Rattle.buffers_signals.specs.Steps.{values}
@@ -78,3 +80,33 @@ only_taken old new senders last buffer value h taken = taken_but old new buffer 
 pub only_offered : (stored : List (List StoredValue)) (senders : List Held) (last k : ℕ) (held : Held) → AreDistinct (values stored senders) last → AreOnce sender_of senders → slice_get senders k ≡ Some held → stored ≡ stored_but held.value.send stored
 only_offered stored senders last k held h once at =
     sym (none_stored held.value.send stored (omega (arith, h.once held.value.send, waits_less senders k held once at held.value.send, tells_same held.value)))
+
+below : (a b : ℕ) → nat_lt a b ≡ true → a < b
+below a b is = grind (arith, nat_tests)
+
+not_below : (a b : ℕ) → nat_lt a b ≡ false → b ≤ a
+not_below a b is = grind (arith, nat_tests)
+
+-- each sender's value was sent before the next number
+pub all_before : (stored : List (List StoredValue)) (senders : List Held) (last next : ℕ) → AreDistinct (values stored senders) last → AreOnce sender_of senders → last < next → AreBefore next senders
+all_before stored senders last next h once later k held at = elim (cases_Bool (nat_lt last held.value.send)) [
+  | inl high ↦ (let low : last < held.value.send = below last held.value.send high in
+      let none = h.drawn held.value.send low in
+      let f : ⊥ = omega (arith, none, waits_less senders k held once at held.value.send, tells_same held.value) in absurd f)
+  | inr low ↦ omega (arith, not_below last held.value.send low, later)
+]
+
+-- nothing lies in empty buffers
+none_lies : (send n : ℕ) → times_stored send (replicate n []) ≡ 0
+none_lies send zero = refl
+none_lies send (suc n) =
+    let more : times_stored send (replicate (suc n) []) ≡ times_in send [] + times_stored send (replicate n []) = sum_by-cons (times_in send) [] (replicate n []) in
+    let none : times_in send [] ≡ 0 = refl in
+    let rest = none_lies send n in
+    omega (arith, more, none, rest)
+
+pub none_distinct : (n : ℕ) → AreDistinct (values (replicate n []) []) 0
+none_distinct n = record {
+  once = λ send. (let none = none_lies send n in omega (arith, none));
+  drawn = λ send low. (let none = none_lies send n in omega (arith, none));
+}

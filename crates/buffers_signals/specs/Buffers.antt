@@ -20,6 +20,7 @@ use Rattle.buffers_signals.specs.declared.messages.Sent.TheVariants as sends
 use Rattle.buffers_signals.specs.declared.messages.Received.{Received}
 use Rattle.buffers_signals.specs.declared.messages.Received.TheVariants as receipts
 use Rattle.value_queues.specs.Queues.{rank_of, values_in, with_placed, stored_but, times_stored}
+use Rattle.buffers_signals.specs.Arrivals.{SeenReceivers, SeenSenders}
 use Rattle.buffers_signals.specs.Lists.{sender_of, receiver_of, IsIn, times_held, lists}
 
 -- the length of each buffer; the values that lie in each, in the order in which they are received; those whose senders
@@ -159,6 +160,12 @@ pub record AreWell (lengths : List (Option ℕ)) (stored : List (List StoredValu
   pub receivers_once : AreOnce receiver_of receivers
   pub each : length stored ≡ length lengths
   pub distinct : AreDistinct (record { stored = stored; senders = senders }) last
+
+-- the same of what is kept in queues, of which each buffer has two
+pub record AreKept (lengths : List (Option ℕ)) (stored : List (List StoredValue)) (senders : SeenSenders) (receivers : SeenReceivers) (last : ℕ) : Type 0 where
+  pub well : AreWell lengths stored senders.senders receivers.receivers last
+  pub sending : senders.places ≡ length lengths
+  pub receiving : receivers.places ≡ length lengths
 
 -- the value may be received from one of the listed buffers, and no other goes before it
 pub record IsChoice (b : SeenBuffers) (buffers : List Alternative) (held : Held) : Type 0 where

@@ -1,4 +1,5 @@
 pub mod Lists
+pub mod Arrivals
 pub mod Buffers
 pub mod Signals
 pub mod Ranks

@@ -1,27 +1,22 @@
 -- How values and signals stand, where they may be chosen.
 use Rattle.std.specs.Prelude.{◌≡◌, ℕ, ◌==◌, ◌&&◌, Bool, true, false, List, ◌∷◌, slice_get, slice_index_or, if◌then◌else◌, Some, None, is_some}
+use Rattle.std.specs.Option.{option_map}
 use Rattle.std.specs.declared.option.Option.{Option}
 use Rattle.kernel_base.specs.declared.request.Alternative.{Alternative}
 use Rattle.world_model.specs.declared.world.PendingSignal.{PendingSignal}
 use Rattle.world_model.specs.Lists.{number_for}
 use Rattle.kernel_lists.specs.declared.best.Rank.{Rank}
-use Rattle.kernel_lists.specs.declared.best.Best.{Best}
-use Rattle.kernel_lists.specs.Best.{precedes_in}
+use Rattle.kernel_lists.specs.Once.{entry_of}
+use Rattle.wait_queues.specs.declared.waiters.Waiter.{Waiter}
 use Rattle.buffers_signals.specs.declared.messages.Held.{Held}
 use Rattle.buffers_signals.specs.declared.receiving.Source.{Source}
 use Rattle.buffers_signals.specs.declared.receiving.Source.TheVariants.{Stored, Offered, Nowhere}
 use Rattle.value_queues.specs.Queues.{rank_of, values_in, first_rank}
 use Rattle.world_model.specs.declared.world.StoredValue.{StoredValue}
+use Rattle.buffers_signals.specs.Arrivals.{rank_in, senders_at}
+use Rattle.buffers_signals.specs.Lists.{sender_of}
 use Rattle.buffers_signals.specs.Signals.{may_receive}
 use Rattle.buffers_signals.specs.Buffers.{SeenBuffers, IsChoice, NoCandidate}
-
--- a value stands by its rank where this holds
-abbrev pub rank_where : Bool → Held → Option Rank
-rank_where may held = if may then Some (rank_of held.value) else None
-
--- the value of one that waits to send to the buffer
-abbrev pub sender_rank : ℕ → Held → Option Rank
-sender_rank buffer held = rank_where (held.buffer == buffer) held
 
 -- of a buffer of length 0
 abbrev pub is_zero : Option ℕ → Bool
@@ -34,20 +29,13 @@ is_unbuffered lengths buffer = is_zero (slice_index_or lengths buffer None)
 abbrev pub is_listed : List Alternative → ℕ → Bool
 is_listed buffers buffer = is_some (number_for buffers buffer)
 
--- the value that is received first from a buffer, where values lie in it
-abbrev pub front_rank : List (Option ℕ) → List (List StoredValue) → Alternative → Option Rank
-front_rank lengths stored listed = if is_unbuffered lengths listed.thing then None else first_rank (values_in stored listed.thing)
+-- the value that goes first of those whose senders wait on a buffer
+abbrev pub offered_rank : List Held → ℕ → Option Rank
+offered_rank senders buffer = option_map rank_in (slice_get (senders_at buffer senders) 0)
 
--- a value whose sender waits on a listed buffer of length 0
-abbrev pub offered_rank : List (Option ℕ) → List Alternative → Held → Option Rank
-offered_rank lengths buffers held = rank_where (is_listed buffers held.buffer && is_unbuffered lengths held.buffer) held
-
--- where the better of both stands
-abbrev pub source_between : Option Best → Option Best → Source
-source_between None None = Nowhere
-source_between (Some stored) None = Stored stored.place
-source_between None (Some offered) = Offered offered.place
-source_between (Some stored) (Some offered) = if precedes_in offered.rank stored.rank then Offered offered.place else Stored stored.place
+-- the value that is received first from a buffer
+abbrev pub front_rank : List (Option ℕ) → List (List StoredValue) → List Held → ℕ → Option Rank
+front_rank lengths stored senders buffer = if is_unbuffered lengths buffer then offered_rank senders buffer else first_rank (values_in stored buffer)
 
 -- the choice is the first value of the buffer that stands at this place of the list
 pub record IsFrontAt (b : SeenBuffers) (buffers : List Alternative) (place : ℕ) : Type 0 where
@@ -59,10 +47,14 @@ pub record IsFrontAt (b : SeenBuffers) (buffers : List Alternative) (place : ℕ
   pub choice : IsChoice b buffers (record { buffer = listed.thing; value = value })
   pub length : is_unbuffered b.lengths listed.thing ≡ false
 
--- the choice is offered by the sender at this place
+-- the choice is offered by the sender that waits first on the buffer that stands at this place of the list
 pub record IsOfferAt (b : SeenBuffers) (buffers : List Alternative) (place : ℕ) : Type 0 where
+  pub listed : Alternative
+  pub at : slice_get buffers place ≡ Some listed
+  pub first : Waiter
+  pub stands : slice_get (senders_at listed.thing b.senders) 0 ≡ Some first
   pub held : Held
-  pub at : slice_get b.senders place ≡ Some held
+  pub found : entry_of sender_of b.senders first.who ≡ Some held
   pub choice : IsChoice b buffers held
   pub length : is_unbuffered b.lengths held.buffer ≡ true
 

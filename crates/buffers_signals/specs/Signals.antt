@@ -1,6 +1,7 @@
 -- What a contract sees of the signals, and what sending and receiving do.
-use Rattle.std.specs.Prelude.{◌≡◌, ℕ, ◌<◌, ◌==◌, ◌&&◌, Bool, List, [], ◌∷◌, ◌++◌, length, slice_index_or, Some, None, IsTrue, IsFalse, IsSome}
+use Rattle.std.specs.Prelude.{◌≡◌, ℕ, ◌<◌, ◌==◌, ◌&&◌, Bool, List, [], ◌∷◌, ◌++◌, length, slice_index_or, if◌then◌else◌, Some, None, IsTrue, IsFalse, IsSome}
 use Rattle.std.specs.List.{find}
+use Rattle.std.specs.Option.{option_and_then}
 use Rattle.std.specs.declared.option.Option.{Option}
 use Rattle.kernel_base.specs.declared.request.Alternative.{Alternative}
 use Rattle.kernel_base.specs.declared.request.Request.{Request}
@@ -13,7 +14,8 @@ use Rattle.world_model.specs.Lists.{number_for}
 use Rattle.world_model.specs.Waiting.{is_process}
 use Rattle.world_model.specs.World.{signals_but}
 use Rattle.kernel_lists.specs.Best.{precedes_in}
-use Rattle.kernel_lists.specs.Once.{others}
+use Rattle.kernel_lists.specs.Once.{entry_of, others}
+use Rattle.wait_queues.specs.declared.waiters.Waiter.{Waiter}
 use Rattle.buffers_signals.specs.declared.messages.Receiver.{Receiver}
 use Rattle.buffers_signals.specs.declared.messages.Sent.{Sent}
 use Rattle.buffers_signals.specs.declared.messages.Sent.TheVariants as sends
@@ -21,6 +23,7 @@ use Rattle.buffers_signals.specs.declared.messages.Received.{Received}
 use Rattle.buffers_signals.specs.declared.messages.Received.TheVariants as receipts
 use Rattle.value_queues.specs.Queues.{rank_of}
 use Rattle.buffers_signals.specs.Lists.{receiver_of, IsIn, lists}
+use Rattle.buffers_signals.specs.Arrivals.{process_in}
 
 -- for each signal the process that may receive it, if its definition names one; the pending signals; the receivers that
 -- wait, in the order in which they came; and for how many changes there is room
@@ -48,6 +51,14 @@ may_receive wanted signal None who process = is_process (slice_index_or wanted s
 -- it waits for the signal and may receive it
 abbrev pub is_receiver : List (Option ℕ) → ℕ → Option ℕ → Receiver → Bool
 is_receiver wanted signal to receiver = may_receive wanted signal to receiver.who receiver.process && lists signal receiver
+
+-- the same of one that is read off its place in the queue, where the signal is sent to nobody in particular
+abbrev pub takes_any : List (Option ℕ) → ℕ → List Receiver → Waiter → Bool
+takes_any wanted signal receivers w = may_receive wanted signal None w.who (process_in receivers w.who)
+
+-- the instance itself, if it waits for the signal
+abbrev pub waits_itself : List Receiver → ℕ → ℕ → Option Receiver
+waits_itself receivers signal to = option_and_then (λ r. if lists signal r then Some r else None) (entry_of receiver_of receivers to)
 
 -- the receiver that came first of those that wait for the signal and may receive it
 abbrev pub receiver_for : SeenSignals → ℕ → Option ℕ → Option Receiver

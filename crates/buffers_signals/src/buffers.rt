@@ -1,8 +1,11 @@
 // Buffers, with the values in them, and those that wait to send to them and to receive from them (Z.200, chapter on
 // concurrent execution).
-ghost use Rattle.std.specs.Prelude.{◌≡◌, ◌+◌, ◌<◌, ◌≤◌, ◌++◌, ◌∷◌, [], None, Some, IfOk, IfSome, IfNone, OnOk, IsTrue, IsFalse, true, false, length, replicate, slice_get, slice_index_or};
-ghost use Rattle.std.specs.List.{find};
-ghost use Rattle.kernel_lists.specs.Once.{AreOnce};
+ghost use Rattle.std.specs.Prelude.{◌≡◌, ℕ, ◌+◌, ◌<◌, ◌≤◌, ◌++◌, ◌∷◌, [], None, Some, IfOk, IfSome, IfNone, OnOk, IsTrue, IsFalse, true, false, length, replicate, slice_get, slice_index_or};
+ghost use Rattle.std.specs.Option.{option_and_then};
+ghost use Rattle.kernel_base.specs.Facts.{NameThings};
+ghost use Rattle.kernel_lists.specs.Once.{AreOnce, entry_of};
+ghost use Rattle.wait_queues.specs.Waiting.{AreInOrder, waiter_of};
+ghost use Rattle.buffers_signals.specs.Arrivals.{no_priority, priority_of, receivers_at, receives_at, senders_at, sends_at, waits_at};
 ghost use Rattle.value_queues.specs.Queues.{values_in};
 ghost use Rattle.buffers_signals.specs.Lists.{sender_of, receiver_of, lists};
 ghost use Rattle.buffers_signals.specs.Buffers.{IsSend, IsReceive, WaitsOnNothing, Sends, SendsValue, Receives, ReceivesFrom, takes_more};
@@ -10,14 +13,16 @@ ghost use Rattle.world_model.specs.Allowed.{is_below};
 ghost use Rattle.buffers_signals.specs.Ranks.{IsSource, IsFrontAt, IsOfferAt};
 ghost use Rattle.buffers_signals.specs.Steps.{GotFrom};
 
-use crate::receiving::{Source, best_front, best_offered, better_source};
-use crate::taking::{answer_with, first_receiver, refill, take_receiver, take_sender};
+use crate::receiving::{Source, best_front, is_without_values};
+use crate::taking::{answer_with, refill};
+use crate::waiting::{Receivers, Senders};
 use crate::{Held, Received, Receiver, Sent};
 use chill_base::{Item, Lengths, Memory};
 use kernel_base::{Alternative, Alternatives, Facts, Request};
 use std::alloc::Global;
 use std::marker::Model;
 use value_queues::ValueQueues;
+use wait_queues::Waiters;
 use world_model::{StoredValue, number_at, number_for};
 
 /// The buffers of a program.
@@ -25,28 +30,27 @@ use world_model::{StoredValue, number_at, number_for};
 pub struct Buffers {
     lengths: Lengths,
     stored: ValueQueues,
-    senders: Vec<Held>,
-    receivers: Vec<Receiver>,
+    senders: Senders,
+    receivers: Receivers,
     last: u32,
 }
 
 impl Model for Buffers {
     ghost use Rattle.std.specs.Prelude.{min};
-    ghost use Rattle.kernel_lists.specs.Room.{spare};
-    ghost use Rattle.buffers_signals.specs.Buffers.{SeenBuffers, AreWell};
+    ghost use Rattle.buffers_signals.specs.Buffers.{AreKept, SeenBuffers};
 
     ghost Value = { SeenBuffers };
 
     ghost view = { λ b. record {
       lengths = b.lengths;
       stored = b.stored.values;
-      senders = b.senders.items;
-      receivers = b.receivers.items;
+      senders = b.senders.senders;
+      receivers = b.receivers.receivers;
       last = b.last;
-      spare = min b.stored.room (min (spare b.senders) (spare b.receivers));
+      spare = min b.stored.room (min b.senders.room b.receivers.room);
     } };
 
-    ghost invariant = { λ b. AreWell b.lengths b.stored.values b.senders.items b.receivers.items b.last };
+    ghost invariant = { λ b. AreKept b.lengths b.stored.values b.senders b.receivers b.last };
 }
 
 impl Buffers {
@@ -60,8 +64,8 @@ impl Buffers {
         Ok(Buffers {
             lengths: facts.buffers.copy()?,
             stored: ValueQueues::new(alloc, facts.buffers.len())?,
-            senders: Vec::new(alloc),
-            receivers: Vec::new(alloc),
+            senders: Senders::new(alloc, facts.buffers.len())?,
+            receivers: Receivers::new(alloc, facts.buffers.len())?,
             last: 0,
         })
     }
@@ -88,6 +92,25 @@ impl Buffers {
         ensures receivers { AreOnce receiver_of self.now.receivers }
     {
         let _stored = &self.stored;
+    }
+
+    /// Those that wait to receive from a buffer, in the order in which a value is handed over.
+    pub fn receivers(&self, buffer: u32) -> &Waiters
+        requires { buffer < length self.now.lengths }
+        ensures is { result.now.waiters ≡ receivers_at buffer self.now.receivers }
+        ensures exactly { (who : ℕ) → entry_of waiter_of result.now.waiters who ≡ option_and_then (waits_at receiver_of no_priority receives_at buffer) (entry_of receiver_of self.now.receivers who) }
+    {
+        self.receivers.at(buffer)
+    }
+
+    /// Those that wait to send to a buffer, in the order in which they are chosen.
+    pub fn senders(&self, buffer: u32) -> &Waiters
+        requires { buffer < length self.now.lengths }
+        ensures is { result.now.waiters ≡ senders_at buffer self.now.senders }
+        ensures exactly { (who : ℕ) → entry_of waiter_of result.now.waiters who ≡ option_and_then (waits_at sender_of priority_of sends_at buffer) (entry_of sender_of self.now.senders who) }
+        ensures order { AreInOrder result.now.waiters }
+    {
+        self.senders.at(buffer)
     }
 
     /// Sends a value under this send number, which is behind all earlier ones. It takes no memory.
@@ -130,18 +153,19 @@ impl Buffers {
         ensures spare { self.old.spare ≤ self.new.spare + 1 }
     {
         self.last = value.send;
-        if let Some(place) = first_receiver(&self.receivers, buffer) {
-            let receiver = take_receiver(&mut self.receivers, place, buffer);
+        self.receivers.each_once();
+        if let Some(to) = self.receivers.first(buffer) {
+            let alternative = self.receivers.take(to, buffer);
             return Sent::Handed {
-                to: receiver.thing,
-                answer: answer_with(receiver.number, value),
+                to,
+                answer: answer_with(alternative, value),
             };
         }
         if takes_one_more(self.lengths.as_slice(), &self.stored, buffer) {
             self.stored.put(buffer, value);
             return Sent::Stored;
         }
-        self.senders.push_reserved(Held { buffer, value });
+        self.senders.put(Held { buffer, value });
         Sent::Delayed
     }
 
@@ -171,6 +195,7 @@ impl Buffers {
         otherwise: bool,
     ) -> Received
         requires spare { 0 < self.old.spare }
+        requires there { NameThings (length self.old.lengths) buffers }
         requires nothing { WaitsOnNothing self.old who }
         ensures receives { ReceivesFrom self.old self.new who process buffers otherwise result }
         ensures last { self.new.last ≡ self.old.last }
@@ -184,7 +209,7 @@ impl Buffers {
                 if otherwise {
                     return Received::Otherwise;
                 }
-                self.receivers.push_reserved(Receiver {
+                self.receivers.put(Receiver {
                     who,
                     process,
                     things: buffers,
@@ -195,18 +220,28 @@ impl Buffers {
     }
 
     fn source_of(&self, buffers: &[Alternative]) -> Source
+        requires { NameThings (length self.now.lengths) buffers.now }
         ensures { IsSource self.now buffers.now result }
     {
         let lengths = self.lengths.as_slice();
         self.stored.in_order();
-        better_source(
-            best_front(lengths, buffers, &self.stored),
-            best_offered(lengths, buffers, &self.senders),
-        )
+        self.senders.each_once();
+        match best_front(lengths, buffers, &self.stored, &self.senders) {
+            Some(best) => {
+                let place = best.place;
+                if is_without_values(lengths, buffers[place].thing) {
+                    Source::Offered { place }
+                } else {
+                    Source::Stored { place }
+                }
+            }
+            None => Source::Nowhere,
+        }
     }
 
     fn take_stored(&mut self, buffers: &[Alternative], place: usize) -> Received
         requires front { IsFrontAt self.old buffers.now place }
+        requires there { NameThings (length self.old.lengths) buffers.now }
         requires spare { 0 < self.old.spare }
         ensures got { GotFrom self.old self.new buffers.now result }
         ensures last { self.new.last ≡ self.old.last }
@@ -229,13 +264,15 @@ impl Buffers {
     }
 
     fn take_offered(&mut self, buffers: &[Alternative], place: usize) -> Received
-        requires { IsOfferAt self.old buffers.now place }
+        requires offer { IsOfferAt self.old buffers.now place }
+        requires there { NameThings (length self.old.lengths) buffers.now }
         ensures got { GotFrom self.old self.new buffers.now result }
         ensures last { self.new.last ≡ self.old.last }
         ensures lengths { self.new.lengths ≡ self.old.lengths }
         ensures spare { self.old.spare ≤ self.new.spare }
     {
-        let taken = take_sender(&mut self.senders, place);
+        let first = self.senders.first(buffers[place].thing).unwrap();
+        let taken = self.senders.take(first.who);
         let alternative = number_for(buffers, taken.buffer).unwrap();
         let refill = Some(taken.value.sender);
         Received::Got {

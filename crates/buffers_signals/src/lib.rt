@@ -10,6 +10,7 @@ mod messages;
 mod receiving;
 mod signals;
 mod taking;
+mod waiting;
 
 pub use buffers::Buffers;
 pub use messages::{Held, Received, Receiver, Sent};

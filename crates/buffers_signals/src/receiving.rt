@@ -1,15 +1,17 @@
 // Which value is received from buffers.
-ghost use Rattle.std.specs.Prelude.{◌≡◌, slice_index_or, IfSome, IfNone};
+ghost use Rattle.std.specs.Prelude.{◌≡◌, ◌<◌, length, slice_index_or, IfSome, IfNone};
+ghost use Rattle.kernel_base.specs.Facts.{NameThings};
 ghost use Rattle.kernel_lists.specs.Best.{IsBest, NoneRanked};
-ghost use Rattle.buffers_signals.specs.Ranks.{is_listed, is_unbuffered, front_rank, offered_rank, rank_where, source_between};
+ghost use Rattle.buffers_signals.specs.Ranks.{front_rank, is_unbuffered, offered_rank};
 
-use crate::Held;
+use crate::waiting::Senders;
 use kernel_base::Alternative;
-use kernel_lists::{Best, Rank, better, precedes};
-use value_queues::{ValueQueues, rank};
-use world_model::{number_at, number_for};
+use kernel_lists::{Best, Rank, better};
+use value_queues::ValueQueues;
+use world_model::number_at;
 
-/// Where the value that is received stands: first in the buffer at a place of the list, or among those whose senders wait.
+/// Where the value that is received stands: first in the buffer at a place of the list, or with the sender that waits first
+/// on that buffer.
 #[derive(Clone, Copy)]
 pub enum Source {
     Stored { place: usize },
@@ -17,7 +19,8 @@ pub enum Source {
     Nowhere,
 }
 
-fn is_without_values(lengths: &[Option<u32>], buffer: u32) -> bool
+/// Whether no values lie in a buffer, as in one of length 0.
+pub fn is_without_values(lengths: &[Option<u32>], buffer: u32) -> bool
     ensures { result ≡ is_unbuffered lengths.now buffer }
 {
     match number_at(lengths, buffer) {
@@ -26,87 +29,53 @@ fn is_without_values(lengths: &[Option<u32>], buffer: u32) -> bool
     }
 }
 
-fn rank_if(may: bool, held: &Held) -> Option<Rank>
-    ensures { result ≡ rank_where may held.now }
+fn rank_offered(senders: &Senders, buffer: u32) -> Option<Rank>
+    requires { buffer < senders.now.places }
+    ensures { result ≡ offered_rank senders.now.senders buffer }
 {
-    if may { Some(rank(&held.value)) } else { None }
-}
-
-fn rank_front(lengths: &[Option<u32>], stored: &ValueQueues, listed: &Alternative) -> Option<Rank>
-    ensures { result ≡ front_rank lengths.now stored.now.values listed.now }
-{
-    if is_without_values(lengths, listed.thing) {
-        None
-    } else {
-        stored.first(listed.thing)
+    match senders.first(buffer) {
+        Some(first) => Some(Rank {
+            priority: first.priority,
+            arrival: first.number,
+        }),
+        None => None,
     }
 }
 
-fn rank_offered(lengths: &[Option<u32>], buffers: &[Alternative], held: &Held) -> Option<Rank>
-    ensures { result ≡ offered_rank lengths.now buffers.now held.now }
+fn rank_front(
+    lengths: &[Option<u32>],
+    stored: &ValueQueues,
+    senders: &Senders,
+    buffer: u32,
+) -> Option<Rank>
+    requires { buffer < senders.now.places }
+    ensures { result ≡ front_rank lengths.now stored.now.values senders.now.senders buffer }
 {
-    let may = number_for(buffers, held.buffer).is_some() && is_without_values(lengths, held.buffer);
-    rank_if(may, held)
+    if is_without_values(lengths, buffer) {
+        rank_offered(senders, buffer)
+    } else {
+        stored.first(buffer)
+    }
 }
 
-/// The listed buffer whose first value is the best of all that lie in listed buffers.
+/// The listed buffer whose first value is the best of all that may be received from listed buffers.
 pub fn best_front(
     lengths: &[Option<u32>],
     buffers: &[Alternative],
     stored: &ValueQueues,
+    senders: &Senders,
 ) -> Option<Best>
-    ensures some { IfSome result (IsBest (front_rank lengths.now stored.now.values) buffers.now) }
-    ensures none { IfNone result (NoneRanked (front_rank lengths.now stored.now.values) buffers.now) }
+    requires { NameThings senders.now.places buffers.now }
+    ensures some { IfSome result (IsBest (λ a. front_rank lengths.now stored.now.values senders.now.senders a.thing) buffers.now) }
+    ensures none { IfNone result (NoneRanked (λ a. front_rank lengths.now stored.now.values senders.now.senders a.thing) buffers.now) }
 {
     let mut found = None;
     for place in 0..buffers.len() {
-        found = better(found, place, rank_front(lengths, stored, &buffers[place]));
-    }
-    found
-}
-
-/// The best of the values whose senders wait on listed buffers of length 0.
-pub fn best_offered(
-    lengths: &[Option<u32>],
-    buffers: &[Alternative],
-    senders: &[Held],
-) -> Option<Best>
-    ensures some { IfSome result (IsBest (offered_rank lengths.now buffers.now) senders.now) }
-    ensures none { IfNone result (NoneRanked (offered_rank lengths.now buffers.now) senders.now) }
-{
-    let mut found = None;
-    for place in 0..senders.len() {
         found = better(
             found,
             place,
-            rank_offered(lengths, buffers, &senders[place]),
+            rank_front(lengths, stored, senders, buffers[place].thing),
         );
     }
     found
-}
-
-/// The better of a stored value and one whose sender waits.
-pub fn better_source(stored: Option<Best>, offered: Option<Best>) -> Source
-    ensures { result ≡ source_between stored offered }
-{
-    match (stored, offered) {
-        (None, None) => Source::Nowhere,
-        (Some(stored), None) => Source::Stored {
-            place: stored.place,
-        },
-        (None, Some(offered)) => Source::Offered {
-            place: offered.place,
-        },
-        (Some(stored), Some(offered)) => {
-            if precedes(offered.rank, stored.rank) {
-                Source::Offered {
-                    place: offered.place,
-                }
-            } else {
-                Source::Stored {
-                    place: stored.place,
-                }
-            }
-        }
-    }
 }

@@ -1,16 +1,19 @@
 // Signals that are pending, and those that wait for them (Z.200, chapter on concurrent execution).
-ghost use Rattle.std.specs.Prelude.{◌≡◌, ◌==◌, ◌&&◌, ◌+◌, ◌<◌, ◌≤◌, ◌++◌, ◌∷◌, [], None, Some, IfOk, IfSome, IfNone, OnOk, IsTrue, IsFalse, length, slice_get, slice_index_or};
+ghost use Rattle.std.specs.Prelude.{◌≡◌, ℕ, ◌==◌, ◌&&◌, ◌+◌, ◌<◌, ◌≤◌, ◌++◌, ◌∷◌, [], None, Some, IfOk, IfSome, IfNone, OnOk, IsTrue, IsFalse, length, slice_get, slice_index_or};
 ghost use Rattle.std.specs.List.{find};
+ghost use Rattle.std.specs.Option.{option_and_then, option_map};
 ghost use Rattle.kernel_lists.specs.Best.{IsBest, NoneRanked};
-ghost use Rattle.kernel_lists.specs.First.{IsFirst};
 ghost use Rattle.kernel_lists.specs.Once.{entry_of, AreOnce};
 ghost use Rattle.kernel_lists.specs.Room.{spare};
 ghost use Rattle.world_model.specs.World.{signals_but};
 ghost use Rattle.buffers_signals.specs.Lists.{receiver_of};
 ghost use Rattle.buffers_signals.specs.Ranks.{signal_rank};
-ghost use Rattle.buffers_signals.specs.Signals.{IsSend, IsReceive, Sends, SendsTo, Receives, ReceivesFrom, may_receive, is_receiver};
+ghost use Rattle.wait_queues.specs.Waiting.{waiter_of};
+ghost use Rattle.buffers_signals.specs.Arrivals.{no_priority, receivers_at, receives_at, waits_at};
+ghost use Rattle.buffers_signals.specs.Signals.{IsSend, IsReceive, Sends, SendsTo, Receives, ReceivesFrom, may_receive, is_receiver, takes_any, waits_itself};
 
-use crate::taking::{answer_with, take_receiver};
+use crate::taking::answer_with;
+use crate::waiting::Receivers;
 use crate::{Received, Receiver, Sent};
 use chill_base::{Item, Lengths, Memory};
 use kernel_base::{Alternative, Alternatives, Facts, Request};
@@ -18,6 +21,7 @@ use kernel_lists::{Best, Rank, better};
 use std::alloc::Global;
 use std::marker::Model;
 use value_queues::rank;
+use wait_queues::Waiters;
 use world_model::{PendingSignal, StoredValue, number_at, number_for};
 
 /// The signals of a program.
@@ -25,15 +29,13 @@ use world_model::{PendingSignal, StoredValue, number_at, number_for};
 pub struct Signals {
     wanted: Lengths,
     pending: Vec<PendingSignal>,
-    receivers: Vec<Receiver>,
+    receivers: Receivers,
 }
 
 impl Model for Signals {
-    ghost use Rattle.std.specs.Prelude.{min};
+    ghost use Rattle.std.specs.Prelude.{◌≡◌, length, min};
     ghost use Rattle.kernel_lists.specs.Room.{spare};
     ghost use Rattle.kernel_lists.specs.Once.{AreOnce};
-    ghost use Rattle.kernel_lists.specs.Room.{spare};
-    ghost use Rattle.world_model.specs.World.{signals_but};
     ghost use Rattle.buffers_signals.specs.Lists.{receiver_of};
     ghost use Rattle.buffers_signals.specs.Signals.{SeenSignals};
 
@@ -42,11 +44,11 @@ impl Model for Signals {
     ghost view = { λ s. record {
       wanted = s.wanted;
       pending = s.pending.items;
-      receivers = s.receivers.items;
-      spare = min (spare s.pending) (spare s.receivers);
+      receivers = s.receivers.receivers;
+      spare = min (spare s.pending) s.receivers.room;
     } };
 
-    ghost invariant = { λ s. AreOnce receiver_of s.receivers.items };
+    ghost invariant = { λ s. AreOnce receiver_of s.receivers.receivers × (s.receivers.places ≡ length s.wanted) };
 }
 
 impl Signals {
@@ -58,7 +60,7 @@ impl Signals {
         Ok(Signals {
             wanted: facts.signals.copy()?,
             pending: Vec::new(alloc),
-            receivers: Vec::new(alloc),
+            receivers: Receivers::new(alloc, facts.signals.len())?,
         })
     }
 
@@ -80,6 +82,15 @@ impl Signals {
         ensures { AreOnce receiver_of self.now.receivers }
     {
         let _pending = &self.pending;
+    }
+
+    /// Those that wait for a signal, in the order in which they came.
+    pub fn receivers(&self, signal: u32) -> &Waiters
+        requires { signal < length self.now.wanted }
+        ensures is { result.now.waiters ≡ receivers_at signal self.now.receivers }
+        ensures exactly { (who : ℕ) → entry_of waiter_of result.now.waiters who ≡ option_and_then (waits_at receiver_of no_priority receives_at signal) (entry_of receiver_of self.now.receivers who) }
+    {
+        self.receivers.at(signal)
     }
 
     /// Sends a signal under this send number, where it isn't refused. It takes no memory, and is never delayed.
@@ -111,16 +122,18 @@ impl Signals {
 
     fn send_signal(&mut self, signal: PendingSignal) -> Sent
         requires spare { 0 < self.old.spare }
+        requires there { signal.signal < length self.old.wanted }
         ensures sends { SendsTo self.old self.new signal result }
         ensures wanted { self.new.wanted ≡ self.old.wanted }
         ensures spare { self.old.spare ≤ self.new.spare + 1 }
     {
         let wanted = self.wanted.as_slice();
-        if let Some(place) = first_receiver(wanted, &self.receivers, signal.signal, signal.to) {
-            let receiver = take_receiver(&mut self.receivers, place, signal.signal);
+        self.receivers.each_once();
+        if let Some(to) = receiver_for(wanted, &self.receivers, signal.signal, signal.to) {
+            let alternative = self.receivers.take(to, signal.signal);
             return Sent::Handed {
-                to: receiver.thing,
-                answer: answer_with(receiver.number, signal.value),
+                to,
+                answer: answer_with(alternative, signal.value),
             };
         }
         self.pending.push_reserved(signal);
@@ -169,7 +182,7 @@ impl Signals {
         if otherwise {
             return Received::Otherwise;
         }
-        self.receivers.push_reserved(Receiver {
+        self.receivers.put(Receiver {
             who,
             process,
             things: signals,
@@ -197,26 +210,45 @@ fn may_be_received(
     }
 }
 
-fn waits_for(wanted: &[Option<u32>], signal: u32, to: Option<u32>, receiver: &Receiver) -> bool
-    ensures { result ≡ is_receiver wanted.now signal to receiver.now }
-{
-    may_be_received(wanted, signal, to, receiver.who, receiver.process)
-        && number_for(receiver.things.as_slice(), signal).is_some()
-}
-
-// The place of the receiver that came first of those that wait for a signal and may receive it.
-fn first_receiver(
+// Who came first of those that wait for a signal and may receive it.
+fn receiver_for(
     wanted: &[Option<u32>],
-    receivers: &[Receiver],
+    receivers: &Receivers,
     signal: u32,
     to: Option<u32>,
-) -> Option<usize>
-    ensures some { IfSome result (IsFirst (is_receiver wanted.now signal to) receivers.now) }
-    ensures none { IfNone result (find (is_receiver wanted.now signal to) receivers.now ≡ None) }
+) -> Option<u32>
+    requires { signal < receivers.now.places }
+    ensures { result ≡ option_map receiver_of (find (is_receiver wanted.now signal to) receivers.now.receivers) }
 {
-    for place in 0..receivers.len() {
-        if waits_for(wanted, signal, to, &receivers[place]) {
-            return Some(place);
+    receivers.each_once();
+    match to {
+        Some(to) => addressed(receivers, signal, to),
+        None => first_of(wanted, receivers, signal),
+    }
+}
+
+// The instance that a signal is sent to, if it waits for the signal.
+fn addressed(receivers: &Receivers, signal: u32, to: u32) -> Option<u32>
+    ensures { result ≡ option_map receiver_of (waits_itself receivers.now.receivers signal to) }
+{
+    let receiver = receivers.get(to)?;
+    if number_for(receiver.things.as_slice(), signal).is_some() {
+        Some(receiver.who)
+    } else {
+        None
+    }
+}
+
+// Who came first of those that wait for a signal that is sent to nobody in particular.
+fn first_of(wanted: &[Option<u32>], receivers: &Receivers, signal: u32) -> Option<u32>
+    requires { signal < receivers.now.places }
+    ensures { result ≡ option_map waiter_of (find (takes_any wanted.now signal receivers.now.receivers) (receivers_at signal receivers.now.receivers)) }
+{
+    let waiters = receivers.at(signal);
+    for place in 0..waiters.len() {
+        let who = waiters.at(place).who;
+        if may_be_received(wanted, signal, None, who, receivers.process_of(who)) {
+            return Some(who);
         }
     }
     None

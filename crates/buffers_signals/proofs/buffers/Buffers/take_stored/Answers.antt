@@ -1,6 +1,6 @@
 use Rattle.std.proofs.Common.{◌≡◌, ℕ, ◌∷◌, List, length, length-set, Option, None, arith, ap, sym, ◌∙◌}
 use Rattle.std.specs.Prelude.{slice_index_or, is_some}
-use Rattle.std.proofs.lemmas.Option.{same_Some}
+use Rattle.std.proofs.lemmas.Option.{same_Some, slice_get_within}
 use Rattle.kernel_base.specs.declared.answer.Answer.TheVariants.{Got}
 use Rattle.kernel_base.specs.declared.request.Alternative.{Alternative}
 use Rattle.world_model.specs.declared.world.StoredValue.{StoredValue}
@@ -56,7 +56,7 @@ returns-clause-got c =
     let number : c.unwrap-alternative.result ≡ c.requires.front.choice.alternative = same_Some c.unwrap-alternative.result c.requires.front.choice.alternative
     (sym c.unwrap-alternative.ensures ∙ c.number_for.ensures ∙ ap (λ (a : Alternative). number_for c.args.buffers.now a.thing) listed ∙ front.choice.listed) in
     let stored : c.take_first-value.new.self.values ≡ stored_but c.requires.front.value.send c.args.self.now.stored =
-    only_taken inside.stored.values c.take_first-value.new.self.values inside.senders.items inside.last buffer result c.self.invariant.distinct taken
+    only_taken inside.stored.values c.take_first-value.new.self.values inside.senders.senders inside.last buffer result c.self.invariant.well.distinct taken
     ∙ ap (λ (v : StoredValue). stored_but v.send c.self.inside.stored.values) value ∙ ap (λ (v : SeenBuffers). stored_but c.requires.front.value.send v.stored) c.self.view_is in
     let lengths = ap (λ (xs : List (Option ℕ)). slice_index_or xs (slice_index_or c.args.buffers.now c.args.place nothing).thing None) (c.as_slice.ensures ∙ ap (λ (v : SeenBuffers). v.lengths) c.self.view_is)
     ∙ ap (λ (a : Alternative). slice_index_or c.args.self.now.lengths a.thing None) listed in
@@ -64,20 +64,31 @@ returns-clause-got c =
       taken = record { buffer = front.listed.thing; value = front.value };
       choice = front.choice;
       is = c.answer_with.ensures ∙ ap (λ (k : ℕ). Got k result.send result.scalars result.sender) number ∙ ap (λ (v : StoredValue). Got front.choice.alternative v.send v.scalars v.sender) value;
-      refills = refills_like _ (slice_index_or now.lengths front.listed.thing None) c.take_first-value.new.self.values (stored_but front.value.send now.stored) inside.senders.items now.senders _ buffer front.listed.thing front.value.sender c.refill-refill.result lengths stored (ap (λ (v : SeenBuffers). v.senders) c.self.view_is) (ap (λ (a : Alternative). a.thing) listed) (c.refill-refill.ensures.refills front.value.sender);
+      refills = refills_like _ (slice_index_or now.lengths front.listed.thing None) c.take_first-value.new.self.values (stored_but front.value.send now.stored) inside.senders.senders now.senders _ buffer front.listed.thing front.value.sender c.refill-refill.result lengths stored (ap (λ (v : SeenBuffers). v.senders) c.self.view_is) (ap (λ (a : Alternative). a.thing) listed) (c.refill-refill.ensures.refills front.value.sender);
       receivers = ap (λ (v : SeenBuffers). v.receivers) c.self.view_is;
     }
 
+pub refill-refill-requires-clause-place : goal.refill-refill-requires-clause-place
+refill-refill-requires-clause-place c =
+    let low = slice_get_within c.args.buffers.now c.args.place c.requires.front.listed c.requires.front.at in
+    let there = c.requires.there c.args.place nothing low in
+    let lengths = ap (λ (v : SeenBuffers). length v.lengths) c.self.view_is in
+    omega (arith, there, lengths, c.self.invariant.sending)
+
 pub invariant_of-self : goal.invariant_of-self
 invariant_of-self c =
-    let inv = c.self.invariant in
+    let inv = c.self.invariant.well in
     let inside = c.self.inside in
     let buffer = (slice_index_or c.args.buffers.now c.args.place nothing).thing in
     let taken = c.take_first-value.ensures.taken in
     record {
-      senders_once = c.refill-refill.ensures.once;
-      receivers_once = inv.receivers_once;
-      each = c.refill-refill.ensures.each ∙ ap length taken.new_is ∙ length-set inside.stored.values buffer taken.rest ∙ inv.each;
-      distinct = distinct_fewer (values inside.stored.values inside.senders.items) (values c.refill-refill.new.stored.values c.refill-refill.new.senders.items) inside.last
-          (λ send. let same = c.refill-refill.ensures.times send in let fewer = taken_fewer c.self.inside.stored.values c.take_first-value.new.self.values c.self.inside.senders.items (slice_index_or c.args.buffers.now c.args.place nothing).thing c.take_first-value.result taken send in omega (arith, same, fewer)) inv.distinct;
+      well = record {
+        senders_once = c.refill-refill.ensures.once;
+        receivers_once = inv.receivers_once;
+        each = c.refill-refill.ensures.each ∙ ap length taken.new_is ∙ length-set inside.stored.values buffer taken.rest ∙ inv.each;
+        distinct = distinct_fewer (values inside.stored.values inside.senders.senders) (values c.refill-refill.new.stored.values c.refill-refill.new.senders.senders) inside.last
+            (λ send. let same = c.refill-refill.ensures.times send in let fewer = taken_fewer c.self.inside.stored.values c.take_first-value.new.self.values c.self.inside.senders.senders (slice_index_or c.args.buffers.now c.args.place nothing).thing c.take_first-value.result taken send in omega (arith, same, fewer)) inv.distinct;
+      };
+      sending = c.refill-refill.ensures.places ∙ c.self.invariant.sending;
+      receiving = c.self.invariant.receiving;
     }

@@ -43,10 +43,15 @@ returns-then-otherwise-clause-receives c =
       receivers = refl;
     }
 
+pub put-requires-clause-once : goal.put-requires-clause-once
+put-requires-clause-once c = ap (λ (v : SeenSignals). entry_of receiver_of v.receivers c.args.who) c.self.view_is ∙ c.requires.nothing
+
 pub invariant_of-self-2 : goal.invariant_of-self-2
 invariant_of-self-2 c =
-    let none = ap (λ (v : SeenSignals). entry_of receiver_of v.receivers c.args.who) c.self.view_is ∙ c.requires.nothing in
-    rw c.push_reserved.ensures.items (once_push receiver_of c.self.inside.receivers.items (record { who = c.args.who; process = c.args.process; things = c.args.signals }) c.self.invariant none)
+    let none = ap (λ (v : SeenSignals). entry_of receiver_of v.receivers c.args.who) c.self.view_is ∙ c.requires.nothing in (
+      rw c.put.ensures.receivers (once_push receiver_of c.self.inside.receivers.receivers (record { who = c.args.who; process = c.args.process; things = c.args.signals }) c.self.invariant.0 none),
+      c.put.ensures.places ∙ c.self.invariant.1,
+    )
 
 pub returns-clause-receives : goal.returns-clause-receives
 returns-clause-receives c =
@@ -55,6 +60,6 @@ returns-clause-receives c =
       nothing = none_for c.args.self.now c.args.who c.args.process c.args.signals c.as_slice-wanted.result.now c.deref.result.now c.as_slice.result.now
           (c.as_slice-wanted.ensures ∙ ap (λ (v : SeenSignals). v.wanted) c.self.view_is) (c.deref.ensures.value ∙ ap (λ (v : SeenSignals). v.pending) c.self.view_is) c.as_slice.ensures c.in_default.ensures.none;
       not_written = c.if-otherwise.false;
-      receivers = c.push_reserved.ensures.items ∙ ap (λ (v : SeenSignals). v.receivers ++ more ∷ []) c.self.view_is;
+      receivers = c.put.ensures.receivers ∙ ap (λ (v : SeenSignals). v.receivers ++ more ∷ []) c.self.view_is;
       pending = ap (λ (v : SeenSignals). v.pending) c.self.view_is;
     }

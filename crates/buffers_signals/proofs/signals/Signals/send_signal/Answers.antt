@@ -1,14 +1,45 @@
-use Rattle.std.proofs.Common.{List, subst}
-use Rattle.kernel_lists.specs.First.{IsFirst}
-use Rattle.kernel_lists.proofs.Entries.{found_at}
+use Rattle.std.proofs.Common.{◌≡◌, ℕ, List, Option, length, ap, arith, sym, ◌∙◌}
+use Rattle.std.specs.List.{find}
+use Rattle.std.proofs.lemmas.Option.{same_Some}
+use Rattle.world_model.specs.Lists.{number_for}
+use Rattle.kernel_lists.specs.Once.{others}
+use Rattle.kernel_lists.proofs.Entries.{once_others}
 use Rattle.buffers_signals.specs.declared.messages.Receiver.{Receiver}
-use Rattle.buffers_signals.specs.Signals.{is_receiver}
+use Rattle.buffers_signals.specs.Lists.{receiver_of}
+use Rattle.buffers_signals.specs.Signals.{SeenSignals, is_receiver}
 use Rattle.buffers_signals.proofs.Choosing.{both}
+use Rattle.buffers_signals.proofs.Firsts.{comes_first}
 use Rattle.buffers_signals.proofs.signals.Signals.send_signal.Goals as goal
 
-pub take_receiver-receiver-requires-clause-lists : goal.take_receiver-receiver-requires-clause-lists
-take_receiver-receiver-requires-clause-lists c =
-    let wanted = c.as_slice-wanted.result.now in
-    let first : IsFirst (is_receiver c.as_slice-wanted.result.now c.args.signal.signal c.args.signal.to) c.self.inside.receivers.items c.in-Some.place = subst (λ (xs : List Receiver). IsFirst (is_receiver c.as_slice-wanted.result.now c.args.signal.signal c.args.signal.to) xs c.in-Some.place) c.deref.ensures.value c.in-Some.ensures.some in
-    let passes = (found_at (is_receiver wanted c.args.signal.signal c.args.signal.to) c.self.inside.receivers.items first.item first.found).1 in
-    record { receiver = first.item; at = first.at; listed = (both _ _ passes).1 }
+pub receiver_for-requires : goal.receiver_for-requires
+receiver_for-requires c =
+    let wanted = ap (λ (v : SeenSignals). length v.wanted) c.self.view_is in
+    omega (arith, c.requires.there, wanted, c.self.invariant.1)
+
+pub take-alternative-requires : goal.take-alternative-requires
+take-alternative-requires c =
+    let first = comes_first c.args.signal.signal c.self.inside.receivers.receivers c.in-Some.to (is_receiver c.as_slice-wanted.result.now c.args.signal.signal c.args.signal.to) c.each_once.ensures (sym c.in-Some.ensures) in
+    record { receiver = first.receiver; waits = first.waits; listed = (both _ _ first.passes).1 }
+
+pub returns-in-Some-clause-sends : goal.returns-in-Some-clause-sends
+returns-in-Some-clause-sends c =
+    let wanted = c.as_slice-wanted.ensures ∙ ap (λ (v : SeenSignals). v.wanted) c.self.view_is in
+    let first = comes_first c.args.signal.signal c.self.inside.receivers.receivers c.in-Some.to (is_receiver c.as_slice-wanted.result.now c.args.signal.signal c.args.signal.to) c.each_once.ensures (sym c.in-Some.ensures) in
+    let taken = c.take-alternative.ensures.taken in
+    let same : taken.receiver ≡ first.receiver = same_Some taken.receiver first.receiver (sym taken.was ∙ first.waits) in
+    record {
+      receiver = first.receiver;
+      waits = sym (ap (λ (ws : List (Option ℕ)). find (is_receiver ws c.args.signal.signal c.args.signal.to) c.self.inside.receivers.receivers) wanted ∙ ap (λ (v : SeenSignals). find (is_receiver c.args.self.now.wanted c.args.signal.signal c.args.signal.to) v.receivers) c.self.view_is) ∙ first.found;
+      who = sym first.own;
+      alternative = c.take-alternative.result;
+      listed = ap (λ (r : Receiver). number_for r.things c.args.signal.signal) (sym same) ∙ taken.listed;
+      is = c.answer_with.ensures;
+      receivers = taken.rest ∙ ap (λ (v : SeenSignals). others receiver_of v.receivers c.in-Some.to) c.self.view_is;
+      pending = ap (λ (v : SeenSignals). v.pending) c.self.view_is;
+    }
+
+pub invariant_of-self : goal.invariant_of-self
+invariant_of-self c = (
+  rw c.take-alternative.ensures.taken.rest (once_others receiver_of c.self.inside.receivers.receivers c.in-Some.to c.self.invariant.0),
+  c.take-alternative.ensures.places ∙ c.self.invariant.1,
+)

@@ -1,0 +1,15 @@
+use Rattle.std.proofs.Common.{List, ap, ◌∙◌}
+use Rattle.std.specs.Option.{option_and_then}
+use Rattle.kernel_lists.specs.Once.{entry_of}
+use Rattle.wait_queues.specs.declared.waiters.Waiter.{Waiter}
+use Rattle.wait_queues.specs.Waiting.{waiter_of}
+use Rattle.buffers_signals.specs.Arrivals.{no_priority, receives_at, waits_at}
+use Rattle.buffers_signals.specs.Buffers.{SeenBuffers}
+use Rattle.buffers_signals.specs.Lists.{receiver_of}
+use Rattle.buffers_signals.proofs.Arrivals.{queue_entry}
+use Rattle.buffers_signals.proofs.buffers.Buffers.receivers.Goals as goal
+
+pub returns-clause-exactly : goal.returns-clause-exactly
+returns-clause-exactly c = λ who.
+    ap (λ (ws : List Waiter). entry_of waiter_of ws who) c.at.ensures ∙ queue_entry receiver_of no_priority receives_at c.args.buffer c.self.inside.receivers.receivers who c.self.invariant.well.receivers_once
+    ∙ ap (λ (v : SeenBuffers). option_and_then (waits_at receiver_of no_priority receives_at c.args.buffer) (entry_of receiver_of v.receivers who)) c.self.view_is
