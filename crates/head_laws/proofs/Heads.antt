@@ -46,11 +46,12 @@ use Rattle.head_laws.proofs.Modes.{none_meets, nothing_meets, signal_parts, loca
 
 -- ---- the parts of a program
 
-record FiveParts (s : Source) (t : ProgramTree) (p : CheckedTree) : Type 0 where
-  locations : rows_made (location_row s.rows) (is_shared meets_nothing) 0 s.rows ≡ Some p.locations
-  buffers : rows_made buffer_row (is_shared meets_buffer) 0 s.rows ≡ Some p.buffers
-  signals : rows_made (signal_row s) (λ r. is_signal r.origin) 0 s.rows ≡ Some p.signals
-  of_bodies : bodies_of s t ≡ Some p.bodies
+pub record FiveParts (s : Source) (t : ProgramTree) (p : CheckedTree) : Type 0 where
+  pub locations : rows_made (location_row s.rows) (is_shared meets_nothing) 0 s.rows ≡ Some p.locations
+  pub events : rows_made event_row (is_shared meets_event) 0 s.rows ≡ Some p.events
+  pub buffers : rows_made buffer_row (is_shared meets_buffer) 0 s.rows ≡ Some p.buffers
+  pub signals : rows_made (signal_row s) (λ r. is_signal r.origin) 0 s.rows ≡ Some p.signals
+  pub of_bodies : bodies_of s t ≡ Some p.bodies
 
 record FiveThere {A B C D E F : Type 0} (f : A → B → C → D → E → F) (a : Option A) (b : Option B) (c : Option C) (d : Option D) (e : Option E) (y : F) : Type 0 where
   one : A
@@ -59,25 +60,27 @@ record FiveThere {A B C D E F : Type 0} (f : A → B → C → D → E → F) (a
   four : D
   five : E
   of_one : a ≡ Some one
+  of_two : b ≡ Some two
   of_three : c ≡ Some three
   of_four : d ≡ Some four
   of_five : e ≡ Some five
   whole : f one two three four five ≡ y
 
 five_there : {A B C D E F : Type 0} (f : A → B → C → D → E → F) (a : Option A) (b : Option B) (c : Option C) (d : Option D) (e : Option E) (y : F) → made_of_five f a b c d e ≡ Some y → FiveThere f a b c d e y
-five_there f (Some a) (Some b) (Some c) (Some d) (Some e) y is = record { one = a; two = b; three = c; four = d; five = e; of_one = refl; of_three = refl; of_four = refl; of_five = refl; whole = same_some (f a b c d e) y is }
+five_there f (Some a) (Some b) (Some c) (Some d) (Some e) y is = record { one = a; two = b; three = c; four = d; five = e; of_one = refl; of_two = refl; of_three = refl; of_four = refl; of_five = refl; whole = same_some (f a b c d e) y is }
 five_there f None b c d e y is = no_some y is
 five_there f (Some a) None c d e y is = no_some y is
 five_there f (Some a) (Some b) None d e y is = no_some y is
 five_there f (Some a) (Some b) (Some c) None e y is = no_some y is
 five_there f (Some a) (Some b) (Some c) (Some d) None y is = no_some y is
 
-five_parts : (s : Source) (t : ProgramTree) (p : CheckedTree) → elaborated_by s t ≡ Some p → FiveParts s t p
+pub five_parts : (s : Source) (t : ProgramTree) (p : CheckedTree) → elaborated_by s t ≡ Some p → FiveParts s t p
 five_parts s t p is =
     let m = five_there (program_of s t) (rows_made (location_row s.rows) (is_shared meets_nothing) 0 s.rows) (rows_made event_row (is_shared meets_event) 0 s.rows) (rows_made buffer_row (is_shared meets_buffer) 0 s.rows)
     (rows_made (signal_row s) (λ r. is_signal r.origin) 0 s.rows) (bodies_of s t) p is in
     record {
       locations = m.of_one ∙ ap (λ (q : CheckedTree). Some q.locations) m.whole;
+      events = m.of_two ∙ ap (λ (q : CheckedTree). Some q.events) m.whole;
       buffers = m.of_three ∙ ap (λ (q : CheckedTree). Some q.buffers) m.whole;
       signals = m.of_four ∙ ap (λ (q : CheckedTree). Some q.signals) m.whole;
       of_bodies = m.of_five ∙ ap (λ (q : CheckedTree). Some q.bodies) m.whole;
@@ -132,7 +135,7 @@ not_direct rs b (insides.Modulion d) holds = absurd (true≢false (sym holds))
 not_direct rs b (insides.Body d) holds = refl
 not_direct rs b (insides.Block d) holds = refl
 
-below : {A : Type 0} (xs : List A) (k : ℕ) (x : A) → slice_get xs k ≡ Some x → k + 1 ≤ length xs
+pub below : {A : Type 0} (xs : List A) (k : ℕ) (x : A) → slice_get xs k ≡ Some x → k + 1 ≤ length xs
 below [] k x at = no_some x at
 below (y ∷ xs) zero x at = omega arith
 below (y ∷ xs) (suc k) x at = let inner = below xs k x at in omega (arith, inner)

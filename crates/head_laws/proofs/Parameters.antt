@@ -186,7 +186,7 @@ module _ (text : List ℕ) (t : ProgramTree) (h : Ground) (has : BreaksNoRule te
   abbrev own_rows : List Row
   own_rows = (source_of h t).rows
 
-  heads_past : HeadsOk 0 h.origins (text_definitions (level_of t))
+  pub heads_past : HeadsOk 0 h.origins (text_definitions (level_of t))
   heads_past =
       let ds = text_definitions (level_of t) in
       let long : length (text_origins t) ≡ length ds = text_long in
@@ -216,7 +216,7 @@ module _ (text : List ℕ) (t : ProgramTree) (h : Ground) (has : BreaksNoRule te
     body_is : body_of own_rows d ≡ suc (count_before (λ r. has_body r.origin) d own_rows)
     body_is = ap (λ x. if holds_of (λ r. has_body r.origin) x then body_number own_rows d else 0) at ∙ ap (λ b. if b then body_number own_rows d else 0) holds
 
-    passes : (q : Row) (w : written.ModeTree) → q.inside ≡ Body d → q.origin ≡ a_parameter w → own_test q ≡ true
+    pub passes : (q : Row) (w : written.ModeTree) → q.inside ≡ Body d → q.origin ≡ a_parameter w → own_test q ≡ true
     passes q w inside origin =
         let number = suc (count_before (λ r. has_body r.origin) d own_rows) in
         ap (λ o. may_be_local o && holds_of (λ c. c == number) (body_around own_rows q.inside)) origin ∙ (ap (λ i. holds_of (λ c. c == number) (body_around own_rows i)) inside ∙ (ap (λ c. c == number) body_is ∙ eq-eqb number number refl))

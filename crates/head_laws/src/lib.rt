@@ -7,4 +7,4 @@
 
 mod laws;
 
-pub use laws::heads_law;
+pub use laws::{few_law, heads_law, parameters_law};

@@ -5,3 +5,4 @@ pub mod Defined
 pub mod Grounds
 pub mod Nodes
 pub mod Program
+pub mod Counts

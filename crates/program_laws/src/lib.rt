@@ -6,4 +6,4 @@
 
 mod laws;
 
-pub use laws::{counters_law, program_law};
+pub use laws::{counters_law, counts_law, program_law};
