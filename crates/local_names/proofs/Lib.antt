@@ -1,0 +1,2 @@
+pub mod BodyViews
+pub mod ItemViews
