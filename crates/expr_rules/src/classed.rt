@@ -1,5 +1,7 @@
 // What is known of an expression in a statement.
-use chill_base::Memory;
+ghost use Rattle.std.specs.Prelude.{◌≡◌, true, false, None};
+ghost use Rattle.expr_rules.specs.Known.{classed};
+
 use modes::Class;
 
 /// What is known of an expression: its class, and whether nothing is told of it. The class is none where there is none, and
@@ -19,7 +21,9 @@ impl Drop for Classed {
 
 impl Classed {
     /// That of which nothing is told.
-    pub fn clean(class: Option<Class>) -> Classed {
+    pub fn clean(class: Option<Class>) -> Classed
+        ensures { result ≡ classed class true }
+    {
         Classed {
             class,
             is_clean: true,
@@ -27,7 +31,9 @@ impl Classed {
     }
 
     /// That in which something is told.
-    pub fn broken() -> Classed {
+    pub fn broken() -> Classed
+        ensures { result ≡ classed None false }
+    {
         Classed {
             class: None,
             is_clean: false,
@@ -35,7 +41,9 @@ impl Classed {
     }
 
     /// The same, where it is known whether anything is told of it besides.
-    pub fn told(self, is_clean: bool) -> Classed {
+    pub fn told(self, is_clean: bool) -> Classed
+        ensures { result ≡ classed self.class is_clean }
+    {
         let Classed { class, is_clean: _ } = self;
         Classed { class, is_clean }
     }

@@ -2,7 +2,7 @@
 //! rules that belong to expressions: S1, S2, S3, S5, S6, S10, S11 and L6, and S4, S7 and S8 as far as they speak of one
 //! expression.
 //!
-//! It stands on `mode_rules`, whose evaluated definitions it asks; the checks of statements and of processes and the
+//! It stands on `constant_operators`, whose evaluated definitions it asks; the checks of statements and of processes and the
 //! elaborated program stand on it. It speaks of programs that break no rule on names, on modes or on constants, so it asks
 //! for classes alone, and no value. At each expression its own rules are asked only where nothing was told in its parts, and
 //! the rule of the place that receives it only where nothing was told in or at it.

@@ -1,66 +1,117 @@
-// The modes of received names and counters: of a part of the message, and of what a loop goes through.
+// The modes of counters: of what a loop goes through.
+ghost use Rattle.std.specs.Prelude.{◌≡◌, ℕ, List as Numbers, IfOk, OnOk, length, option_and_then, set};
+ghost use Rattle.chill_tree.specs.ItemTree.{ProgramTree};
+ghost use Rattle.chill_tree.specs.SimpleTree.{control_tree};
+ghost use Rattle.modes.specs.ModeTree.{class_tree};
+ghost use Rattle.checks_model.specs.Alike.{are_compatible};
+ghost use Rattle.checks_model.specs.Operations as table;
+ghost use Rattle.checks_model.specs.ActionRules.{counter_mode, counter_of_both, member_in};
+ghost use Rattle.checks_model.specs.Table.{of_mode_alone, IsGroundOf, IsStatementGroundOf};
+ghost use Rattle.checks_model.specs.Diagnoses.{HasNames};
+ghost use Rattle.constant_operators.specs.Grounds.{ground_of, entry_tree, HasGround};
+ghost use Rattle.order_laws.specs.Counted.{counted, counted_at};
+ghost use Rattle.expr_rules.specs.Views.{own_mode, own_class};
+ghost use Rattle.expr_rules.specs.Counted.{IsSet, IsCounted};
+
 use crate::receiving::Receiver;
 use crate::surroundings::Walk;
-use chill_base::Memory;
-use chill_tree::tree::{Control, ReceiveAlternative};
+use checks_model::tests_law;
+use chill_base::{List, Memory};
+use chill_tree::tree::Control;
 use class_operators::{form_in, is_of_discrete, their_class};
-use mode_rules::{Evaluation, Origin, Told, shared};
+use constant_operators::{Entry, Evaluation};
+use definition_origins::{Origin, Told};
 use modes::{Class, Form, Mode, compatible};
+use std::alloc::Global;
 use std::rc::Rc;
 
-/// Adds the modes of received names and counters to what is known of a program that breaks no rule on modes and constants.
-/// They are values' modes, so the phase of modes has none of them. An outer loop comes before those in it, whose bounds may
-/// use its counter.
-pub fn add_local_modes(evaluation: &mut Evaluation<'_>) -> Result<(), Memory> {
-    let count = u32::try_from(evaluation.origins.len()).unwrap_or(u32::MAX);
+/// Adds the modes of counters to what is known of a program that breaks no rule on modes and constants. They are values'
+/// modes, so the phase of modes has none of them. An outer loop comes before those in it, whose bounds may use its counter.
+/// It answers `Memory` also where no `u32` numbers all definitions.
+pub fn add_local_modes(evaluation: &mut Evaluation<'_>) -> Result<(), Memory>
+    ensures counted { HasGround evaluation.old → OnOk result (IsCounted evaluation.old evaluation.new (counted (ground_of evaluation.old) 0 (length evaluation.old.origins))) }
+    ensures ground { (text : Numbers ℕ) (t : ProgramTree) → HasNames text t → HasGround evaluation.old → IsGroundOf t (ground_of evaluation.old) → OnOk result (IsStatementGroundOf t (ground_of evaluation.new)) }
+{
+    add_modes(evaluation)
+}
+
+// Adds the modes of all counters, one after the other.
+fn add_modes(evaluation: &mut Evaluation<'_>) -> Result<(), Memory>
+    ensures { HasGround evaluation.old → OnOk result (IsCounted evaluation.old evaluation.new (counted (ground_of evaluation.old) 0 (length evaluation.old.origins))) }
+{
+    let Ok(count) = u32::try_from(evaluation.origins.len()) else {
+        return Err(Memory);
+    };
     for number in 0..count {
-        if let Some(Origin::Received { alternative, part }) = evaluation.origin(number) {
-            let mode = mode_of_received(evaluation, alternative, part)?;
-            set_mode(evaluation, number, mode);
-        }
-    }
-    for number in 0..count {
-        if let Some(Origin::Counter(control)) = evaluation.origin(number) {
-            let mode = mode_of_counter(evaluation, control)?;
-            set_mode(evaluation, number, mode);
-        }
+        add_mode(evaluation, number)?;
     }
     Ok(())
 }
 
-fn set_mode(evaluation: &mut Evaluation<'_>, number: u32, mode: Option<Rc<Mode>>) {
-    if let Some(own) = evaluation.entries.get_mut(number as usize) {
-        own.mode = mode;
+// Adds the mode of a definition, where it is a counter.
+#[tactic(auto, using(crate::proofs::Counting::counting))]
+fn add_mode(evaluation: &mut Evaluation<'_>, number: u32) -> Result<(), Memory>
+    ensures { HasGround evaluation.old → OnOk result (IsCounted evaluation.old evaluation.new (counted_at (ground_of evaluation.old) number)) }
+{
+    match evaluation.origin(number) {
+        Some(Origin::Counter(control)) => {
+            let mode = mode_of_counter(evaluation, control)?;
+            let entry = entry_of(evaluation.alloc, mode);
+            set_entry(evaluation, number, entry);
+            Ok(())
+        }
+        Some(Origin::Synonym { .. })
+        | Some(Origin::SynMode(_))
+        | Some(Origin::NewMode(_))
+        | Some(Origin::Element(_))
+        | Some(Origin::Location { .. })
+        | Some(Origin::Parameter { .. })
+        | Some(Origin::Received { .. })
+        | Some(Origin::Procedure(_))
+        | Some(Origin::Process(_))
+        | Some(Origin::Signal(_))
+        | Some(Origin::Modulion(_))
+        | Some(Origin::Predefined(_))
+        | None => Ok(()),
     }
 }
 
-// The mode of a received name: that of its part, where there are as many names as parts.
-fn mode_of_received(
-    evaluation: &Evaluation<'_>,
-    alternative: &ReceiveAlternative,
-    part: usize,
-) -> Result<Option<Rc<Mode>>, Memory> {
-    let walk = Walk { evaluation };
-    let Some(names) = &alternative.received else {
-        return Ok(None);
-    };
-    if walk.number_of_parts(&alternative.source) != Some(names.len()) {
-        return Ok(None);
+// What is known of a counter of a mode.
+fn entry_of(alloc: Global, mode: Option<Rc<Mode>>) -> Entry
+    ensures { entry_tree result ≡ of_mode_alone (own_mode mode) }
+{
+    Entry {
+        mode,
+        class: None,
+        value: None,
+        parts: List::new(alloc),
     }
-    match walk.parts_of_signal(&alternative.source) {
-        None => shared(walk.element_of_buffer(&alternative.source)),
-        Some(parts) => match parts.get(part) {
-            None => Ok(None),
-            Some(mode) => shared(mode.as_ref()),
-        },
+}
+
+// Puts what is known of a definition into the table.
+fn set_entry(evaluation: &mut Evaluation<'_>, number: u32, entry: Entry)
+    ensures { IsSet evaluation.old number entry evaluation.new }
+{
+    put(&mut evaluation.entries, number as usize, entry);
+}
+
+// Puts an entry in the place of another, where there is one.
+fn put(entries: &mut Vec<Entry>, at: usize, entry: Entry)
+    ensures { entries.new.items ≡ set entries.old.items at entry }
+{
+    if let Some(own) = entries.get_mut(at) {
+        *own = entry;
     }
 }
 
 // The mode of the counter of a loop. What is told here is told again where the loop stands.
+#[tactic(auto, using(statement_laws::proofs::Arguments::alike))]
 fn mode_of_counter(
     evaluation: &Evaluation<'_>,
     control: &Control,
-) -> Result<Option<Rc<Mode>>, Memory> {
+) -> Result<Option<Rc<Mode>>, Memory>
+    ensures { HasGround evaluation.now → IfOk result (λ m. own_mode m ≡ counter_mode (ground_of evaluation.now) (control_tree control.now)) }
+{
     let walk = Walk { evaluation };
     let mut told = Told::new(evaluation.alloc);
     match control {
@@ -78,7 +129,9 @@ fn mode_of_counter(
 }
 
 // The mode of a counter that goes through a powerset: the member mode.
-fn mode_of_members(set: &Option<Class>) -> Result<Option<Rc<Mode>>, Memory> {
+fn mode_of_members(set: &Option<Class>) -> Result<Option<Rc<Mode>>, Memory>
+    ensures { IfOk result (λ m. own_mode m ≡ option_and_then member_in (option_and_then table.form_in (own_class set.now))) }
+{
     let Some(class) = set else {
         return Ok(None);
     };
@@ -103,11 +156,13 @@ impl<'a, 'b> Walk<'a, 'b> {
         &self,
         start: &Option<Class>,
         end: &Option<Class>,
-    ) -> Result<Option<Rc<Mode>>, Memory> {
+    ) -> Result<Option<Rc<Mode>>, Memory>
+        ensures { IfOk result (λ m. own_mode m ≡ counter_of_both (own_class start.now) (own_class end.now)) }
+    {
         let (Some(one), Some(other)) = (start, end) else {
             return Ok(None);
         };
-        if !is_of_discrete(one) || !is_of_discrete(other) || !compatible(one, other) {
+        if !is_of_discrete(one) || !is_of_discrete(other) || !are_compatible(one, other) {
             return Ok(None);
         }
         match their_class(self.evaluation.alloc, one, other)? {
@@ -115,4 +170,12 @@ impl<'a, 'b> Walk<'a, 'b> {
             Some(Class::Null) | Some(Class::Nothing) | None => Ok(None),
         }
     }
+}
+
+// Whether two classes are compatible.
+fn are_compatible(one: &Class, other: &Class) -> bool
+    ensures { result ≡ are_compatible (class_tree one.now) (class_tree other.now) }
+{
+    tests_law();
+    compatible(one, other)
 }

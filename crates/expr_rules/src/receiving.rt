@@ -1,12 +1,23 @@
 // The places that receive an expression, and the rules of what they receive.
+ghost use Rattle.std.specs.Prelude.{◌≡◌, ◌++◌, IfOk, OnOk};
+ghost use Rattle.chill_tree.specs.ExprTree.{expr_tree};
+ghost use Rattle.modes.specs.ModeTree.{mode_tree};
+ghost use Rattle.checks_model.specs.Alike.{are_v_equivalent};
+ghost use Rattle.checks_model.specs.Told.{is_none_told, holds_of};
+ghost use Rattle.checks_model.specs.ValueRules.{does_not_go, does_not_fit_parameter, is_not_boolean, is_not_discrete, is_no_powerset};
+ghost use Rattle.expr_rules.specs.Grounds.{ground_in, HasItsGround};
+ghost use Rattle.expr_rules.specs.Views.{own_class, receiver_tree, located_tree};
+ghost use Rattle.expr_rules.specs.Steps.{told_by};
+
 use crate::places::{Access, Located};
 use crate::surroundings::Walk;
 use crate::telling::tell_if;
+use checks_model::tests_law;
 use chill_base::Memory;
 use chill_tree::tree::Expr;
-use class_operators::{form_in, is_of_discrete};
-use mode_rules::{CheckRule, Told};
-use modes::{Class, Form, Mode, goes_with, v_equivalent};
+use class_operators::{form_in, goes, is_of_discrete};
+use definition_origins::{CheckRule, Told};
+use modes::{Class, Form, Mode, v_equivalent};
 use std::rc::Rc;
 
 /// What receives an expression.
@@ -34,13 +45,17 @@ pub enum Receiver<'r> {
 impl<'a, 'b> Walk<'a, 'b> {
     /// Tells the rule that an expression of a class breaks for what receives it; whether it breaks none. It is asked where
     /// nothing was told in or at the expression.
+    #[tactic(auto, using(crate::proofs::Gates::gates))]
     pub fn tell_received(
         &self,
         expr: &Expr,
         class: &Option<Class>,
         receiver: Receiver<'_>,
         told: &mut Told,
-    ) -> Result<bool, Memory> {
+    ) -> Result<bool, Memory>
+        ensures told { HasItsGround self.now → OnOk result (told.new ≡ told.old ++ told_by (ground_in self.now) (receiver_tree receiver.entry) (own_class class.now) (expr_tree expr.now)) }
+        ensures clean { HasItsGround self.now → IfOk result (λ clean. clean ≡ is_none_told (told_by (ground_in self.now) (receiver_tree receiver.entry) (own_class class.now) (expr_tree expr.now))) }
+    {
         match receiver {
             Receiver::Nothing | Receiver::Mode(None) | Receiver::Location(None) => Ok(true),
             Receiver::Mode(Some(mode)) => {
@@ -64,23 +79,37 @@ impl<'a, 'b> Walk<'a, 'b> {
 }
 
 // Rule S2: a value doesn't go with the mode that receives it.
-fn does_not_go(class: &Option<Class>, mode: &Mode) -> bool {
+fn does_not_go(class: &Option<Class>, mode: &Mode) -> bool
+    ensures { result ≡ holds_of (λ c. does_not_go c (mode_tree mode.now)) (own_class class.now) }
+{
     match class {
         None => false,
-        Some(class) => !goes_with(class, mode),
+        Some(class) => !goes(class, mode),
     }
 }
 
 // Rule S6: the argument isn't a location that can be written, of a mode that is v-equivalent to the parameter's.
-fn does_not_fit_parameter(argument: &Located, mode: &Mode) -> bool {
+fn does_not_fit_parameter(argument: &Located, mode: &Mode) -> bool
+    ensures { result ≡ does_not_fit_parameter (located_tree argument.now) (mode_tree mode.now) }
+{
     match &argument.mode {
         None => true,
-        Some(own) => argument.access != Access::Free || !v_equivalent(own, mode),
+        Some(own) => argument.access != Access::Free || !are_v_equivalent(own, mode),
     }
 }
 
+// Whether two modes are v-equivalent.
+fn are_v_equivalent(one: &Mode, other: &Mode) -> bool
+    ensures { result ≡ are_v_equivalent (mode_tree one.now) (mode_tree other.now) }
+{
+    tests_law();
+    v_equivalent(one, other)
+}
+
 // Rule S4: a condition isn't of root BOOL.
-fn is_not_boolean(class: &Option<Class>) -> bool {
+fn is_not_boolean(class: &Option<Class>) -> bool
+    ensures { result ≡ holds_of is_not_boolean (own_class class.now) }
+{
     match class {
         None => false,
         Some(class) => !matches!(form_in(class), Some(Form::Bool)),
@@ -88,7 +117,9 @@ fn is_not_boolean(class: &Option<Class>) -> bool {
 }
 
 // Rule S7 of a selector, and S8 of a bound by itself: its mode isn't discrete.
-fn is_not_discrete(class: &Option<Class>) -> bool {
+fn is_not_discrete(class: &Option<Class>) -> bool
+    ensures { result ≡ holds_of is_not_discrete (own_class class.now) }
+{
     match class {
         None => false,
         Some(class) => !is_of_discrete(class),
@@ -96,7 +127,9 @@ fn is_not_discrete(class: &Option<Class>) -> bool {
 }
 
 // Rule S8 of what follows IN: it is no powerset.
-fn is_no_powerset(class: &Option<Class>) -> bool {
+fn is_no_powerset(class: &Option<Class>) -> bool
+    ensures { result ≡ holds_of is_no_powerset (own_class class.now) }
+{
     match class {
         None => false,
         Some(class) => !matches!(form_in(class), Some(Form::Powerset(_))),

@@ -1,6 +1,9 @@
 // The modes, classes and values of all definitions, each evaluated once, behind those that it depends on.
-use chill_base::{Item, Memory};
-use chill_tree::tree::{Declaration, ModeDefinition, Name, Signal, Synonym, Tree};
+use crate::meeting::{Meeting, meeting_of};
+use chill_base::{Item, Memory, Pos};
+use chill_tree::tree::{
+    Declaration, ModeDefinition, Name, ReceiveAlternative, Signal, Synonym, Tree,
+};
 use class_operators::copied;
 use constant_operators::{Entry, Evaluation, shared, single};
 use constant_rules::{needed, synonym_value};
@@ -60,11 +63,12 @@ fn entry_of(ground: &Evaluation<'_>, number: u32, told: &mut Told) -> Result<Ent
         },
         Some(Origin::Signal(signal)) => signal_entry(ground, signal, told),
         Some(Origin::Predefined(own)) => predefined_entry(ground, own),
-        Some(Origin::Counter(_))
-        | Some(Origin::Received { .. })
-        | Some(Origin::Process(_))
-        | Some(Origin::Modulion(_))
-        | None => Ok(Entry::unknown(ground.alloc)),
+        Some(Origin::Received { alternative, part }) => {
+            let mode = received_mode(ground, alternative, part)?;
+            of_mode(ground, mode)
+        }
+        Some(Origin::Counter(_)) | Some(Origin::Process(_)) | Some(Origin::Modulion(_)) | None =>
+            Ok(Entry::unknown(ground.alloc)),
     }
 }
 
@@ -137,6 +141,63 @@ pub fn signal_entry(
         }
     }
     Ok(entry)
+}
+
+// The mode of a received name: that of its part, where there are as many names as parts.
+fn received_mode(
+    ground: &Evaluation<'_>,
+    alternative: &ReceiveAlternative,
+    part: usize,
+) -> Result<Option<Rc<Mode>>, Memory> {
+    let at = alternative.source.at;
+    let count = match &alternative.received {
+        None => 0,
+        Some(names) => names.len(),
+    };
+    match ground.origin_used(at) {
+        Some(Origin::Signal(_)) => part_of_signal(ground, at, count, part),
+        _ => part_of_buffer(ground, at, count, part),
+    }
+}
+
+// The mode of one of so many parts of a signal's messages.
+fn part_of_signal(
+    ground: &Evaluation<'_>,
+    at: Pos,
+    count: usize,
+    part: usize,
+) -> Result<Option<Rc<Mode>>, Memory> {
+    let Some(number) = ground.used_at(at) else {
+        return Ok(None);
+    };
+    let Some(entry) = ground.entry(number) else {
+        return Ok(None);
+    };
+    if entry.parts.len() != count {
+        return Ok(None);
+    }
+    match entry.parts.as_slice().get(part) {
+        None => Ok(None),
+        Some(mode) => shared(mode.as_ref()),
+    }
+}
+
+// The mode of a buffer's values, where one name is received.
+fn part_of_buffer(
+    ground: &Evaluation<'_>,
+    at: Pos,
+    count: usize,
+    part: usize,
+) -> Result<Option<Rc<Mode>>, Memory> {
+    let Some(mode) = ground.mode_used(at) else {
+        return Ok(None);
+    };
+    match meeting_of(mode) {
+        Some(Meeting::Buffer { element, .. }) if count == 1 && part == 0 => {
+            shared(Some(element))
+        }
+        _ => Ok(None),
+    }
 }
 
 // An element is of the SET's mode, with the name that the SET is the whole mode of.

@@ -34,10 +34,10 @@ expr_used : (ms : List Mention) (ns : List Name) (n : Name) → used_in_mentions
 expr_used ms ns n same c = subst (λ xs. Contains xs (identifier n)) (sym same) (in_map identifier ns n c)
 
 -- one of some mentions uses a name
-record UsedIn (ms : List Mention) (n : Identifier) : Type 0 where
-  at : Mention
-  among : Contains ms at
-  used : Contains (used_in_mention at) n
+pub record UsedIn (ms : List Mention) (n : Identifier) : Type 0 where
+  pub at : Mention
+  pub among : Contains ms at
+  pub used : Contains (used_in_mention at) n
 
 found_in : (ms : List Mention) (n : Identifier) → Contains (used_in_mentions ms) n → UsedIn ms n
 found_in ms n c = let h = flat_map_in used_in_mention ms n c in record { at = h.0; among = h.1; used = h.2 }
@@ -45,7 +45,7 @@ found_in ms n c = let h = flat_map_in used_in_mention ms n c in record { at = h.
 wider : (ms ps : List Mention) (n : Identifier) → ((m : Mention) → Contains ms m → Contains ps m) → UsedIn ms n → UsedIn ps n
 wider ms ps n within u = record { at = u.at; among = within u.at u.among; used = u.used }
 
-bounding_used : (c : ControlTree) (n : Name) → Contains (names_bounding c) n → UsedIn (mentions_bounding c) (identifier n)
+pub bounding_used : (c : ControlTree) (n : Name) → Contains (names_bounding c) n → UsedIn (mentions_bounding c) (identifier n)
 bounding_used (while_holds at c) n i = absurd (none_in n i)
 bounding_used (for_ever at) n i = absurd (none_in n i)
 bounding_used (for_members at k s c) n i = found_in (mentions_of s) (identifier n) (expr_used (mentions_of s) (names_in s) n (one_used s) i)
@@ -60,7 +60,7 @@ module _ (txt : List ℕ) (t : ProgramTree) (es : List Entry) (has : HasNames tx
   abbrev depth : ℕ → ℕ
   depth d = deep txt t es has d
 
-  loop_at : (d : ℕ) (c : ControlTree) → slice_get (origins_of t) d ≡ Some (a_counter c) → HasLoop (text txt t es has) (every txt t es has) (deep txt t es has) (outside txt t es has) d (a_counter c)
+  pub loop_at : (d : ℕ) (c : ControlTree) → slice_get (origins_of t) d ≡ Some (a_counter c) → HasLoop (text txt t es has) (every txt t es has) (deep txt t es has) (outside txt t es has) d (a_counter c)
   loop_at d c at =
       let own = in_text txt t es has d (a_counter c) at (λ none. none) in
       let whole = program_loops (text txt t es has) (every txt t es has) (deep txt t es has) (outside txt t es has) t (deep_stands txt t es has) (outermost_within (deep txt t es has) (text txt t es has) (level txt t es has) (program_sized t) (deep_stands txt t es has) (outside txt t es has)) (λ k i. i) in

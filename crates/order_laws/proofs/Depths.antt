@@ -90,19 +90,19 @@ stand_first f from xs ys stand = at_first (λ d x. f d ≡ x) from xs ys stand
 pub stand_later : (f : ℕ → ℕ) (from : ℕ) (xs ys : List ℕ) → Stand f from (xs ++ ys) → Stand f (from + length xs) ys
 stand_later f from xs ys stand = at_later (λ d x. f d ≡ x) from xs ys stand
 
-moved : (f : ℕ → ℕ) (m n : ℕ) (xs : List ℕ) → m ≡ n → Stand f m xs → Stand f n xs
+pub moved : (f : ℕ → ℕ) (m n : ℕ) (xs : List ℕ) → m ≡ n → Stand f m xs → Stand f n xs
 moved f m n xs same stand = at_moved (λ d x. f d ≡ x) m n xs same stand
 
 abbrev pub IsWithin : (ℕ → ℕ) → ℕ → List Entry → Type 0
 IsWithin f k es = (d : ℕ) → Contains (numbers_of es) d → f d ≤ k
 
-both_within : (f : ℕ → ℕ) (k : ℕ) (es fs : List Entry) → IsWithin f k es → IsWithin f k fs → IsWithin f k (es ++ fs)
+pub both_within : (f : ℕ → ℕ) (k : ℕ) (es fs : List Entry) → IsWithin f k es → IsWithin f k fs → IsWithin f k (es ++ fs)
 both_within f k es fs one other d c = elim (numbers_cases es fs d c) [
   | inl here ↦ one d here
   | inr there ↦ other d there
 ]
 
-named_within : (f : ℕ → ℕ) (j k from : ℕ) (ns : List Identifier) → j ≤ k → Stand f from (replicate (length ns) j) → IsWithin f k (named_entries from ns)
+pub named_within : (f : ℕ → ℕ) (j k from : ℕ) (ns : List Identifier) → j ≤ k → Stand f from (replicate (length ns) j) → IsWithin f k (named_entries from ns)
 named_within f j k from [] low stand d c = absurd (none_in d c)
 named_within f j k from (n ∷ ns) low stand d c = elim (in_cases from (numbers_of (named_entries (suc from) ns)) d c) [
   | inl is ↦ subst (λ x. f x ≤ k) is (subst (λ x. x ≤ k) (sym stand.0) low)
@@ -127,10 +127,10 @@ params_stand f k from c cs stand =
       moved f (from + length own) (from + clause_size c) (depths_of_params k cs) (ap (λ n. from + n) (two_lengths (length c.names) (length (elements_in c.text)) (suc k) k)) (stand_later f from own (depths_of_params k cs) stand),
     )
 
-same_low : (k : ℕ) → k ≤ k
+pub same_low : (k : ℕ) → k ≤ k
 same_low k = omega arith
 
-param_elements_within : (f : ℕ → ℕ) (k from : ℕ) (cs : List Clause) → Stand f from (depths_of_params k cs) → IsWithin f k (param_elements from cs)
+pub param_elements_within : (f : ℕ → ℕ) (k from : ℕ) (cs : List Clause) → Stand f from (depths_of_params k cs) → IsWithin f k (param_elements from cs)
 param_elements_within f k from [] stand d c = absurd (none_in d c)
 param_elements_within f k from (c ∷ cs) stand d i =
     let two = params_stand f k from c cs stand in
@@ -210,13 +210,13 @@ SeesWithin f text r k = (d : ℕ) → Sees text r d → f d ≤ k
 abbrev pub LanguageOutside : (ℕ → ℕ) → List Definition → Type 0
 LanguageOutside f text = (d : ℕ) → IsPredefined text d → f d ≤ 0
 
-no_less : (n k : ℕ) → n ≤ 0 → n ≤ k
+pub no_less : (n k : ℕ) → n ≤ 0 → n ≤ k
 no_less n k none = omega (arith, none)
 
 one_deeper : (n k : ℕ) → n ≤ k → n ≤ suc k
 one_deeper n k low = omega (arith, low)
 
-seized_seen : {all : List Definition} {around : ℕ → Type 0} {ps : PartNodes} {d : ℕ} → Seized all around ps d → around d
+pub seized_seen : {all : List Definition} {around : ℕ → Type 0} {ps : PartNodes} {d : ℕ} → Seized all around ps d → around d
 seized_seen (seized n c same seen) = seen
 seized_seen (seized_along n c mode same seen_mode among seen) = seen
 

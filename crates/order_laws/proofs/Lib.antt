@@ -9,3 +9,8 @@ pub mod TextCounters
 pub mod GroundThere
 pub mod Loops
 pub mod CounterDepths
+pub mod Before
+pub mod Tidy
+pub mod CounterOrder
+pub mod Params
+pub mod Counted

@@ -68,11 +68,12 @@ nodes_later r from (p ∷ ps) qs k c =
     later_in (node r from p) (nodes_inside r from p ++ nodes r (from + size_of p) (part_nodes (ps ++ qs))) k
     (Contains-append_right (nodes_inside r from p) (nodes r (from + size_of p) (part_nodes (ps ++ qs))) k (nodes_later r (from + size_of p) ps qs k (subst (λ n. Contains (nodes r n (part_nodes qs)) k) same c)))
 
-mention_node : (r : Reach) (from : ℕ) (ms : List Mention) (m : Mention) → Contains ms m → (number : ℕ) × Contains (nodes r from (part_nodes (mentioned ms))) (node r number (mention m))
+-- the mentions at the front of parts stand at the number of what is defined first behind them
+mention_node : (r : Reach) (from : ℕ) (ms : List Mention) (m : Mention) → Contains ms m → (number : ℕ) × (Contains (nodes r from (part_nodes (mentioned ms))) (node r number (mention m)) × (number ≡ from))
 mention_node r from [] m c = absurd (none_in m c)
 mention_node r from (x ∷ ms) m c = elim (in_cases x ms m c) [
-  | inl is ↦ (from, here_in (node r from (mention x)) (nodes r (from + 0) (part_nodes (mentioned ms))) (node r from (mention m)) (ap (λ y. node r from (mention y)) is))
-  | inr there ↦ (let h = mention_node r (from + 0) ms m there in (h.0, later_in (node r from (mention x)) (nodes r (from + 0) (part_nodes (mentioned ms))) (node r h.0 (mention m)) h.1))
+  | inl is ↦ (from, (here_in (node r from (mention x)) (nodes r (from + 0) (part_nodes (mentioned ms))) (node r from (mention m)) (ap (λ y. node r from (mention y)) is), refl))
+  | inr there ↦ (let h = mention_node r (from + 0) ms m there in let same = h.1.1 in (h.0, (later_in (node r from (mention x)) (nodes r (from + 0) (part_nodes (mentioned ms))) (node r h.0 (mention m)) h.1.0, omega (arith, same))))
 ]
 
 mentions_size : (ms : List Mention) → sizes_of (part_nodes (mentioned ms)) ≡ 0
@@ -97,12 +98,13 @@ IsNoCounter (a_counter c) = ⊥
 IsNoCounter o = Unit {0}
 
 module _ (text : List Definition) (all : List Node) (f : ℕ → ℕ) (language : LanguageOutside f text) where
-  -- a mention stands at a node that sees nothing as deep as a definition
+  -- a mention stands at a node that sees nothing as deep as a definition, and has its number
   pub record MentionNode (d : ℕ) (m : Mention) : Type 0 where
     pub at : Node
     pub is_node : Contains all at
     pub is_mention : at.part ≡ mention m
     pub near : (e : ℕ) → Sees text at.reach e → f e < f d
+    pub number : at.from ≡ d
 
   abbrev pub HasLoop : ℕ → Origin → Type 0
   HasLoop d (a_counter c) = (m : Mention) → Contains (mentions_bounding c) m → MentionNode d m
@@ -185,8 +187,9 @@ module _ (text : List Definition) (all : List Node) (f : ℕ → ℕ) (language 
         let next : start + 1 ≡ suc from = omega (arith, same) in (
           λ m i. let h = mention_node r from ms m i in record {
             at = node r h.0 (mention m);
-            is_node = inside (node r h.0 (mention m)) (nodes_first r from (mentioned ms) (block_of (turns ++ ps) ∷ []) (node r h.0 (mention m)) h.1);
+            is_node = inside (node r h.0 (mention m)) (nodes_first r from (mentioned ms) (block_of (turns ++ ps) ∷ []) (node r h.0 (mention m)) h.1.0);
             is_mention = refl;
+            number = h.1.1;
             near = λ e seen. less_deep (f e) depth (f from) (within e seen) (ap f (sym same) ∙ own.0);
           },
           at_moved HasLoop (start + 1) (suc from) os next rest,

@@ -80,13 +80,13 @@ chained (ways.through c first) later = ways.through c (chained first later)
 
 -- ---- depths
 
-default_past : (xs : List ℕ) (k : ℕ) → length xs ≤ k → slice_index_or xs k 0 ≡ 0
+pub default_past : (xs : List ℕ) (k : ℕ) → length xs ≤ k → slice_index_or xs k 0 ≡ 0
 default_past [] k past = refl
 default_past (x ∷ xs) zero past = absurd (omega arith)
 default_past (x ∷ xs) (suc k) past = default_past xs k (omega arith)
 
 -- a function that has these depths from a number on
-stands_from : (f : ℕ → ℕ) (from : ℕ) (xs : List ℕ) → ((k : ℕ) → f (from + k) ≡ slice_index_or xs k 0) → Stand f from xs
+pub stands_from : (f : ℕ → ℕ) (from : ℕ) (xs : List ℕ) → ((k : ℕ) → f (from + k) ≡ slice_index_or xs k 0) → Stand f from xs
 stands_from f from [] same = tt
 stands_from f from (x ∷ xs) same = (
   (let none : from + 0 ≡ from = omega arith in subst (λ d. f d ≡ x) none (same 0)),
@@ -102,7 +102,7 @@ definition_there (p ∷ os) [] k o all at = absurd all
 definition_there (p ∷ os) (e ∷ ds) zero o all at = (e, (refl, subst (λ x. Defines x e) (same_some p o at) all.0))
 definition_there (p ∷ os) (e ∷ ds) (suc k) o all at = definition_there os ds k o all.1 at
 
-got_append : {A : Type 0} (xs ys : List A) (k : ℕ) (x : A) → slice_get (xs ++ ys) k ≡ Some x → (slice_get xs k ≡ Some x) ⊎ Contains ys x
+pub got_append : {A : Type 0} (xs ys : List A) (k : ℕ) (x : A) → slice_get (xs ++ ys) k ≡ Some x → (slice_get xs k ≡ Some x) ⊎ Contains ys x
 got_append [] [] k x is = no_some x is
 got_append [] (y ∷ ys) zero x is = inr (here_in y ys x (same_some y x is))
 got_append [] (y ∷ ys) (suc k) x is = elim (got_append [] ys k x is) [
@@ -112,7 +112,7 @@ got_append [] (y ∷ ys) (suc k) x is = elim (got_append [] ys k x is) [
 got_append (z ∷ xs) ys zero x is = inl is
 got_append (z ∷ xs) ys (suc k) x is = got_append xs ys k x is
 
-got_below : {A : Type 0} (xs : List A) (k : ℕ) (x : A) → slice_get xs k ≡ Some x → k < length xs
+pub got_below : {A : Type 0} (xs : List A) (k : ℕ) (x : A) → slice_get xs k ≡ Some x → k < length xs
 got_below [] k x is = no_some x is
 got_below (y ∷ xs) zero x is = omega arith
 got_below (y ∷ xs) (suc k) x is = let less = got_below xs k x is in omega (arith, less)
@@ -214,7 +214,7 @@ module _ (text_of_t : List ℕ) (t : ProgramTree) (es : List Entry) (has : HasNa
   unfolding deep
   deep_stands = stands_from deep 0 (depths_in 0 level) (λ k. let same : 0 + k ≡ k = omega arith in ap (λ d. slice_index_or (depths_in 0 (level_of t)) d 0) same)
 
-  same_counts : length text ≡ length (depths_in 0 level)
+  pub same_counts : length text ≡ length (depths_in 0 level)
   same_counts =
       let defined = same_length (origins_of t) all (origins_define t) in
       let first = length-append (text_origins t) predefined_origins in

@@ -148,3 +148,76 @@ module _ (text : List ℕ) (t : ProgramTree) (g h : Ground) (has : HasNames text
 
 pub but_counters : TextCountersLaw
 but_counters text t g h has is_g is_h d apart = same_but_counters text t g h has is_g is_h d (slice_get g.origins d) refl apart
+
+-- where all but counters has the same entry in a ground as before, it has it by that ground
+module _ (text : List ℕ) (t : ProgramTree) (g h : Ground) (has : HasNames text t) (is_g : IsGroundOf t g) (alike_h : SameText g h) (same : (d : ℕ) → is_counter (slice_get g.origins d) ≡ false → slice_get g.entries d ≡ slice_get h.entries d) where
+  looked_no_counter : (o : Option Origin) → is_looked_up o ≡ true → is_counter o ≡ false
+  looked_no_counter None up = refl
+  looked_no_counter (Some (a_counter c)) up = absurd (true≢false (sym up))
+  looked_no_counter (Some (a_synonym s)) up = refl
+  looked_no_counter (Some (a_mode novel m)) up = refl
+  looked_no_counter (Some (an_element ns part owner)) up = refl
+  looked_no_counter (Some (a_location l)) up = refl
+  looked_no_counter (Some (a_parameter m)) up = refl
+  looked_no_counter (Some (a_received n count part)) up = refl
+  looked_no_counter (Some (a_procedure p)) up = refl
+  looked_no_counter (Some (a_process p)) up = refl
+  looked_no_counter (Some (a_signal s)) up = refl
+  looked_no_counter (Some (a_modulion kind items)) up = refl
+  looked_no_counter (Some (a_predefined p)) up = refl
+
+  plain_no_counter : (o : Option Origin) → is_plain o ≡ true → is_counter o ≡ false
+  plain_no_counter None up = refl
+  plain_no_counter (Some (a_counter c)) up = absurd (true≢false (sym up))
+  plain_no_counter (Some (a_synonym s)) up = refl
+  plain_no_counter (Some (a_mode novel m)) up = refl
+  plain_no_counter (Some (an_element ns part owner)) up = refl
+  plain_no_counter (Some (a_location l)) up = refl
+  plain_no_counter (Some (a_parameter m)) up = refl
+  plain_no_counter (Some (a_received n count part)) up = refl
+  plain_no_counter (Some (a_procedure p)) up = refl
+  plain_no_counter (Some (a_process p)) up = refl
+  plain_no_counter (Some (a_signal s)) up = refl
+  plain_no_counter (Some (a_modulion kind items)) up = refl
+  plain_no_counter (Some (a_predefined p)) up = refl
+
+  looked_same : (d : ℕ) → is_looked_up (slice_get g.origins d) ≡ true → slice_get g.entries d ≡ slice_get h.entries d
+  looked_same d up = same d (looked_no_counter (slice_get g.origins d) up)
+
+  origins_same : g.origins ≡ origins_of t
+  origins_same = ap (λ (x : Ground). x.origins) is_g.names
+
+  plain_at : (e : ℕ) (o : Option Origin) → slice_get (origins_of t) e ≡ o → is_kind_at is_message (with_predefined (definitions_of t)) e ≡ true → is_plain o ≡ true
+  plain_at e None is sent = refl
+  plain_at e (Some o) is sent = sent_plain t e o is sent
+
+  source_same : (d : ℕ) (n : Name) (count part : ℕ) → slice_get g.origins d ≡ Some (a_received n count part) → entry_of g n ≡ entry_of h n
+  source_same d n count part at = by_number (number_at g.uses n.at) refl ∙ ap (option_and_then (slice_get h.entries)) (number_same g h n alike_h)
+    where
+      by_number : (k : Option ℕ) → number_at g.uses n.at ≡ k → option_and_then (slice_get g.entries) k ≡ option_and_then (slice_get h.entries) k
+      by_number None is = refl
+      by_number (Some e) is =
+          let row : number_at (ground_with t g.entries).uses n.at ≡ Some e = ap (λ (x : Ground). number_at x.uses n.at) (sym is_g.names) ∙ is in
+          let sent = sent_to text t g.entries has d e n count part (sym (ap (λ os. slice_get os d) origins_same) ∙ at) (subst (λ k. Contains (some_number k) e) (sym row) (here_in e [] e refl)) in
+          same e (plain_no_counter (slice_get g.origins e) (plain_at e (slice_get g.origins e) (sym (ap (λ os. slice_get os e) origins_same)) sent))
+
+  entry_now : (d : ℕ) (o : Option Origin) → slice_get g.origins d ≡ o → is_counter o ≡ false → option_map (entry_by g) o ≡ option_map (entry_with_counters h) o
+  entry_now d (Some (a_received n count part)) at apart =
+      ap Some (entry_frame g h (a_received n count part) alike_h.defined (record { number = number_same g h n alike_h; origin = origin_same g h n alike_h; entry = source_same d n count part at }))
+  entry_now d (Some (a_counter c)) at apart = absurd (true≢false apart)
+  entry_now d None at apart = refl
+  entry_now d (Some (a_synonym s)) at apart = plain_entry g h alike_h looked_same (Some (a_synonym s)) refl
+  entry_now d (Some (a_mode novel m)) at apart = plain_entry g h alike_h looked_same (Some (a_mode novel m)) refl
+  entry_now d (Some (an_element ns part owner)) at apart = plain_entry g h alike_h looked_same (Some (an_element ns part owner)) refl
+  entry_now d (Some (a_location l)) at apart = plain_entry g h alike_h looked_same (Some (a_location l)) refl
+  entry_now d (Some (a_parameter m)) at apart = plain_entry g h alike_h looked_same (Some (a_parameter m)) refl
+  entry_now d (Some (a_procedure p)) at apart = plain_entry g h alike_h looked_same (Some (a_procedure p)) refl
+  entry_now d (Some (a_process p)) at apart = plain_entry g h alike_h looked_same (Some (a_process p)) refl
+  entry_now d (Some (a_signal s)) at apart = plain_entry g h alike_h looked_same (Some (a_signal s)) refl
+  entry_now d (Some (a_modulion kind items)) at apart = plain_entry g h alike_h looked_same (Some (a_modulion kind items)) refl
+  entry_now d (Some (a_predefined p)) at apart = plain_entry g h alike_h looked_same (Some (a_predefined p)) refl
+
+pub entries_kept : (text : List ℕ) (t : ProgramTree) (g h : Ground) → HasNames text t → IsGroundOf t g → SameText g h → ((d : ℕ) → is_counter (slice_get g.origins d) ≡ false → slice_get g.entries d ≡ slice_get h.entries d)
+    → (d : ℕ) → is_counter (slice_get g.origins d) ≡ false → slice_get h.entries d ≡ option_map (entry_with_counters h) (slice_get g.origins d)
+entries_kept text t g h has is_g alike same d apart =
+    sym (same d apart) ∙ ap (λ es. slice_get es d) is_g.entries ∙ slice_get-map (entry_by g) g.origins d ∙ entry_now text t g h has is_g alike same d (slice_get g.origins d) refl apart

@@ -1,3 +1,4 @@
 pub mod Orders
 pub mod Counters
+pub mod Counted
 pub mod Texts

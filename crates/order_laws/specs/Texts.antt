@@ -40,3 +40,8 @@ TextCountersLaw = (text : List ℕ) (t : ProgramTree) (g h : Ground) → HasName
 abbrev pub CountersDeepLaw : Type 0
 CountersDeepLaw = (text : List ℕ) (t : ProgramTree) (g : Ground) → HasNames text t → g ≡ ground_with t g.entries
     → (depth : ℕ → ℕ) × ((d e : ℕ) (c : ControlTree) (n : Name) → slice_get g.origins d ≡ Some (a_counter c) → Contains (names_bounding c) n → number_at g.uses n.at ≡ Some e → depth e < depth d)
+
+-- A counter that such a value names stands before the counter.
+abbrev pub CountersRiseLaw : Type 0
+CountersRiseLaw = (text : List ℕ) (t : ProgramTree) (g : Ground) → HasNames text t → g ≡ ground_with t g.entries
+    → (d e : ℕ) (c k : ControlTree) (n : Name) → slice_get g.origins d ≡ Some (a_counter c) → Contains (names_bounding c) n → number_at g.uses n.at ≡ Some e → slice_get g.origins e ≡ Some (a_counter k) → e < d

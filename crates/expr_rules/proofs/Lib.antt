@@ -1,0 +1,12 @@
+pub mod Gates
+pub mod Shapes
+pub mod Arguments
+pub mod Nodes
+pub mod Applied
+pub mod Routines
+pub mod FormalLists
+pub mod Indices
+pub mod Counting
+pub mod RangeViews
+pub mod Turns
+pub mod Operands
