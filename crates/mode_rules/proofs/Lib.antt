@@ -1,0 +1,4 @@
+pub mod Sites
+pub mod BodyViews
+pub mod SharedPlaces
+pub mod Capped
