@@ -17,6 +17,8 @@ use Rattle.checks_model.specs.WrittenModes.{told_of_mode, told_of_some_mode}
 use Rattle.checks_model.specs.Limits.{told_shared}
 use Rattle.checks_model.specs.Phases.{some_expr, some_exprs, exprs_of_simple, priority_of, exprs_of_control, exprs_of_label, exprs_of_labels, modes_told_at, told_of_modes}
 use Rattle.checks_model.specs.Sites.{Site, Around, in_procedure, in_no_procedure, at_synonym, at_mode_definition, at_declaration, at_mode, at_simple, at_condition, at_selector, at_labels, at_control, at_set, at_priority, at_event, at_source, at_received, at_exceptions, at_body, at_program, at_item, sites_of_local, some_site, events_listed, sites_of, sites_of_bracketed, sites_of_each, sites_of_branches, sites_of_cases, sites_of_events, sites_of_receives, sites_of_otherwise, sites_of_handler, sites_of_exceptions, sites_of_parts, sites_of_modes, sites_of_result, sites_of_body, sites_of_procedure, sites_of_process, sites_of_item, sites_of_items, shared_in, items_of, sites, outermost_locals}
+use Rattle.mode_rules.specs.Shared.{told_places, all_shared}
+use Rattle.mode_rules.proofs.SharedPlaces.{shared_told}
 use Rattle.mode_rules.specs.Walk.{over_all, over_some_all, over_label, over_labels, over_synonym, over_definition, over_declaration, over_local, over_simple, over_control, over_statement, over_bracketed, over_actions, over_branches, over_cases, over_receives, over_otherwise, over_handler, over_named, over_body, over_some_modes, over_signal, over_param, over_formal, over_procedure, over_process, over_item, over_items, over_modulions, over_program}
 
 module _ (g : Ground) where
@@ -217,3 +219,6 @@ module _ (g : Ground) where
 
   pub program_told : (t : ProgramTree) → told_of_modes g t ≡ over_program g t
   program_told t = ap (λ k. told_shared g 0 (flat_map shared_in (items_of t)) ++ k) (modulions_told t.modulions)
+
+pub program_so : (g : Ground) (t : ProgramTree) (ds : List Diagnostic) → ds ≡ told_places g 0 (all_shared t.modulions) ++ flat_map (λ m. over_item g (modulion_item m)) t.modulions → ds ≡ told_of_modes g t
+program_so g t ds is = is ∙ ap (λ k. k ++ flat_map (λ m. over_item g (modulion_item m)) t.modulions) (shared_told g t) ∙ sym (program_told g t)
