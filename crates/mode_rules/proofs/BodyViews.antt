@@ -1,5 +1,11 @@
 -- Trees by their fields, and what is told in actions and bodies.
 use Rattle.std.proofs.Common.{◌≡◌, ◌++◌, List, [], ◌∷◌, Option, Some, None, refl, sym, ap, ◌∙◌, append-nil, append_assoc}
+use Rattle.std.specs.Prelude.{option_map}
+use Rattle.std.specs.declared.alloc.Global.{Global}
+use Rattle.std.specs.declared.boxed.Box.{Box}
+use Rattle.chill_tree.specs.declared.tree.expr.Expr.{Expr}
+use Rattle.chill_tree.specs.declared.tree.expr.ValueRange.{ValueRange, fold_out-ValueRange, map-ValueRange, out-ValueRange}
+use Rattle.chill_tree.specs.ExprTree.{ExprTree, RangeTree, range_of, expr_layer, range_layer, expr_tree, boxed_expr, range_tree}
 use Rattle.chill_tree.proofs.StatementViews.{statement_built}
 use Rattle.chill_tree.proofs.ItemViews.{item_built}
 use Rattle.chill_tree.specs.StatementTree.{BodyTree, BracketedTree, if_then, case_of, do_loop, begin_end, delay_case, receive_case, local_part, action_part, body_nodes}
@@ -7,6 +13,16 @@ use Rattle.checks_model.specs.Ground.{Ground}
 use Rattle.checks_model.specs.ConstantRules.{told_of_constants, told_of_some_constants, told_some_needed}
 use Rattle.definition_origins.proofs.Views.{tree-branch_out, tree-case_out, tree-named_out, tree-receive_out, tree-handler_out, tree-modulion_out}
 use Rattle.mode_rules.specs.Walk.{over_local, over_control, over_statement, over_bracketed, over_actions, over_branches, over_named, over_receives, over_otherwise, over_body, over_head, over_held, over_else}
+
+range-fields : (e : Box Expr Global) (o : Option (Box Expr Global)) → range_layer (map-ValueRange Expr ValueRange ExprTree RangeTree expr_tree range_tree (record { first = e; last = o })) ≡ range_of (boxed_expr e) (option_map boxed_expr o)
+range-fields e None = refl
+range-fields e (Some f) = refl
+
+pub tree-range_out : (r : ValueRange) → range_tree r ≡ range_of (boxed_expr (out-ValueRange r).first) (option_map boxed_expr (out-ValueRange r).last)
+unfolding expr_tree range_tree
+tree-range_out r = fold_out-ValueRange ExprTree RangeTree expr_layer range_layer r ∙ range-fields (out-ValueRange r).first (out-ValueRange r).last
+
+pub ruleset range_views = (tree-range_out, append-nil, append_assoc)
 
 -- an action that holds others has what its three have
 pub bracketed-made : (g : Ground) (action : BracketedTree) → over_bracketed g action ≡ over_head g action ++ (over_held g action ++ over_else g action)

@@ -16,10 +16,10 @@ use Rattle.checks_model.specs.ConstantRules.{told_of_constants, told_of_some_con
 use Rattle.checks_model.specs.WrittenModes.{told_of_mode, told_of_some_mode}
 use Rattle.checks_model.specs.Limits.{told_shared}
 use Rattle.checks_model.specs.Phases.{some_expr, some_exprs, exprs_of_simple, priority_of, exprs_of_control, exprs_of_label, exprs_of_labels, modes_told_at, told_of_modes}
-use Rattle.checks_model.specs.Sites.{Site, Around, in_procedure, in_no_procedure, at_synonym, at_mode_definition, at_declaration, at_mode, at_simple, at_condition, at_selector, at_labels, at_control, at_set, at_priority, at_event, at_source, at_received, at_exceptions, at_body, at_program, at_item, sites_of_local, some_site, events_listed, sites_of, sites_of_bracketed, sites_of_each, sites_of_branches, sites_of_cases, sites_of_events, sites_of_receives, sites_of_otherwise, sites_of_handler, sites_of_exceptions, sites_of_parts, sites_of_modes, sites_of_result, sites_of_body, sites_of_procedure, sites_of_process, sites_of_item, sites_of_items, shared_in, items_of, sites, outermost_locals}
+use Rattle.checks_model.specs.Sites.{Site, Around, in_procedure, in_no_procedure, at_synonym, at_mode_definition, at_declaration, at_mode, at_simple, at_condition, at_selector, at_labels, at_control, at_set, at_priority, at_event, at_source, at_received, at_exceptions, at_body, at_program, at_item, sites_of_local, some_site, events_listed, sites_of, sites_of_bracketed, sites_of_each, sites_of_branches, sites_of_cases, sites_of_events, sites_of_receives, sites_of_otherwise, sites_of_handler, sites_of_exceptions, sites_of_parts, sites_of_modes, sites_of_result, sites_of_body, sites_of_procedure, sites_of_process, sites_of_item, sites_of_items, shared_in, items_of, sites, locals_of_body}
 use Rattle.mode_rules.specs.Shared.{told_places, all_shared}
 use Rattle.mode_rules.proofs.SharedPlaces.{shared_told}
-use Rattle.mode_rules.specs.Walk.{over_all, over_some_all, over_label, over_labels, over_synonym, over_definition, over_declaration, over_local, over_simple, over_control, over_statement, over_bracketed, over_actions, over_branches, over_cases, over_receives, over_otherwise, over_handler, over_named, over_body, over_some_modes, over_signal, over_param, over_formal, over_procedure, over_process, over_item, over_items, over_modulions, over_program}
+use Rattle.mode_rules.specs.Walk.{over_all, over_some_all, over_label, over_labels, over_synonym, over_definition, over_without_value, over_initial, over_declaration, over_local, over_simple, over_control, over_statement, over_bracketed, over_actions, over_branches, over_cases, over_receives, over_otherwise, over_handler, over_named, over_body, over_some_modes, over_signal, over_param, over_formal, over_procedure, over_process, over_item, over_items, over_modulions, over_program}
 
 module _ (g : Ground) where
   abbrev Told : List Site → List Diagnostic
@@ -87,7 +87,7 @@ module _ (g : Ground) where
   local_told shared (synonyms at ss) = mapped at_synonym (over_synonym g) ss (λ s. refl)
   local_told shared (syn_modes at ds) = mapped at_mode_definition (over_definition g) ds (λ d. refl)
   local_told shared (new_modes at ds) = mapped at_mode_definition (over_definition g) ds (λ d. refl)
-  local_told shared (locations at ds) = mapped (at_declaration shared) (over_declaration g) ds (λ d. refl)
+  local_told shared (locations at ds) = mapped (at_declaration shared) (over_declaration g) ds (λ d. append_assoc (told_of_mode g true d.mode) (over_without_value g d.initial d.names) (over_initial g d.initial))
 
   -- ---- actions
 
@@ -112,17 +112,20 @@ module _ (g : Ground) where
     bracketed_told : (a : Around) (s : BracketedTree) → Told (sites_of_bracketed a s) ≡ over_bracketed g s
     bracketed_told a (if_then at c ss bs o) =
         ap (λ k. told_of_constants g c ++ k)
-        (split (sites_of_each a ss) (sites_of_branches a bs ++ sites_of_otherwise a o) (over_actions g ss) (over_branches g bs ++ over_otherwise g o) (each_told a ss)
-        (split (sites_of_branches a bs) (sites_of_otherwise a o) (over_branches g bs) (over_otherwise g o) (branches_told a bs) (otherwise_told a o)))
+        (split (sites_of_each a ss ++ sites_of_branches a bs) (sites_of_otherwise a o) (over_actions g ss ++ over_branches g bs) (over_otherwise g o)
+        (split (sites_of_each a ss) (sites_of_branches a bs) (over_actions g ss) (over_branches g bs) (each_told a ss) (branches_told a bs)) (otherwise_told a o)
+        ∙ append_assoc (over_actions g ss) (over_branches g bs) (over_otherwise g o))
     bracketed_told a (case_of at e as' o) = ap (λ k. told_of_constants g e ++ k) (split (sites_of_cases a e as') (sites_of_otherwise a o) (over_cases g as') (over_otherwise g o) (cases_told a e as') (otherwise_told a o))
     bracketed_told a (do_loop at c ss) = ap (λ k. k ++ Told (sites_of_each a ss)) (control_told c) ∙ ap (λ k. over_control g c ++ k) (each_told a ss)
     bracketed_told a (begin_end at ps) = parts_told a ps
     bracketed_told a (delay_case at set p as') =
-        split (some_site at_set set) (some_site at_priority p ++ sites_of_events a [] as') (told_of_some_constants g set) (told_some_needed g p ++ over_named g as') (set_told set)
-        (split (some_site at_priority p) (sites_of_events a [] as') (told_some_needed g p) (over_named g as') (priority_told p) (events_told a [] as'))
+        split (some_site at_set set ++ some_site at_priority p) (sites_of_events a [] as') (told_of_some_constants g set ++ told_some_needed g p) (over_named g as')
+        (split (some_site at_set set) (some_site at_priority p) (told_of_some_constants g set) (told_some_needed g p) (set_told set) (priority_told p)) (events_told a [] as')
+        ∙ append_assoc (told_of_some_constants g set) (told_some_needed g p) (over_named g as')
     bracketed_told a (receive_case at set as' o) =
-        split (some_site at_set set) (sites_of_receives a [] as' ++ sites_of_otherwise a o) (told_of_some_constants g set) (over_receives g as' ++ over_otherwise g o) (set_told set)
-        (split (sites_of_receives a [] as') (sites_of_otherwise a o) (over_receives g as') (over_otherwise g o) (receives_told a [] as') (otherwise_told a o))
+        split (some_site at_set set ++ sites_of_receives a [] as') (sites_of_otherwise a o) (told_of_some_constants g set ++ over_receives g as') (over_otherwise g o)
+        (split (some_site at_set set) (sites_of_receives a [] as') (told_of_some_constants g set) (over_receives g as') (set_told set) (receives_told a [] as')) (otherwise_told a o)
+        ∙ append_assoc (told_of_some_constants g set) (over_receives g as') (over_otherwise g o)
 
     each_told : (a : Around) (ss : StatementNodes) → Told (sites_of_each a ss) ≡ over_actions g ss
     each_told a no_statements = refl
@@ -187,16 +190,18 @@ module _ (g : Ground) where
 
   procedure_told : (p : ProcedureTree) → Told (sites_of_procedure p) ≡ over_procedure g p
   procedure_told p =
-      flat_map-append (modes_told_at g) (map (λ q. at_mode q.mode) p.params) _
-      ∙ ap (λ k. k ++ _) (mapped (λ q. at_mode q.mode) (over_param g) p.params (λ q. refl))
-      ∙ ap (λ k. flat_map (over_param g) p.params ++ k)
-        (flat_map-append (modes_told_at g) (sites_of_result p.returns) _ ∙ ap (λ k. k ++ _) (result_told p.returns) ∙ ap (λ k. told_of_some_mode g p.returns ++ k) (body_told (in_procedure p) p.body p.handler))
+      let body = over_body g (body_nodes p.body) ++ over_handler g (handler_node p.handler) in
+      split (map (λ q. at_mode q.mode) p.params ++ sites_of_result p.returns) (at_body (Some p.name) (flat_map (λ q. q.names) p.params ++ locals_of_body p.body p.handler) ∷ sites_of_body (in_procedure p) p.body p.handler)
+      (flat_map (over_param g) p.params ++ told_of_some_mode g p.returns) body
+      (split (map (λ q. at_mode q.mode) p.params) (sites_of_result p.returns) (flat_map (over_param g) p.params) (told_of_some_mode g p.returns) (mapped (λ q. at_mode q.mode) (over_param g) p.params (λ q. refl)) (result_told p.returns))
+      (body_told (in_procedure p) p.body p.handler)
+      ∙ append_assoc (flat_map (over_param g) p.params) (told_of_some_mode g p.returns) body
 
   process_told : (p : ProcessTree) → Told (sites_of_process p) ≡ over_process g p
   process_told p =
-      flat_map-append (modes_told_at g) (map (λ q. at_mode q.mode) p.formals) _
-      ∙ ap (λ k. k ++ _) (mapped (λ q. at_mode q.mode) (over_formal g) p.formals (λ q. refl))
-      ∙ ap (λ k. flat_map (over_formal g) p.formals ++ k) (body_told in_no_procedure p.body p.handler)
+      split (map (λ q. at_mode q.mode) p.formals) (at_body (Some p.name) (flat_map (λ q. q.names) p.formals ++ locals_of_body p.body p.handler) ∷ sites_of_body in_no_procedure p.body p.handler)
+      (flat_map (over_formal g) p.formals) (over_body g (body_nodes p.body) ++ over_handler g (handler_node p.handler))
+      (mapped (λ q. at_mode q.mode) (over_formal g) p.formals (λ q. refl)) (body_told in_no_procedure p.body p.handler)
 
   mutual
     item_told : (i : ItemTree) → Told (sites_of_item i) ≡ over_item g i

@@ -85,7 +85,7 @@ pub fn tell_some_needed(
 }
 
 // What is told in a label of a CASE.
-#[tactic(auto, using(chill_tree::proofs::ExprViews::expr_built))]
+#[tactic(auto, using(crate::proofs::BodyViews::range_views))]
 fn tell_in_label(
     ground: &Evaluation<'_>,
     label: &ValueRange,

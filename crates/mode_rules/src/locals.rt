@@ -1,8 +1,13 @@
 // What is told in definitions that stand in a modulion or a body.
-ghost use Rattle.std.specs.Prelude.{◌≡◌, ◌++◌, OnOk, option_map, map, flat_map};
+ghost use Rattle.std.specs.Prelude.{◌≡◌, ◌++◌, None, OnOk, option_map, map, flat_map};
 ghost use Rattle.chill_tree.specs.LocalTree.{synonym_tree, mode_definition_tree, initial_tree, declaration_tree, local_tree};
-ghost use Rattle.checks_model.specs.Phases.{told_without_value};
-ghost use Rattle.constant_operators.specs.Grounds.{ground_of};
+ghost use Rattle.diagnostics.specs.declared.rule.Rule.TheVariants as rules;
+ghost use Rattle.names_model.specs.NameRules.{tell};
+ghost use Rattle.modes.specs.ModeTree.{mode_tree};
+ghost use Rattle.modes.specs.Roots.{holds_read};
+ghost use Rattle.checks_model.specs.Told.{told_if, holds_of};
+ghost use Rattle.checks_model.specs.Phases.{mode_defined, told_without_value};
+ghost use Rattle.constant_operators.specs.Grounds.{ground_of, HasGround};
 ghost use Rattle.mode_rules.specs.Ready.{IsReady};
 ghost use Rattle.mode_rules.specs.Walk.{over_synonym, over_definition, over_without_value, over_initial, over_declaration, over_local};
 
@@ -12,7 +17,8 @@ use chill_tree::tree::{Declaration, Initial, Local, ModeDefinition, Name, Synony
 use constant_operators::Evaluation;
 use definition_origins::{CheckRule, Told};
 use definition_table::synonym_entry;
-use modes::holds_read;
+use modes::{Mode, holds_read};
+use std::rc::Rc;
 use written_modes::Standing;
 
 fn tell_in_synonym(ground: &Evaluation<'_>, own: &Synonym, told: &mut Told) -> Result<(), Memory>
@@ -49,38 +55,65 @@ fn tell_in_modes(
 }
 
 // Whether what a name defines is only read.
-fn is_read_alone(ground: &Evaluation<'_>, name: &Name) -> bool {
-    match ground.mode_defined(name) {
+fn is_read_alone(ground: &Evaluation<'_>, name: &Name) -> bool
+    ensures { HasGround ground.now → result ≡ holds_of holds_read (mode_defined (ground_of ground.now) name.now) }
+{
+    holds_read_alone(ground.mode_defined(name))
+}
+
+// Whether a mode that is there is only read.
+fn holds_read_alone(mode: Option<&Rc<Mode>>) -> bool
+    ensures { result ≡ holds_of holds_read (option_map (λ m. mode_tree m.now.value) mode.entry) }
+{
+    match mode {
         None => false,
         Some(mode) => holds_read(mode),
     }
 }
 
+// Tells of a name, where a rule is broken at it.
+fn tell_name_if(broken: bool, name: &Name, told: &mut Told) -> Result<(), Memory>
+    ensures { OnOk result (told.new ≡ told.old ++ told_if broken (tell name.now.at rules.M9 name.now.text)) }
+{
+    if broken {
+        return told.tell_name(CheckRule::M9, name.at, name.text.as_slice());
+    }
+    Ok(())
+}
+
 // Rule M9: a location that is only read, with no initialisation.
+fn tell_read_alone(ground: &Evaluation<'_>, name: &Name, told: &mut Told) -> Result<(), Memory>
+    ensures { IsReady ground.now → OnOk result (told.new ≡ told.old ++ told_without_value (ground_of ground.now) None name.now) }
+{
+    let broken = is_read_alone(ground, name);
+    tell_name_if(broken, name, told)?;
+    Ok(())
+}
+
 fn tell_without_value(
     ground: &Evaluation<'_>,
-    initial: &Option<Initial>,
+    given: &Option<Initial>,
     name: &Name,
     told: &mut Told,
 ) -> Result<(), Memory>
-    ensures { IsReady ground.now → OnOk result (told.new ≡ told.old ++ told_without_value (ground_of ground.now) (option_map initial_tree initial.now) name.now) }
+    ensures { IsReady ground.now → OnOk result (told.new ≡ told.old ++ told_without_value (ground_of ground.now) (option_map initial_tree given.now) name.now) }
 {
-    if initial.is_some() || !is_read_alone(ground, name) {
-        return Ok(());
+    match given {
+        None => tell_read_alone(ground, name, told),
+        Some(_) => Ok(()),
     }
-    told.tell_name(CheckRule::M9, name.at, name.text.as_slice())
 }
 
 fn tell_names_without_value(
     ground: &Evaluation<'_>,
-    initial: &Option<Initial>,
+    given: &Option<Initial>,
     names: &[Name],
     told: &mut Told,
 ) -> Result<(), Memory>
-    ensures { IsReady ground.now → OnOk result (told.new ≡ told.old ++ over_without_value (ground_of ground.now) (option_map initial_tree initial.now) names.now) }
+    ensures { IsReady ground.now → OnOk result (told.new ≡ told.old ++ over_without_value (ground_of ground.now) (option_map initial_tree given.now) names.now) }
 {
     for name in names {
-        tell_without_value(ground, initial, name, told)?;
+        tell_without_value(ground, given, name, told)?;
     }
     Ok(())
 }

@@ -1,22 +1,22 @@
 // Rule L7: the scalars of shared locations become too many.
-ghost use Rattle.std.specs.Prelude.{◌≡◌, ◌++◌, [], min, map, flat_map, OnOk, option_map};
-ghost use Rattle.chill_base.specs.declared.pos.Pos.{Pos as Place};
+ghost use Rattle.std.specs.Prelude.{◌≡◌, ◌≤◌, ◌++◌, min, map, OnOk, option_map, option_and_then, slice_get};
 ghost use Rattle.chill_tree.specs.LocalTree.{declaration_tree, local_tree};
 ghost use Rattle.chill_tree.specs.ItemTree.{item_tree, item_trees, item_nodes, modulion_tree, modulion_item};
 ghost use Rattle.modes.specs.ModeTree.{mode_tree, field_tree, field_trees, field_nodes};
 ghost use Rattle.modes.specs.Bounds.{values_of};
 ghost use Rattle.modes.specs.Scalars.{numbers_of, scalars_of, scalars_in_fields};
-ghost use Rattle.checks_model.specs.Limits.{told_shared};
-ghost use Rattle.checks_model.specs.Sites.{shared_in};
-ghost use Rattle.constant_operators.specs.Grounds.{ground_of};
+ghost use Rattle.checks_model.specs.Ground.{mode_of_entry, number_at};
+ghost use Rattle.checks_model.specs.Limits.{scalars_in_mode};
+ghost use Rattle.constant_operators.specs.Grounds.{entry_tree, ground_of, HasGround};
 ghost use Rattle.mode_rules.specs.Ready.{IsReady};
 ghost use Rattle.mode_rules.specs.Shared.{scalars_at, told_places, places_of, declared_places, local_places, shared_places, each_shared, all_shared};
 
 use chill_base::{List, Memory, Pos};
 use chill_tree::tree::{Declaration, Item, Local, Modulion, Name};
-use constant_operators::Evaluation;
+use constant_operators::{Entry, Evaluation};
 use definition_origins::{CheckRule, Told};
 use modes::{Field, Mode, number_of_values};
+use std::rc::Rc;
 
 // How many numbers tell the members of a powerset of this member mode, 32 members each.
 fn number_of_numbers(member: &Mode) -> u64
@@ -75,31 +75,61 @@ fn scalars_in_field(field: &Field) -> u64
     scalars_in(&field.mode)
 }
 
-// How many scalars the location has whose name stands at a place.
-fn scalars_at(ground: &Evaluation<'_>, at: Pos) -> u64
-    ensures { IsReady ground.now → result ≡ min (scalars_at (ground_of ground.now) at) 65537 }
+// The mode of what is known of a definition.
+fn mode_in(entry: Option<&Entry>) -> Option<&Rc<Mode>>
+    ensures { option_map (λ m. mode_tree m.now.value) result ≡ mode_of_entry (option_map (λ e. entry_tree e.now) entry.entry) }
 {
-    let Some(number) = ground.defined_at(at) else {
-        return 0;
-    };
-    match ground.entry(number) {
-        None => 0,
+    match entry {
+        None => None,
         Some(entry) => match &entry.mode {
-            None => 0,
-            Some(mode) => scalars_in(mode),
+            None => None,
+            Some(mode) => Some(mode),
         },
     }
 }
 
+// What is known of what the name that stands at a place defines.
+#[tactic(auto, using(constant_operators::proofs::Grounds::looked_up))]
+fn entry_at<'g>(ground: &'g Evaluation<'_>, at: Pos) -> Option<&'g Entry>
+    ensures { HasGround ground.now → option_map (λ e. entry_tree e.now) result ≡ option_and_then (slice_get (ground_of ground.now).entries) (number_at (ground_of ground.now).defined at) }
+{
+    match ground.defined_at(at) {
+        None => None,
+        Some(number) => ground.entry(number),
+    }
+}
+
+// How many scalars a mode has that may be there.
+fn scalars_in_some(mode: Option<&Rc<Mode>>) -> u64
+    ensures { result ≡ min (scalars_in_mode (option_map (λ m. mode_tree m.now.value) mode.entry)) 65537 }
+{
+    match mode {
+        None => 0,
+        Some(mode) => scalars_in(mode),
+    }
+}
+
+// How many scalars the location has whose name stands at a place.
+fn scalars_at(ground: &Evaluation<'_>, at: Pos) -> u64
+    ensures few { result ≤ 65537 }
+    ensures count { HasGround ground.now → result ≡ min (scalars_at (ground_of ground.now) at) 65537 }
+{
+    let entry = entry_at(ground, at);
+    let mode = mode_in(entry);
+    scalars_in_some(mode)
+}
+
 // Tells of the first place at which the scalars become more than 65,536.
+#[tactic(auto, using(crate::proofs::SharedPlaces::over_there, crate::proofs::SharedPlaces::within_there))]
 fn tell_behind(ground: &Evaluation<'_>, places: &[Pos], told: &mut Told) -> Result<(), Memory>
     ensures { IsReady ground.now → OnOk result (told.new ≡ told.old ++ told_places (ground_of ground.now) 0 places.now) }
 {
     let mut sum = 0_u64;
     for at in places {
         let more = scalars_at(ground, *at);
-        if more > 65_536 - sum {
-            return told.tell(CheckRule::L7, *at);
+        if sum + more > 65_536 {
+            told.tell(CheckRule::L7, *at)?;
+            return Ok(());
         }
         sum += more;
     }

@@ -7,4 +7,4 @@ use Rattle.mode_rules.specs.Walk.{over_without_value}
 use Rattle.mode_rules.proofs.locals.tell_names_without_value.Given as goal
 
 abbrev pub invariant-loop-name : goal.invariant-loop-name
-invariant-loop-name l = IsReady l.ground → l.told ++ over_without_value (ground_of l.ground) (option_map initial_tree l.initial) (drop l.name-index l.names) ≡ l.fn.told ++ over_without_value (ground_of l.ground) (option_map initial_tree l.initial) (l.names)
+invariant-loop-name l = IsReady l.ground → l.told ++ over_without_value (ground_of l.ground) (option_map initial_tree l.given) (drop l.name-index l.names) ≡ l.fn.told ++ over_without_value (ground_of l.ground) (option_map initial_tree l.given) (l.names)

@@ -6,6 +6,7 @@ use Rattle.mode_rules.proofs.too_many.tell_behind.Given as goal
 
 abbrev pub invariant-loop-at : goal.invariant-loop-at
 invariant-loop-at l = record {
+  told : l.told ≡ l.fn.told;
   few : l.sum ≤ 65536;
   rest : IsReady l.ground → told_places (ground_of l.ground) l.sum (drop l.at-index l.places) ≡ told_places (ground_of l.ground) 0 l.places;
 }
