@@ -96,9 +96,9 @@ HasNoParts o = (g : Ground) → (entry_by g o).parts ≡ []
 pub same_found : (g : Ground) (o : Origin) (y x : Entry) → HasNoParts o → IsEntryOf g o y → IsSameBut y x → IsEntryOf g o x
 same_found g o y x none is same =
     let tree : entry_tree x ≡ entry_tree y =
-        tree_by x (entry_tree y).mode (entry_tree y).class (entry_tree y).value (entry_tree y).parts same.mode same.class
-        (ap (λ k. value_known k x.value) same.class ∙ ap (λ k. value_known (entry_tree y).class k) same.value)
-        (no_parts x same.parts ∙ sym (ap (λ t. t.parts) is.known ∙ none g)) in
+    tree_by x (entry_tree y).mode (entry_tree y).class (entry_tree y).value (entry_tree y).parts same.mode same.class
+    (ap (λ k. value_known k x.value) same.class ∙ ap (λ k. value_known (entry_tree y).class k) same.value)
+    (no_parts x same.parts ∙ sym (ap (λ t. t.parts) is.known ∙ none g)) in
     record {
       known = tree ∙ is.known;
       safe = record {

@@ -169,8 +169,8 @@ first_next h done e d f o x evaluated filling agree at other is_done copied =
     let found = agree d o f at first in
     let y = there e f (origin_tree o) filling.well (tree_got e.origins f o found) in
     let tree : entry_tree y.0 ≡ entry_by h (origin_tree o) =
-        same_Some (entry_tree y.0) (entry_by h (origin_tree o))
-        (sym (tree_there e f y.0 y.1.0) ∙ filling.known f is_done ∙ evaluated_at h f evaluated ∙ ap (option_map (entry_by h)) (origin_there h done e f o filling found)) in
+    same_Some (entry_tree y.0) (entry_by h (origin_tree o))
+    (sym (tree_there e f y.0 y.1.0) ∙ filling.known f is_done ∙ evaluated_at h f evaluated ∙ ap (option_map (entry_by h)) (origin_there h done e f o filling found)) in
     same_found h (origin_tree o) y.0 x (no_parts o f first) (record { known = tree; safe = y.1.1 }) (copied y.0 y.1.0)
 
 -- ---- one more is set
@@ -220,12 +220,12 @@ origin_by_tree (o ∷ os) (suc d) t at = origin_by_tree os d t at
 safe_set : (h : Ground) (d : ℕ) (x : Entry) (old new : Evaluation) → IsSet d x old new → IsNext h old.origins d x → IsWell old → AreSafe (origin_trees new.origins) new.entries.items
 safe_set h d x old new is next well k t y at_t at_y = elim (same_or_apart d k) [
   | inl same ↦ (
-    let o = origin_by_tree old.origins k t (ap (λ os. slice_get (origin_trees os) k) (sym is.origins) ∙ at_t) in
-    let here : IsEntryOf h (origin_tree o.0) x = next o.0 (ap (slice_get old.origins) same ∙ o.1.0) in
-    let less = slice_get_within new.entries.items k y at_y in
-    let long : length new.entries.items ≡ length old.entries.items = ap length is.entries ∙ length-set old.entries.items d x in
-    let set_there : slice_get new.entries.items k ≡ Some x = ap (λ xs. slice_get xs k) is.entries ∙ ap (λ n. slice_get (set old.entries.items d x) n) (sym same) ∙ got_set old.entries.items d x (omega (arith, less, long, same)) in
-    subst (λ z. IsSafe t z) (same_Some x y (sym set_there ∙ at_y)) (subst (λ q. IsSafe q x) o.1.1 here.safe))
+      let o = origin_by_tree old.origins k t (ap (λ os. slice_get (origin_trees os) k) (sym is.origins) ∙ at_t) in
+      let here : IsEntryOf h (origin_tree o.0) x = next o.0 (ap (slice_get old.origins) same ∙ o.1.0) in
+      let less = slice_get_within new.entries.items k y at_y in
+      let long : length new.entries.items ≡ length old.entries.items = ap length is.entries ∙ length-set old.entries.items d x in
+      let set_there : slice_get new.entries.items k ≡ Some x = ap (λ xs. slice_get xs k) is.entries ∙ ap (λ n. slice_get (set old.entries.items d x) n) (sym same) ∙ got_set old.entries.items d x (omega (arith, less, long, same)) in
+      subst (λ z. IsSafe t z) (same_Some x y (sym set_there ∙ at_y)) (subst (λ q. IsSafe q x) o.1.1 here.safe))
   | inr apart ↦ well.safe k t y (ap (λ os. slice_get (origin_trees os) k) (sym is.origins) ∙ at_t) (sym (ap (λ xs. slice_get xs k) is.entries ∙ set_elsewhere old.entries.items d k x apart) ∙ at_y)
 ]
 
@@ -443,12 +443,12 @@ is_table text t e has end =
     let of_text : IsGroundOf t h = (ground_there text t has).1 in
     let filling = end.filling in
     let long : length (ground_of e).entries ≡ length h.entries =
-        entries_long e ∙ filling.well.entries ∙ sym (length-map e.origins origin_tree) ∙ ap length (sym (origins_same e) ∙ filling.text.origins) ∙ sym (long_as h of_text.entries) in
+    entries_long e ∙ filling.well.entries ∙ sym (length-map e.origins origin_tree) ∙ ap length (sym (origins_same e) ∙ filling.text.origins) ∙ sym (long_as h of_text.entries) in
     let each : (k : ℕ) → k < length (ground_of e).entries → slice_get (ground_of e).entries k ≡ slice_get h.entries k =
-        λ k less. filling.known k (elim (end.all k (let whole = long_as h of_text.entries in omega (arith, less, long, whole))) [
-          | inl is_done ↦ is_done
-          | inr rest ↦ absurd (none_in k rest)
-        ]) in
+    λ k less. filling.known k (elim (end.all k (let whole = long_as h of_text.entries in omega (arith, less, long, whole))) [
+      | inl is_done ↦ is_done
+      | inr rest ↦ absurd (none_in k rest)
+    ]) in
     let entries : (ground_of e).entries ≡ h.entries = same_lists (ground_of e).entries h.entries long each in
     let whole : ground_of e ≡ h = same_ground (ground_of e) h filling.text entries in
     record {

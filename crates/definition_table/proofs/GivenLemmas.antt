@@ -126,8 +126,8 @@ pub safe_pushed : (os : List Origin) (found new : List Entry) (o : Origin) (x : 
 safe_pushed os found new o x pushed at safe each d p y is_o is_x = elim (got_last found x d y (ap (λ (xs : List Entry). slice_get xs d) (sym pushed) ∙ is_x)) [
   | inl there ↦ each d p y is_o there
   | inr last ↦ (
-    let same : o ≡ p = same_Some o p (sym at ∙ ap (slice_get os) (sym last.0) ∙ is_o) in
-    subst (λ z. IsSafe p z) last.1 (subst (λ q. IsSafe q x) same safe))
+      let same : o ≡ p = same_Some o p (sym at ∙ ap (slice_get os) (sym last.0) ∙ is_o) in
+      subst (λ z. IsSafe p z) last.1 (subst (λ q. IsSafe q x) same safe))
 ]
 
 got_item : {A : Type 0} (xs : List A) (k : ℕ) (x : A) → k < length xs → slice_get xs k ≡ Some (get_or xs k x)

@@ -68,19 +68,19 @@ module _ (text : List Definition) (r : Reach) (n : Identifier) (d : ℕ) (seen :
   mention_below : (m : Mention) → told_mention text r m ≡ [] → Contains (used_in_mention m) n → d < length (with_predefined text)
   mention_below (Use i need) none c = elim (in_cases i [] n c) [
     | inl is ↦ (
-      let told : told_use n (sees text r n.spelling) (any_kind (fits need) (with_predefined text) (sees text r n.spelling)) ≡ [] =
-          subst (λ (j : Identifier). told_use j (sees text r j.spelling) (any_kind (fits need) (with_predefined text) (sees text r j.spelling)) ≡ []) is none in
-      any_below (fits need) (with_predefined text) d
-      (use_fits n d (any_kind (fits need) (with_predefined text) (d ∷ [])) (subst (λ (ds : List ℕ). told_use n ds (any_kind (fits need) (with_predefined text) ds) ≡ []) seen told)))
+        let told : told_use n (sees text r n.spelling) (any_kind (fits need) (with_predefined text) (sees text r n.spelling)) ≡ [] =
+        subst (λ (j : Identifier). told_use j (sees text r j.spelling) (any_kind (fits need) (with_predefined text) (sees text r j.spelling)) ≡ []) is none in
+        any_below (fits need) (with_predefined text) d
+        (use_fits n d (any_kind (fits need) (with_predefined text) (d ∷ [])) (subst (λ (ds : List ℕ). told_use n ds (any_kind (fits need) (with_predefined text) ds) ≡ []) seen told)))
     | inr there ↦ absurd (none_in n there)
   ]
   mention_below (Argument i callee) none c = elim (in_cases i [] n c) [
     | inl is ↦ (
-      let all = with_predefined text in
-      let told : told_use n (sees text r n.spelling) (fits_argument all (sees text r callee.spelling) (sees text r n.spelling)) ≡ [] =
-          subst (λ (j : Identifier). told_use j (sees text r j.spelling) (fits_argument all (sees text r callee.spelling) (sees text r j.spelling)) ≡ []) is none in
-      argument_below all d (any_kind (fits needs.Value) all (d ∷ [])) (any_kind is_measuring all (sees text r callee.spelling)) (any_kind (fits needs.Mode) all (d ∷ [])) refl refl
-      (use_fits n d (fits_argument all (sees text r callee.spelling) (d ∷ [])) (subst (λ (ds : List ℕ). told_use n ds (fits_argument all (sees text r callee.spelling) ds) ≡ []) seen told)))
+        let all = with_predefined text in
+        let told : told_use n (sees text r n.spelling) (fits_argument all (sees text r callee.spelling) (sees text r n.spelling)) ≡ [] =
+        subst (λ (j : Identifier). told_use j (sees text r j.spelling) (fits_argument all (sees text r callee.spelling) (sees text r j.spelling)) ≡ []) is none in
+        argument_below all d (any_kind (fits needs.Value) all (d ∷ [])) (any_kind is_measuring all (sees text r callee.spelling)) (any_kind (fits needs.Mode) all (d ∷ [])) refl refl
+        (use_fits n d (fits_argument all (sees text r callee.spelling) (d ∷ [])) (subst (λ (ds : List ℕ). told_use n ds (fits_argument all (sees text r callee.spelling) ds) ≡ []) seen told)))
     | inr there ↦ absurd (none_in n there)
   ]
   mention_below (Element i) none c = absurd (none_in n c)

@@ -227,8 +227,8 @@ pub(crate) fn entry_by(
         Origin::Procedure(own) => procedure_entry(ground, own, told),
         Origin::Signal(own) => signal_entry(ground, own, told),
         Origin::Predefined(own) => predefined_entry(ground, own),
-        Origin::Counter(_) | Origin::Process(_) | Origin::Modulion(_) => Ok(
-            Entry::unknown(ground.alloc),
-        ),
+        Origin::Counter(_) | Origin::Process(_) | Origin::Modulion(_) => Ok(Entry::unknown(
+            ground.alloc,
+        )),
     }
 }

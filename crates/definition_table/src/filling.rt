@@ -106,11 +106,7 @@ fn set_entry(evaluation: &mut Evaluation<'_>, number: u32, entry: Entry)
 }
 
 // Evaluates the next definition.
-fn fill_next(
-    evaluation: &mut Evaluation<'_>,
-    number: u32,
-    told: &mut Told,
-) -> Result<(), Memory>
+fn fill_next(evaluation: &mut Evaluation<'_>, number: u32, told: &mut Told) -> Result<(), Memory>
     ensures { (h : Ground) (ds : Row ℕ) → IsEvaluated h → IsUnderway h (number ∷ ds) evaluation.old → OnOk result (IsUnderway h ds evaluation.new) }
 {
     let entry = entry_of(evaluation, number, told)?;

@@ -83,7 +83,11 @@ fn set_mode(
 }
 
 // A constant of a class, with its number.
-fn constant_entry(ground: &Evaluation<'_>, class: Option<Class>, number: i64) -> Result<Entry, Memory>
+fn constant_entry(
+    ground: &Evaluation<'_>,
+    class: Option<Class>,
+    number: i64,
+) -> Result<Entry, Memory>
     ensures { IfOk result (IsConstant (option_map class_tree class) number) }
 {
     let mut entry = Entry::unknown(ground.alloc);

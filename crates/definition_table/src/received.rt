@@ -51,11 +51,7 @@ fn count_of(received: &Option<List<Name>>) -> usize
 }
 
 // The mode of a part of a signal, where so many names are received as it has parts.
-fn signal_part(
-    entry: Option<&Entry>,
-    count: usize,
-    part: usize,
-) -> Result<Option<Rc<Mode>>, Memory>
+fn signal_part(entry: Option<&Entry>, count: usize, part: usize) -> Result<Option<Rc<Mode>>, Memory>
     ensures { IfOk result (λ m. tree_there m ≡ received_mode (option_map (λ e. e.parts) (option_map (λ e. entry_tree e.now) entry.entry)) count part) }
 {
     let Some(entry) = entry else {
@@ -71,11 +67,7 @@ fn signal_part(
 }
 
 // The mode of the values of a buffer, where one name is received.
-fn buffer_part(
-    of: Option<&Rc<Mode>>,
-    count: usize,
-    part: usize,
-) -> Result<Option<Rc<Mode>>, Memory>
+fn buffer_part(of: Option<&Rc<Mode>>, count: usize, part: usize) -> Result<Option<Rc<Mode>>, Memory>
     ensures { IfOk result (λ m. tree_there m ≡ received_mode (option_map (λ m. Some m ∷ []) (option_and_then model.element_of (option_map (λ m. mode_tree m.now.value) of.entry))) count part) }
 {
     if count != 1 || part != 0 {

@@ -86,11 +86,7 @@ pub fn tell_some_needed(
 
 // What is told in a label of a CASE.
 #[tactic(auto, using(crate::proofs::BodyViews::range_views))]
-fn tell_in_label(
-    ground: &Evaluation<'_>,
-    label: &ValueRange,
-    told: &mut Told,
-) -> Result<(), Memory>
+fn tell_in_label(ground: &Evaluation<'_>, label: &ValueRange, told: &mut Told) -> Result<(), Memory>
     ensures { IsReady ground.now → OnOk result (told.new ≡ told.old ++ over_label (ground_of ground.now) (range_tree label.now)) }
 {
     tell_needed(ground, &label.first, told)?;

@@ -7,16 +7,15 @@ ghost use Rattle.constant_operators.specs.Grounds.{ground_of};
 ghost use Rattle.mode_rules.specs.Ready.{IsReady};
 ghost use Rattle.mode_rules.specs.Walk.{over_modes, over_some_modes, over_signal, over_param, over_formal, whole_body, over_procedure, over_process, over_item, over_items};
 
-use crate::locals::tell_in_local;
 use crate::expressions::{tell_in_mode, tell_in_some_mode};
+use crate::locals::tell_in_local;
 use crate::statements::{tell_in_body, tell_in_handler, tell_in_statement};
 use chill_base::{List, Memory};
 use chill_tree::tree::{
-    BodyPart, Formal, Handler, Item, Mode, Modulion, Param, Procedure, Process,
-    Signal,
+    BodyPart, Formal, Handler, Item, Mode, Modulion, Param, Procedure, Process, Signal,
 };
-use definition_origins::Told;
 use constant_operators::Evaluation;
+use definition_origins::Told;
 use written_modes::Standing;
 
 fn tell_in_all_modes(ground: &Evaluation<'_>, modes: &[Mode], told: &mut Told) -> Result<(), Memory>
@@ -124,11 +123,7 @@ fn tell_in_item(ground: &Evaluation<'_>, item: &Item, told: &mut Told) -> Result
 }
 
 #[cycle(item)]
-fn tell_in_items(
-    ground: &Evaluation<'_>,
-    items: &[Item],
-    told: &mut Told,
-) -> Result<(), Memory>
+fn tell_in_items(ground: &Evaluation<'_>, items: &[Item], told: &mut Told) -> Result<(), Memory>
     ensures { IsReady ground.now → OnOk result (told.new ≡ told.old ++ over_items (ground_of ground.now) (item_nodes (item_trees items.now))) }
 {
     for item in items {

@@ -18,7 +18,7 @@ mod too_many;
 pub use constant_operators::{Computed, Entry, Evaluation, Known, Measured, Plain, shared};
 pub use constant_rules::{TupleValue, has_parts, known, needed};
 pub use definition_origins::{CheckRule, Element, Origin, Origins, Owner, Predefined, Told};
+pub use definition_table::evaluate;
 pub use exceptions::{FIRST_OWN_EXCEPTION, exception_of_language, one_spelling};
 pub use meeting::{Meeting, meeting_of};
-pub use definition_table::evaluate;
 pub use phase::{told_of_modes, told_of_program};

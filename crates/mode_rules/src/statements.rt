@@ -14,8 +14,8 @@ use chill_tree::tree::{
     BodyPart, Bracketed, CaseAlternative, ElsIf, Handler, NamedAlternative, ReceiveAlternative,
     Statement,
 };
-use definition_origins::Told;
 use constant_operators::Evaluation;
+use definition_origins::Told;
 
 /// What is told in a statement.
 #[tactic(auto, using(crate::proofs::BodyViews::statement_views))]

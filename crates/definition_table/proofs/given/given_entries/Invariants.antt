@@ -10,5 +10,5 @@ use Rattle.definition_table.proofs.given.given_entries.Given as goal
 abbrev pub invariant-loop-origin : goal.invariant-loop-origin
 invariant-loop-origin l = record {
   len : length l.found ≡ l.origin-index;
-  safe : Rise (use_places l.ground.defined) → IsPlain l.ground.plain → AreDefined (ground_of l.ground) → AreSafe (origin_trees l.ground.origins) l.found
+  safe : Rise (use_places l.ground.defined) → IsPlain l.ground.plain → AreDefined (ground_of l.ground) → AreSafe (origin_trees l.ground.origins) l.found;
 }
