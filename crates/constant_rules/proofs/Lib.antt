@@ -16,3 +16,4 @@ pub mod TuplesFound
 pub mod PartFound
 pub mod SynonymFound
 pub mod SpanFound
+pub mod OfTrees

@@ -1,5 +1,5 @@
 -- Lists of parts, one turn after the other.
-use Rattle.std.proofs.Common.{◌≡◌, ℕ, ◌+◌, ◌<◌, ◌≤◌, Bool, List, [], ◌∷◌, ◌++◌, None, true, false, refl, ap, sym, ◌∙◌, length, get_or, drop, append_assoc}
+use Rattle.std.proofs.Common.{◌≡◌, ℕ, ◌+◌, ◌<◌, ◌≤◌, Bool, List, [], ◌++◌, None, true, false, refl, ap, sym, ◌∙◌, length, get_or, drop, append_assoc}
 use Rattle.std.specs.Prelude.{◌&&◌}
 use Rattle.std.proofs.lemmas.List.{append-nil, at_drop_more, at_drop_all}
 use Rattle.chill_tree.specs.declared.tree.expr.Expr.{Expr}

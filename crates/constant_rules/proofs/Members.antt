@@ -1,13 +1,12 @@
 -- The powerset that the parts of a tuple hold.
-use Rattle.std.proofs.Common.{◌≡◌, ℕ, suc, ◌≤◌, Bool, true, false, List, [], ◌∷◌, ◌++◌, length, Option, Some, None, ℤ, pos, refl, ap, sym, subst, ◌∙◌, append_assoc}
-use Rattle.std.specs.Prelude.{option_map, is_some}
+use Rattle.std.proofs.Common.{◌≡◌, ℕ, suc, ◌≤◌, Bool, List, [], ◌∷◌, ◌++◌, Option, Some, None, ℤ, refl, ap, sym, subst, ◌∙◌, append_assoc}
+use Rattle.std.specs.Prelude.{option_map}
 use Rattle.std.proofs.lemmas.List.{append-nil}
 use Rattle.chill_tree.specs.ExprTree.{ExprTree, RangeTree, RangeNodes, alone, between, no_ranges, more_ranges}
 use Rattle.modes.specs.declared.mode.Bounds.{Bounds}
 use Rattle.modes.specs.ModeTree.{ModeTree}
 use Rattle.modes.specs.Form.{FormTree}
 use Rattle.modes.specs.Bounds.{bounds_of, count_between}
-use Rattle.scalar_operators.specs.Members.{span_in, union_of}
 use Rattle.checks_model.specs.ValueTrees.{ValueTree, number, scalars_in}
 use Rattle.checks_model.specs.Ground.{Ground}
 use Rattle.checks_model.specs.Classes.{mode_of_part}
@@ -15,10 +14,10 @@ use Rattle.checks_model.specs.Constants.{constant_as, both_ends, behind, value_o
 use Rattle.member_laws.specs.Bits.{UnionLaw}
 use Rattle.constant_rules.specs.declared.parts.Part.{Part}
 use Rattle.constant_rules.specs.declared.parts.Span.{Span}
-use Rattle.constant_rules.specs.Parts.{first_number, offset_from, widened, last_or, span_widened, all_widened}
-use Rattle.constant_rules.specs.Tuples.{OfPart, IsLast, IsSpan, AreSpans, IsWithin}
-use Rattle.constant_rules.proofs.MemberSpans.{IsBetween, flat_of, bounded_more}
-use Rattle.constant_rules.proofs.PartValues.{IsMember, member_within}
+use Rattle.constant_rules.specs.Parts.{first_number, widened, last_or, span_widened, all_widened}
+use Rattle.constant_rules.specs.Tuples.{IsLast, IsSpan, AreSpans, IsWithin}
+use Rattle.constant_rules.proofs.MemberSpans.{flat_of, bounded_more}
+use Rattle.constant_rules.proofs.PartValues.{member_within}
 
 -- a part has its value, which is one of its mode
 pub record IsHeld (g : Ground) (m : Option ModeTree) (x : ExprTree) (part : Part) : Type 0 where

@@ -1,19 +1,19 @@
 -- What is found of each kind of expression, from what is found of its parts.
-use Rattle.std.proofs.Common.{◌≡◌, ℕ, suc, Bool, true, false, List, [], ◌∷◌, ◌++◌, Option, Some, None, refl, ap, sym, subst, ◌∙◌, pos}
+use Rattle.std.proofs.Common.{◌≡◌, ℕ, Bool, true, false, List, ◌++◌, Option, Some, None, refl, ap, sym, subst, ◌∙◌, pos}
 use Rattle.std.specs.Prelude.{◌&&◌, if◌then◌else◌, neg_ℤ}
 use Rattle.chill_base.specs.declared.pos.Pos.{Pos}
 use Rattle.chill_tree.specs.declared.tree.name.Name.{Name}
 use Rattle.chill_tree.specs.declared.tree.expr.Prefix.{Prefix}
 use Rattle.chill_tree.specs.declared.tree.expr.Prefix.TheVariants as prefixes
 use Rattle.chill_tree.specs.declared.tree.expr.Operator.{Operator}
-use Rattle.chill_tree.specs.ExprTree.{ExprTree, ExprNodes, RangeTree, RangeNodes, whole, character, text, this_instance, paren, receive, start, tuple, uniform, name, apply, field, prefixed, binary, no_exprs, more_exprs, place_of}
+use Rattle.chill_tree.specs.ExprTree.{ExprTree, ExprNodes, RangeNodes, whole, character, text, this_instance, paren, receive, start, tuple, uniform, name, apply, field, prefixed, binary, place_of}
 use Rattle.std.proofs.lemmas.Option.{same_Some}
 use Rattle.std.proofs.lemmas.Bool.{false≢true}
 use Rattle.chill_tree.proofs.ExprViews.{expr_built}
 use Rattle.diagnostics.specs.declared.diagnostic.Diagnostic.{Diagnostic}
 use Rattle.modes.specs.ModeTree.{ClassTree}
 use Rattle.checks_model.specs.ValueTrees.{ValueTree}
-use Rattle.checks_model.specs.Told.{is_none_told, then_told, holds_of}
+use Rattle.checks_model.specs.Told.{then_told, holds_of}
 use Rattle.checks_model.specs.Ground as model
 use Rattle.checks_model.specs.Ground.{Ground, Origin, Predefined, of_mode, truth, no_instance, a_synonym, a_mode, an_element, a_location, a_parameter, a_counter, a_received, a_procedure, a_process, a_signal, a_modulion, a_predefined, origin_of}
 use Rattle.checks_model.specs.Operations.{is_measuring}
@@ -23,10 +23,10 @@ use Rattle.checks_model.specs.ConstantRules.{told_of_constants, told_in_each, to
 use Rattle.constant_operators.specs.declared.known.Known.{Known}
 use Rattle.constant_operators.specs.Grounds.{predefined_of, predefined_named}
 use Rattle.constant_operators.specs.Known.{binary_class, binary_value, unary_class, unary_value}
-use Rattle.constant_rules.specs.Found.{IsFound, Finds, FindsAt, Varies}
+use Rattle.constant_rules.specs.Found.{IsFound, FindsAt, Varies}
 use Rattle.constant_rules.specs.Walks.{FindsExpr, FindsRoutine, FindsLiteral, constant_routine, routine_form, binary_told, unary_told, told_in_all, minus_literal}
 use Rattle.constant_rules.proofs.Standings.{unnamed_alone, varying_tuple, uniform_alone, varying_uniform, then_nothing}
-use Rattle.constant_rules.proofs.Finding.{not_both, none_both, as_varying, at_node, found_so, in_turn, varying_found}
+use Rattle.constant_rules.proofs.Finding.{as_varying, at_node, found_so, in_turn}
 
 -- ---- nodes that aren't constant
 

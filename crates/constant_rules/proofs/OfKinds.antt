@@ -1,18 +1,17 @@
 -- What is found of each kind of expression.
 use Rattle.std.proofs.Common.{◌≡◌, ℕ, ◌<◌, ◌≤◌, Bool, true, false, List, [], ◌∷◌, ◌++◌, Option, Some, None, ℤ, pos, refl, ap, sym, subst, ◌∙◌, arith}
-use Rattle.std.specs.Prelude.{◌&&◌, not, neg_ℤ, nat_lt, int_le, IsTrue, slice_get, option_map, option_and_then, if◌then◌else◌}
-use Rattle.std.proofs.lemmas.List.{append-nil}
-use Rattle.std.proofs.lemmas.Bool.{lt-ltb, le-ltb, false≢true}
+use Rattle.std.specs.Prelude.{◌&&◌, neg_ℤ, slice_get, option_map, option_and_then, if◌then◌else◌}
+use Rattle.std.proofs.lemmas.Bool.{lt-ltb, le-ltb}
 use Rattle.std.proofs.lemmas.Int.{ints}
 use Rattle.chill_base.specs.declared.pos.Pos.{Pos}
 use Rattle.chill_tree.specs.declared.tree.name.Name.{Name}
-use Rattle.chill_tree.specs.ExprTree.{ExprTree, ExprNodes, RangeTree, whole, character, text, this_instance, receive, paren, name, apply, alone, between, place_of}
+use Rattle.chill_tree.specs.ExprTree.{ExprTree, ExprNodes, whole, character, text, this_instance, receive, paren, name, apply, alone, between, place_of}
 use Rattle.chill_tree.proofs.ExprViews.{expr_built}
 use Rattle.diagnostics.specs.declared.diagnostic.Diagnostic.{Diagnostic}
 use Rattle.diagnostics.specs.declared.rule.Rule.TheVariants as rules
-use Rattle.modes.specs.ModeTree.{ClassTree, derived, int, char, chars}
-use Rattle.scalar_operators.specs.Numbers.{int_result, is_int}
-use Rattle.checks_model.specs.ValueTrees.{ValueTree, number}
+use Rattle.modes.specs.ModeTree.{derived, int, char}
+use Rattle.scalar_operators.specs.Numbers.{is_int}
+use Rattle.checks_model.specs.ValueTrees.{number}
 use Rattle.checks_model.specs.Told.{tell_at, told_if, is_none_told}
 use Rattle.checks_model.specs.Ground.{Ground, Predefined, number_at}
 use Rattle.checks_model.specs.OperatorValues.{in_int}
@@ -22,7 +21,7 @@ use Rattle.checks_model.specs.ConstantRules.{told_of_constants, told_in_each, to
 use Rattle.constant_operators.specs.declared.known.Known.{Known}
 use Rattle.constant_operators.specs.Grounds.{class_defined, value_defined, predefined_named}
 use Rattle.constant_operators.specs.Known.{IsKnownConstant, IsVarying, IsTold}
-use Rattle.constant_rules.specs.Found.{IsFound, Finds, Varies}
+use Rattle.constant_rules.specs.Found.{IsFound, Varies}
 use Rattle.constant_rules.specs.Walks.{FindsExpr, FindsLiteral, FindsRoutine, told_in_ends}
 use Rattle.constant_rules.proofs.Finding.{none_both, constant_found, found_here, varying_found, told_found, to_varying, in_turn, found_so}
 use Rattle.constant_rules.proofs.OfExprs.{applied_parts, called_routine, started, of_field, varying_parts, varying_value, named_so, binary_found}

@@ -1,7 +1,6 @@
 -- What is found of UPPER, LOWER and SIZE, by what they measure.
 use Rattle.std.proofs.Common.{◌≡◌, Bool, true, false, List, [], ◌∷◌, ◌++◌, Option, Some, None, refl, ap, sym, subst, ◌∙◌}
-use Rattle.std.specs.Prelude.{◌&&◌, ◌||◌, not, IsTrue, is_some, option_map}
-use Rattle.std.proofs.lemmas.Bool.{false≢true}
+use Rattle.std.specs.Prelude.{not, IsTrue, is_some, option_map}
 use Rattle.chill_base.specs.declared.pos.Pos.{Pos}
 use Rattle.diagnostics.specs.declared.diagnostic.Diagnostic.{Diagnostic}
 use Rattle.diagnostics.specs.declared.rule.Rule.TheVariants as rules
@@ -13,13 +12,13 @@ use Rattle.checks_model.specs.Ground.{Predefined}
 use Rattle.checks_model.specs.Operations.{class_of_measure}
 use Rattle.checks_model.specs.OperatorValues.{value_of_measure}
 use Rattle.checks_model.specs.Classes.{Measured, a_mode_of, misfit, other, class_of_measured, measured_misfits}
-use Rattle.checks_model.specs.Constants.{is_measured, value_of_measured}
+use Rattle.checks_model.specs.Constants.{value_of_measured}
 use Rattle.checks_model.specs.ConstantRules.{told_if_constant}
 use Rattle.constant_operators.specs.Laid.{is_laid}
 use Rattle.constant_operators.proofs.LaidParts.{IsLaidMeasure}
 use Rattle.constant_operators.specs.declared.known.Known.{Known}
-use Rattle.constant_operators.specs.Known.{IsKnown, IsKnownConstant, Holds, IsVarying, IsTold, IsMeasure}
-use Rattle.constant_rules.specs.Found.{IsFound, Finds, FindsAt}
+use Rattle.constant_operators.specs.Known.{IsKnownConstant, Holds, IsVarying, IsTold}
+use Rattle.constant_rules.specs.Found.{IsFound, Finds}
 use Rattle.constant_rules.specs.Walks.{measure_told, measured_form, FindsMeasure}
 use Rattle.constant_rules.proofs.Finding.{constant_found, found_here, found_so, told_found}
 use Rattle.constant_rules.proofs.OfNodes.{node_told, node_varying, node_found}

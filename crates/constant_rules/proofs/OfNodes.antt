@@ -1,31 +1,30 @@
 -- What is found of a node, by what is found of its parts and what comes of it.
-use Rattle.std.proofs.Common.{◌≡◌, ℕ, suc, ◌+◌, Bool, true, false, List, [], ◌∷◌, ◌++◌, map, length, Option, Some, None, ℤ, pos, refl, ap, sym, subst, ◌∙◌, arith}
-use Rattle.std.specs.Prelude.{◌&&◌, ◌||◌, ◌==◌, not, is_some, option_map, option_and_then, if◌then◌else◌, nat_lt}
+use Rattle.std.proofs.Common.{◌≡◌, ℕ, suc, Bool, true, false, List, [], ◌∷◌, ◌++◌, length, Option, Some, None, refl, ap, sym, subst, ◌∙◌, arith}
+use Rattle.std.specs.Prelude.{◌&&◌, ◌||◌, ◌==◌, not, if◌then◌else◌}
 use Rattle.std.proofs.lemmas.List.{append-nil}
 use Rattle.std.proofs.lemmas.Bool.{false≢true}
 use Rattle.std.proofs.lemmas.Bool.Decides.{nat_tests}
 use Rattle.chill_base.specs.declared.pos.Pos.{Pos}
-use Rattle.chill_tree.specs.declared.tree.name.Name.{Name}
 use Rattle.chill_tree.specs.declared.tree.expr.Expr.{Expr}
 use Rattle.chill_tree.specs.declared.tree.expr.Operator.{Operator}
 use Rattle.chill_tree.specs.declared.tree.expr.Prefix.{Prefix}
-use Rattle.chill_tree.specs.ExprTree.{ExprTree, ExprNodes, whole, character, text, this_instance, receive, start, name, no_exprs, more_exprs, expr_nodes, expr_trees, place_of}
+use Rattle.chill_tree.specs.ExprTree.{ExprTree, ExprNodes, no_exprs, more_exprs, expr_nodes, expr_trees, place_of}
 use Rattle.diagnostics.specs.declared.diagnostic.Diagnostic.{Diagnostic}
 use Rattle.diagnostics.specs.declared.rule.Rule.TheVariants as rules
-use Rattle.modes.specs.ModeTree.{ModeTree, ClassTree, derived, int, char, chars, class_tree}
-use Rattle.checks_model.specs.ValueTrees.{ValueTree, number}
+use Rattle.modes.specs.ModeTree.{ClassTree}
+use Rattle.checks_model.specs.ValueTrees.{ValueTree}
 use Rattle.checks_model.specs.Told.{tell_at, told_if, then_told, is_none_told, holds_of}
 use Rattle.checks_model.specs.Ground as model
 use Rattle.checks_model.specs.Ground.{Ground, Predefined, get_int, of_mode, truth, no_instance}
 use Rattle.checks_model.specs.Operations.{is_measuring}
-use Rattle.checks_model.specs.Classes.{Measured, a_mode_of, misfit, other, class_of, class_of_call, class_of_first, class_of_measured, measured, measured_first, measured_misfits, count_exprs}
+use Rattle.checks_model.specs.Classes.{Measured, class_of, class_of_call, class_of_first, class_of_measured, measured, measured_first, measured_misfits, count_exprs}
 use Rattle.checks_model.specs.Constants.{has_form, are_arguments, constant_of, is_measured, is_value_routine, value_of_call, value_of_first, value_of_measured}
-use Rattle.checks_model.specs.ConstantRules.{told_of_constants, told_in_each, told_call, told_if_constant, told_needed, told_literal, when_routine}
+use Rattle.checks_model.specs.ConstantRules.{told_of_constants, told_in_each, told_call, told_if_constant, told_needed, when_routine}
 use Rattle.constant_operators.specs.declared.known.Known.{Known}
 use Rattle.constant_operators.specs.declared.operators.Computed.{Computed}
-use Rattle.constant_operators.specs.Known.{IsComputed, binary_misfits, binary_raises, binary_class, binary_value, unary_misfits, unary_raises, unary_class, unary_value, IsKnown, IsKnownConstant, Holds, IsTold, IsVarying, routine_misfits, routine_raises, routine_class, routine_value, text_value}
+use Rattle.constant_operators.specs.Known.{IsComputed, binary_misfits, binary_raises, binary_class, binary_value, unary_misfits, unary_raises, unary_class, unary_value, IsKnown, IsKnownConstant, IsTold, routine_misfits, routine_raises, routine_class, routine_value}
 use Rattle.constant_rules.specs.Found.{IsFound, Finds, FindsAt, Varies, unless_before}
-use Rattle.constant_rules.specs.Walks.{FindsExpr, FindsRoutine, FindsLiteral, FindsNeeded, IsNeeded, constant_routine, routine_form, routine_told, told_of_routine, measure_form, measure_told, one_told, told_at_node, binary_told, unary_told}
+use Rattle.constant_rules.specs.Walks.{FindsExpr, FindsRoutine, FindsNeeded, constant_routine, routine_form, routine_told, told_of_routine, measure_form, measure_told, one_told, told_at_node, binary_told, unary_told}
 use Rattle.constant_rules.proofs.Finding.{none_both, none_then, constant_found, found_here, varying_found, told_found, as_varying, at_node, found_so}
 use Rattle.constant_rules.proofs.Standings.{then_nothing}
 

@@ -1,44 +1,41 @@
 -- What is found of a part of a tuple, and of the tuples that stand by themselves or as the value of a synonym.
-use Rattle.std.proofs.Common.{◌≡◌, ℕ, suc, Bool, true, false, List, [], ◌∷◌, ◌++◌, replicate, Option, Some, None, ℤ, refl, ap, sym, subst, ◌∙◌}
-use Rattle.std.specs.Prelude.{◌&&◌, ◌||◌, ◌==◌, not, IsTrue, option_map, if◌then◌else◌}
+use Rattle.std.proofs.Common.{◌≡◌, ℕ, suc, Bool, true, false, List, [], ◌∷◌, ◌++◌, Option, Some, None, ℤ, refl, ap, sym, subst, ◌∙◌}
+use Rattle.std.specs.Prelude.{◌&&◌, ◌||◌, not, option_map, if◌then◌else◌}
 use Rattle.std.proofs.lemmas.List.{append-nil}
 use Rattle.std.proofs.lemmas.Bool.{false≢true}
 use Rattle.std.proofs.lemmas.Option.{same_Some}
 use Rattle.chill_base.specs.declared.pos.Pos.{Pos}
 use Rattle.chill_tree.specs.declared.tree.name.Name.{Name}
-use Rattle.chill_tree.specs.ExprTree.{ExprTree, RangeTree, RangeNodes, whole, character, text, this_instance, paren, receive, start, tuple, uniform, name, apply, field, prefixed, binary, alone, between, no_ranges, more_ranges, place_of}
+use Rattle.chill_tree.specs.ExprTree.{ExprTree, RangeNodes, whole, character, text, this_instance, paren, receive, start, tuple, uniform, name, apply, field, prefixed, binary, no_ranges, more_ranges, place_of}
 use Rattle.diagnostics.specs.declared.diagnostic.Diagnostic.{Diagnostic}
 use Rattle.diagnostics.specs.declared.rule.Rule.TheVariants as rules
-use Rattle.modes.specs.ModeTree.{ModeTree, ClassTree, SpreadTree, value, class_tree}
+use Rattle.modes.specs.ModeTree.{ModeTree, ClassTree, SpreadTree, value}
 use Rattle.modes.specs.Form.{FormTree, form_of, of_int, of_boolean, of_char, of_instance, of_set, of_powerset, of_chars, of_array, of_structure, of_meeting}
-use Rattle.modes.specs.Bounds.{bounds_of, values_of}
-use Rattle.checks_model.specs.Alike.{goes_with}
+use Rattle.modes.specs.Bounds.{values_of}
 use Rattle.checks_model.specs.TestLaws.{GoesWithTestLaw}
 use Rattle.checks_model.specs.ValueTrees.{ValueTree, scalars_in}
-use Rattle.checks_model.specs.Told.{tell_at, told_if, then_told, is_none_told, holds_of, holds_of_both}
+use Rattle.checks_model.specs.Told.{tell_at, told_if, then_told, is_none_told}
 use Rattle.checks_model.specs.Ground.{Ground, mode_of_name}
-use Rattle.checks_model.specs.Classes.{class_as, class_of, mode_of_part, part_mode, shape_fits, uniform_fits, value_if, tuple_mode}
-use Rattle.checks_model.specs.Constants.{constant_as, constant_of, has_form, have_form, tuple_value, uniform_value, values_of_ranges}
-use Rattle.checks_model.specs.ConstantRules.{Standing, by_itself, in_a_tuple, in_a_synonym, told_as, told_in_ranges, told_in_range, told_misfit, told_tuple, told_uniform, told_part, told_parts, told_part_range, told_if_constant, told_of_constants, told_needed, told_of_value, told_of_synonym_value, class_misfits, value_misfits, misfits_as, some_misfits, ranges_misfit, standing_of_parts, is_judged}
-use Rattle.checks_model.specs.WrittenModes.{unless_told}
-use Rattle.checks_model.specs.Table.{value_within}
+use Rattle.checks_model.specs.Classes.{class_as, class_of, mode_of_part, part_mode, shape_fits, uniform_fits}
+use Rattle.checks_model.specs.Constants.{constant_as, constant_of, has_form, have_form, uniform_value}
+use Rattle.checks_model.specs.ConstantRules.{Standing, by_itself, in_a_tuple, in_a_synonym, told_as, told_in_ranges, told_in_range, told_misfit, told_tuple, told_uniform, told_part, told_parts, told_part_range, told_if_constant, told_of_constants, class_misfits, value_misfits, misfits_as, some_misfits, ranges_misfit, standing_of_parts, is_judged}
 use Rattle.constant_values.specs.Fits.{fit_together}
 use Rattle.constant_operators.specs.declared.known.Known.{Known}
-use Rattle.constant_operators.specs.Known.{IsKnown, IsKnownConstant, Holds, IsTold}
+use Rattle.constant_operators.specs.Known.{IsKnown, Holds}
 use Rattle.constant_rules.specs.declared.parts.Blame.{Blame}
 use Rattle.constant_rules.specs.declared.parts.Blame.TheVariants as blames
 use Rattle.constant_rules.specs.declared.parts.Part.{Part}
 use Rattle.constant_rules.specs.declared.parts.Tupled.{Tupled}
 use Rattle.constant_rules.specs.declared.parts.Tupled.TheVariants as tupled
-use Rattle.constant_rules.specs.Found.{IsFound, Finds}
-use Rattle.constant_rules.specs.Walks.{FindsExpr, told_in_all, is_own, is_unnamed_tuple, synonym_value}
-use Rattle.constant_rules.specs.Parts.{array_parts, times, going_part, inside_part, outside_part, misfit_told, told_where, is_whole, class_goes_not, value_lies_outside, is_misfit, IsTupledOf, Judges, IsOfTuple, IsReceived, IsTuplePart}
-use Rattle.constant_rules.specs.Tuples.{IsWithin, IsJudged, IsCleanPart, IsPart, IsFitting, IsTupled, FindsTupled, FindsPart, IsSynonymValue, FindsSynonym, Receives, standing_of, told_in_part}
-use Rattle.constant_rules.proofs.Finding.{not_both, none_both, none_then, in_turn, told_found, found_so}
-use Rattle.constant_rules.proofs.Standings.{part_none, range_none, then_nothing, all_without, without_mode, unnamed_alone, uniform_alone, alone_anywhere, all_alone}
+use Rattle.constant_rules.specs.Found.{IsFound}
+use Rattle.constant_rules.specs.Walks.{FindsExpr, told_in_all, is_own}
+use Rattle.constant_rules.specs.Parts.{array_parts, times, outside_part, misfit_told, told_where, Judges, IsOfTuple, IsReceived, IsTuplePart}
+use Rattle.constant_rules.specs.Tuples.{IsWithin, IsJudged, IsCleanPart, IsPart, IsFitting, IsTupled, FindsTupled, FindsPart, standing_of, told_in_part}
+use Rattle.constant_rules.proofs.Finding.{none_both, told_found, found_so}
+use Rattle.constant_rules.proofs.Standings.{part_none, range_none, all_without, without_mode, unnamed_alone, uniform_alone}
 use Rattle.constant_rules.proofs.SpanLists.{none_of_one, twice_not}
 use Rattle.constant_rules.proofs.PartValues.{received_within}
-use Rattle.constant_rules.proofs.TupleValues.{IsTupleValue, uniform_made, if_true}
+use Rattle.constant_rules.proofs.TupleValues.{IsTupleValue, uniform_made}
 use Rattle.constant_rules.proofs.TuplesFound.{own_told, parts_told, value_told, judged_told, judged_none, judged_tupled, misfit_none, class_here}
 
 -- ---- a tuple that hasn't the form of its mode

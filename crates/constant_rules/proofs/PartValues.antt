@@ -1,32 +1,30 @@
 -- Values of parts that go to modes, and of tuples of such parts.
-use Rattle.std.proofs.Common.{◌≡◌, ℕ, zero, suc, ◌+◌, ◌≤◌, ◌≤ℤ◌, Bool, true, false, List, [], ◌∷◌, ◌++◌, map, length, Option, Some, None, ℤ, pos, int_le, refl, ap, sym, subst, ◌∙◌, arith}
-use Rattle.std.specs.Prelude.{◌&&◌, ◌||◌, ◌==◌, not, nat_le, IsTrue, is_some, slice_get, option_map, option_and_then, if◌then◌else◌}
-use Rattle.std.proofs.lemmas.Bool.{false≢true}
+use Rattle.std.proofs.Common.{◌≡◌, ℕ, suc, ◌≤ℤ◌, Bool, true, false, List, [], ◌∷◌, map, Option, Some, None, ℤ, int_le, refl, ap, sym, subst, ◌∙◌, arith}
+use Rattle.std.specs.Prelude.{◌&&◌, ◌==◌, not, IsTrue, is_some, option_map}
 use Rattle.std.proofs.lemmas.Bool.Decides.{nat_tests}
 use Rattle.std.proofs.lemmas.Int.{ints}
 use Rattle.chill_tree.specs.ExprTree.{ExprTree, RangeTree, RangeNodes, alone, between, no_ranges, more_ranges}
 use Rattle.modes.specs.declared.mode.Bounds.{Bounds}
 use Rattle.modes.specs.ModeTree.{ModeTree, ClassTree, value}
-use Rattle.modes.specs.Form.{FormTree, form_of, of_int, of_boolean, of_char, of_instance, of_set, of_powerset, of_chars, of_array, of_structure, of_meeting}
-use Rattle.modes.specs.Bounds.{bounds_of, count_within, values_of}
-use Rattle.modes.specs.Similar.{Shape, shape_of}
+use Rattle.modes.specs.Form.{FormTree}
+use Rattle.modes.specs.Bounds.{bounds_of}
+use Rattle.modes.specs.Similar.{shape_of}
 use Rattle.modes.proofs.SimilarLemmas.{both}
 use Rattle.checks_model.specs.TestLaws.{GoesWithTestLaw}
 use Rattle.checks_model.specs.Alike.{goes_with}
-use Rattle.checks_model.specs.ValueTrees.{ValueTree, ValueNodes, number, members, parts, no_values, more_values, value_nodes, scalars_in, scalars_in_each}
+use Rattle.checks_model.specs.ValueTrees.{ValueTree, ValueNodes, members, parts, value_nodes, scalars_in, scalars_in_each}
 use Rattle.checks_model.specs.Told.{holds_of, holds_of_both}
 use Rattle.checks_model.specs.Ground.{Ground}
-use Rattle.checks_model.specs.Classes.{mode_of_part, are_alone, count_ranges, has_parts, shape_fits, part_mode}
-use Rattle.checks_model.specs.Constants.{constant_as, both_ends, behind, values_of_ranges, value_of_range, members_from, set_of_ranges, value_of_parts, tuple_value}
+use Rattle.checks_model.specs.Classes.{mode_of_part, are_alone, count_ranges}
+use Rattle.checks_model.specs.Constants.{constant_as, both_ends, behind, values_of_ranges}
 use Rattle.checks_model.specs.ConstantRules.{is_outside}
-use Rattle.constant_values.specs.Fits.{count_values, few_members, takes_parts, part_of_mode, fits, fit_each, fits_class, fit_together}
+use Rattle.constant_values.specs.Fits.{count_values, part_of_mode, fits, fit_each, fit_together}
 use Rattle.constant_values.proofs.ShapeValues.{goes_shape, class_fits_shape}
 use Rattle.constant_values.proofs.OperandValues.{fits_as, discrete_shape, IsOneNumber, number_of}
-use Rattle.constant_rules.specs.declared.parts.Part.{Part}
 use Rattle.constant_rules.specs.declared.parts.Span.{Span}
-use Rattle.constant_rules.specs.Parts.{joined, firsts, class_goes_not, value_lies_outside, few_in}
-use Rattle.constant_rules.specs.Tuples.{OfPart, IsLast, IsSpan, AreSpans, IsWithin}
-use Rattle.constant_rules.proofs.MemberSpans.{IsBetween, count_members}
+use Rattle.constant_rules.specs.Parts.{joined, firsts, class_goes_not, value_lies_outside}
+use Rattle.constant_rules.specs.Tuples.{OfPart, AreSpans, IsWithin}
+use Rattle.constant_rules.proofs.MemberSpans.{IsBetween}
 
 -- ---- one part
 

@@ -1,12 +1,11 @@
 -- What is found of the parts of a tuple, one after the other.
-use Rattle.std.proofs.Common.{◌≡◌, ℕ, zero, suc, ◌+◌, ◌<◌, ◌≤◌, Bool, true, false, List, [], ◌∷◌, ◌++◌, Option, Some, None, refl, ap, sym, subst, ◌∙◌, length, get_or, drop, append_assoc, arith}
-use Rattle.std.specs.Prelude.{◌&&◌, ◌==◌, option_map, if◌then◌else◌}
+use Rattle.std.proofs.Common.{◌≡◌, ℕ, zero, suc, ◌+◌, ◌<◌, ◌≤◌, true, false, List, [], ◌∷◌, ◌++◌, Option, Some, None, refl, ap, sym, subst, ◌∙◌, length, get_or, drop, append_assoc, arith}
+use Rattle.std.specs.Prelude.{◌==◌}
 use Rattle.std.proofs.lemmas.List.{append-nil, at_drop_more, at_drop_all}
 use Rattle.std.proofs.lemmas.Bool.{false≢true}
-use Rattle.std.proofs.lemmas.Option.{same_Some}
 use Rattle.chill_base.specs.declared.pos.Pos.{Pos}
 use Rattle.chill_tree.specs.declared.tree.expr.ValueRange.{ValueRange}
-use Rattle.chill_tree.specs.ExprTree.{ExprTree, RangeTree, RangeNodes, paren, tuple, uniform, alone, between, no_ranges, more_ranges, range_of, boxed_expr, range_tree, range_trees, range_nodes}
+use Rattle.chill_tree.specs.ExprTree.{ExprTree, RangeNodes, paren, alone, between, no_ranges, more_ranges, range_tree, range_trees, range_nodes}
 use Rattle.chill_tree.proofs.ExprViews.{expr_built}
 use Rattle.diagnostics.specs.declared.diagnostic.Diagnostic.{Diagnostic}
 use Rattle.modes.specs.ModeTree.{ModeTree, FieldNodes, no_fields, more_fields}

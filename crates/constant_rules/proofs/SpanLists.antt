@@ -1,25 +1,22 @@
 -- What is so of all parts of a tuple, by what is so of each.
-use Rattle.std.proofs.Common.{◌≡◌, ℕ, zero, suc, Bool, true, false, List, [], ◌∷◌, ◌++◌, map, Option, Some, None, ℤ, refl, ap, sym, ◌∙◌}
-use Rattle.std.specs.Prelude.{◌&&◌, ◌||◌, not, option_map, if◌then◌else◌}
+use Rattle.std.proofs.Common.{◌≡◌, ℕ, suc, Bool, true, false, List, [], ◌∷◌, ◌++◌, Option, Some, None, refl, ap, sym, ◌∙◌}
+use Rattle.std.specs.Prelude.{◌&&◌, ◌||◌, not}
 use Rattle.std.proofs.lemmas.List.{append-nil}
-use Rattle.chill_base.specs.declared.pos.Pos.{Pos}
 use Rattle.chill_tree.specs.ExprTree.{ExprTree, RangeTree, RangeNodes, alone, between, no_ranges, more_ranges, place_of}
 use Rattle.diagnostics.specs.declared.diagnostic.Diagnostic.{Diagnostic}
 use Rattle.diagnostics.specs.declared.rule.Rule.TheVariants as rules
 use Rattle.modes.specs.ModeTree.{ModeTree}
 use Rattle.modes.specs.Form.{FormTree}
 use Rattle.modes.proofs.SimilarLemmas.{both}
-use Rattle.checks_model.specs.ValueTrees.{ValueTree, scalars_in, scalars_in_each, value_nodes}
 use Rattle.checks_model.specs.Told.{tell_at, told_if, is_none_told}
 use Rattle.checks_model.specs.Ground.{Ground}
-use Rattle.checks_model.specs.Classes.{mode_of_part, are_alone}
-use Rattle.checks_model.specs.Constants.{constant_as, both_ends, behind, values_of_ranges}
+use Rattle.checks_model.specs.Classes.{mode_of_part}
 use Rattle.checks_model.specs.ConstantRules.{told_in_range, told_in_ranges, class_misfits, value_misfits, misfits_as, told_part, told_part_range, told_parts, range_misfits, ranges_misfit, one_misfits, some_misfits}
 use Rattle.constant_rules.specs.declared.parts.Blame.{Blame}
 use Rattle.constant_rules.specs.declared.parts.Blame.TheVariants as blames
 use Rattle.constant_rules.specs.declared.parts.Part.{Part}
 use Rattle.constant_rules.specs.declared.parts.Span.{Span}
-use Rattle.constant_rules.specs.Parts.{joined, last_passes, passes, all_pass, clean_part, going_part, inside_part, outside_part, outside_last, outside_span, outside_of, firsts}
+use Rattle.constant_rules.specs.Parts.{last_passes, passes, all_pass, clean_part, outside_part, outside_last, outside_span, outside_of}
 use Rattle.constant_rules.specs.Tuples.{OfPart, IsLast, IsSpan, AreSpans, IsCleanPart, IsPart, standing_of, told_in_part}
 use Rattle.constant_rules.proofs.Finding.{none_both}
 

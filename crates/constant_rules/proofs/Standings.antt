@@ -13,7 +13,7 @@ use Rattle.modes.specs.Form.{FormTree}
 use Rattle.checks_model.specs.Alike.{goes_with}
 use Rattle.checks_model.specs.Told.{tell_at, told_if, then_told, holds_of_both}
 use Rattle.checks_model.specs.Ground.{Ground, mode_of_name}
-use Rattle.checks_model.specs.Classes.{class_as, tuple_mode, mode_of_part, shape_fits, uniform_fits}
+use Rattle.checks_model.specs.Classes.{class_as, mode_of_part, shape_fits, uniform_fits}
 use Rattle.checks_model.specs.Constants.{constant_as, has_form, have_form}
 use Rattle.modes.specs.Bounds.{bounds_of}
 use Rattle.checks_model.specs.ConstantRules.{Standing, by_itself, in_a_tuple, in_a_synonym, is_outside, told_as, told_in_range, told_in_ranges, told_part, told_part_range, told_parts, told_tuple, told_uniform, told_of_constants, told_if_constant, standing_of_parts, is_judged}

@@ -1,24 +1,22 @@
 -- What is found of the value of a synonym with a written mode.
 use Rattle.std.proofs.Common.{◌≡◌, ℕ, suc, Bool, true, false, List, [], ◌∷◌, ◌++◌, Option, Some, None, ℤ, refl, ap, sym, subst, ◌∙◌}
-use Rattle.std.specs.Prelude.{◌&&◌, ◌||◌, not, IsTrue, is_some, option_map, if◌then◌else◌}
+use Rattle.std.specs.Prelude.{◌&&◌, ◌||◌, not, if◌then◌else◌}
 use Rattle.std.proofs.lemmas.List.{append-nil}
 use Rattle.std.proofs.lemmas.Bool.{false≢true}
-use Rattle.chill_base.specs.declared.pos.Pos.{Pos}
 use Rattle.chill_tree.specs.ExprTree.{ExprTree, RangeTree, RangeNodes, whole, character, text, this_instance, paren, receive, start, tuple, uniform, name, apply, field, prefixed, binary, alone, between, no_ranges, more_ranges, place_of}
 use Rattle.diagnostics.specs.declared.diagnostic.Diagnostic.{Diagnostic}
 use Rattle.diagnostics.specs.declared.rule.Rule.TheVariants as rules
-use Rattle.modes.specs.ModeTree.{ModeTree, ClassTree, value}
-use Rattle.modes.specs.Form.{FormTree, form_of}
+use Rattle.modes.specs.ModeTree.{ModeTree, ClassTree}
+use Rattle.modes.specs.Form.{FormTree}
 use Rattle.modes.specs.Bounds.{bounds_of}
 use Rattle.checks_model.specs.TestLaws.{GoesWithTestLaw}
 use Rattle.checks_model.specs.Alike.{goes_with}
-use Rattle.checks_model.specs.ValueTrees.{ValueTree, scalars_in}
-use Rattle.checks_model.specs.Told.{tell_at, told_if, then_told, is_none_told, holds_of, holds_of_both}
+use Rattle.checks_model.specs.ValueTrees.{ValueTree}
+use Rattle.checks_model.specs.Told.{tell_at, told_if, then_told, is_none_told, holds_of_both}
 use Rattle.checks_model.specs.Ground.{Ground}
 use Rattle.checks_model.specs.Classes.{class_as, class_of, shape_fits, uniform_fits, mode_of_part}
-use Rattle.checks_model.specs.Constants.{constant_as, constant_of, has_form, have_form}
+use Rattle.checks_model.specs.Constants.{constant_as, constant_of, has_form}
 use Rattle.checks_model.specs.ConstantRules.{is_outside, by_itself, in_a_synonym, told_as, told_in_ranges, told_tuple, told_uniform, told_if_constant, told_of_constants, told_needed, told_of_value, told_of_synonym_value, class_misfits, value_misfits, misfits_as, one_misfits, some_misfits, standing_of_parts, is_judged}
-use Rattle.checks_model.specs.WrittenModes.{unless_told}
 use Rattle.checks_model.specs.Table.{value_within}
 use Rattle.constant_operators.specs.declared.known.Known.{Known}
 use Rattle.constant_operators.specs.Known.{IsKnown, IsKnownConstant}
@@ -29,7 +27,7 @@ use Rattle.constant_rules.specs.Parts.{IsReceived}
 use Rattle.constant_rules.specs.Tuples.{IsCleanPart, FindsPart, IsSynonymValue, FindsSynonym, Receives}
 use Rattle.constant_rules.proofs.Finding.{none_then, in_turn}
 use Rattle.constant_rules.proofs.Standings.{then_nothing, without_mode, unnamed_alone, uniform_alone, alone_anywhere, all_alone}
-use Rattle.constant_rules.proofs.PartFound.{own_told_so, own_class, own_value, own_misfits, own_form, judged_so, known_part}
+use Rattle.constant_rules.proofs.PartFound.{own_told_so, judged_so, known_part}
 
 -- ---- what is told before M12
 

@@ -1,28 +1,26 @@
 -- The scalars of a tuple that fits its mode are those of its value, which is one of the mode.
-use Rattle.std.proofs.Common.{◌≡◌, ℕ, zero, suc, ◌≤◌, Bool, true, false, List, [], ◌∷◌, ◌++◌, map, replicate, length, Option, Some, None, ℤ, refl, ap, sym, subst, ◌∙◌, arith}
-use Rattle.std.specs.Prelude.{◌&&◌, ◌==◌, nat_le, IsTrue, option_map, if◌then◌else◌}
+use Rattle.std.proofs.Common.{◌≡◌, ℕ, zero, suc, ◌≤◌, Bool, true, List, [], ◌∷◌, ◌++◌, map, replicate, length, Option, Some, None, ℤ, refl, ap, sym, subst, ◌∙◌, arith}
+use Rattle.std.specs.Prelude.{◌==◌, nat_le, IsTrue, option_map, if◌then◌else◌}
 use Rattle.std.proofs.lemmas.Bool.{false≢true}
 use Rattle.std.proofs.lemmas.Bool.Decides.{nat_tests}
 use Rattle.chill_tree.specs.ExprTree.{ExprTree, RangeTree, RangeNodes, alone, between, no_ranges, more_ranges}
 use Rattle.modes.specs.declared.mode.Bounds.{Bounds}
-use Rattle.modes.specs.ModeTree.{ModeTree, value}
+use Rattle.modes.specs.ModeTree.{ModeTree}
 use Rattle.modes.specs.Form.{FormTree, form_of, of_int, of_boolean, of_char, of_instance, of_set, of_powerset, of_chars, of_array, of_structure, of_meeting}
 use Rattle.modes.specs.Bounds.{bounds_of, count_between, count_within, values_of}
 use Rattle.modes.proofs.SimilarLemmas.{both}
-use Rattle.checks_model.specs.ValueTrees.{ValueTree, ValueNodes, number, members, parts, no_values, more_values, value_nodes, scalars_in, scalars_in_each}
-use Rattle.checks_model.specs.Told.{holds_of_both}
+use Rattle.checks_model.specs.ValueTrees.{ValueTree, parts, value_nodes, scalars_in, scalars_in_each}
 use Rattle.checks_model.specs.Ground.{Ground}
 use Rattle.checks_model.specs.Classes.{mode_of_part, are_alone, count_ranges, count_fields, has_parts, shape_fits, part_mode}
 use Rattle.checks_model.specs.Constants.{constant_as, members_from, set_of_ranges, value_of_parts, tuple_value, uniform_of, uniform_value, values_of_ranges}
-use Rattle.checks_model.specs.ConstantRules.{is_outside}
 use Rattle.member_laws.specs.Bits.{UnionLaw}
-use Rattle.constant_values.specs.Fits.{count_values, few_members, takes_members, takes_parts, part_of_form, part_of_mode, fits, fit_each, fit_together}
+use Rattle.constant_values.specs.Fits.{count_values, few_members, takes_members, takes_parts, part_of_form, part_of_mode, fits, fit_each}
 use Rattle.constant_rules.specs.declared.parts.Part.{Part}
 use Rattle.constant_rules.specs.declared.parts.Span.{Span}
 use Rattle.constant_rules.specs.Parts.{times, none_of, firsts, all_widened, flat_of_spans, few_in}
-use Rattle.constant_rules.specs.Tuples.{OfPart, IsLast, IsSpan, AreSpans, IsWithin}
+use Rattle.constant_rules.specs.Tuples.{IsLast, IsSpan, AreSpans, IsWithin}
 use Rattle.constant_rules.proofs.MemberSpans.{flat_of, flat_none, count_members}
-use Rattle.constant_rules.proofs.PartValues.{IsValued, firsts_told, outside_members, outside_parts, same_count, counts_as, both_hold, OfWithin, RangeWithin, AreWithin, parts_fit}
+use Rattle.constant_rules.proofs.PartValues.{IsValued, firsts_told, outside_members, outside_parts, same_count, counts_as, both_hold, RangeWithin, AreWithin, parts_fit}
 use Rattle.constant_rules.proofs.Members.{IsHeld, no_flat, all_values}
 
 abbrev Ranges : Type 0

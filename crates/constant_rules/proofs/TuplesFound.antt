@@ -1,23 +1,20 @@
 -- What is found of a tuple without a mode's name that goes to a mode, by what is found of its parts.
-use Rattle.std.proofs.Common.{◌≡◌, ℕ, suc, Bool, true, false, List, [], ◌∷◌, ◌++◌, Option, Some, None, ℤ, refl, ap, sym, subst, ◌∙◌}
-use Rattle.std.specs.Prelude.{◌&&◌, ◌||◌, not, option_map, if◌then◌else◌}
-use Rattle.std.proofs.lemmas.List.{append-nil}
+use Rattle.std.proofs.Common.{◌≡◌, ℕ, suc, Bool, true, false, List, [], ◌∷◌, ◌++◌, Option, Some, None, ℤ, refl, ap, sym, ◌∙◌}
+use Rattle.std.specs.Prelude.{◌&&◌, ◌||◌, not, if◌then◌else◌}
 use Rattle.std.proofs.lemmas.Bool.{false≢true}
 use Rattle.chill_base.specs.declared.pos.Pos.{Pos}
-use Rattle.chill_tree.specs.ExprTree.{ExprTree, RangeTree, RangeNodes, tuple, uniform, alone, between, no_ranges, more_ranges, place_of}
+use Rattle.chill_tree.specs.ExprTree.{ExprTree, RangeTree, RangeNodes, tuple, uniform, alone, between, no_ranges, more_ranges}
 use Rattle.diagnostics.specs.declared.diagnostic.Diagnostic.{Diagnostic}
 use Rattle.diagnostics.specs.declared.rule.Rule.TheVariants as rules
-use Rattle.modes.specs.ModeTree.{ModeTree, ClassTree, value, SpreadTree}
-use Rattle.modes.specs.Form.{FormTree, form_of, of_array}
-use Rattle.modes.specs.Bounds.{values_of}
+use Rattle.modes.specs.ModeTree.{ModeTree, value}
+use Rattle.modes.specs.Form.{FormTree, form_of}
 use Rattle.modes.proofs.SimilarLemmas.{both}
-use Rattle.checks_model.specs.ValueTrees.{ValueTree, scalars_in}
-use Rattle.checks_model.specs.Told.{tell_at, told_if, then_told, is_none_told, holds_of}
+use Rattle.checks_model.specs.Told.{tell_at, told_if, then_told, is_none_told}
 use Rattle.checks_model.specs.Ground.{Ground}
 use Rattle.checks_model.specs.Operations.{when}
 use Rattle.checks_model.specs.Classes.{class_as, mode_of_part, shape_fits, uniform_fits, value_if}
-use Rattle.checks_model.specs.Constants.{constant_as, has_form, have_form, tuple_value, uniform_value, values_of_ranges}
-use Rattle.checks_model.specs.ConstantRules.{Standing, by_itself, in_a_tuple, in_a_synonym, told_as, told_in_ranges, told_in_range, told_misfit, told_tuple, told_uniform, told_part, told_parts, told_part_range, told_if_constant, class_misfits, value_misfits, misfits_as, some_misfits, ranges_misfit, standing_of_parts, is_judged}
+use Rattle.checks_model.specs.Constants.{constant_as, has_form, have_form}
+use Rattle.checks_model.specs.ConstantRules.{in_a_tuple, in_a_synonym, told_as, told_in_ranges, told_misfit, told_tuple, told_uniform, told_parts, told_if_constant, misfits_as, some_misfits, ranges_misfit, standing_of_parts, is_judged}
 use Rattle.member_laws.proofs.Bits.{union_members}
 use Rattle.constant_rules.specs.declared.parts.Blame.{Blame}
 use Rattle.constant_rules.specs.declared.parts.Blame.TheVariants as blames
@@ -25,12 +22,12 @@ use Rattle.constant_rules.specs.declared.parts.Part.{Part}
 use Rattle.constant_rules.specs.declared.parts.Span.{Span}
 use Rattle.constant_rules.specs.declared.parts.Tupled.{Tupled}
 use Rattle.constant_rules.specs.declared.parts.Tupled.TheVariants as tupled
-use Rattle.constant_rules.specs.Parts.{times, all_pass, passes, last_passes, clean_part, going_part, inside_part, outside_part, outside_of, misfit_told, told_of_spans, flat_of_spans, few_in, told_where, is_whole, where_clean, IsTupledOf, Judges}
-use Rattle.constant_rules.specs.Tuples.{OfPart, IsLast, IsSpan, AreSpans, IsWithin, IsJudged, IsCleanPart, IsPart, IsFitting, IsTupled, FindsSpans, FindsTupled, FindsPart, standing_of, told_in_part}
+use Rattle.constant_rules.specs.Parts.{all_pass, passes, last_passes, clean_part, going_part, inside_part, told_of_spans, flat_of_spans, few_in, told_where, is_whole, where_clean, IsTupledOf, Judges}
+use Rattle.constant_rules.specs.Tuples.{IsLast, IsSpan, AreSpans, IsCleanPart, IsPart, IsTupled, FindsSpans, FindsTupled, standing_of, told_in_part}
 use Rattle.constant_rules.proofs.Finding.{none_both, none_then, in_turn}
-use Rattle.constant_rules.proofs.SpanLists.{spans_told, ranges_pass, none_in, none_in_ranges, class_goes, classes_go, value_lies, values_lie, all_fits, ranges_fit, clean_told, clean_spans, spans_outside, none_of_one, twice_not}
+use Rattle.constant_rules.proofs.SpanLists.{spans_told, none_in_ranges, class_goes, classes_go, value_lies, values_lie, all_fits, ranges_fit, clean_told, clean_spans, spans_outside, none_of_one, twice_not}
 use Rattle.constant_rules.proofs.Members.{IsHeld}
-use Rattle.constant_rules.proofs.TupleValues.{IsTupleValue, spans_made, uniform_made, if_true}
+use Rattle.constant_rules.proofs.TupleValues.{IsTupleValue, spans_made}
 
 -- ---- what is told of a tuple of constants, by what is told in its parts and what is told else
 

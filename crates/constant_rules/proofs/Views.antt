@@ -1,11 +1,11 @@
 -- The trees of parts of tuples, and how many there are.
-use Rattle.std.proofs.Common.{◌≡◌, ℕ, zero, suc, List, [], ◌∷◌, map, length, Option, Some, None, refl, ap, sym, ◌∙◌}
+use Rattle.std.proofs.Common.{◌≡◌, ℕ, zero, suc, ◌<◌, ◌≤◌, List, [], ◌∷◌, length, get_or, Option, Some, None, refl, ap, sym, ◌∙◌, arith}
 use Rattle.std.specs.Prelude.{◌&&◌, not, slice_get, option_map}
 use Rattle.std.specs.declared.alloc.Global.{Global}
 use Rattle.std.specs.declared.boxed.Box.{Box}
 use Rattle.chill_tree.specs.declared.tree.expr.Expr.{Expr}
 use Rattle.chill_tree.specs.declared.tree.expr.ValueRange.{ValueRange, fold_out-ValueRange, map-ValueRange, out-ValueRange}
-use Rattle.chill_tree.specs.ExprTree.{ExprTree, RangeTree, range_of, expr_layer, range_layer, expr_tree, boxed_expr, range_tree, range_trees, range_nodes, RangeNodes, alone, between, more_ranges, no_ranges}
+use Rattle.chill_tree.specs.ExprTree.{ExprTree, RangeTree, range_of, expr_layer, range_layer, expr_tree, boxed_expr, expr_nodes, expr_trees, more_exprs, no_exprs, range_tree, range_trees, range_nodes, RangeNodes, alone, between, more_ranges}
 use Rattle.modes.specs.declared.mode.Field.{Field}
 use Rattle.modes.specs.ModeTree.{field_nodes, field_tree, field_trees}
 use Rattle.checks_model.specs.Classes.{are_alone, count_ranges, count_fields, field_mode_at}
@@ -35,3 +35,9 @@ field_found (f ∷ fs) (suc k) = field_found fs k
 pub alone_more : (r : RangeTree) (rs : RangeNodes) → are_alone (more_ranges r rs) ≡ (not (is_between r) && are_alone rs)
 alone_more (alone e) rs = refl
 alone_more (between l h) rs = refl
+
+-- a list of one expression
+pub one_item : (xs : List Expr) (x : Expr) → 1 ≤ length xs → length xs < 2 → x ≡ get_or xs 0 x → expr_nodes (expr_trees xs) ≡ more_exprs (expr_tree x) no_exprs
+one_item [] x some few is = absurd (omega (arith, some))
+one_item (y ∷ []) x some few is = ap (λ (z : Expr). more_exprs (expr_tree z) no_exprs) (sym is)
+one_item (y ∷ z ∷ xs) x some few is = absurd (omega (arith, few))

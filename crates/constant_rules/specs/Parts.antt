@@ -1,19 +1,19 @@
 -- What comes of a tuple, by what is known of its parts.
-use Rattle.std.specs.Prelude.{◌≡◌, ℕ, zero, suc, Bool, true, false, ◌&&◌, ◌||◌, not, if◌then◌else◌, List, [], ◌∷◌, ◌++◌, length, slice_get, Option, Some, None, option_map, option_and_then, is_some, ℤ, pos, ◌-ℤ◌}
+use Rattle.std.specs.Prelude.{◌≡◌, ℕ, zero, suc, Bool, true, false, ◌&&◌, ◌||◌, not, if◌then◌else◌, List, [], ◌∷◌, ◌++◌, length, slice_get, Option, Some, None, option_and_then, is_some, ℤ, ◌-ℤ◌}
 use Rattle.std.specs.List.{list_all}
 use Rattle.std.specs.Int.{w64, saturate_signed}
 use Rattle.chill_base.specs.declared.pos.Pos.{Pos}
 use Rattle.diagnostics.specs.declared.diagnostic.Diagnostic.{Diagnostic}
 use Rattle.diagnostics.specs.declared.rule.Rule.TheVariants as rules
 use Rattle.modes.specs.declared.mode.Bounds.{Bounds}
-use Rattle.modes.specs.ModeTree.{ModeTree, ClassTree, value, class_tree}
+use Rattle.modes.specs.ModeTree.{ModeTree, ClassTree, value}
 use Rattle.modes.specs.Form.{FormTree, of_array, of_powerset}
 use Rattle.modes.specs.Bounds.{bounds_of, count_within}
 use Rattle.modes.specs.Scalars.{numbers_of}
 use Rattle.scalar_operators.specs.Members.{no_members, union_of, span_in}
 use Rattle.checks_model.specs.Alike.{goes_with}
 use Rattle.checks_model.specs.ValueTrees.{ValueTree}
-use Rattle.checks_model.specs.Told.{tell_at, told_if, holds_of, holds_of_both}
+use Rattle.checks_model.specs.Told.{tell_at, told_if, holds_of_both}
 use Rattle.checks_model.specs.ConstantRules.{is_outside}
 use Rattle.constant_values.specs.Fits.{few_members}
 use Rattle.constant_operators.specs.declared.known.Known.{Known}

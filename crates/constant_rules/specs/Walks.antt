@@ -1,5 +1,5 @@
 -- What is found of each kind of expression, in the words of the rules on constants.
-use Rattle.std.specs.Prelude.{◌≡◌, ◌==◌, not, ℕ, Bool, true, false, ◌&&◌, ◌||◌, List, [], ◌∷◌, ◌++◌, Option, Some, None, is_some, is_none, IsTrue, ℤ, pos, neg_ℤ, if◌then◌else◌}
+use Rattle.std.specs.Prelude.{◌≡◌, ℕ, Bool, true, false, ◌&&◌, ◌||◌, List, [], ◌∷◌, ◌++◌, Option, Some, None, is_none, ℤ, if◌then◌else◌}
 use Rattle.chill_base.specs.declared.pos.Pos.{Pos}
 use Rattle.chill_tree.specs.declared.tree.expr.Operator.{Operator}
 use Rattle.chill_tree.specs.declared.tree.expr.Prefix.{Prefix}

@@ -32,23 +32,27 @@ use std::rc::Rc;
 
 /// What is known of a call of a predefined name.
 #[cycle(expr)]
+#[tactic(auto, using(crate::proofs::OfNodes::other_routine, crate::proofs::OfNodes::wrong_number, crate::proofs::OfNodes::value_found, crate::proofs::OfNodes::measure_found, crate::proofs::OfNodes::counted))]
 pub fn routine(
     ground: &Evaluation<'_>,
     at: Pos,
     own: Predefined,
     args: &[Expr],
     told: &mut Told,
-) -> Result<Known, Memory> {
+) -> Result<Known, Memory>
+    ensures { HasGround ground.now → IfOk result (λ k. FindsRoutine (ground_of ground.now) at (predefined_tree own) (expr_nodes (expr_trees args.now)) told.old told.new k) }
+{
     if !is_value_routine(own) {
         let varying = varying_parts(ground, args, told)?;
         return Ok(varying);
     }
-    let [arg] = args else {
+    if args.len() != 1 {
         let parts = varying_parts(ground, args, told)?;
         let is_constant = are_arguments(ground, own, args);
         let wrong = wrong_number(at, is_constant, parts.is_clean, told)?;
         return Ok(wrong);
-    };
+    }
+    let arg = &args[0];
     let found = known(ground, arg, told)?;
     if is_measuring(own) {
         let measured = measuring_routine(ground, at, own, arg, &found, told)?;

@@ -19,11 +19,14 @@ use constant_operators::{Evaluation, Known};
 use definition_origins::{CheckRule, Told};
 
 /// What is known of an expression where a constant is needed, or none where something is told in it or at it.
+#[tactic(auto, using(crate::proofs::OfNodes::needed_told, crate::proofs::OfNodes::needed_other, crate::proofs::OfNodes::needed_found))]
 pub fn needed(
     ground: &Evaluation<'_>,
     expr: &Expr,
     told: &mut Told,
-) -> Result<Option<Known>, Memory> {
+) -> Result<Option<Known>, Memory>
+    ensures { HasGround ground.now → IfOk result (FindsNeeded (ground_of ground.now) (expr_tree expr.now) told.old told.new) }
+{
     let known = known(ground, expr, told)?;
     if !known.is_clean {
         return Ok(None);
@@ -37,7 +40,10 @@ pub fn needed(
 
 /// What is known of an expression, as a constant.
 #[cycle(expr)]
-pub fn known(ground: &Evaluation<'_>, expr: &Expr, told: &mut Told) -> Result<Known, Memory> {
+#[tactic(auto, using(crate::proofs::OfKinds::known_views))]
+pub fn known(ground: &Evaluation<'_>, expr: &Expr, told: &mut Told) -> Result<Known, Memory>
+    ensures { HasGround ground.now → IfOk result (λ k. FindsExpr (ground_of ground.now) (expr_tree expr.now) told.old told.new k) }
+{
     match expr {
         Expr::Whole { at, value } => {
             let literal = whole(ground, *at, *value, told)?;
@@ -224,7 +230,10 @@ fn named(ground: &Evaluation<'_>, name: &Name) -> Result<Known, Memory>
 // Brackets behind an expression, which is handed down whole, since both it and what is in the brackets are parts: a routine
 // is computed.
 #[cycle(expr)]
-fn applied(ground: &Evaluation<'_>, expr: &Expr, told: &mut Told) -> Result<Known, Memory> {
+#[tactic(auto, using(crate::proofs::OfKinds::applied_views))]
+fn applied(ground: &Evaluation<'_>, expr: &Expr, told: &mut Told) -> Result<Known, Memory>
+    ensures { HasGround ground.now → IsTrue (is_apply (expr_tree expr.now)) → IfOk result (λ k. FindsExpr (ground_of ground.now) (expr_tree expr.now) told.old told.new k) }
+{
     match expr {
         Expr::Apply { of, args, .. } => match ground.routine_called(of) {
             Some(own) => {
@@ -255,13 +264,16 @@ fn applied(ground: &Evaluation<'_>, expr: &Expr, told: &mut Told) -> Result<Know
 
 // An operator before its operand.
 #[cycle(expr)]
+#[tactic(auto, using(crate::proofs::OfExprs::negative_found, crate::proofs::OfExprs::prefixed_found))]
 fn prefixed(
     ground: &Evaluation<'_>,
     at: Pos,
     operator: Prefix,
     operand: &Expr,
     told: &mut Told,
-) -> Result<Known, Memory> {
+) -> Result<Known, Memory>
+    ensures { HasGround ground.now → IfOk result (λ k. FindsExpr (ground_of ground.now) (prefixed at operator (expr_tree operand.now)) told.old told.new k) }
+{
     if let Some(own) = minus_literal(operator, operand) {
         let literal = negative(ground, own.at, own.value, told)?;
         return Ok(literal);
@@ -273,22 +285,24 @@ fn prefixed(
 
 /// What isn't constant, whose part may be broken by itself.
 #[cycle(expr)]
-pub fn varying_part(
-    ground: &Evaluation<'_>,
-    part: &Expr,
-    told: &mut Told,
-) -> Result<Known, Memory> {
+#[tactic(auto, using(crate::proofs::OfKinds::part_varies))]
+pub fn varying_part(ground: &Evaluation<'_>, part: &Expr, told: &mut Told) -> Result<Known, Memory>
+    ensures { HasGround ground.now → IfOk result (λ k. Varies (told_of_constants (ground_of ground.now) (expr_tree part.now)) told.old told.new k) }
+{
     let part = known(ground, part, told)?;
     Ok(Known::varying(part.is_clean))
 }
 
 /// What isn't constant, whose parts may be broken by themselves.
 #[cycle(expr)]
+#[tactic(auto, using(crate::proofs::Lists::exprs_views))]
 pub fn varying_parts(
     ground: &Evaluation<'_>,
     parts: &[Expr],
     told: &mut Told,
-) -> Result<Known, Memory> {
+) -> Result<Known, Memory>
+    ensures { HasGround ground.now → IfOk result (λ k. Varies (told_in_each (ground_of ground.now) (expr_nodes (expr_trees parts.now))) told.old told.new k) }
+{
     let mut is_clean = true;
     for part in parts {
         let part = known(ground, part, told)?;
@@ -299,11 +313,14 @@ pub fn varying_parts(
 
 /// The parts of a tuple that isn't constant.
 #[cycle(expr)]
+#[tactic(auto, using(crate::proofs::Lists::ranges_views))]
 pub fn varying_ranges(
     ground: &Evaluation<'_>,
     parts: &[ValueRange],
     told: &mut Told,
-) -> Result<Known, Memory> {
+) -> Result<Known, Memory>
+    ensures { HasGround ground.now → IfOk result (λ k. Varies (told_in_all (ground_of ground.now) (range_nodes (range_trees parts.now))) told.old told.new k) }
+{
     let mut is_clean = true;
     for part in parts {
         let part = varying_ends(ground, part, told)?;
@@ -314,11 +331,14 @@ pub fn varying_ranges(
 
 // An expression, or two with what lies between them.
 #[cycle(expr)]
+#[tactic(auto, using(crate::proofs::OfKinds::ends_views))]
 fn varying_ends(
     ground: &Evaluation<'_>,
     part: &ValueRange,
     told: &mut Told,
-) -> Result<Known, Memory> {
+) -> Result<Known, Memory>
+    ensures { HasGround ground.now → IfOk result (λ k. Varies (told_in_ends (ground_of ground.now) (range_tree part.now)) told.old told.new k) }
+{
     let first = known(ground, &part.first, told)?;
     match &part.last {
         None => Ok(Known::varying(first.is_clean)),

@@ -20,6 +20,7 @@ use crate::parts::{
     Blame, Part, Place, Span, Tupled, array_in, known_of_tuple, misfit_where, part_mode, part_of,
     part_of_tuple, shape_fits, tupled_of_spans, tupled_uniform,
 };
+use checks_model::tests_law;
 use chill_base::{Memory, Pos, Scalars};
 use chill_tree::tree::{Expr, Name, ValueRange};
 use constant_operators::{Evaluation, Known};
@@ -29,13 +30,17 @@ use std::rc::Rc;
 
 /// A tuple of constants with the name of its mode.
 #[cycle(expr)]
+#[tactic(auto, using(crate::proofs::PartFound::named_found, crate::proofs::PartFound::unknown_found))]
 pub fn named_parts(
     ground: &Evaluation<'_>,
     bracket: Pos,
     parts: &[ValueRange],
     name: &Name,
     told: &mut Told,
-) -> Result<Known, Memory> {
+) -> Result<Known, Memory>
+    ensures { HasGround ground.now → (at : Pos) → have_form (ground_of ground.now) (range_nodes (range_trees parts.now)) ≡ true → IfOk result (λ k.
+        FindsExpr (ground_of ground.now) (tuple at (Some name.now) bracket (range_nodes (range_trees parts.now))) told.old told.new k) }
+{
     let named = ground.mode_of_name(name)?;
     let Some(mode) = named else {
         let varying = varying_ranges(ground, parts, told)?;
@@ -52,13 +57,17 @@ pub fn named_parts(
 
 /// A tuple of one constant for all elements, with the name of its mode.
 #[cycle(expr)]
+#[tactic(auto, using(crate::proofs::PartFound::named_value_found, crate::proofs::PartFound::unknown_value_found))]
 pub fn named_uniform(
     ground: &Evaluation<'_>,
     bracket: Pos,
     value: &Expr,
     name: &Name,
     told: &mut Told,
-) -> Result<Known, Memory> {
+) -> Result<Known, Memory>
+    ensures { HasGround ground.now → (at : Pos) → has_form (ground_of ground.now) true (expr_tree value.now) ≡ true → IfOk result (λ k.
+        FindsExpr (ground_of ground.now) (uniform at (Some name.now) bracket (expr_tree value.now)) told.old told.new k) }
+{
     let named = ground.mode_of_name(name)?;
     let Some(mode) = named else {
         let varying = varying_part(ground, value, told)?;
@@ -86,12 +95,19 @@ fn constant_of_unknown(is_clean: bool) -> Known
 
 /// The value of a synonym's expression that the written mode receives, where that is there and the value fits it: M10, M11 and
 /// M1 of the expression, then M12 of the whole.
+#[tactic(auto, using(crate::proofs::SynonymFound::plain_received, crate::proofs::SynonymFound::plain_told_before))]
 pub fn synonym_value(
     ground: &Evaluation<'_>,
     expr: &Expr,
     mode: &Option<Rc<Mode>>,
     told: &mut Told,
-) -> Result<Option<Scalars>, Memory> {
+) -> Result<Option<Scalars>, Memory>
+    ensures told { HasGround ground.now → OnOk result (told.new ≡
+        told.old ++ told_of_synonym_value (ground_of ground.now) true (option_map (λ m. mode_tree m.value) mode.now) (expr_tree expr.now)) }
+    ensures value { HasGround ground.now → IfOk result
+        (IsSynonymValue (option_map (λ m. mode_tree m.value) mode.now) (synonym_value (ground_of ground.now) (option_map (λ m. mode_tree m.value) mode.now) (expr_tree expr.now))) }
+{
+    tests_law();
     let Some(mode) = mode else {
         let value = value_without_mode(ground, expr, told)?;
         return Ok(value);
@@ -108,11 +124,14 @@ pub fn synonym_value(
 }
 
 // What is told of a synonym's expression whose written mode isn't there; it has no value.
+#[tactic(auto, using(crate::proofs::SynonymFound::tuple_without, crate::proofs::SynonymFound::plain_without))]
 fn value_without_mode(
     ground: &Evaluation<'_>,
     expr: &Expr,
     told: &mut Told,
-) -> Result<Option<Scalars>, Memory> {
+) -> Result<Option<Scalars>, Memory>
+    ensures { HasGround ground.now → IfOk result (λ v. (v ≡ None) × (told.new ≡ told.old ++ told_of_synonym_value (ground_of ground.now) true None (expr_tree expr.now))) }
+{
     if is_constant_tuple(ground, expr) {
         let _ = known(ground, expr, told)?;
         return Ok(None);
@@ -122,12 +141,16 @@ fn value_without_mode(
 }
 
 // The value of a tuple without a mode's name, of which the parts are asked.
+#[tactic(auto, using(crate::proofs::SynonymFound::tuple_received, crate::proofs::SynonymFound::tuple_told, crate::proofs::SynonymFound::unnamed_form))]
 fn tuple_of_synonym(
     ground: &Evaluation<'_>,
     expr: &Expr,
     mode: &Rc<Mode>,
     told: &mut Told,
-) -> Result<Option<Scalars>, Memory> {
+) -> Result<Option<Scalars>, Memory>
+    ensures { HasGround ground.now → is_unnamed_tuple (ground_of ground.now) (expr_tree expr.now) ≡ true → IfOk result (λ v.
+        FindsSynonym (ground_of ground.now) (mode_tree mode.now.value) (expr_tree expr.now) told.old told.new v) }
+{
     let part = known_part(ground, expr, mode, Blame::Whole, told)?;
     if !part.known.is_clean {
         return Ok(None);
@@ -149,13 +172,17 @@ fn value_received(part: Part, told: &mut Told) -> Result<Option<Scalars>, Memory
 
 // What comes of a tuple that goes to a mode.
 #[cycle(expr)]
+#[tactic(auto, using(crate::proofs::TuplesFound::tuple_found, crate::proofs::PartFound::tuple_misfit))]
 fn parts_value(
     ground: &Evaluation<'_>,
     place: Place,
     parts: &[ValueRange],
     mode: &Rc<Mode>,
     told: &mut Told,
-) -> Result<Tupled, Memory> {
+) -> Result<Tupled, Memory>
+    ensures { HasGround ground.now → (at : Pos) → have_form (ground_of ground.now) (range_nodes (range_trees parts.now)) ≡ true → IfOk result (λ t.
+        FindsTupled (ground_of ground.now) place.blame (mode_tree mode.now.value) (tuple at None place.bracket (range_nodes (range_trees parts.now))) told.old told.new t) }
+{
     if !shape_fits(parts, mode) {
         let parts = varying_ranges(ground, parts, told)?;
         let misfit = misfit_where(place, parts.is_clean, told)?;
@@ -168,13 +195,17 @@ fn parts_value(
 
 // What comes of a tuple of one value for all elements of an array.
 #[cycle(expr)]
+#[tactic(auto, using(crate::proofs::PartFound::uniform_found, crate::proofs::PartFound::uniform_misfit))]
 fn uniform_value(
     ground: &Evaluation<'_>,
     place: Place,
     value: &Expr,
     mode: &Rc<Mode>,
     told: &mut Told,
-) -> Result<Tupled, Memory> {
+) -> Result<Tupled, Memory>
+    ensures { HasGround ground.now → (at : Pos) → has_form (ground_of ground.now) true (expr_tree value.now) ≡ true → IfOk result (λ t.
+        FindsTupled (ground_of ground.now) place.blame (mode_tree mode.now.value) (uniform at None place.bracket (expr_tree value.now)) told.old told.new t) }
+{
     let Some(array) = array_in(mode) else {
         let varying = varying_part(ground, value, told)?;
         let misfit = misfit_where(place, varying.is_clean, told)?;
@@ -187,13 +218,18 @@ fn uniform_value(
 
 // What is known of a part that goes to a mode.
 #[cycle(expr)]
+#[tactic(auto, using(crate::proofs::SpanFound::part_views))]
 fn known_part(
     ground: &Evaluation<'_>,
     expr: &Expr,
     mode: &Rc<Mode>,
     blame: Blame,
     told: &mut Told,
-) -> Result<Part, Memory> {
+) -> Result<Part, Memory>
+    ensures { HasGround ground.now → has_form (ground_of ground.now) true (expr_tree expr.now) ≡ true → IfOk result (λ part.
+        FindsPart (ground_of ground.now) blame (Some (mode_tree mode.now.value)) (expr_tree expr.now) told.old told.new part) }
+{
+    tests_law();
     match expr {
         Expr::Paren { at, inner } => {
             let part = known_part(ground, inner, mode, blame, told)?;
@@ -201,35 +237,39 @@ fn known_part(
         }
         Expr::Tuple {
             at,
-            mode: None,
+            mode: name,
             bracket,
             parts,
-        } => {
-            let place = Place {
-                bracket: *bracket,
-                blame,
-            };
-            let tupled = parts_value(ground, place, parts.as_slice(), mode, told)?;
-            let tuple = part_of_tuple(*at, blame, tupled, mode)?;
-            Ok(tuple)
-        }
+        } => match name {
+            Some(_) => own_part(ground, expr, mode, blame, told),
+            None => {
+                let place = Place {
+                    bracket: *bracket,
+                    blame,
+                };
+                let tupled = parts_value(ground, place, parts.as_slice(), mode, told)?;
+                let tuple = part_of_tuple(*at, blame, tupled, mode)?;
+                Ok(tuple)
+            }
+        },
         Expr::Uniform {
             at,
-            mode: None,
+            mode: name,
             bracket,
             value,
-        } => {
-            let place = Place {
-                bracket: *bracket,
-                blame,
-            };
-            let all = uniform_value(ground, place, value, mode, told)?;
-            let uniform = part_of_tuple(*at, blame, all, mode)?;
-            Ok(uniform)
-        }
-        Expr::Tuple { mode: Some(_), .. }
-        | Expr::Uniform { mode: Some(_), .. }
-        | Expr::Whole { .. }
+        } => match name {
+            Some(_) => own_part(ground, expr, mode, blame, told),
+            None => {
+                let place = Place {
+                    bracket: *bracket,
+                    blame,
+                };
+                let all = uniform_value(ground, place, value, mode, told)?;
+                let uniform = part_of_tuple(*at, blame, all, mode)?;
+                Ok(uniform)
+            }
+        },
+        Expr::Whole { .. }
         | Expr::Char { .. }
         | Expr::Text { .. }
         | Expr::This { .. }
@@ -251,20 +291,29 @@ fn own_part(
     mode: &Rc<Mode>,
     blame: Blame,
     told: &mut Told,
-) -> Result<Part, Memory> {
+) -> Result<Part, Memory>
+    ensures { HasGround ground.now → is_own (expr_tree expr.now) ≡ true → has_form (ground_of ground.now) true (expr_tree expr.now) ≡ true → IfOk result (λ part.
+        FindsPart (ground_of ground.now) blame (Some (mode_tree mode.now.value)) (expr_tree expr.now) told.old told.new part) }
+{
+    tests_law();
     let known = known(ground, expr, told)?;
     Ok(part_of(expr.at(), known, mode))
 }
 
 // What is known of the parts of a tuple that has the form of its mode.
 #[cycle(expr)]
+#[tactic(auto, using(crate::proofs::SpanFound::spans_views))]
 fn known_spans(
     ground: &Evaluation<'_>,
     parts: &[ValueRange],
     mode: &Rc<Mode>,
     blame: Blame,
     told: &mut Told,
-) -> Result<Vec<Span>, Memory> {
+) -> Result<Vec<Span>, Memory>
+    ensures { HasGround ground.now → have_form (ground_of ground.now) (range_nodes (range_trees parts.now)) ≡ true →
+        shape_fits (range_nodes (range_trees parts.now)) (form_of (mode_tree mode.now.value)) ≡ true → IfOk result (λ spans.
+        FindsSpans (ground_of ground.now) blame (mode_tree mode.now.value) (range_nodes (range_trees parts.now)) told.old told.new spans.items) }
+{
     let mut spans = Vec::new(ground.alloc);
     for (place, range) in parts.iter().enumerate() {
         let Some(own) = part_mode(mode, place) else {
@@ -277,13 +326,17 @@ fn known_spans(
 
 // What is known of a part, which may be a range between two.
 #[cycle(expr)]
+#[tactic(auto, using(crate::proofs::SpanFound::span_views))]
 fn known_span(
     ground: &Evaluation<'_>,
     range: &ValueRange,
     mode: &Rc<Mode>,
     blame: Blame,
     told: &mut Told,
-) -> Result<Span, Memory> {
+) -> Result<Span, Memory>
+    ensures { HasGround ground.now → range_has_form (ground_of ground.now) (range_tree range.now) ≡ true → IfOk result (λ span.
+        FindsSpan (ground_of ground.now) blame (Some (mode_tree mode.now.value)) (range_tree range.now) told.old told.new span) }
+{
     let first = known_part(ground, &range.first, mode, blame, told)?;
     match &range.last {
         None => Ok(Span { first, last: None }),

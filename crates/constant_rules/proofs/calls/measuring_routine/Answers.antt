@@ -1,5 +1,4 @@
 use Rattle.std.proofs.Common.{◌≡◌, Some, None, rules}
-use Rattle.std.specs.Prelude.{IsTrue}
 use Rattle.chill_tree.specs.ExprTree.{expr_tree}
 use Rattle.modes.specs.ModeTree.{mode_tree}
 use Rattle.class_operators.specs.Predefined.{predefined_tree}

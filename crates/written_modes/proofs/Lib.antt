@@ -1,0 +1,10 @@
+pub mod Gates
+pub mod Texts
+pub mod Clauses
+pub mod FieldLemmas
+pub mod PlaceLemmas
+pub mod GateLemmas
+pub mod RangeLemmas
+pub mod NumberLemmas
+pub mod FewLemmas
+pub mod BuiltLemmas
