@@ -5,7 +5,6 @@
 //! and of processes and the elaborated program stand on it, and find here what they share of the crates below.
 #![tactic(auto)]
 
-mod exceptions;
 mod meeting;
 mod phase;
 mod table;
@@ -13,7 +12,6 @@ mod table;
 pub use constant_operators::{Computed, Entry, Evaluation, Known, Measured, Plain, shared};
 pub use constant_rules::{TupleValue, has_parts, known, needed};
 pub use definition_origins::{CheckRule, Element, Origin, Origins, Owner, Predefined, Told};
-pub use exceptions::{FIRST_OWN_EXCEPTION, exception_of_language, one_spelling};
 pub use meeting::{Meeting, meeting_of};
 pub use phase::{told_of_modes, told_of_program};
 pub use table::evaluate;
