@@ -6,7 +6,6 @@
 #![tactic(auto)]
 
 mod actions;
-mod exceptions;
 mod expressions;
 mod items;
 mod locals;
@@ -19,6 +18,5 @@ pub use constant_operators::{Computed, Entry, Evaluation, Known, Measured, Plain
 pub use constant_rules::{TupleValue, has_parts, known, needed};
 pub use definition_origins::{CheckRule, Element, Origin, Origins, Owner, Predefined, Told};
 pub use definition_table::evaluate;
-pub use exceptions::{FIRST_OWN_EXCEPTION, exception_of_language, one_spelling};
 pub use meeting::{Meeting, meeting_of};
 pub use phase::{told_of_modes, told_of_program};

@@ -4,7 +4,8 @@ ghost use Rattle.process_checks.specs.MetByNumber.{declared_as, declared_by, use
 
 use chill_base::{List, Memory};
 use met_names::{Meeting, met_in};
-use mode_rules::{Entry, Evaluation, Origin};
+use constant_operators::{Entry, Evaluation};
+use definition_origins::Origin;
 
 // What the mode is of that is known of a definition, if one is known.
 fn declared_as(entry: &Entry) -> Option<Meeting>

@@ -1,6 +1,7 @@
 -- What is answered of the modes, constants and statements of a program.
-use Rattle.std.specs.Prelude.{◌≢◌, [], Result, Ok, Err}
+use Rattle.std.specs.Prelude.{◌≡◌, ◌≢◌, List, [], Result, Ok, Err}
 use Rattle.std.specs.List.Sorted.{IsStrictlySortedBy}
+use Rattle.diagnostics.specs.declared.diagnostic.Diagnostic.{Diagnostic}
 use Rattle.diagnostics.specs.Order.{diagnostic_cmp}
 use Rattle.definition_origins.specs.CheckRules.{AreOfChecks}
 use Rattle.visibility.specs.declared.refusal.Refusal.{Refusal}
@@ -11,3 +12,14 @@ abbrev pub TellsInOrder : Result Unit Refusal → Type 0
 TellsInOrder (Ok done) = Unit {0}
 TellsInOrder (Err (refusals.Broken list)) = IsStrictlySortedBy diagnostic_cmp list × (list ≢ []) × AreOfChecks list
 TellsInOrder (Err refusals.Memory) = Unit {0}
+
+-- the list of what is broken is answered, where there is memory for it
+abbrev pub Answers : List Diagnostic → Result Unit Refusal → Type 0
+Answers broken (Ok done) = broken ≡ []
+Answers broken (Err (refusals.Broken list)) = broken ≡ list
+Answers broken (Err refusals.Memory) = Unit {0}
+
+-- nothing is broken where nothing is answered
+abbrev pub Accepts : List Diagnostic → Result Unit Refusal → Type 0
+Accepts broken (Ok done) = broken ≡ []
+Accepts broken (Err refusal) = Unit {0}

@@ -7,11 +7,11 @@ use Rattle.met_names.specs.Sources.{over_expr}
 use Rattle.process_checks.proofs.ToldMore.{on_ok, told_where}
 use Rattle.process_checks.proofs.waiting.Waiting.tell_set.Goals as goal
 
-pub returns : goal.returns
-returns c =
+pub returns-clause-more : goal.returns-clause-more
+returns-clause-more c =
     let e = expr_tree c.args.set.now in
     let before = c.args.told.now in
     on_ok c.tell.result
-    (λ told. told_where c.in_ok-is_clean.field-0 (is_none_told (over_expr (told_source c.args.self.now.meetings.now) e)) (tell_at rules.P7 (place_of e)) before c.tell.new.self c.in_ok-is_clean.ensures c.if-not-branch.false
+    (λ told. told_where c.in_ok-is_clean.field-0 (is_none_told (over_expr (told_source c.args.self.now.meetings.now) e)) (tell_at rules.P7 (place_of e)) before c.tell.new.self c.in_ok-is_clean.ensures.inside c.if-not-branch.false
     (told ∙ ap (λ p. before ++ tell_at rules.P7 p ∷ []) c.at.ensures))
     c.tell.ensures
