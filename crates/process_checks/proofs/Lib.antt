@@ -2,3 +2,9 @@ pub mod ToldMore
 pub mod Listed
 pub mod Grounds
 pub mod Exact
+pub mod Priorities
+pub mod Limits
+pub mod Needed
+pub mod NeededLater
+pub mod Phase
+pub mod WaitsTold

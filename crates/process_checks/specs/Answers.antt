@@ -18,3 +18,9 @@ abbrev pub AnswersList : List Diagnostic → Result Unit Refusal → Type 0
 AnswersList told (Ok u) = told ≡ []
 AnswersList told (Err (refusals.Broken list)) = told ≡ list
 AnswersList told (Err refusals.Memory) = ⊥
+
+-- the list of what is broken is answered, where there is memory for it
+abbrev pub Answers : List Diagnostic → Result Unit Refusal → Type 0
+Answers broken (Ok u) = broken ≡ []
+Answers broken (Err (refusals.Broken list)) = broken ≡ list
+Answers broken (Err refusals.Memory) = Unit {0}

@@ -2,7 +2,7 @@
 use crate::refusal::ElaborationRefusal;
 use chill_base::{List, Memory, Numbers, Text};
 use chill_tree::tree::Name;
-use mode_rules::{FIRST_OWN_EXCEPTION, exception_of_language};
+use exception_names::{FIRST_OWN_EXCEPTION, exception_of_language};
 use std::alloc::Global;
 use std::collections::HashMap;
 

@@ -12,4 +12,4 @@ pub returns : goal.returns
 returns c =
     let told = over_expr (told_source c.args.self.now.meetings.now) (expr_tree c.args.expr.now) in
     let is : c.tell_in.new.told ≡ told = c.in_ok-tell_in.ensures ∙ ap (λ ds. ds ++ told) c.new-told.ensures in
-    is_clean_where c.is_empty-2.result told (subst (λ (ds : List Diagnostic). IsTrue c.is_empty-2.result ↔ (ds ≡ [])) (c.into_list.ensures.list ∙ ap (listed diagnostic_cmp) is) c.is_empty-2.ensures)
+    record { inside = is_clean_where c.is_empty-2.result told (subst (λ (ds : List Diagnostic). IsTrue c.is_empty-2.result ↔ (ds ≡ [])) (c.into_list.ensures.list ∙ ap (listed diagnostic_cmp) is) c.is_empty-2.ensures) }

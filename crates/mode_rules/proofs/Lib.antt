@@ -1,0 +1,5 @@
+pub mod Sites
+pub mod BodyViews
+pub mod SharedPlaces
+pub mod Capped
+pub mod Calls

@@ -1,0 +1,10 @@
+use Rattle.std.proofs.Common.{◌≡◌, ◌++◌, drop, map}
+use Rattle.chill_tree.specs.ItemTree.{param_tree}
+use Rattle.checks_model.specs.Sites.{at_mode}
+use Rattle.statement_laws.specs.Steps.{told_at_all}
+use Rattle.statement_rules.specs.Grounds.{ground_at, IsGrounded}
+use Rattle.statement_rules.proofs.walk.Statements.tell_in_params.Given as goal
+
+abbrev pub invariant-loop-param : goal.invariant-loop-param
+invariant-loop-param l = IsGrounded l.self →
+    l.told ++ told_at_all (ground_at l.self) (map (λ q. at_mode q.mode) (map param_tree (drop l.param-index l.params))) ≡ l.fn.told ++ told_at_all (ground_at l.self) (map (λ q. at_mode q.mode) (map param_tree l.params))

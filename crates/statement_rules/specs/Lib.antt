@@ -1,0 +1,4 @@
+pub mod Grounds
+pub mod Views
+pub mod Steps
+pub mod Spelled
