@@ -5,5 +5,6 @@ pub mod Exact
 pub mod Priorities
 pub mod Limits
 pub mod Needed
+pub mod NeededLater
 pub mod Phase
 pub mod WaitsTold

@@ -1,14 +1,14 @@
 -- Whether what is known of a priority is outside its limits.
-use Rattle.std.proofs.Common.{◌≡◌, Bool, true, false, List, [], ◌∷◌, Option, Some, None, ℤ, refl, ap, sym, ◌∙◌}
-use Rattle.std.specs.Prelude.{◌||◌, not, IsTrue, slice_get, option_map, option_and_then, is_some}
+use Rattle.std.proofs.Common.{◌≡◌, Bool, true, false, List, Option, Some, None, ℤ, refl, ap, sym, ◌∙◌}
+use Rattle.std.specs.Prelude.{◌||◌, not, IsTrue, slice_get, option_map, option_and_then}
 use Rattle.modes.specs.ModeTree.{ModeTree, ClassTree, class_tree, int}
 use Rattle.modes.specs.Similar.{shape_of}
 use Rattle.checks_model.specs.TestLaws.{GoesWithTestLaw}
 use Rattle.checks_model.specs.Alike.{goes_with}
 use Rattle.checks_model.specs.Told.{holds_of}
-use Rattle.checks_model.specs.ValueTrees.{ValueTree, number, scalars_in}
+use Rattle.checks_model.specs.ValueTrees.{ValueTree, scalars_in}
 use Rattle.checks_model.specs.ProcessRules.{is_priority}
-use Rattle.constant_values.specs.Fits.{fits_class, fit_together}
+use Rattle.constant_values.specs.Fits.{fits_class}
 use Rattle.constant_values.proofs.ShapeValues.{goes_shape}
 use Rattle.constant_values.proofs.OperandValues.{fits_as, discrete_shape, IsOneNumber, number_of}
 use Rattle.constant_operators.specs.declared.known.Known.{Known}

@@ -1,9 +1,9 @@
 -- What is told by names, of priorities and of locations to be set is what the phase tells.
-use Rattle.std.proofs.Common.{◌≡◌, List, [], ◌∷◌, ◌++◌, refl, ap, sym, ◌∙◌, Option, Some, None}
+use Rattle.std.proofs.Common.{◌≡◌, List, [], ◌∷◌, ◌++◌, refl, ap, sym, ◌∙◌}
 use Rattle.std.specs.Prelude.{map, flat_map, Result, Ok, Err}
 use Rattle.chill_tree.specs.ItemTree.{ProgramTree}
 use Rattle.diagnostics.specs.declared.diagnostic.Diagnostic.{Diagnostic}
-use Rattle.diagnostics.specs.Listing.{SameMembers, listed}
+use Rattle.diagnostics.specs.Listing.{listed}
 use Rattle.diagnostics.specs.Order.{diagnostic_cmp}
 use Rattle.diagnostics.proofs.Apart.{diagnostic_total, told_apart}
 use Rattle.diagnostics.proofs.Ordered.{listed_same}

@@ -1,5 +1,5 @@
 -- Where the phase of modes and constants tells nothing, it tells nothing of a priority.
-use Rattle.std.proofs.Common.{◌≡◌, true, false, List, [], ◌∷◌, ◌++◌, refl, sym, ap, ◌∙◌, Option, Some, None}
+use Rattle.std.proofs.Common.{◌≡◌, false, List, [], ◌∷◌, ◌++◌, refl, sym, ◌∙◌, Option, Some, None}
 use Rattle.std.specs.Prelude.{map, flat_map}
 use Rattle.std.proofs.lemmas.Grind.{flat_map-append}
 use Rattle.chill_tree.specs.declared.tree.name.Name.{Name}
@@ -10,11 +10,11 @@ use Rattle.chill_tree.specs.StatementTree.{StatementTree, BracketedTree, Stateme
 use Rattle.chill_tree.specs.ItemTree.{ItemTree, ItemNodes, seize, grant, local_item, signals, procedure, process, modulion, action, no_items, more_items, ModulionTree, modulion_item, ProgramTree}
 use Rattle.diagnostics.specs.declared.diagnostic.Diagnostic.{Diagnostic}
 use Rattle.checks_model.specs.Ground.{Ground}
-use Rattle.checks_model.specs.ConstantRules.{told_of_constants, told_some_needed, told_needed}
+use Rattle.checks_model.specs.ConstantRules.{told_of_constants, told_some_needed}
 use Rattle.checks_model.specs.Phases.{exprs_of_simple, modes_told_at, told_of_modes}
-use Rattle.checks_model.specs.Sites.{Site, Around, in_procedure, in_no_procedure, at_item, at_simple, at_condition, at_selector, at_labels, at_control, at_set, at_priority, at_source, at_received, at_exceptions, at_body, at_program, sites_of_local, some_site, events_listed, sites_of, sites_of_bracketed, sites_of_each, sites_of_branches, sites_of_cases, sites_of_events, sites_of_receives, sites_of_otherwise, sites_of_handler, sites_of_exceptions, sites_of_parts, sites_of_result, sites_of_body, locals_of_body, at_mode, sites_of_item, sites_of_items, outermost_locals, shared_in, items_of, sites}
+use Rattle.checks_model.specs.Sites.{Site, Around, in_procedure, in_no_procedure, at_item, at_simple, at_condition, at_selector, at_labels, at_control, at_set, at_priority, at_source, at_received, at_exceptions, at_body, at_program, sites_of_local, some_site, events_listed, sites_of, sites_of_bracketed, sites_of_each, sites_of_branches, sites_of_cases, sites_of_events, sites_of_receives, sites_of_otherwise, sites_of_handler, sites_of_exceptions, sites_of_parts, sites_of_result, sites_of_body, locals_of_body, at_mode, sites_of_item, sites_of_items, outermost_locals, shared_in, items_of}
 use Rattle.wait_exprs.specs.Waits.{WaitTree, set_of, priority_of, some_wait, waits_of_simple, waits_at_head, waits_in, waits_held, waits_in_each, waits_in_branches, waits_in_cases, waits_in_named, waits_in_receives, waits_otherwise, waits_in_handler, waits_in_parts, waits_in_body, waits_in_item, waits_in_items, waits_of}
-use Rattle.process_checks.specs.Waiting.{IsNeeded, AreNeeded}
+use Rattle.process_checks.specs.Waiting.{AreNeeded}
 
 none_first : {X : Type 0} (xs ys : List X) → xs ++ ys ≡ [] → xs ≡ []
 none_first [] ys e = refl

@@ -1,5 +1,5 @@
 -- What priorities and locations to be set are asked against, and the rules on them.
-use Rattle.std.specs.Prelude.{◌≡◌, Bool, true, false, ◌||◌, ◌&&◌, not, List, [], ◌∷◌, Option, Some, None, ℤ, pos, int_le}
+use Rattle.std.specs.Prelude.{◌≡◌, Bool, false, ◌||◌, ◌&&◌, not, List, [], ◌∷◌, Option, Some, None, ℤ, pos, int_le}
 use Rattle.modes.specs.ModeTree.{ClassTree, int}
 use Rattle.checks_model.specs.Alike.{goes_with}
 use Rattle.checks_model.specs.ValueTrees.{ValueTree}

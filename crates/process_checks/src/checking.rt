@@ -1,10 +1,12 @@
 // The phase of processes.
-ghost use Rattle.std.specs.Prelude.{◌≡◌, [], ◌++◌, IfOk, flat_map};
+ghost use Rattle.std.specs.Prelude.{◌≡◌, ℕ, List as Row, ◌++◌, IfOk, flat_map};
 ghost use Rattle.std.specs.List.Sorted.{IsStrictlySortedBy};
 ghost use Rattle.chill_tree.specs.ItemTree.{program_tree};
 ghost use Rattle.diagnostics.specs.Order.{diagnostic_cmp};
 ghost use Rattle.checks_model.specs.Ground.{Ground};
-ghost use Rattle.checks_model.specs.Phases.{told_of_modes, broken_processes};
+ghost use Rattle.checks_model.specs.Table.{IsStatementGroundOf};
+ghost use Rattle.checks_model.specs.Phases.{broken_processes};
+ghost use Rattle.checks_model.specs.Diagnoses.{HasModes};
 ghost use Rattle.wait_exprs.specs.Waits.{waits_of};
 ghost use Rattle.wait_exprs.specs.Split.{told_wait};
 ghost use Rattle.constant_operators.specs.Grounds.{ground_of, HasGround};
@@ -20,10 +22,10 @@ use crate::meeting::{declared_meetings, used_meetings};
 use crate::waiting::Waiting;
 use chill_base::Memory;
 use chill_tree::tree::Tree;
-use diagnostics::Diagnostics;
-use met_names::Meetings;
 use constant_operators::Evaluation;
 use definition_origins::Told;
+use diagnostics::Diagnostics;
+use met_names::Meetings;
 use process_names::tell_in_program;
 use visibility::Refusal;
 use wait_exprs::waits_of;
@@ -32,7 +34,7 @@ use wait_exprs::waits_of;
 /// names, modes, constants or statements, and whose definitions are evaluated.
 pub fn check_processes(evaluation: &Evaluation<'_>, tree: &Tree) -> Result<(), Refusal>
     ensures order { TellsInOrder result }
-    ensures exact { HasGround evaluation.now → told_of_modes (ground_of evaluation.now) (program_tree tree.now) ≡ [] → Answers (broken_processes (ground_of evaluation.now) (program_tree tree.now)) result }
+    ensures exact { (text : Row ℕ) (g : Ground) → HasModes text (program_tree tree.now) g → IsStatementGroundOf (program_tree tree.now) (ground_of evaluation.now) → HasGround evaluation.now → Answers (broken_processes (ground_of evaluation.now) (program_tree tree.now)) result }
     ensures by_names { (g : Ground) → IsEvaluationOn g evaluation.now → TellsByNames g (program_tree tree.now) result }
 {
     let told = told_of_processes(evaluation, tree)?;

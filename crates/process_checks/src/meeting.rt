@@ -3,9 +3,9 @@ ghost use Rattle.std.specs.Prelude.{◌≡◌, IfOk, map, option_map};
 ghost use Rattle.process_checks.specs.MetByNumber.{declared_as, declared_by, used_as, used_from};
 
 use chill_base::{List, Memory};
-use met_names::{Meeting, met_in};
 use constant_operators::{Entry, Evaluation};
 use definition_origins::Origin;
+use met_names::{Meeting, met_in};
 
 // What the mode is of that is known of a definition, if one is known.
 fn declared_as(entry: &Entry) -> Option<Meeting>

@@ -19,11 +19,11 @@ ghost use Rattle.process_checks.specs.Asked.{ground_for, IsWaiting};
 use crate::rules::{is_no_instance_location, is_priority_out_of_limits};
 use chill_base::Memory;
 use chill_tree::tree::Expr;
-use expr_rules::Walk;
-use met_names::Meetings;
 use constant_operators::Evaluation;
 use constant_rules::known;
 use definition_origins::{CheckRule, Told};
+use expr_rules::Walk;
+use met_names::Meetings;
 use wait_exprs::Wait;
 
 /// What priorities and locations are asked against.

@@ -1,12 +1,15 @@
 // The phases of modes and of statements.
-ghost use Rattle.std.specs.Prelude.{◌≡◌};
+ghost use Rattle.std.specs.Prelude.{◌≡◌, ℕ, List as Row};
 ghost use Rattle.std.specs.List.Sorted.{IsStrictlySortedBy};
 ghost use Rattle.chill_tree.specs.ItemTree.{program_tree};
 ghost use Rattle.diagnostics.specs.Order.{diagnostic_cmp};
-ghost use Rattle.checks_model.specs.Phases.{broken_statements};
+ghost use Rattle.checks_model.specs.Phases.{broken_modes, broken_statements};
+ghost use Rattle.checks_model.specs.Diagnoses.{HasNames};
 ghost use Rattle.constant_operators.specs.Grounds.{ground_of, HasGround};
 ghost use Rattle.definition_origins.specs.CheckRules.{AreOfChecks};
-ghost use Rattle.static_checks.specs.Answers.{TellsInOrder, Answers, Accepts};
+ghost use Rattle.definition_table.specs.Filling.{IsTableOf};
+ghost use Rattle.mode_rules.specs.Ready.{IsReady};
+ghost use Rattle.static_checks.specs.Answers.{TellsInOrder, Answers, Checks};
 
 use chill_tree::tree::Tree;
 use constant_operators::Evaluation;
@@ -21,6 +24,7 @@ use visibility::Refusal;
 /// evaluated.
 pub fn check_modes(evaluation: &Evaluation<'_>, tree: &Tree) -> Result<(), Refusal>
     ensures order { TellsInOrder result }
+    ensures exact { IsReady evaluation.now → Answers (broken_modes (ground_of evaluation.now) (program_tree tree.now)) result }
 {
     let told = told_of_program(evaluation, tree)?;
     answer(told.into_list())
@@ -42,7 +46,7 @@ pub fn check_own_statements(evaluation: &Evaluation<'_>, tree: &Tree) -> Result<
 /// on.
 pub fn check_statements(evaluation: &mut Evaluation<'_>, tree: &Tree) -> Result<(), Refusal>
     ensures order { TellsInOrder result }
-    ensures accepts { HasGround evaluation.new → Accepts (broken_statements (ground_of evaluation.new) (program_tree tree.now)) result }
+    ensures exact { (text : Row ℕ) → HasNames text (program_tree tree.now) → IsTableOf (program_tree tree.now) evaluation.old → Checks text (program_tree tree.now) (ground_of evaluation.old) evaluation.new result }
 {
     check_modes(evaluation, tree)?;
     add_local_modes(evaluation)?;

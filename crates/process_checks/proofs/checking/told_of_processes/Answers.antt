@@ -32,8 +32,7 @@ returns-clause-exact c = λ ground needed.
     let found = c.new-meetings.result in
     let facts : found ≡ facts_of e = c.new-meetings.ensures ∙ rw (c.as_slice.ensures, c.as_slice-2.ensures, c.as_slice-3.ensures, c.as_slice-4.ensures, c.in_ok-used.ensures, c.in_ok-declared.ensures) refl in
     let waits : wait_trees c.as_slice-5.result.now ≡ waits_of t = ap wait_trees c.as_slice-5.ensures ∙ c.in_ok-waits.ensures in
-    let waiting = record { ground = ground; facts = subst (λ f. AreFactsOf f g) (sym facts) (own_facts e) } in
     let names : c.tell_in_program.new.told ≡ over_program found t = c.in_ok-tell_in_program.ensures ∙ ap (λ ds. ds ++ over_program found t) c.new-told.ensures in
-    c.in_ok-tell_waits.ensures.exact waiting (subst (AreNeeded g) (sym waits) needed)
+    c.in_ok-tell_waits.ensures.exact (record { ground = ground; facts = subst (λ f. AreFactsOf f g) (sym facts) (own_facts e) }) (subst (AreNeeded g) (sym waits) needed)
     ∙ ap (λ ds. ds ++ flat_map (told_wait g) (wait_trees c.as_slice-5.result.now)) (names ∙ ap (λ f. over_program f t) facts)
     ∙ ap (λ ws. over_program (facts_of e) t ++ flat_map (told_wait g) ws) waits
