@@ -1,5 +1,5 @@
-//! The program that draws a journal: it reads the text that `record` writes, and writes a message sequence chart of its events, from
-//! one number to another, as SVG.
+//! The program that draws a journal: it reads the text of one, and writes a message sequence chart of its events, from one number
+//! to another, as SVG.
 //!
 //! It stands on `journal_text`, which reads the text, and on `chart`, which draws. It is none of the words of `chill`.
 #![tactic(auto)]

@@ -216,8 +216,7 @@ fn make_burst<R: Wait, G: Gate>(
 }
 
 // One turn: the next process that can go makes a burst. Answers are looked for where one of the worker's own processes has gone
-// on since the last look; and a process
-// is taken only where none can go.
+// on since the last look; and a process is taken only where none can go.
 fn make_turn<R: Wait, G: Gate>(
     rt: &R,
     guarded: &Guarded,
