@@ -84,33 +84,32 @@ const SHARES: Scene = Scene {
     units: 1000,
 };
 
-// The turn goes from one to the other; the second one is in the region first.
+// Each is answered at once, and keeps its turn up to its end.
 const SHARED: &[Noted] = &[
     Did(1, Start(1, &[]), Instance(2)),
-    Did(2, Enter(0), Done),
-    Waits(1, Enter(0)),
-    Did(2, Put("2"), Done),
-    Did(2, Leave(0), Done),
-    Goes(1, Done),
+    Did(1, Enter(0), Done),
     Did(1, Put("1"), Done),
-    Did(2, End(Normal), Done),
     Did(1, Leave(0), Done),
     Did(1, End(Normal), Done),
+    Did(2, Enter(0), Done),
+    Did(2, Put("2"), Done),
+    Did(2, Leave(0), Done),
+    Did(2, End(Normal), Done),
 ];
 
 #[test]
-fn two_processes_take_turns_in_a_region(rt: HostRuntime) -> Result<(), Fail> {
+fn two_processes_keep_their_turns_in_a_region(rt: HostRuntime) -> Result<(), Fail> {
     shows(&rt, rt.alloc(), &SHARES, SHARED, 2, AllEnded)
 }
 
-// Going on is no commit: of the ten events nine are.
+// Each of the nine events is a commit.
 #[test]
 fn a_run_is_stopped_behind_each_commit(rt: HostRuntime) -> Result<(), Fail> {
     stops(&rt, rt.alloc(), &SLEEPS, SLEPT, 1, Still)?;
     stops(&rt, rt.alloc(), &SHARES, SHARED, 9, AllEnded)
 }
 
-// The first process is in the region before the second one, which is no choice of the serial run.
+// The second process comes to the region while the first one is in it, which is no choice of the serial run.
 const SHARED_THE_OTHER_WAY: &[Noted] = &[
     Did(1, Start(1, &[]), Instance(2)),
     Did(1, Enter(0), Done),
