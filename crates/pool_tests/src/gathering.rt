@@ -33,13 +33,18 @@ fn other_units_are_not_gathered(rt: HostRuntime) -> Result<(), Fail> {
     Ok(())
 }
 
+// How many logs there are.
+fn count_of(pool: &Pool) -> usize {
+    pool.workers.len()
+}
+
 #[test]
 fn a_pool_without_a_log_is_not_gathered(rt: HostRuntime) -> Result<(), Fail> {
     let alloc = rt.alloc();
     let built = built(alloc, TWO.as_bytes()).expect(&rt, "a program");
     let facts = facts(alloc, &built, UNITS).expect(&rt, "facts");
     let pool = pool(&rt, alloc, &built.code, &facts, 2, &OpenGate).expect(&rt, "a pool");
-    assert_eq!(rt; pool.workers.len(), 3);
+    assert_eq!(rt; count_of(&pool), 3);
     let pool = without_last(&built.code, pool);
     let driven = gather(&built.code, &facts, pool).ok().expect(&rt, "memory");
     assert!(rt; driven.is_none());
