@@ -41,7 +41,8 @@ use Rattle.elaboration_model.specs.Elaborated.{local_row, local_rows, locals_of,
 use Rattle.expression_laws.specs.Things.{is_of_text}
 use Rattle.expression_laws.proofs.Outside.{row_parts}
 use Rattle.expression_laws.proofs.Things.{apart_thing}
-use Rattle.program_laws.proofs.Rows.{two_lists, IsDefinedAs, AreDefinedAs, ParamSo, FormalSo, ParamOrigins, Begins, HeadOk, HeadsOk}
+use Rattle.program_laws.proofs.DefinitionNames.{two_lists}
+use Rattle.program_laws.proofs.Rows.{IsDefinedAs, AreDefinedAs, ParamSo, FormalSo, ParamOrigins, Begins, HeadOk, HeadsOk}
 use Rattle.program_laws.proofs.Defined.{names_list, defined_in, origin_so, entry_at}
 use Rattle.program_laws.proofs.Grounds.{all_placed}
 use Rattle.head_laws.specs.Parameters.{BeginWith, FormalsLaw, StartedLaw}

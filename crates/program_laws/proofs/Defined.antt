@@ -41,7 +41,8 @@ use Rattle.there_laws.proofs.Names.{all_numbers_there, names_known, results_know
 use Rattle.expression_laws.specs.Names.{stands_for_process, IsPlace, ArePlaces}
 use Rattle.expression_laws.proofs.Outside.{defined_at}
 use Rattle.expression_laws.proofs.Mentions.{IsGroundOfText, process_stands, use_stands}
-use Rattle.program_laws.proofs.Rows.{name_of_definition, all_names, IsDefinedAs, SiteSo, OriginSo, ModulionSo, HeadsOk, SomeReceiver, SignalSo, text_held}
+use Rattle.program_laws.proofs.DefinitionNames.{name_of_definition, all_names}
+use Rattle.program_laws.proofs.Rows.{IsDefinedAs, SiteSo, OriginSo, ModulionSo, HeadsOk, SomeReceiver, SignalSo, text_held}
 
 -- ---- numbers
 

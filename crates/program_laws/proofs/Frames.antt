@@ -34,7 +34,7 @@ use Rattle.order_laws.specs.Texts.{is_counter}
 use Rattle.order_laws.proofs.Counters.{number_same, origin_same}
 use Rattle.order_laws.proofs.TextCounters.{grounds_alike, but_counters}
 use Rattle.expression_laws.proofs.Actions.{each_first, each_later}
-use Rattle.program_laws.proofs.Rows.{two_lists}
+use Rattle.program_laws.proofs.DefinitionNames.{two_lists}
 
 read_plain : (o : Option Origin) → is_read o ≡ true → is_counter o ≡ false
 read_plain (Some (a_synonym s)) read = refl

@@ -1,3 +1,4 @@
+pub mod DefinitionNames
 pub mod Rows
 pub mod Counters
 pub mod Frames
