@@ -1,14 +1,13 @@
 -- A text that breaks no rule on names has one ground that knows counters: all but counters is known there as in the one that
 -- doesn't, and a counter's mode asks of no counter but such as stand before it.
-use Rattle.std.proofs.Common.{◌≡◌, ◌⊎◌, inl, inr, ℕ, zero, suc, ◌<◌, Bool, true, false, List, [], ◌∷◌, Option, Some, None, true≢false, refl, sym, ap, ◌∙◌, subst, arith, Contains, map}
+use Rattle.std.proofs.Common.{◌≡◌, ◌⊎◌, inl, inr, ℕ, zero, suc, ◌<◌, Bool, true, false, List, [], ◌∷◌, Option, Some, None, true≢false, refl, sym, ap, ◌∙◌, subst, arith, Contains}
 use Rattle.std.specs.Prelude.{slice_get, option_map, option_and_then}
 use Rattle.std.proofs.lemmas.Option.{slice_get-map}
-use Rattle.std.proofs.lemmas.Bool.{cases_lt}
 use Rattle.chill_tree.specs.declared.tree.name.Name.{Name}
 use Rattle.chill_tree.specs.SimpleTree.{ControlTree}
 use Rattle.chill_tree.specs.ItemTree.{ProgramTree}
 use Rattle.names_laws.proofs.Members.{here_in, later_in}
-use Rattle.checks_model.specs.Ground.{Ground, Origin, Entry, a_synonym, a_mode, an_element, a_location, a_parameter, a_counter, a_received, a_procedure, a_process, a_signal, a_modulion, a_predefined, origin_of, entry_of, entry_defined, number_at}
+use Rattle.checks_model.specs.Ground.{Ground, Origin, a_synonym, a_mode, an_element, a_location, a_parameter, a_counter, a_received, a_procedure, a_process, a_signal, a_modulion, a_predefined, origin_of, number_at}
 use Rattle.checks_model.specs.ActionRules.{counter_mode}
 use Rattle.checks_model.specs.Table.{of_mode_alone, entry_with_counters, ground_with, IsGroundOf, IsStatementGroundOf}
 use Rattle.checks_model.specs.Diagnoses.{HasNames}

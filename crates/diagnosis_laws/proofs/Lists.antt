@@ -1,5 +1,5 @@
 -- The lists of the phases of a tree: one is told, and some.
-use Rattle.std.proofs.Common.{◌≡◌, ℕ, List, [], ◌∷◌, length, refl, sym, ap, ◌∙◌, subst}
+use Rattle.std.proofs.Common.{◌≡◌, ℕ, List, [], ◌∷◌, length, refl, sym, ap, ◌∙◌}
 use Rattle.chill_tree.specs.ItemTree.{ProgramTree}
 use Rattle.diagnostics.specs.declared.diagnostic.Diagnostic.{Diagnostic}
 use Rattle.names_model.specs.Resolving.{broken_names, level_of}
