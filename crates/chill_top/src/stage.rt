@@ -3,7 +3,7 @@ ghost use Rattle.std.specs.Prelude.{◌≡◌, ◌⊎◌, ℕ, List, [], None, f
 ghost use Rattle.outside_ports.specs.Faults.{Rose};
 ghost use Rattle.chill_top.specs.Causes.{IsReadFault, IsFeedFault};
 ghost use Rattle.chill_top.specs.Commands.{IsRunning, IsRunningTask, Runs, file_of};
-ghost use Rattle.chill_top.specs.Plan.{AreFactsOf, HasNoFacts, IsFormatPlan, IsStageFor, IsStageOf, ReadsInput};
+ghost use Rattle.chill_top.specs.Plan.{AreFactsOf, HasNoFacts, IsFormatPlan, IsSoundStage, IsStageFor, IsStageOf, ReadsInput};
 ghost use Rattle.chill_top.specs.Reading.{IsInputRead, IsReadingOf};
 ghost use Rattle.chill_top.specs.declared.task.Task.TheVariants as tasks;
 ghost use Rattle.chill_top.specs.declared.task.Purpose.TheVariants as purposes;
@@ -12,6 +12,7 @@ ghost use Rattle.text_to_code.specs.Telling.{HasCode, Tells};
 use crate::input::{MAX_INPUT, read_input};
 use crate::plan::{Plan, Ready, Stage};
 use crate::read::ReadRefusal;
+use crate::replay::{held_of, plan_for_journal};
 use crate::source::read_source;
 use crate::task::{Purpose, Task, task_of};
 use chill_base::{Memory, Text};
@@ -59,7 +60,7 @@ fn facts_for(alloc: Global, built: &Built, input: Text, units: u64) -> Result<Op
 }
 
 // How far a program comes that is to be run: its input is read. Facts that aren't sound come of no program that breaks no rule.
-fn stage_for_run<I: Feed>(
+pub(crate) fn stage_for_run<I: Feed>(
     alloc: Global,
     built: Box<Built>,
     units: u64,
@@ -71,6 +72,7 @@ fn stage_for_run<I: Feed>(
     ensures stays { OnOk result (I.faults feed.new ≡ I.faults feed.old) }
     ensures fault { IsErrOf result ReadRefusal.Fault → Rose (I.faults feed.old) (I.faults feed.new) }
     ensures reads { IsErrOf result ReadRefusal.Fault → built.value.program.checked.value.reads_input ≡ true }
+    ensures sound { IfOk result IsSoundStage }
 {
     let input = input_of(alloc, &built, feed)?;
     if input.len() > MAX_INPUT {
@@ -160,5 +162,8 @@ pub(crate) fn make_stage<L: Library, I: Feed>(
     ensures unfed { (Runs command.now → ⊥) → feed.new ≡ feed.old }
 {
     let read = read_source(alloc, command, library)?;
-    stage_for_text(alloc, task_of(command), &read, feed)
+    match held_of(command) {
+        Some(held) => Ok(Stage::Decided(plan_for_journal(alloc, &read, &held, library, feed)?)),
+        None => stage_for_text(alloc, task_of(command), &read, feed),
+    }
 }

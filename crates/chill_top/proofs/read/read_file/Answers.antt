@@ -1,6 +1,6 @@
 use Rattle.std.proofs.Common.{arith}
 use Rattle.chill_top.proofs.Pieces.{reading-whole, reading-front}
-use Rattle.chill_top.proofs.read.read_text.Goals as goal
+use Rattle.chill_top.proofs.read.read_file.Goals as goal
 
 -- it was read as far as it goes
 pub returns-clause-text : goal.returns-clause-text

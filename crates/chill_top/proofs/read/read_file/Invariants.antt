@@ -1,6 +1,6 @@
 use Rattle.std.proofs.Common.{◌≡◌, ◌≤◌, ◌-◌, ℕ, List, length, vec_len}
 use Rattle.chill_top.specs.Reading.{IsFront}
-use Rattle.chill_top.proofs.read.read_text.Given as goal
+use Rattle.chill_top.proofs.read.read_file.Given as goal
 
 -- the text so far is a front of the file, and no count rose
 abbrev pub invariant-pieces : goal.invariant-pieces
