@@ -1,5 +1,5 @@
 -- What the words behind the command's own have said so far.
-use Rattle.std.specs.Prelude.{◌≡◌, ℕ, ◌==◌, ◌&&◌, List, [], ◌∷◌, length, drop, Bool, true, false, Option, Some, None, is_some, if◌then◌else◌, nat_lt, nat_eq, option_map, option_and_then, slice_index, slice_index_or, map, string_bytes, codes}
+use Rattle.std.specs.Prelude.{ℕ, ◌==◌, ◌&&◌, List, [], ◌∷◌, length, drop, Bool, true, false, Option, Some, None, is_some, if◌then◌else◌, nat_lt, nat_eq, option_map, option_and_then, slice_index, slice_index_or, map, string_bytes, codes}
 use Rattle.std.specs.List.{starts_with}
 use Rattle.std.specs.Str.{bytes_eq}
 use Rattle.std.specs.declared.string.String.{String}
@@ -36,14 +36,6 @@ reading_of words h = record {
   waiting = h.waiting;
   trailing = h.trailing;
 }
-
--- what the words so far have said
-abbrev pub so_far : {A : Type 0} → List (String A) → Held → Reading
-so_far words h = reading_of (map string_bytes words) h
-
--- it is this reading, or none
-abbrev pub Reads : {A : Type 0} → List (String A) → Option Held → Option Reading → Type 0
-Reads words held reading = option_map (so_far words) held ≡ reading
 
 abbrev pub opening : Reading
 opening = record { place = None; second = None; workers = None; units = None; watch = false; waiting = Nothing; trailing = false }

@@ -1,7 +1,7 @@
 // What the words behind the command's own have said so far (our own choice).
-ghost use Rattle.std.specs.Prelude.{◌≡◌, ◌<◌, length};
+ghost use Rattle.std.specs.Prelude.{◌≡◌, ◌<◌, length, option_map, map, string_bytes};
 ghost use Rattle.word_reader.specs.Reading as manners;
-ghost use Rattle.word_reader.specs.Reading.{Reads, so_far, word_at, opening, read_by, step, idle};
+ghost use Rattle.word_reader.specs.Reading.{reading_of, word_at, opening, read_by, step, idle};
 ghost use Rattle.word_reader.specs.Reading.{for_workers, counted_workers, for_units, counted_units};
 ghost use Rattle.word_reader.specs.Reading.{for_watch, watched, plain, is_option, placed, placed_second};
 ghost use Rattle.word_reader.specs.Reading.{with_workers, with_units};
@@ -39,7 +39,7 @@ pub struct Reading {
 }
 
 fn start(words: &[String]) -> Reading
-    ensures { so_far words.now result ≡ opening }
+    ensures { reading_of (map string_bytes words.now) result ≡ opening }
 {
     Reading {
         place: None,
@@ -55,7 +55,9 @@ fn start(words: &[String]) -> Reading
 // The word is the second positional, where the command takes two.
 fn place_second(words: &[String], manner: Manner, reading: Reading, i: usize) -> Option<Reading>
     requires { i < length words.now }
-    ensures { Reads words.now result (placed_second manner (so_far words.now reading) (word_at words.now i)) }
+    ensures { option_map (reading_of (map string_bytes words.now)) result
+        ≡ placed_second manner (reading_of (map string_bytes words.now) reading)
+        (word_at words.now i) }
 {
     if !manner.takes_two || reading.second.is_some() {
         return None;
@@ -69,7 +71,9 @@ fn place_second(words: &[String], manner: Manner, reading: Reading, i: usize) ->
 // The word is positional.
 fn place(words: &[String], manner: Manner, reading: Reading, i: usize) -> Option<Reading>
     requires { i < length words.now }
-    ensures { Reads words.now result (placed manner (so_far words.now reading) (word_at words.now i)) }
+    ensures { option_map (reading_of (map string_bytes words.now)) result
+        ≡ placed manner (reading_of (map string_bytes words.now) reading)
+        (word_at words.now i) }
 {
     if reading.place.is_some() {
         return place_second(words, manner, reading, i);
@@ -81,7 +85,8 @@ fn place(words: &[String], manner: Manner, reading: Reading, i: usize) -> Option
 }
 
 fn set_workers(words: &[String], reading: Reading, text: &[u8]) -> Option<Reading>
-    ensures { Reads words.now result (with_workers (so_far words.now reading) text.now) }
+    ensures { option_map (reading_of (map string_bytes words.now)) result
+        ≡ with_workers (reading_of (map string_bytes words.now) reading) text.now }
 {
     match number(1, 16, text) {
         Some(n) => Some(Reading {
@@ -94,7 +99,8 @@ fn set_workers(words: &[String], reading: Reading, text: &[u8]) -> Option<Readin
 }
 
 fn set_units(words: &[String], reading: Reading, text: &[u8]) -> Option<Reading>
-    ensures { Reads words.now result (with_units (so_far words.now reading) text.now) }
+    ensures { option_map (reading_of (map string_bytes words.now)) result
+        ≡ with_units (reading_of (map string_bytes words.now) reading) text.now }
 {
     match number(1, 10_000_000, text) {
         Some(n) => Some(Reading {
@@ -115,7 +121,9 @@ fn looks_like_option(word: &[u8]) -> bool
 
 fn take_plain(words: &[String], manner: Manner, reading: Reading, i: usize) -> Option<Reading>
     requires { i < length words.now }
-    ensures { Reads words.now result (plain manner (so_far words.now reading) (word_at words.now i)) }
+    ensures { option_map (reading_of (map string_bytes words.now)) result
+        ≡ plain manner (reading_of (map string_bytes words.now) reading)
+        (word_at words.now i) }
 {
     let word = words[i].as_str();
     if looks_like_option(word.as_bytes()) {
@@ -126,7 +134,9 @@ fn take_plain(words: &[String], manner: Manner, reading: Reading, i: usize) -> O
 
 fn take_watched(words: &[String], manner: Manner, reading: Reading, i: usize) -> Option<Reading>
     requires { i < length words.now }
-    ensures { Reads words.now result (watched manner (so_far words.now reading) (word_at words.now i)) }
+    ensures { option_map (reading_of (map string_bytes words.now)) result
+        ≡ watched manner (reading_of (map string_bytes words.now) reading)
+        (word_at words.now i) }
 {
     let word = words[i].as_str();
     if word != "--watch" {
@@ -143,7 +153,9 @@ fn take_watched(words: &[String], manner: Manner, reading: Reading, i: usize) ->
 
 fn take_watch(words: &[String], manner: Manner, reading: Reading, i: usize) -> Option<Reading>
     requires { i < length words.now }
-    ensures { Reads words.now result (for_watch manner (so_far words.now reading) (word_at words.now i)) }
+    ensures { option_map (reading_of (map string_bytes words.now)) result
+        ≡ for_watch manner (reading_of (map string_bytes words.now) reading)
+        (word_at words.now i) }
 {
     if manner.has_watch {
         take_watched(words, manner, reading, i)
@@ -154,7 +166,9 @@ fn take_watch(words: &[String], manner: Manner, reading: Reading, i: usize) -> O
 
 fn count_units(words: &[String], manner: Manner, reading: Reading, i: usize) -> Option<Reading>
     requires { i < length words.now }
-    ensures { Reads words.now result (counted_units manner (so_far words.now reading) (word_at words.now i)) }
+    ensures { option_map (reading_of (map string_bytes words.now)) result
+        ≡ counted_units manner (reading_of (map string_bytes words.now) reading)
+        (word_at words.now i) }
 {
     let word = words[i].as_str();
     if word == "--units" {
@@ -178,7 +192,9 @@ fn count_units(words: &[String], manner: Manner, reading: Reading, i: usize) -> 
 
 fn take_units(words: &[String], manner: Manner, reading: Reading, i: usize) -> Option<Reading>
     requires { i < length words.now }
-    ensures { Reads words.now result (for_units manner (so_far words.now reading) (word_at words.now i)) }
+    ensures { option_map (reading_of (map string_bytes words.now)) result
+        ≡ for_units manner (reading_of (map string_bytes words.now) reading)
+        (word_at words.now i) }
 {
     if manner.has_units {
         count_units(words, manner, reading, i)
@@ -189,7 +205,9 @@ fn take_units(words: &[String], manner: Manner, reading: Reading, i: usize) -> O
 
 fn count_workers(words: &[String], manner: Manner, reading: Reading, i: usize) -> Option<Reading>
     requires { i < length words.now }
-    ensures { Reads words.now result (counted_workers manner (so_far words.now reading) (word_at words.now i)) }
+    ensures { option_map (reading_of (map string_bytes words.now)) result
+        ≡ counted_workers manner (reading_of (map string_bytes words.now) reading)
+        (word_at words.now i) }
 {
     let word = words[i].as_str();
     if word == "--workers" {
@@ -213,7 +231,9 @@ fn count_workers(words: &[String], manner: Manner, reading: Reading, i: usize) -
 
 fn take_workers(words: &[String], manner: Manner, reading: Reading, i: usize) -> Option<Reading>
     requires { i < length words.now }
-    ensures { Reads words.now result (for_workers manner (so_far words.now reading) (word_at words.now i)) }
+    ensures { option_map (reading_of (map string_bytes words.now)) result
+        ≡ for_workers manner (reading_of (map string_bytes words.now) reading)
+        (word_at words.now i) }
 {
     if manner.has_workers {
         count_workers(words, manner, reading, i)
@@ -224,7 +244,9 @@ fn take_workers(words: &[String], manner: Manner, reading: Reading, i: usize) ->
 
 fn take_idle(words: &[String], manner: Manner, reading: Reading, i: usize) -> Option<Reading>
     requires { i < length words.now }
-    ensures { Reads words.now result (idle manner (so_far words.now reading) (word_at words.now i)) }
+    ensures { option_map (reading_of (map string_bytes words.now)) result
+        ≡ idle manner (reading_of (map string_bytes words.now) reading)
+        (word_at words.now i) }
 {
     let word = words[i].as_str();
     if word == "--" {
@@ -238,7 +260,9 @@ fn take_idle(words: &[String], manner: Manner, reading: Reading, i: usize) -> Op
 
 fn take(words: &[String], manner: Manner, reading: Reading, i: usize) -> Option<Reading>
     requires { i < length words.now }
-    ensures { Reads words.now result (step manner (so_far words.now reading) (word_at words.now i)) }
+    ensures { option_map (reading_of (map string_bytes words.now)) result
+        ≡ step manner (reading_of (map string_bytes words.now) reading)
+        (word_at words.now i) }
 {
     let word = words[i].as_str();
     if reading.trailing {
@@ -254,7 +278,8 @@ fn take(words: &[String], manner: Manner, reading: Reading, i: usize) -> Option<
 /// What the words say, where they are no more positional words and no other options than the
 /// command has.
 pub fn walk(manner: Manner, words: &[String]) -> Option<Reading>
-    ensures { Reads words.now result (read_by manner words.now) }
+    ensures { option_map (reading_of (map string_bytes words.now)) result
+        ≡ read_by manner words.now }
 {
     let mut reading = start(words);
     for i in 0..words.len() {
