@@ -166,9 +166,11 @@ fn written(alloc: Global, journal: bool, events: &[Event]) -> Result<Text, Memor
 }
 
 fn texts_of_run(alloc: Global, journal: bool, ran: &Ran) -> Result<Texts, Memory>
-    ensures out { IfOk result (λ texts. texts.out ≡ plans.written_of journal ran.now.driven.value.events) }
+    ensures out { IfOk result (λ texts. texts.out
+        ≡ plans.written_of journal ran.now.driven.value.events) }
     ensures err { IfOk result (λ texts. texts.err
-        ≡ report_of ran.now.built.value.program.checked.value ran.now.driven.value.events ran.now.driven.value.over) }
+        ≡ report_of ran.now.built.value.program.checked.value ran.now.driven.value.events
+        ran.now.driven.value.over) }
 {
     let driven = &ran.driven;
     let events = driven.events.as_slice();

@@ -54,8 +54,11 @@ pub(crate) fn read_file<L: Library>(
     requires some { 0 < most }
     ensures same { (n : List ℕ) → L.contents library.new n ≡ L.contents library.old n }
     ensures kept { OnOk result ((n : List ℕ) → L.faults library.new n ≡ L.faults library.old n) }
-    ensures text { IfOk result (λ read. (text : List ℕ) × IsTextOf (L.contents library.old name.now) text × IsReadingUpTo most text read.items) }
-    ensures fault { IsErrOf result ReadRefusal.Fault → Rose (L.faults library.old name.now) (L.faults library.new name.now) }
+    ensures text { IfOk result (λ read. (text : List ℕ)
+        × IsTextOf (L.contents library.old name.now) text
+        × IsReadingUpTo most text read.items) }
+    ensures fault { IsErrOf result ReadRefusal.Fault
+        → Rose (L.faults library.old name.now) (L.faults library.new name.now) }
 {
     let mut text = Vec::new(alloc);
     let mut piece = buffer(alloc, PIECE)?;
@@ -85,13 +88,16 @@ fn read_piece<L: Library>(
     requires room { 0 < length piece.old }
     requires front { IsFront (L.contents library.old name.now) text.old.items }
     ensures front { OnOk result (IsFront (L.contents library.new name.now) text.new.items) }
-    ensures more { IfOk result (λ more. OnTrue more (length text.old.items < length text.new.items)) }
+    ensures more { IfOk result (λ more.
+        OnTrue more (length text.old.items < length text.new.items)) }
     ensures fits { OnOk result (length text.new.items ≤ length text.old.items + length piece.old) }
-    ensures end { IfOk result (λ more. OnFalse more (IsTextOf (L.contents library.old name.now) text.new.items)) }
+    ensures end { IfOk result (λ more.
+        OnFalse more (IsTextOf (L.contents library.old name.now) text.new.items)) }
     ensures kept { IfOk result (λ more. OnFalse more (text.new.items ≡ text.old.items)) }
     ensures same { (n : List ℕ) → L.contents library.new n ≡ L.contents library.old n }
     ensures stays { OnOk result ((n : List ℕ) → L.faults library.new n ≡ L.faults library.old n) }
-    ensures fault { IsErrOf result ReadRefusal.Fault → Rose (L.faults library.old name.now) (L.faults library.new name.now) }
+    ensures fault { IsErrOf result ReadRefusal.Fault
+        → Rose (L.faults library.old name.now) (L.faults library.new name.now) }
 {
     let count = library.read(name, text.len() as u64, piece)?;
     if count == 0 {

@@ -28,7 +28,8 @@ pub(crate) struct Held<'a> {
 
 /// The journal that a command holds against its text, if any.
 pub(crate) fn held_of(command: &Command) -> Option<Held<'_>>
-    ensures { MatchOption result (HasNoJournal command.now) (λ held. Holds command.now held.journal.now held.units) }
+    ensures { MatchOption result (HasNoJournal command.now)
+        (λ held. Holds command.now held.journal.now held.units) }
 {
     match command {
         Command::Replay { journal, units, .. } => Some(Held {
@@ -53,12 +54,15 @@ pub(crate) fn plan_for_journal<L: Library, I: Feed>(
     feed: &mut I,
 ) -> Result<Plan, ReadRefusal>
     ensures plan { IfOk result (λ plan. (text : List ℕ) → IsReadingOf text read.now
-        → IsReplayPlan held.now.units text (L.contents library.old held.now.journal.now) (I.bytes feed.old) (I.bytes feed.new) plan) }
+        → IsReplayPlan held.now.units text (L.contents library.old held.now.journal.now)
+        (I.bytes feed.old) (I.bytes feed.new) plan) }
     ensures stays { OnOk result (I.faults feed.new ≡ I.faults feed.old) }
     ensures kept { OnOk result ((n : List ℕ) → L.faults library.new n ≡ L.faults library.old n) }
     ensures fault { IsErrOf result ReadRefusal.Fault
-        → Rose (L.faults library.old held.now.journal.now) (L.faults library.new held.now.journal.now)
-        ⊎ (Rose (I.faults feed.old) (I.faults feed.new) × ((text : List ℕ) → IsReadingOf text read.now → ReadsInput text)) }
+        → Rose (L.faults library.old held.now.journal.now)
+        (L.faults library.new held.now.journal.now)
+        ⊎ (Rose (I.faults feed.old) (I.faults feed.new)
+        × ((text : List ℕ) → IsReadingOf text read.now → ReadsInput text)) }
 {
     match tell(alloc, read)? {
         Told::Refused(told) => Ok(Plan::Refused(told)),
@@ -76,12 +80,15 @@ fn hold_against<L: Library, I: Feed>(
 ) -> Result<Plan, ReadRefusal>
     ensures plan { IfOk result (λ plan. (text : List ℕ)
         → HasCode text built.value.program.checked.value built.value.code
-        → IsReplayPlan held.now.units text (L.contents library.old held.now.journal.now) (I.bytes feed.old) (I.bytes feed.new) plan) }
+        → IsReplayPlan held.now.units text (L.contents library.old held.now.journal.now)
+        (I.bytes feed.old) (I.bytes feed.new) plan) }
     ensures stays { OnOk result (I.faults feed.new ≡ I.faults feed.old) }
     ensures kept { OnOk result ((n : List ℕ) → L.faults library.new n ≡ L.faults library.old n) }
     ensures fault { IsErrOf result ReadRefusal.Fault
-        → Rose (L.faults library.old held.now.journal.now) (L.faults library.new held.now.journal.now)
-        ⊎ (Rose (I.faults feed.old) (I.faults feed.new) × (built.value.program.checked.value.reads_input ≡ true)) }
+        → Rose (L.faults library.old held.now.journal.now)
+        (L.faults library.new held.now.journal.now)
+        ⊎ (Rose (I.faults feed.old) (I.faults feed.new)
+        × (built.value.program.checked.value.reads_input ≡ true)) }
 {
     let bytes = read_file(alloc, library, held.journal.as_str(), MAX_JOURNAL + 1)?;
     if bytes.len() > MAX_JOURNAL {
@@ -104,8 +111,10 @@ fn judge<I: Feed>(
         → IsJournalOf journal bytes.now
         → IsReplayPlan units text journal (I.bytes feed.old) (I.bytes feed.new) plan) }
     ensures stays { OnOk result (I.faults feed.new ≡ I.faults feed.old) }
-    ensures fault { IsErrOf result ReadRefusal.Fault → Rose (I.faults feed.old) (I.faults feed.new) }
-    ensures reads { IsErrOf result ReadRefusal.Fault → built.value.program.checked.value.reads_input ≡ true }
+    ensures fault { IsErrOf result ReadRefusal.Fault
+        → Rose (I.faults feed.old) (I.faults feed.new) }
+    ensures reads { IsErrOf result ReadRefusal.Fault
+        → built.value.program.checked.value.reads_input ≡ true }
 {
     match stage_for_run(alloc, built, units, feed)? {
         Stage::Decided(plan) => Ok(plan),

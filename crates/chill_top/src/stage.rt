@@ -27,11 +27,14 @@ use word_reader::Command;
 // The input of a program: what is read where it reads one, and else none.
 fn input_of<I: Feed>(alloc: Global, built: &Built, feed: &mut I) -> Result<Text, ReadRefusal>
     ensures input { IfOk result (λ input.
-        MatchBool built.now.program.checked.value.reads_input (IsInputRead (I.bytes feed.old) input) (input ≡ [])) }
+        MatchBool built.now.program.checked.value.reads_input
+        (IsInputRead (I.bytes feed.old) input) (input ≡ [])) }
     ensures untouched { built.now.program.checked.value.reads_input ≡ false → feed.new ≡ feed.old }
     ensures stays { OnOk result (I.faults feed.new ≡ I.faults feed.old) }
-    ensures fault { IsErrOf result ReadRefusal.Fault → Rose (I.faults feed.old) (I.faults feed.new) }
-    ensures reads { IsErrOf result ReadRefusal.Fault → built.now.program.checked.value.reads_input ≡ true }
+    ensures fault { IsErrOf result ReadRefusal.Fault
+        → Rose (I.faults feed.old) (I.faults feed.new) }
+    ensures reads { IsErrOf result ReadRefusal.Fault
+        → built.now.program.checked.value.reads_input ≡ true }
 {
     if !built.program.checked().reads_input {
         return Ok(Text::new(alloc));
@@ -68,10 +71,13 @@ pub(crate) fn stage_for_run<I: Feed>(
 ) -> Result<Stage, ReadRefusal>
     ensures stage { IfOk result (λ stage. (text : List ℕ)
         → HasCode text built.value.program.checked.value built.value.code
-        → IsStageFor (tasks.Build (purposes.Run units)) text (I.bytes feed.old) (I.bytes feed.new) stage) }
+        → IsStageFor (tasks.Build (purposes.Run units)) text
+        (I.bytes feed.old) (I.bytes feed.new) stage) }
     ensures stays { OnOk result (I.faults feed.new ≡ I.faults feed.old) }
-    ensures fault { IsErrOf result ReadRefusal.Fault → Rose (I.faults feed.old) (I.faults feed.new) }
-    ensures reads { IsErrOf result ReadRefusal.Fault → built.value.program.checked.value.reads_input ≡ true }
+    ensures fault { IsErrOf result ReadRefusal.Fault
+        → Rose (I.faults feed.old) (I.faults feed.new) }
+    ensures reads { IsErrOf result ReadRefusal.Fault
+        → built.value.program.checked.value.reads_input ≡ true }
     ensures sound { IfOk result IsSoundStage }
 {
     let input = input_of(alloc, &built, feed)?;
@@ -96,7 +102,8 @@ fn stage_for_told<I: Feed>(
     ensures stays { OnOk result (I.faults feed.new ≡ I.faults feed.old) }
     ensures fault { IsErrOf result ReadRefusal.Fault
         → IsRunning purpose × Rose (I.faults feed.old) (I.faults feed.new) }
-    ensures reads { IsErrOf result ReadRefusal.Fault → (text : List ℕ) → Tells text told → ReadsInput text }
+    ensures reads { IsErrOf result ReadRefusal.Fault
+        → (text : List ℕ) → Tells text told → ReadsInput text }
     ensures unfed { (IsRunning purpose → ⊥) → feed.new ≡ feed.old }
 {
     match told {
@@ -111,7 +118,8 @@ fn stage_for_told<I: Feed>(
 
 // The plan for what was read of a text that is formatted.
 fn formatted(alloc: Global, read: &[u8]) -> Result<Plan, Memory>
-    ensures { IfOk result (λ plan. (text : List ℕ) → IsReadingOf text read.now → IsFormatPlan text plan) }
+    ensures { IfOk result (λ plan. (text : List ℕ)
+        → IsReadingOf text read.now → IsFormatPlan text plan) }
 {
     match format_text(alloc, read)? {
         Formatted::Refused(told) => Ok(Plan::Refused(told)),

@@ -100,7 +100,8 @@ fn prepare(
     ensures dropped { IfOk result (λ p. p.dropped
         ≡ dropped_of (shown_of showing.watch plan.now) (map (λ b. watching b) watchers.old.items)) }
     ensures stayed { OnOk result (map (λ b. watching b) watchers.new.items
-        ≡ watchers_after (shown_of showing.watch plan.now) (map (λ b. watching b) watchers.old.items)) }
+        ≡ watchers_after (shown_of showing.watch plan.now)
+        (map (λ b. watching b) watchers.old.items)) }
     ensures partly { OnErr result (IsPartlyShown (shown_of showing.watch plan.now)
         (map (λ b. watching b) watchers.old.items) (map (λ b. watching b) watchers.new.items)) }
     ensures unwatched { showing.watch ≡ false → watchers.new ≡ watchers.old }
@@ -170,12 +171,14 @@ fn plan_alone<L: Library, I: Feed>(
     library: &mut L,
     input: &mut I,
 ) -> Result<Plan, ReadRefusal>
-    ensures plan { IfOk result (IsPlanOf command.now (L.contents library.old) (I.bytes input.old) (I.bytes input.new)) }
+    ensures plan { IfOk result
+        (IsPlanOf command.now (L.contents library.old) (I.bytes input.old) (I.bytes input.new)) }
     ensures stays { OnOk result (I.faults input.new ≡ I.faults input.old) }
     ensures kept { OnOk result ((n : List ℕ) → L.faults library.new n ≡ L.faults library.old n) }
     ensures fault { IsErrOf result ReadRefusal.Fault
         → IsReadFault command.now (L.faults library.old) (L.faults library.new)
-        ⊎ IsFeedFault command.now (L.contents library.old) (I.faults input.old) (I.faults input.new) }
+        ⊎ IsFeedFault command.now (L.contents library.old)
+        (I.faults input.old) (I.faults input.new) }
     ensures no_file { commands.file_of command.now ≡ None → library.new ≡ library.old }
     ensures unfed { (Runs command.now → ⊥) → input.new ≡ input.old }
 {
@@ -193,12 +196,14 @@ fn plan_by_workers<R: Threads + Wait + Sync, L: Library, I: Feed, G: Gate>(
     input: &mut I,
     workers: &Workers<'_, R, G>,
 ) -> Result<Plan, ReadRefusal>
-    ensures plan { IfOk result (IsPlanOf command.now (L.contents library.old) (I.bytes input.old) (I.bytes input.new)) }
+    ensures plan { IfOk result
+        (IsPlanOf command.now (L.contents library.old) (I.bytes input.old) (I.bytes input.new)) }
     ensures stays { OnOk result (I.faults input.new ≡ I.faults input.old) }
     ensures kept { OnOk result ((n : List ℕ) → L.faults library.new n ≡ L.faults library.old n) }
     ensures fault { IsErrOf result ReadRefusal.Fault
         → IsReadFault command.now (L.faults library.old) (L.faults library.new)
-        ⊎ IsFeedFault command.now (L.contents library.old) (I.faults input.old) (I.faults input.new) }
+        ⊎ IsFeedFault command.now (L.contents library.old)
+        (I.faults input.old) (I.faults input.new) }
     ensures no_file { commands.file_of command.now ≡ None → library.new ≡ library.old }
     ensures unfed { (Runs command.now → ⊥) → input.new ≡ input.old }
 {
@@ -227,7 +232,8 @@ pub fn chill_alone<L: Library, I: Feed, O: Sink, E: Sink>(
         (sinks_at (O.faults out.old) (E.faults err.old) (O.taken out.old) (E.taken err.old))
         (sinks_at (O.faults out.new) (E.faults err.new) (O.taken out.new) (E.taken err.new))
         result }
-    ensures journal { IfSome result.over (λ over. IsJournal (Some command.now) (L.contents library.old)
+    ensures journal { IfSome result.over (λ over. IsJournal (Some command.now)
+        (L.contents library.old)
         (map (λ b. watching b) watchers.old.items)
         (sources_at (L.faults library.old) (I.faults input.old) (I.bytes input.old))
         (sources_at (L.faults library.new) (I.faults input.new) (I.bytes input.new))
@@ -270,20 +276,23 @@ pub fn chill<R: Threads + Wait + Sync, L: Library, I: Feed, O: Sink, E: Sink, G:
         (sinks_at (O.faults out.old) (E.faults err.old) (O.taken out.old) (E.taken err.old))
         (sinks_at (O.faults out.new) (E.faults err.new) (O.taken out.new) (E.taken err.new))
         result }
-    ensures journal { IfSome result.over (λ over. IsJournal (said (map string_bytes words.now)) (L.contents library.old)
+    ensures journal { IfSome result.over (λ over. IsJournal (said (map string_bytes words.now))
+        (L.contents library.old)
         (map (λ b. watching b) watchers.old.items)
         (sources_at (L.faults library.old) (I.faults input.old) (I.bytes input.old))
         (sources_at (L.faults library.new) (I.faults input.new) (I.bytes input.new))
         (sinks_at (O.faults out.old) (E.faults err.old) (O.taken out.old) (E.taken err.old))
         (sinks_at (O.faults out.new) (E.faults err.new) (O.taken out.new) (E.taken err.new))
         result over) }
-    ensures refused { result.status ≡ 3 → IsRefused (said (map string_bytes words.now)) (L.contents library.old)
+    ensures refused { result.status ≡ 3 → IsRefused (said (map string_bytes words.now))
+        (L.contents library.old)
         (sources_at (L.faults library.old) (I.faults input.old) (I.bytes input.old))
         (sources_at (L.faults library.new) (I.faults input.new) (I.bytes input.new))
         (sinks_at (O.faults out.old) (E.faults err.old) (O.taken out.old) (E.taken err.old))
         (sinks_at (O.faults out.new) (E.faults err.new) (O.taken out.new) (E.taken err.new)) }
     // Without `--watch` the watchers are untouched.
-    ensures unwatched { watch_of (said (map string_bytes words.now)) ≡ false → watchers.new ≡ watchers.old }
+    ensures unwatched { watch_of (said (map string_bytes words.now)) ≡ false
+        → watchers.new ≡ watchers.old }
     // Where the words are no command that names a file, no file is read, and where they are none that runs a text, no input.
     ensures no_file { option_and_then commands.file_of (said (map string_bytes words.now)) ≡ None
         → library.new ≡ library.old }
