@@ -27,7 +27,7 @@ use Rattle.text_to_code.specs.declared.told.Told.TheVariants as tellings
 use Rattle.word_reader.specs.declared.command.Command.{Command}
 use Rattle.word_reader.specs.declared.command.Command.TheVariants as words
 use Rattle.chill_top.specs.Causes.{IsFeedFault, IsReadFault}
-use Rattle.chill_top.specs.Commands.{task_of, journal_of, HasNoJournal, Holds, IsRunning, IsRunningTask, IsTextBy, IsTextOf, Runs}
+use Rattle.chill_top.specs.Commands.{task_of, file_of, journal_of, HasNoJournal, Holds, IsRunning, IsRunningTask, IsTextBy, IsTextOf, Runs}
 use Rattle.chill_top.specs.Plan.{AreFactsOf, HasNoFacts, IsInputOf, IsInputTooLong, IsRefusedFor, IsRunFor, IsBuildPlan, IsFormatPlan, IsJournalOf, IsJournalShort, IsJournalTooLong, IsNoRun, IsSoundStage, IsPlanFor, IsPlanFrom, IsPlanOf, IsReadyFor, IsReplayPlan, IsStageFor, IsStageFrom, IsStageOf, IsNotBuilt, IsPlanAfter, Completes, HasProgram, ReadsInput, IsUnrun, unfounded, unsuited}
 use Rattle.chill_top.specs.Runs.{IsAttempt}
 use Rattle.chill_top.specs.declared.run.Attempt.{Attempt}
@@ -126,24 +126,49 @@ ok-stage-of command contents feed left read task (Ok stage) found none same is =
     record { text = found.text; told = found.told; is = stage_from command contents found.text feed left stage none of_task }
 ok-stage-of command contents feed left read task (Err e) found none same is = tt
 
--- a journal is held against the text of a command
-pub held-plan : (command : Command) (contents : List ℕ → Contents) (feed left : Option (List ℕ)) (read journal : List ℕ) (units : ℕ) (plan : Plan) → IsRead command contents read → Holds command journal units
-    → ((text : List ℕ) → IsReadingOf text read → IsReplayPlan units text (contents journal) feed left plan)
+-- ---- a command that holds a journal against its text
+
+-- it names a file for the text, and runs it
+pub held_file : (command : Command) (journal : List ℕ) (units : ℕ) → Holds command journal units → file_of command ≡ None → ⊥
+held_file command journal units holds none =
+    let some : file_of command ≡ Some holds.file = ap file_of holds.is in
+    let no : ⊥ = cc in no
+
+pub held_runs : (command : Command) (journal : List ℕ) (units : ℕ) → Holds command journal units → Runs command
+held_runs command journal units holds = subst Runs (sym holds.is) tt
+
+-- the plan is that of the command, where the library tells behind the reading of the text what it told before it
+pub held-plan : (command : Command) (contents behind : List ℕ → Contents) (feed left : Option (List ℕ)) (read journal : List ℕ) (units : ℕ) (plan : Plan) → IsRead command contents read → Holds command journal units
+    → behind journal ≡ contents journal
+    → ((text : List ℕ) → IsReadingOf text read → IsReplayPlan units text (behind journal) feed left plan)
     → IsStageOf command contents feed left (stages.Decided plan)
-held-plan command contents feed left read journal units plan found holds is = record {
-  text = found.text;
-  told = found.told;
-  is = subst (λ (c : Command). IsPlanFrom c contents found.text feed left plan) (sym holds.is) (is found.text found.reading);
+held-plan command contents behind feed left read journal units plan found holds same is =
+    let of_journal : IsReplayPlan units found.text (contents journal) feed left plan =
+        subst (λ (of : Contents). IsReplayPlan units found.text of feed left plan) same (is found.text found.reading) in
+    record {
+      text = found.text;
+      told = found.told;
+      is = subst (λ (c : Command). IsPlanFrom c contents found.text feed left plan) (sym holds.is) of_journal;
+    }
+
+-- the journal wasn't read
+journal_fault : (command : Command) (journal : List ℕ) (units : ℕ) (before between after : List ℕ → ℕ) → Holds command journal units → between journal ≡ before journal → Rose (between journal) (after journal)
+    → IsReadFault command before after
+journal_fault command journal units before between after holds kept rose = record {
+  file = journal;
+  named = inr (subst (λ (c : Command). journal_of c ≡ Some journal) (sym holds.is) refl);
+  rose = subst (λ (count : ℕ). Rose count (after journal)) kept rose;
 }
 
--- of a command that holds a journal against its text neither was read, or the input wasn't
-pub held_fault : (command : Command) (contents : List ℕ → Contents) (read journal : List ℕ) (units : ℕ) (library library' : List ℕ → ℕ) (feed feed' : ℕ) → IsRead command contents read → Holds command journal units
-    → Rose (library journal) (library' journal) ⊎ (Rose feed feed' × ((text : List ℕ) → IsReadingOf text read → ReadsInput text))
-    → IsReadFault command library library' ⊎ IsFeedFault command contents feed feed'
-held_fault command contents read journal units library library' feed feed' found holds (inl rose) =
-    inl (record { file = journal; named = inr (subst (λ (c : Command). journal_of c ≡ Some journal) (sym holds.is) refl); rose = rose })
-held_fault command contents read journal units library library' feed feed' found holds (inr fed) = inr (record {
-  running = subst Runs (sym holds.is) tt;
+-- or the input wasn't
+pub held_fault : (command : Command) (contents : List ℕ → Contents) (read journal : List ℕ) (units : ℕ) (before between after : List ℕ → ℕ) (feed feed' : ℕ) → IsRead command contents read → Holds command journal units
+    → between journal ≡ before journal
+    → Rose (between journal) (after journal) ⊎ (Rose feed feed' × ((text : List ℕ) → IsReadingOf text read → ReadsInput text))
+    → IsReadFault command before after ⊎ IsFeedFault command contents feed feed'
+held_fault command contents read journal units before between after feed feed' found holds kept (inl rose) =
+    inl (journal_fault command journal units before between after holds kept rose)
+held_fault command contents read journal units before between after feed feed' found holds kept (inr fed) = inr (record {
+  running = held_runs command journal units holds;
   text = found.text;
   told = found.told;
   reads = fed.1 found.text found.reading;
