@@ -4,10 +4,9 @@ use chill_base::Memory;
 use chill_tree::tree::{Expr, Name};
 use expr_rules::Receiver;
 use modes::Mode;
-use program_numbers::{ElaborationRefusal, Thing};
 use std::alloc::Global;
 use std::rc::Rc;
-use value_elaboration::Values;
+use value_elaboration::{ElaborationRefusal, Thing, Values};
 
 /// The elaboration of the statements of a program.
 #[derive(Clone, Copy)]

@@ -4,7 +4,7 @@ use checked_program::{Control, Expr};
 use chill_tree::tree;
 use expr_rules::Receiver;
 use modes::bounds;
-use program_numbers::ElaborationRefusal;
+use value_elaboration::ElaborationRefusal;
 
 impl<'a, 'b, 'c> Elaboration<'a, 'b, 'c> {
     /// What controls a loop.

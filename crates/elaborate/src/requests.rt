@@ -5,7 +5,7 @@ use chill_base::{List, Numbers};
 use chill_tree::tree;
 use chill_tree::tree::Simple;
 use expr_rules::Receiver;
-use program_numbers::{ElaborationRefusal, Thing};
+use value_elaboration::{ElaborationRefusal, Thing};
 
 impl<'a, 'b, 'c> Elaboration<'a, 'b, 'c> {
     /// START, DELAY, CONTINUE or SEND.

@@ -9,7 +9,7 @@ use chill_base::{List, Numbers};
 use chill_tree::tree;
 use expr_rules::Receiver;
 use modes::Bounds;
-use program_numbers::{ElaborationRefusal, Thing};
+use value_elaboration::{ElaborationRefusal, Thing};
 
 impl<'a, 'b, 'c> Elaboration<'a, 'b, 'c> {
     /// The statements of a body or a block.

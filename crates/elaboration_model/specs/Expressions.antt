@@ -31,6 +31,8 @@ use Rattle.checks_model.specs.Ground.{Origin, Predefined, num, succ, pred, abs, 
 use Rattle.checks_model.specs.Operations.{form_in, field_of_form, element_of_form}
 use Rattle.checks_model.specs.Classes.{class_as, class_of, Callee, calls, routine, no_callee, callee_of, tuple_mode, shape_fits, uniform_fits, mode_of_part}
 use Rattle.checks_model.specs.Constants.{has_form, constant_as}
+use Rattle.checks_model.specs.ConstantRules.{told_of_constants}
+use Rattle.checks_model.specs.WrittenModes.{unless_told}
 use Rattle.elaboration_model.specs.Parts.{made_of, made_of_three, made_if}
 use Rattle.elaboration_model.specs.Numbering.{Source, Thing, a_shared, a_local, thing_used, buffer_used, body_used}
 
@@ -116,10 +118,11 @@ routine_on _ c = None
 abbrev pub constant_expr : Option ClassTree → Option ValueTree → Option made.ExprTree
 constant_expr c v = made_of (λ c v. made.expr (count_in c) (made.root_bounds c) (made.constant (scalars_in v))) c v
 
--- an expression that goes to a place of a mode: one of constant form is a constant, and any other is found by its operation
+-- an expression that goes to a place of a mode: one of constant form is a constant, which is there only where nothing is told in
+-- it, and any other is found by its operation
 abbrev pub folded : Source → Option ModeTree → ExprTree → Option made.OperationTree → Option made.ExprTree
 folded s m e operation =
-    if has_form s.known false e then constant_expr (class_as s.known m e) (constant_as s.known m e)
+    if has_form s.known false e then unless_told (told_of_constants s.known e) (constant_expr (class_as s.known m e) (constant_as s.known m e))
     else made_of (λ c o. made.expr (count_in c) (made.root_bounds c) o) (class_as s.known m e) operation
 
 -- a value that something of a mode takes: where the mode is discrete it is tested by its bounds

@@ -15,11 +15,10 @@ use Rattle.modes.specs.Scalars.{lowest_of}
 use Rattle.checked_program.specs.declared.expr.Base.{Base}
 use Rattle.program_trees.specs.ExprTree as made
 use Rattle.program_trees.specs.StatementTree as done
-use Rattle.checks_model.specs.ValueTrees.{ValueTree, number}
 use Rattle.checks_model.specs.Ground.{Predefined, put_int, put_text, put_nl, get_int, origin_of, message_parts}
 use Rattle.checks_model.specs.Operations.{is_measuring}
 use Rattle.checks_model.specs.Classes.{class_of, Callee, calls, routine, no_callee, callee_named}
-use Rattle.checks_model.specs.Constants.{constant_of}
+use Rattle.checks_model.specs.WrittenModes.{needed_number}
 use Rattle.elaboration_model.specs.Parts.{made_of, made_of_three, made_if, made_each, made_of_some}
 use Rattle.elaboration_model.specs.Numbering.{Source, Thing, a_buffer, a_message, thing_used, thing_defined, event_used, body_used, source_number, local_defined}
 use Rattle.elaboration_model.specs.Exceptions.{exception_number}
@@ -45,12 +44,9 @@ outwards n (l ∷ ls) = if bytes_eq l.text n.text then Some 0 else option_map su
 
 -- ---- numbers of constants
 
-abbrev pub number_in : ValueTree → Option ℤ
-number_in (number k) = Some k
-number_in _ = None
-
+-- the number of an expression that has to be constant: it is there only where nothing is told of that
 abbrev pub constant_number : Source → ExprTree → Option ℤ
-constant_number s e = option_and_then number_in (constant_of s.known e)
+constant_number s e = needed_number s.known e
 
 abbrev pub natural_in : ℤ → Option ℕ
 natural_in (pos k) = Some k

@@ -20,6 +20,7 @@ mod source;
 mod thing;
 mod things;
 
+pub use mode_rules::{Computed, Evaluation, Known, Measured, Predefined, TupleValue};
 pub use numbering::Numbering;
 pub use refusal::ElaborationRefusal;
 pub use thing::Thing;

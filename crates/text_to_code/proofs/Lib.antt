@@ -1,2 +1,4 @@
-pub mod TellingLemmas
 pub mod Causes
+pub mod OneAnswer
+pub mod Readings
+pub mod TellingLemmas

@@ -1,12 +1,20 @@
 // The laws of what is told of a text.
-ghost use Rattle.std.specs.Prelude.{◌≡◌, ◌⊎◌, List, ℕ};
+ghost use Rattle.std.specs.Prelude.{List, ℕ, []};
 ghost use Rattle.diagnostics.specs.declared.diagnostic.Diagnostic.{Diagnostic};
-ghost use Rattle.text_to_code.specs.Telling.{Breaks, IsResolved, SameButForPlace};
+ghost use Rattle.checked_program.specs.declared.program.Checked.{Checked};
+ghost use Rattle.code_types.specs.declared.code.Code.{Code};
+ghost use Rattle.checks_model.specs.Diagnoses.{DiagnosesOf};
+ghost use Rattle.text_to_code.specs.Telling.{HasCode, Refuses, RefusesExactly, SameButForPlace};
 
-/// A text breaks rules on tokens, grammar or names, or has a tree that breaks none of them, and never both. Where it breaks
-/// some, one list of diagnostics is told of it, but for the place of T2.
+/// Of each text some list of diagnostics is told, and one alone, but for the place of T2: that of the rules which it breaks.
+/// A text that is refused is refused with it, and breaks some rule, or isn't built; of a text that is accepted it is empty. So
+/// no text is both accepted and refused for a rule that it breaks.
 pub fn one_answer()
-    ensures apart { (text : List ℕ) (told : List Diagnostic) → Breaks text told → IsResolved text → ⊥ }
-    ensures told { (text : List ℕ) (told other : List Diagnostic) → Breaks text told → Breaks text other → SameButForPlace told other }
-    ensures some { (text : List ℕ) → IsResolved text ⊎ ((told : List Diagnostic) × Breaks text told) }
+    ensures some { (text : List ℕ) → (told : List Diagnostic) × DiagnosesOf text told }
+    ensures list { (text : List ℕ) (told other : List Diagnostic)
+        → DiagnosesOf text told → DiagnosesOf text other → SameButForPlace told other }
+    ensures refused { (text : List ℕ) (told : List Diagnostic)
+        → Refuses text told → RefusesExactly text told }
+    ensures accepted { (text : List ℕ) (program : Checked) (code : Code)
+        → HasCode text program code → DiagnosesOf text [] }
 {}

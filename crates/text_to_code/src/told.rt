@@ -1,11 +1,10 @@
 // What is told of a text: its program with the code, or why it is refused.
 ghost use Rattle.std.specs.Prelude.{◌≡◌, [], ◌∷◌, IfOk, IfErr};
 ghost use Rattle.rules_model.specs.TokensCut.{first_place};
-ghost use Rattle.rules_model.specs.Diagnoses.{plain};
+ghost use Rattle.rules_model.specs.Diagnoses.{HasTree, plain};
 ghost use Rattle.chill_tree.specs.ItemTree.{program_tree};
-ghost use Rattle.names_model.specs.Resolving.{broken_names, level_of};
 ghost use Rattle.diagnostics.specs.declared.rule.Rule.TheVariants as rules;
-ghost use Rattle.text_to_code.specs.Telling.{IsInOrder, IsNoTree, Tells, TellsTree};
+ghost use Rattle.text_to_code.specs.Telling.{BreaksNone, HasNamesOf, IsNoTree, Tells, TellsExactly, TellsWhere};
 ghost use Rattle.text_to_code.specs.declared.told.Told.TheVariants as tellings;
 
 use crate::build::{BuildRefusal, Built, build};
@@ -15,9 +14,8 @@ use chill_tree::tree::Tree;
 use diagnostics::{Diagnostic, Diagnostics, Rule};
 use mode_rules::{Evaluation, evaluate};
 use names_model::Names;
-use process_checks::check_processes;
-use static_checks::check_statements;
 use std::alloc::Global;
+use text_checks::check_text;
 use text_size::size_of_program;
 use visibility::{Refusal, resolve};
 
@@ -63,18 +61,9 @@ fn refuse_plainly(alloc: Global, rule: Rule) -> Result<Told, Memory>
     refuse(alloc, plainly(alloc, FIRST_PLACE, rule))
 }
 
-// What the checks of modes, constants and statements tell, and where that is nothing what the checks of processes tell.
-fn check(evaluation: &mut Evaluation<'_>, tree: &Tree) -> Result<(), Refusal>
-    ensures { IsInOrder result }
-{
-    check_statements(evaluation, tree)?;
-    check_processes(evaluation, tree)
-}
-
 // What is told of a tree of which the checks tell nothing.
 fn tell_of_code(alloc: Global, tree: &Tree, evaluation: &Evaluation<'_>) -> Result<Told, Memory>
-    requires { broken_names (level_of (program_tree tree.now)) ≡ [] }
-    ensures { IfOk result (λ told. TellsTree (program_tree tree.now) told) }
+    ensures { TellsWhere (λ text. BreaksNone text (program_tree tree.now)) result }
 {
     if size_of_program(tree) > GREATEST_SIZE {
         return refuse_plainly(alloc, Rule::L8);
@@ -88,11 +77,10 @@ fn tell_of_code(alloc: Global, tree: &Tree, evaluation: &Evaluation<'_>) -> Resu
 
 // What is told of a tree that breaks no rule on names.
 fn tell_of_checks(alloc: Global, tree: &Tree, names: &Names) -> Result<Told, Memory>
-    requires { broken_names (level_of (program_tree tree.now)) ≡ [] }
-    ensures { IfOk result (λ told. TellsTree (program_tree tree.now) told) }
+    ensures { TellsWhere (HasNamesOf (program_tree tree.now) names.now) result }
 {
     let mut evaluation = evaluate(alloc, tree, names)?;
-    match check(&mut evaluation, tree) {
+    match check_text(&mut evaluation, tree) {
         Ok(()) => tell_of_code(alloc, tree, &evaluation),
         Err(Refusal::Broken(told)) => Ok(Told::Refused(told)),
         Err(Refusal::Memory) => Err(Memory),
@@ -101,7 +89,7 @@ fn tell_of_checks(alloc: Global, tree: &Tree, names: &Names) -> Result<Told, Mem
 
 // What is told of a text with a tree.
 fn tell_of_tree(alloc: Global, tree: &Tree) -> Result<Told, Memory>
-    ensures { IfOk result (λ told. TellsTree (program_tree tree.now) told) }
+    ensures { TellsWhere (λ text. HasTree text (program_tree tree.now)) result }
 {
     match resolve(alloc, tree) {
         Ok(names) => tell_of_checks(alloc, tree, &names),
@@ -121,9 +109,11 @@ fn tell_of_text(alloc: Global, text: &[u8]) -> Result<Told, NoTree>
     Ok(told)
 }
 
-/// What is told of a text.
+/// What is told of a text: exactly the rules that it breaks of the first phase in which it breaks some; or its program and the
+/// code of that; or, by B1, that this compiler gives no code for it.
 pub fn tell(alloc: Global, text: &[u8]) -> Result<Told, Memory>
-    ensures { IfOk result (λ told. Tells text.now told) }
+    ensures told { IfOk result (λ told. Tells text.now told) }
+    ensures exact { IfOk result (λ told. TellsExactly text.now told) }
 {
     match tell_of_text(alloc, text) {
         Ok(told) => Ok(told),

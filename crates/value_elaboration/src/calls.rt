@@ -8,9 +8,8 @@ use chill_base::List;
 use chill_tree::tree::{Expr as Tree, Name, Passing};
 use class_operators::{gives_no_value, is_measuring};
 use expr_rules::{Callee, Formal, Receiver};
-use mode_rules::Predefined;
 use modes::{Class, bounds};
-use program_numbers::{ElaborationRefusal, Thing};
+use program_numbers::{ElaborationRefusal, Predefined, Thing};
 
 /// A routine of one value, with its argument.
 #[derive(Drop)]

@@ -1,9 +1,8 @@
 // A node of an expression as it is elaborated, from which the node around it is made.
 use checked_program::{Expr, Operation, Received};
 use chill_base::{Memory, Scalars};
-use mode_rules::Known;
 use modes::{Class, Mode, bounds, number_of_scalars};
-use program_numbers::ElaborationRefusal;
+use program_numbers::{ElaborationRefusal, Known};
 use std::alloc::Global;
 
 /// What is known of an expression, and how its value is found. A constant has no operation, since its value is known.

@@ -4,8 +4,8 @@ use crate::values::Values;
 use chill_base::Memory;
 use chill_tree::tree::{Expr as Tree, Name, Operator, Prefix};
 use class_operators::{class_of_binary, class_of_routine, class_of_unary};
-use mode_rules::{Computed, Known, Measured, Predefined};
 use modes::Class;
+use program_numbers::{Computed, Known, Measured, Predefined};
 
 impl<'a, 'b, 'c> Values<'a, 'b, 'c> {
     // A whole number, with a minus before it that makes one number with it or without. It is one of INT.

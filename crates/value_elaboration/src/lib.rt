@@ -17,4 +17,5 @@ mod values;
 pub use calls::Applied;
 pub use locations::Target;
 pub use operators::operator_between;
+pub use program_numbers::{ElaborationRefusal, Evaluation, Numbering, Predefined, Thing};
 pub use values::Values;

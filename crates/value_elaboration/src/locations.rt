@@ -6,9 +6,8 @@ use chill_base::List;
 use chill_tree::tree::{Expr as Tree, Name};
 use class_operators::{copied, form_in};
 use expr_rules::{Callee, Receiver};
-use mode_rules::Known;
 use modes::{Bounds, Class, Fields, Form, Mode, bounds, number_of_scalars};
-use program_numbers::{ElaborationRefusal, Thing};
+use program_numbers::{ElaborationRefusal, Known, Thing};
 use std::alloc::Global;
 use std::rc::Rc;
 

@@ -3,8 +3,8 @@
 use checked_program::{Binary, Prefix, Routine};
 use chill_tree::tree::{Operator, Prefix as WrittenPrefix};
 use class_operators::{form_in, mode_in};
-use mode_rules::Predefined;
 use modes::{Class, Form, Mode, bounds, number_of_values};
+use program_numbers::Predefined;
 
 /// The operator between operands of these classes, or none where it takes no such operands.
 pub fn operator_between(operator: Operator, left: &Class, right: &Class) -> Option<Binary> {

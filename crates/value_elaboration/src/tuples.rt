@@ -5,9 +5,8 @@ use checked_program::{Operation, Range, Received};
 use chill_base::{List, Memory};
 use chill_tree::tree::{Expr as Tree, Name, ValueRange};
 use expr_rules::{Receiver, Shape, shape_of};
-use mode_rules::{Known, TupleValue};
 use modes::{Class, Form, Mode, bounds, form_of, number_of_values};
-use program_numbers::ElaborationRefusal;
+use program_numbers::{ElaborationRefusal, Known, TupleValue};
 use std::rc::Rc;
 
 impl<'a, 'b, 'c> Values<'a, 'b, 'c> {

@@ -5,9 +5,8 @@ use crate::operators::{operator_before, operator_between};
 use checked_program::{Expr, Operation, Received};
 use chill_tree::tree::{Expr as Tree, Name, Prefix};
 use expr_rules::{Receiver, Walk};
-use mode_rules::Known;
 use modes::Mode;
-use program_numbers::{ElaborationRefusal, Numbering, Thing};
+use program_numbers::{ElaborationRefusal, Known, Numbering, Thing};
 use std::alloc::Global;
 use std::rc::Rc;
 

@@ -2,7 +2,7 @@ use Rattle.std.proofs.Common.{List, ap, ◌∙◌}
 use Rattle.chill_tree.specs.declared.token.Token.{Token}
 use Rattle.chill_tree.specs.ItemTree.{program_tree}
 use Rattle.tree_print.specs.Canonical.{canonical_text, token_kinds}
-use Rattle.text_to_code.proofs.TellingLemmas.{program_text_of}
+use Rattle.text_to_code.proofs.Readings.{program_text_of}
 use Rattle.text_to_code.proofs.formatting.canonical.Goals as goal
 
 -- the tokens that were written are those of the tree

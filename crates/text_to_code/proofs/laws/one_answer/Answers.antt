@@ -1,11 +1,14 @@
-use Rattle.text_to_code.proofs.TellingLemmas.{broken_or_resolved, one_breaking, some_answer}
+use Rattle.text_to_code.proofs.OneAnswer.{some_diagnosis, one_diagnosis, refused_exactly, accepted_exactly}
 use Rattle.text_to_code.proofs.laws.one_answer.Goals as goal
 
-pub returns-clause-apart : goal.returns-clause-apart
-returns-clause-apart c = broken_or_resolved
-
-pub returns-clause-told : goal.returns-clause-told
-returns-clause-told c = one_breaking
-
 pub returns-clause-some : goal.returns-clause-some
-returns-clause-some c = some_answer
+returns-clause-some c = some_diagnosis
+
+pub returns-clause-list : goal.returns-clause-list
+returns-clause-list c = one_diagnosis
+
+pub returns-clause-refused : goal.returns-clause-refused
+returns-clause-refused c = refused_exactly
+
+pub returns-clause-accepted : goal.returns-clause-accepted
+returns-clause-accepted c = accepted_exactly
