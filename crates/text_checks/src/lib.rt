@@ -6,3 +6,4 @@
 mod checking;
 
 pub use checking::check_text;
+pub use static_checks::{Evaluation, evaluate};

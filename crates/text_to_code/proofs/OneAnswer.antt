@@ -111,20 +111,20 @@ large_or_small text tree other g h none none' large small =
     omega (arith, large, small, same)
 
 pub one_diagnosis : (text : List ℕ) (told other : List Diagnostic) → DiagnosesOf text told → DiagnosesOf text other → SameButForPlace told other
-one_diagnosis text _ _ (no_tree {d = d} no) (no_tree {d = e} no') = alone d e (one_broken text d e no no')
-one_diagnosis text _ _ (no_tree {d = d} no) (breaks_rules {tree = tree} {ds = ds} rules) = absurd (has_no_tree text tree d (tree_of_rules text tree ds rules) no)
-one_diagnosis text _ _ (no_tree {d = d} no) (too_large {tree = tree} {g = g} none large) = absurd (has_no_tree text tree d (tree_of_none text tree g none) no)
-one_diagnosis text _ _ (no_tree {d = d} no) (accepted {tree = tree} {g = g} none small) = absurd (has_no_tree text tree d (tree_of_none text tree g none) no)
-one_diagnosis text _ _ (breaks_rules {tree = tree} {ds = ds} rules) (no_tree {d = d} no) = absurd (has_no_tree text tree d (tree_of_rules text tree ds rules) no)
+one_diagnosis text _ _ (no_tree {d = d} breaking) (no_tree {d = e} breaking') = alone d e (one_broken text d e breaking breaking')
+one_diagnosis text _ _ (no_tree {d = d} breaking) (breaks_rules {tree = tree} {ds = ds} rules) = absurd (has_no_tree text tree d (tree_of_rules text tree ds rules) breaking)
+one_diagnosis text _ _ (no_tree {d = d} breaking) (too_large {tree = tree} {g = g} none large) = absurd (has_no_tree text tree d (tree_of_none text tree g none) breaking)
+one_diagnosis text _ _ (no_tree {d = d} breaking) (accepted {tree = tree} {g = g} none small) = absurd (has_no_tree text tree d (tree_of_none text tree g none) breaking)
+one_diagnosis text _ _ (breaks_rules {tree = tree} {ds = ds} rules) (no_tree {d = d} breaking) = absurd (has_no_tree text tree d (tree_of_rules text tree ds rules) breaking)
 one_diagnosis text _ _ (breaks_rules {tree = tree} {ds = ds} rules) (breaks_rules {tree = other} {ds = es} rules') =
     inl (one_list_of_text text tree other ds es (tells_rules rules) (tells_rules rules'))
 one_diagnosis text _ _ (breaks_rules {tree = tree} {ds = ds} rules) (too_large {tree = other} {g = g} none large) = absurd (some_or_none text tree other ds g rules none)
 one_diagnosis text _ _ (breaks_rules {tree = tree} {ds = ds} rules) (accepted {tree = other} {g = g} none small) = absurd (some_or_none text tree other ds g rules none)
-one_diagnosis text _ _ (too_large {tree = tree} {g = g} none large) (no_tree {d = d} no) = absurd (has_no_tree text tree d (tree_of_none text tree g none) no)
+one_diagnosis text _ _ (too_large {tree = tree} {g = g} none large) (no_tree {d = d} breaking) = absurd (has_no_tree text tree d (tree_of_none text tree g none) breaking)
 one_diagnosis text _ _ (too_large {tree = tree} {g = g} none large) (breaks_rules {tree = other} {ds = ds} rules) = absurd (some_or_none text other tree ds g rules none)
 one_diagnosis text _ _ (too_large none large) (too_large none' large') = inl refl
 one_diagnosis text _ _ (too_large {tree = tree} {g = g} none large) (accepted {tree = other} {g = h} none' small) = absurd (large_or_small text tree other g h none none' large small)
-one_diagnosis text _ _ (accepted {tree = tree} {g = g} none small) (no_tree {d = d} no) = absurd (has_no_tree text tree d (tree_of_none text tree g none) no)
+one_diagnosis text _ _ (accepted {tree = tree} {g = g} none small) (no_tree {d = d} breaking) = absurd (has_no_tree text tree d (tree_of_none text tree g none) breaking)
 one_diagnosis text _ _ (accepted {tree = tree} {g = g} none small) (breaks_rules {tree = other} {ds = ds} rules) = absurd (some_or_none text other tree ds g rules none)
 one_diagnosis text _ _ (accepted {tree = tree} {g = g} none small) (too_large {tree = other} {g = h} none' large) = absurd (large_or_small text other tree h g none' none large small)
 one_diagnosis text _ _ (accepted none small) (accepted none' small') = inl refl
@@ -144,7 +144,7 @@ some_by_list text tree _ (tells_none {g = g} none) = some_by_size text tree g no
 
 some_by_reading : (text : List ℕ) → IsRead text → SomeDiagnosis text
 some_by_reading text (inl (tree, has)) = let list = some_list text tree has in some_by_list text tree list.0 list.1
-some_by_reading text (inr (told, no)) = (told ∷ [], no_tree no)
+some_by_reading text (inr (told, breaking)) = (told ∷ [], no_tree breaking)
 
 pub some_diagnosis : (text : List ℕ) → SomeDiagnosis text
 some_diagnosis text = some_by_reading text (each_read text)
@@ -159,7 +159,7 @@ misnamed_exactly text tree [] is has some = absurd (some refl)
 misnamed_exactly text tree (d ∷ ds) is has some = diagnosed (breaks_rules (on_names has is)) some
 
 pub refused_exactly : (text : List ℕ) (told : List Diagnostic) → Refuses text told → RefusesExactly text told
-refused_exactly text _ (breaks (broken {diagnostic = d} no)) = diagnosed (no_tree no) (not_none d)
+refused_exactly text _ (breaks (broken {diagnostic = d} breaking)) = diagnosed (no_tree breaking) (not_none d)
 refused_exactly text _ (breaks (misnamed {tree = tree} has some)) = misnamed_exactly text tree (broken_names (level_of tree)) refl has some
 refused_exactly text told (later resolved (by_checks order rules)) = diagnosed (breaks_rules rules) order.some
 refused_exactly text _ (later resolved (by_size sound large)) = diagnosed (too_large sound.none large) (not_none (plain first_place rules.L8))
@@ -168,7 +168,7 @@ refused_exactly text _ (later resolved (by_building sound small cause)) = not_bu
 pub accepted_exactly : (text : List ℕ) (program : Checked) (code : Code) → HasCode text program code → DiagnosesOf text []
 accepted_exactly text program code has = accepted has.sound.none has.small
 
-told_exactly : (text : List ℕ) (told : Told) → Tells text told → TellsExactly text told
+pub told_exactly : (text : List ℕ) (told : Told) → Tells text told → TellsExactly text told
 told_exactly text (tellings.Refused told) tells = refused_exactly text told tells
 told_exactly text (tellings.Accepted built) tells = accepted_exactly text built.value.program.checked.value built.value.code tells
 

@@ -60,7 +60,7 @@ checks_told text tree told has order exactly =
     later resolved (by_checks (record { sorted = order.0; some = order.1; own = order.2 }) exactly)
 
 -- a tree that breaks none is resolved
-resolved_of : (text : List ℕ) (tree : ProgramTree) → BreaksNone text tree → IsResolved text
+abbrev resolved_of : (text : List ℕ) (tree : ProgramTree) → BreaksNone text tree → IsResolved text
 resolved_of text tree sound = record { tree = tree; has = sound.none.has_modes.has_names.has_tree; named = sound.none.has_modes.has_names.names }
 
 -- one that is too large is told so

@@ -3,6 +3,7 @@ use Rattle.std.specs.Prelude.{◌≡◌, ℕ, ◌<◌, ◌≤◌, Some, slice_ge
 use Rattle.checked_program.specs.declared.program.Checked.{Checked}
 use Rattle.code_laws.specs.Talk.{IsCompilable, IsWellMade}
 use Rattle.compilable_laws.specs.Few.{HasFew}
+pub use Rattle.elaborate.specs.declared.program.Program.{Program}
 use Rattle.facts_laws.specs.Laws.{IsTypedProgram}
 use Rattle.program_ranges.specs.ProgramRanges.{AreInRange}
 use Rattle.program_trees.specs.ProgramTree.{BodyRowTree, checked_tree}

@@ -10,10 +10,9 @@ use chill_tree::tree::Tree;
 use code_gen::{CodeRefusal, compile};
 use code_guard::{GuardRefusal, Guarded, guard};
 use code_types::Code;
-use elaborate::{Program, elaborate};
-use mode_rules::Evaluation;
-use program_numbers::ElaborationRefusal;
+use elaborate::{ElaborationRefusal, Program, elaborate};
 use std::alloc::Global;
+use text_checks::Evaluation;
 
 /// A program and its code.
 #[derive(Drop)]

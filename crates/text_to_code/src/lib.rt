@@ -11,6 +11,7 @@ mod laws;
 mod told;
 
 pub use build::Built;
+pub use elaborate::Program;
 pub use formatting::{Formatted, format_text};
 pub use laws::one_answer;
 pub use told::{Told, not_built, tell};

@@ -12,10 +12,9 @@ use crate::grammar::{FIRST_PLACE, NoTree, plainly, tokens_of, tree_of};
 use chill_base::Memory;
 use chill_tree::tree::Tree;
 use diagnostics::{Diagnostic, Diagnostics, Rule};
-use mode_rules::{Evaluation, evaluate};
 use names_model::Names;
 use std::alloc::Global;
-use text_checks::check_text;
+use text_checks::{Evaluation, check_text, evaluate};
 use text_size::size_of_program;
 use visibility::{Refusal, resolve};
 

@@ -15,4 +15,4 @@ returns-in-Err-Broken c = λ text has.
     let arm = c.in-Err-Broken in
     let order = rw arm.field-0-is at arm.ensures.order in
     let exactly = rw arm.field-0-is at arm.ensures.exact text has.has (c.in_ok-evaluation.ensures text has.has has.are) in
-    checks_told text (program_tree c.args.tree.now) arm.told has.has order exactly
+    rw arm.field-0-is (checks_told text (program_tree c.args.tree.now) arm.told has.has order exactly)

@@ -9,8 +9,10 @@ returns-then-size_of_program-gt-GREATEST_SIZE c = λ text sound.
     large_told text (program_tree c.args.tree.now) c.refuse_plainly.result sound (omega (arith, c.size_of_program.ensures)) c.refuse_plainly.ensures
 
 -- it is built
-pub returns-in-Ok : goal.returns-in-Ok
-returns-in-Ok c = λ text sound. ?
+pub returns-in_ok-new-in-Ok : goal.returns-in_ok-new-in-Ok
+returns-in_ok-new-in-Ok c = λ text sound.
+    let kept = c.in_ok-new-in-Ok in
+    built_told text (program_tree c.args.tree.now) c.in-Ok.built sound (omega (arith, c.size_of_program.ensures)) c.in-Ok.ensures.built kept.field-0.value kept.ensures.ok
 
 -- it isn't built
 pub returns-in-Err-NotBuilt : goal.returns-in-Err-NotBuilt

@@ -11,4 +11,4 @@ pub returns-in-Err-Broken : goal.returns-in-Err-Broken
 returns-in-Err-Broken c = λ text has.
     let arm = c.in-Err-Broken in
     let told = rw arm.field-0-is at arm.ensures in
-    names_told text (program_tree c.args.tree.now) arm.misnamed has told.0 told.1
+    rw arm.field-0-is (names_told text (program_tree c.args.tree.now) arm.misnamed has told.0 told.1)
