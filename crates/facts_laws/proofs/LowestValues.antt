@@ -69,7 +69,7 @@ member_kinds size j first (suc n) e =
     ap (λ (k : ℕ). Powerset size k ∷ map kind_of (member_domains size (first + 32) n)) e
     ∙ ap (λ ys. Powerset size (32 * j) ∷ ys) (member_kinds size (suc j) (first + 32) n (omega (arith, e)))
 
-few_members : (n : ℕ) → n ≤ 4096 → min n 4294967295 ≡ n
+few_members : (n : ℕ) → n ≤ 32 → min n 4294967295 ≡ n
 few_members n h = omega (arith, h)
 
 -- ---- values
@@ -98,7 +98,7 @@ number_lowest m o z low domains powersets = record {
   powersets = powersets_of-Number z ∙ sym powersets;
 }
 
-powerset_lowest : (m : ModeTree) → values_of m ≤ 4096 → IsLowest (powerset m) (made.Members (values_of m) [])
+powerset_lowest : (m : ModeTree) → values_of m ≤ 32 → IsLowest (powerset m) (made.Members (values_of m) [])
 powerset_lowest m few = record {
   scalars = scalars_of-Members (values_of m) [] ∙ no_numbers 0 (numbers_of (values_of m));
   kinds = kinds_of-Members (values_of m) [] ∙ sym (member_kinds (values_of m) 0 0 (numbers_of (values_of m)) (omega arith));
@@ -147,7 +147,7 @@ mutual
   lowest_is (set_of d n) f = number_lowest (set_of d n) (bounds_of (set_of d n)) (pos 0) refl refl refl
   lowest_is (range p l h) f = number_lowest (range p l h) (bounds_of (range p l h)) l refl refl refl
   lowest_is (powerset m) f =
-      let few : values_of m ≤ 4096 = le-from (values_of m) 4096 (both _ _ (both _ _ f).1).1 in
+      let few : values_of m ≤ 32 = le-from (values_of m) 32 (both _ _ (both _ _ f).1).1 in
       subst (λ (n : ℕ). IsLowest (powerset m) (made.Members n [])) (sym (few_members (values_of m) few)) (powerset_lowest m few)
   lowest_is (chars n) f = chars_lowest n
   lowest_is (array i e how) f = array_lowest (values_of i) e (lowest_value e) (array i e how) (lowest_is e (both _ _ (both _ _ f).1).1) refl refl refl
