@@ -5,14 +5,14 @@ BEGIN { FS = " *[|] *" }
 $1 ~ /^--/ {
     options[verb] = options[verb] (options[verb] == "" ? "" : " ") $1
     long[verb] = long[verb] " [" $1 ($2 == "" ? "" : " " $2) "]"
-    if ($2 != "") takes = takes (takes == "" ? "" : " | ") $1
+    if ($2 != "" && !taken[$1]++) takes = takes (takes == "" ? "" : " | ") $1
 }
 $1 !~ /^--/ {
     verb = $1
     order[++count] = verb
     operand[verb] = $2
     verbs = verbs (count == 1 ? "" : " ") verb
-    if ($2 == "FILE") files = files (files == "" ? "" : " | ") verb
+    if ($2 ~ /^FILE/) files = files (files == "" ? "" : " | ") verb
 }
 {
     row[++rows] = $1
@@ -86,6 +86,8 @@ function page(    each) {
     status(7, "spent: the budget is reached")
     status(8, "no memory")
     status(9, "the input has more than 1,048,576 bytes")
+    status(10, "the journal is none, or is too long")
+    status(11, "the journal is no run of the program")
     status(126, "no program could be built (the wrapper's own)")
     status(127, "no program is there, and no kit to build one (the wrapper's own)")
     print ".SH SEE ALSO"

@@ -30,24 +30,23 @@ function read_table(    line, part) {
     }
 }
 
-# The place of the one word that is no option, or 0 where the words are no command.
-function operand_at(    place, found, trailing) {
+# The place of the first word that is no option, or 0 where the words are no command: there are to be as many as it has operands.
+function operand_at(wanted,    place, found, count, trailing) {
     for (place = 3; place < ARGC; place++) {
         if (!trailing && ARGV[place] == "--") trailing = 1
         else if (!trailing && ARGV[place] ~ /^-./) {
             place = option_at(place)
             if (!place) return 0
-        } else if (found) return 0
-        else found = place
+        } else if (!count++) found = place
     }
-    return found
+    return count == wanted ? found : 0
 }
 
 BEGIN {
     read_table()
     verb = ARGV[2]
-    place = ARGC > 2 && verb in verbs ? operand_at() : 0
+    place = ARGC > 2 && verb in verbs ? operand_at(split(operand[verb], each, " ")) : 0
     if (!place || operand[verb] == "N" && !is_number(ARGV[place], verb)) print "usage"
-    else print operand[verb] == "FILE" ? place - 1 : 0
+    else print operand[verb] ~ /^FILE/ ? place - 1 : 0
     exit
 }

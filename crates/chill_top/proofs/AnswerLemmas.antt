@@ -9,50 +9,56 @@ use Rattle.diagnostics.specs.declared.diagnostic.Diagnostic.{Diagnostic}
 use Rattle.kernel_base.specs.declared.ends.Over.{Over}
 use Rattle.kernel_base.specs.declared.ends.Over.TheVariants.{AllEnded, Still, Spent}
 use Rattle.kernel_base.specs.declared.event.Event.{Event}
+use Rattle.journal_verdict.specs.Lines as verdicts
+use Rattle.journal_verdict.specs.declared.judging.Judgement.{Judgement}
+use Rattle.journal_verdict.specs.declared.judging.Judgement.TheVariants.{BadLine, TooLong, Judged}
+use Rattle.run_checker.specs.declared.verdict.Verdict.TheVariants.{Yes, No}
 use Rattle.listing.specs.Diagnostics.{lines_of}
 use Rattle.outside_ports.specs.Library.{Contents}
 use Rattle.outside_ports.specs.Watcher.{Watching}
 use Rattle.word_reader.specs.declared.command.Command.{Command}
+use Rattle.word_reader.specs.declared.command.Command.TheVariants as words
 use Rattle.chill_top.specs.Causes.{IsReadFault, IsFeedFault}
-use Rattle.chill_top.specs.Commands.{task_of, is_watched, IsTextBy}
-use Rattle.chill_top.specs.Plan.{IsPlan, IsPlanOf, IsPlanFor, status_of, out_of, err_of}
+use Rattle.chill_top.specs.Commands.{task_of, showing_of, showing_said, IsTextBy}
+use Rattle.chill_top.specs.Plan.{IsPlan, IsPlanOf, IsPlanFor, IsPlanFrom, IsRefusedFor, IsReplayPlan, status_of, out_of, err_of}
 use Rattle.chill_top.specs.Runs.{is_some_raised, status_of_run}
-use Rattle.chill_top.specs.Outcomes.{Answers, IsNothing, Sinks, Sources, SameCounts, Wrote, NothingWritten, IsCutShort, IsPartlyShown, IsCarriedOut, done, broken, no_memory, IsAnswer, planned, unread, no_memory_before, IsJournal, IsReported, IsRefused, IsRefusedUnder, outcome_with, without_run, shown_of, watchers_after, dropped_of, told_by, watch_of}
+use Rattle.chill_top.specs.Outcomes.{Answers, IsNothing, Sinks, Sources, SameCounts, Wrote, NothingWritten, IsCutShort, IsPartlyShown, IsCarriedOut, done, broken, no_memory, IsAnswer, planned, unread, no_memory_before, IsJournal, IsReported, IsRefused, IsRefusedUnder, outcome_with, without_run, shown_of, watchers_after, dropped_of, told_by}
 use Rattle.chill_top.specs.declared.plan.Plan.{Plan}
 use Rattle.chill_top.specs.declared.plan.Plan.TheVariants as plans
 use Rattle.chill_top.specs.declared.plan.Ran.{Ran}
 use Rattle.chill_top.specs.declared.read.ReadRefusal.{ReadRefusal}
 use Rattle.chill_top.specs.declared.read.ReadRefusal.TheVariants as refusals
 use Rattle.chill_top.specs.declared.task.Task.{Task}
+use Rattle.chill_top.specs.declared.task.Showing.{Showing}
 use Rattle.chill_top.specs.declared.task.Task.TheVariants.{Format, Build}
 use Rattle.chill_top.specs.declared.task.Purpose.TheVariants.{Run, Check, List as Listing}
 use Rattle.chill_top.specs.declared.top.Outcome.{Outcome}
 
 -- ---- what comes of a plan
 
-pub carried_done : (watch : Bool) (plan : Plan) (watchers after : List Watching) (before behind : Sinks) (out err : List ℕ) (status : ℕ) (dropped : List ℕ) (outcome : Outcome)
-    → after ≡ watchers_after (shown_of watch plan) watchers → out ≡ out_of plan → err ≡ err_of plan ++ told_by (shown_of watch plan) watchers → Wrote before behind out err
-    → status ≡ status_of plan → dropped ≡ dropped_of (shown_of watch plan) watchers → outcome ≡ outcome_with plan status dropped
-    → IsCarriedOut watch plan watchers after before behind outcome
-carried_done watch plan watchers after before behind out err status dropped outcome stayed out_is err_is wrote status_is dropped_is outcome_is =
-    subst (IsCarriedOut watch plan watchers after before behind)
+pub carried_done : (showing : Showing) (plan : Plan) (watchers after : List Watching) (before behind : Sinks) (out err : List ℕ) (status : ℕ) (dropped : List ℕ) (outcome : Outcome)
+    → after ≡ watchers_after (shown_of showing.watch plan) watchers → out ≡ out_of showing.journal plan → err ≡ err_of plan ++ told_by (shown_of showing.watch plan) watchers → Wrote before behind out err
+    → status ≡ status_of plan → dropped ≡ dropped_of (shown_of showing.watch plan) watchers → outcome ≡ outcome_with plan status dropped
+    → IsCarriedOut showing plan watchers after before behind outcome
+carried_done showing plan watchers after before behind out err status dropped outcome stayed out_is err_is wrote status_is dropped_is outcome_is =
+    subst (IsCarriedOut showing plan watchers after before behind)
     (sym (outcome_is ∙ ap (λ (n : ℕ). outcome_with plan n dropped) status_is ∙ ap (λ (places : List ℕ). outcome_with plan (status_of plan) places) dropped_is))
-    (done stayed (subst (λ (t : List ℕ). Wrote before behind (out_of plan) t) err_is (subst (λ (t : List ℕ). Wrote before behind t err) out_is wrote)))
+    (done stayed (subst (λ (t : List ℕ). Wrote before behind (out_of showing.journal plan) t) err_is (subst (λ (t : List ℕ). Wrote before behind t err) out_is wrote)))
 
-pub carried_broken : (watch : Bool) (plan : Plan) (watchers after : List Watching) (before behind : Sinks) (out err : List ℕ) (dropped : List ℕ) (outcome : Outcome)
-    → after ≡ watchers_after (shown_of watch plan) watchers → out ≡ out_of plan → err ≡ err_of plan ++ told_by (shown_of watch plan) watchers → IsCutShort before behind out err
-    → dropped ≡ dropped_of (shown_of watch plan) watchers → outcome ≡ outcome_with plan 5 dropped
-    → IsCarriedOut watch plan watchers after before behind outcome
-carried_broken watch plan watchers after before behind out err dropped outcome stayed out_is err_is cut dropped_is outcome_is =
-    subst (IsCarriedOut watch plan watchers after before behind)
+pub carried_broken : (showing : Showing) (plan : Plan) (watchers after : List Watching) (before behind : Sinks) (out err : List ℕ) (dropped : List ℕ) (outcome : Outcome)
+    → after ≡ watchers_after (shown_of showing.watch plan) watchers → out ≡ out_of showing.journal plan → err ≡ err_of plan ++ told_by (shown_of showing.watch plan) watchers → IsCutShort before behind out err
+    → dropped ≡ dropped_of (shown_of showing.watch plan) watchers → outcome ≡ outcome_with plan 5 dropped
+    → IsCarriedOut showing plan watchers after before behind outcome
+carried_broken showing plan watchers after before behind out err dropped outcome stayed out_is err_is cut dropped_is outcome_is =
+    subst (IsCarriedOut showing plan watchers after before behind)
     (sym (outcome_is ∙ ap (λ (places : List ℕ). outcome_with plan 5 places) dropped_is))
-    (broken stayed (subst (λ (t : List ℕ). IsCutShort before behind (out_of plan) t) err_is (subst (λ (t : List ℕ). IsCutShort before behind t err) out_is cut)))
+    (broken stayed (subst (λ (t : List ℕ). IsCutShort before behind (out_of showing.journal plan) t) err_is (subst (λ (t : List ℕ). IsCutShort before behind t err) out_is cut)))
 
-pub carried_nothing : (watch : Bool) (plan : Plan) (watchers after : List Watching) (before behind : Sinks) (outcome : Outcome)
-    → IsPartlyShown (shown_of watch plan) watchers after → NothingWritten before behind → outcome ≡ without_run 8
-    → IsCarriedOut watch plan watchers after before behind outcome
-carried_nothing watch plan watchers after before behind outcome partly nothing outcome_is =
-    subst (IsCarriedOut watch plan watchers after before behind) (sym outcome_is) (no_memory partly nothing)
+pub carried_nothing : (showing : Showing) (plan : Plan) (watchers after : List Watching) (before behind : Sinks) (outcome : Outcome)
+    → IsPartlyShown (shown_of showing.watch plan) watchers after → NothingWritten before behind → outcome ≡ without_run 8
+    → IsCarriedOut showing plan watchers after before behind outcome
+carried_nothing showing plan watchers after before behind outcome partly nothing outcome_is =
+    subst (IsCarriedOut showing plan watchers after before behind) (sym outcome_is) (no_memory partly nothing)
 
 pub keeps_same : (taken : Option (List ℕ)) → Keeps taken taken
 keeps_same None = tt
@@ -62,7 +68,7 @@ keeps_same (Some bytes) = refl
 
 -- words that mean nothing have a plan of their own
 pub answer_usage : (said : Option Command) (contents : List ℕ → Contents) (watchers after : List Watching) (sources : Sources) (before behind : Sinks) (outcome : Outcome)
-    → said ≡ None → IsCarriedOut false plans.Usage watchers after before behind outcome
+    → said ≡ None → IsCarriedOut (showing_said None) plans.Usage watchers after before behind outcome
     → IsAnswer said contents watchers after sources sources before behind outcome
 answer_usage said contents watchers after sources before behind outcome none carried =
     subst (λ (o : Option Command). IsAnswer o contents watchers after sources sources before behind outcome) (sym none)
@@ -75,39 +81,39 @@ answer_as said other contents watchers after sources left before behind outcome 
     subst (λ (o : Option Command). IsAnswer o contents watchers after sources left before behind outcome) (sym same) answer
 
 -- there is no plan
-pub answers_memory : (watch : Bool) (made : Result Plan ReadRefusal) (watchers : List Watching) (before behind : Sinks) (outcome : Outcome) → made ≡ Err refusals.Memory → NothingWritten before behind → outcome ≡ without_run 8
-    → Answers watch made watchers watchers before behind outcome
-answers_memory watch made watchers before behind outcome made_is nothing outcome_is =
-    subst (λ (m : Result Plan ReadRefusal). Answers watch m watchers watchers before behind outcome) (sym made_is) (record { stay = refl; nothing = nothing; is = outcome_is })
+pub answers_memory : (showing : Showing) (made : Result Plan ReadRefusal) (watchers : List Watching) (before behind : Sinks) (outcome : Outcome) → made ≡ Err refusals.Memory → NothingWritten before behind → outcome ≡ without_run 8
+    → Answers showing made watchers watchers before behind outcome
+answers_memory showing made watchers before behind outcome made_is nothing outcome_is =
+    subst (λ (m : Result Plan ReadRefusal). Answers showing m watchers watchers before behind outcome) (sym made_is) (record { stay = refl; nothing = nothing; is = outcome_is })
 
-pub answers_fault : (watch : Bool) (made : Result Plan ReadRefusal) (watchers : List Watching) (before behind : Sinks) (outcome : Outcome) → made ≡ Err refusals.Fault → NothingWritten before behind → outcome ≡ without_run 4
-    → Answers watch made watchers watchers before behind outcome
-answers_fault watch made watchers before behind outcome made_is nothing outcome_is =
-    subst (λ (m : Result Plan ReadRefusal). Answers watch m watchers watchers before behind outcome) (sym made_is) (record { stay = refl; nothing = nothing; is = outcome_is })
+pub answers_fault : (showing : Showing) (made : Result Plan ReadRefusal) (watchers : List Watching) (before behind : Sinks) (outcome : Outcome) → made ≡ Err refusals.Fault → NothingWritten before behind → outcome ≡ without_run 4
+    → Answers showing made watchers watchers before behind outcome
+answers_fault showing made watchers before behind outcome made_is nothing outcome_is =
+    subst (λ (m : Result Plan ReadRefusal). Answers showing m watchers watchers before behind outcome) (sym made_is) (record { stay = refl; nothing = nothing; is = outcome_is })
 
-planned_answer : (command : Command) (contents : List ℕ → Contents) (watchers after : List Watching) (sources left : Sources) (before behind : Sinks) (watch : Bool) (made : Result Plan ReadRefusal) (outcome : Outcome)
-    → watch ≡ is_watched command → IfOk made (IsPlanOf command contents sources.input left.input)
+planned_answer : (command : Command) (contents : List ℕ → Contents) (watchers after : List Watching) (sources left : Sources) (before behind : Sinks) (showing : Showing) (made : Result Plan ReadRefusal) (outcome : Outcome)
+    → showing ≡ showing_of command → IfOk made (IsPlanOf command contents sources.input left.input)
     → OnOk made ((name : List ℕ) → left.library name ≡ sources.library name) → OnOk made (left.feed ≡ sources.feed)
     → (IsErrOf made refusals.Fault → IsReadFault command sources.library left.library ⊎ IsFeedFault command contents sources.feed left.feed)
-    → Answers watch made watchers after before behind outcome
+    → Answers showing made watchers after before behind outcome
     → IsAnswer (Some command) contents watchers after sources left before behind outcome
-planned_answer command contents watchers after sources left before behind watch (Ok plan) outcome watch_is is kept stays fault answered =
-    planned plan is (record { library = kept; feed = stays }) (subst (λ (w : Bool). IsCarriedOut w plan watchers after before behind outcome) watch_is answered)
-planned_answer command contents watchers after sources left before behind watch (Err refusals.Fault) outcome watch_is is kept stays fault answered =
+planned_answer command contents watchers after sources left before behind showing (Ok plan) outcome showing_is is kept stays fault answered =
+    planned plan is (record { library = kept; feed = stays }) (subst (λ (w : Showing). IsCarriedOut w plan watchers after before behind outcome) showing_is answered)
+planned_answer command contents watchers after sources left before behind showing (Err refusals.Fault) outcome showing_is is kept stays fault answered =
     subst (IsAnswer (Some command) contents watchers after sources left before behind) (sym answered.is) (unread command refl (fault refl) answered.stay answered.nothing)
-planned_answer command contents watchers after sources left before behind watch (Err refusals.Memory) outcome watch_is is kept stays fault answered =
+planned_answer command contents watchers after sources left before behind showing (Err refusals.Memory) outcome showing_is is kept stays fault answered =
     subst (IsAnswer (Some command) contents watchers after sources left before behind) (sym answered.is) (no_memory_before answered.stay answered.nothing)
 
 -- what is answered of a plan for the command that the words mean
-pub answer_of : (said : Option Command) (command : Command) (contents : List ℕ → Contents) (watchers after : List Watching) (sources left : Sources) (before behind : Sinks) (watch : Bool) (made : Result Plan ReadRefusal) (outcome : Outcome)
-    → said ≡ Some command → watch ≡ is_watched command → IfOk made (IsPlanOf command contents sources.input left.input)
+pub answer_of : (said : Option Command) (command : Command) (contents : List ℕ → Contents) (watchers after : List Watching) (sources left : Sources) (before behind : Sinks) (showing : Showing) (made : Result Plan ReadRefusal) (outcome : Outcome)
+    → said ≡ Some command → showing ≡ showing_of command → IfOk made (IsPlanOf command contents sources.input left.input)
     → OnOk made ((name : List ℕ) → left.library name ≡ sources.library name) → OnOk made (left.feed ≡ sources.feed)
     → (IsErrOf made refusals.Fault → IsReadFault command sources.library left.library ⊎ IsFeedFault command contents sources.feed left.feed)
-    → Answers watch made watchers after before behind outcome
+    → Answers showing made watchers after before behind outcome
     → IsAnswer said contents watchers after sources left before behind outcome
-answer_of said command contents watchers after sources left before behind watch made outcome named watch_is is kept stays fault answered =
+answer_of said command contents watchers after sources left before behind showing made outcome named showing_is is kept stays fault answered =
     answer_as said (Some command) contents watchers after sources left before behind outcome named
-    (planned_answer command contents watchers after sources left before behind watch made outcome watch_is is kept stays fault answered)
+    (planned_answer command contents watchers after sources left before behind showing made outcome showing_is is kept stays fault answered)
 
 pub answer_no_memory : (said : Option Command) (contents : List ℕ → Contents) (watchers : List Watching) (sources left : Sources) (before behind : Sinks) (outcome : Outcome)
     → NothingWritten before behind → outcome ≡ without_run 8 → IsAnswer said contents watchers watchers sources left before behind outcome
@@ -119,7 +125,7 @@ answer_no_memory said contents watchers sources left before behind outcome nothi
 -- what was written of a plan with a status
 abbrev Reports : Option Command → List Watching → Sinks → Sinks → ℕ → Plan → Type 0
 Reports said watchers before behind status plan =
-    IsReported before behind status (status_of plan) (out_of plan) (err_of plan ++ told_by (shown_of (watch_of said) plan) watchers)
+    IsReported before behind status (status_of plan) (out_of (showing_said said).journal plan) (err_of plan ++ told_by (shown_of (showing_said said).watch plan) watchers)
 
 journal_by : (said : Option Command) (contents : List ℕ → Contents) (watchers : List Watching) (sources left : Sources) (before behind : Sinks) (command : Command) (ran : Ran) (status : ℕ) (dropped : List ℕ) (task : Task) (text : List ℕ)
     → said ≡ Some command → task_of command ≡ task → IsTextBy command contents text → IsPlanFor task text sources.input left.input (plans.Ran ran)
@@ -143,12 +149,24 @@ journal_by said contents watchers sources left before behind command ran status 
 journal_by said contents watchers sources left before behind command ran status dropped (Build Check) text named is_task told is reported = absurd is
 journal_by said contents watchers sources left before behind command ran status dropped (Build Listing) text named is_task told is reported = absurd is
 
+-- a text that was run is one of a command that holds no journal against it
+ran_from : (command : Command) (contents : List ℕ → Contents) (text : List ℕ) (feed left : Option (List ℕ)) (ran : Ran)
+    → IsPlanFrom command contents text feed left (plans.Ran ran) → IsPlanFor (task_of command) text feed left (plans.Ran ran)
+ran_from (words.Run file workers units watch) contents text feed left ran is = is
+ran_from (words.Check file) contents text feed left ran is = is
+ran_from (words.List file) contents text feed left ran is = is
+ran_from (words.Format file) contents text feed left ran is = is
+ran_from (words.Make subscribers) contents text feed left ran is = is
+ran_from (words.Record file workers units) contents text feed left ran is = is
+ran_from (words.Replay file journal units) contents text feed left ran is = absurd is
+
 journal_of_ran : (said : Option Command) (contents : List ℕ → Contents) (watchers : List Watching) (sources left : Sources) (before behind : Sinks) (ran : Ran) (status : ℕ) (dropped : List ℕ) → IsPlan said contents sources.input left.input (plans.Ran ran)
     → Reports said watchers before behind status (plans.Ran ran)
     → IsJournal said contents watchers sources left before behind (outcome_with (plans.Ran ran) status dropped) ran.driven.value.over
 journal_of_ran None contents watchers sources left before behind ran status dropped is reported = absurd (let no : ⊥ = cc in no)
 journal_of_ran (Some command) contents watchers sources left before behind ran status dropped is reported =
-    journal_by (Some command) contents watchers sources left before behind command ran status dropped (task_of command) is.text refl refl is.told is.is reported
+    journal_by (Some command) contents watchers sources left before behind command ran status dropped (task_of command) is.text refl refl is.told
+    (ran_from command contents is.text sources.input left.input ran is.is) reported
 
 -- the outcome of a plan has a journal where it has a run
 journal_with : (said : Option Command) (contents : List ℕ → Contents) (watchers : List Watching) (sources left : Sources) (before behind : Sinks) (plan : Plan) (status : ℕ) (dropped : List ℕ) → IsPlan said contents sources.input left.input plan
@@ -160,16 +178,18 @@ journal_with said contents watchers sources left before behind plans.Accepted st
 journal_with said contents watchers sources left before behind (plans.Listed built) status dropped is reported = tt
 journal_with said contents watchers sources left before behind (plans.Formatted canonical) status dropped is reported = tt
 journal_with said contents watchers sources left before behind plans.InputTooLong status dropped is reported = tt
+journal_with said contents watchers sources left before behind plans.JournalTooLong status dropped is reported = tt
+journal_with said contents watchers sources left before behind (plans.Judged judgement) status dropped is reported = tt
 journal_with said contents watchers sources left before behind (plans.Ran ran) status dropped is reported =
     journal_of_ran said contents watchers sources left before behind ran status dropped is reported
 
 journal_carried : (said : Option Command) (contents : List ℕ → Contents) (watchers after : List Watching) (sources left : Sources) (before behind : Sinks) (plan : Plan) (outcome : Outcome)
-    → IsPlan said contents sources.input left.input plan → IsCarriedOut (watch_of said) plan watchers after before behind outcome
+    → IsPlan said contents sources.input left.input plan → IsCarriedOut (showing_said said) plan watchers after before behind outcome
     → IfSome outcome.over (λ over. IsJournal said contents watchers sources left before behind outcome over)
 journal_carried said contents watchers after sources left before behind plan _ is (done stayed wrote) =
-    journal_with said contents watchers sources left before behind plan (status_of plan) (dropped_of (shown_of (watch_of said) plan) watchers) is (inl (refl, wrote))
+    journal_with said contents watchers sources left before behind plan (status_of plan) (dropped_of (shown_of (showing_said said).watch plan) watchers) is (inl (refl, wrote))
 journal_carried said contents watchers after sources left before behind plan _ is (broken stayed cut) =
-    journal_with said contents watchers sources left before behind plan 5 (dropped_of (shown_of (watch_of said) plan) watchers) is (inr (refl, cut))
+    journal_with said contents watchers sources left before behind plan 5 (dropped_of (shown_of (showing_said said).watch plan) watchers) is (inr (refl, cut))
 journal_carried said contents watchers after sources left before behind plan _ is (no_memory partly nothing) = tt
 
 pub journal_of : (said : Option Command) (contents : List ℕ → Contents) (watchers after : List Watching) (sources left : Sources) (before behind : Sinks) (outcome : Outcome)
@@ -191,47 +211,58 @@ no_run_is_refused AllEnded events refused = no_ending_is_refused events (is_some
 no_run_is_refused Still events refused = let no : ⊥ = cc in no
 no_run_is_refused Spent events refused = let no : ⊥ = cc in no
 
-refused_by : (said : Option Command) (contents : List ℕ → Contents) (sources left : Sources) (before behind : Sinks) (command : Command) (task : Task) (text : List ℕ) (told : List Diagnostic)
-    → said ≡ Some command → task_of command ≡ task → IsTextBy command contents text → IsPlanFor task text sources.input left.input (plans.Refused told) → Wrote before behind [] (lines_of told)
-    → IsRefused said contents sources left before behind
-refused_by said contents sources left before behind command Format text told named is_task of is wrote = record {
-  command = command;
-  named = named;
-  text = text;
-  told = of;
-  diagnostics = told;
-  refused = subst (λ (t : Task). IsRefusedUnder t text sources.input left.input told) (sym is_task) is;
-  written = wrote;
-}
-refused_by said contents sources left before behind command (Build purpose) text told named is_task of is wrote = record {
-  command = command;
-  named = named;
-  text = text;
-  told = of;
-  diagnostics = told;
-  refused = subst (λ (t : Task). IsRefusedUnder t text sources.input left.input told) (sym is_task) is;
-  written = wrote;
-}
+no_judgement_is_refused : (judgement : Judgement) → verdicts.status_of judgement ≡ 3 → ⊥
+no_judgement_is_refused (BadLine line) refused = let no : ⊥ = cc in no
+no_judgement_is_refused TooLong refused = let no : ⊥ = cc in no
+no_judgement_is_refused (Judged (Yes count over)) refused = let no : ⊥ = cc in no
+no_judgement_is_refused (Judged (No place)) refused = let no : ⊥ = cc in no
+
+-- under `replay` a text is refused as under `run`
+replay_refused : (units : ℕ) (text : List ℕ) (journal : Contents) (feed left : Option (List ℕ)) (told : List Diagnostic)
+    → IsReplayPlan units text journal feed left (plans.Refused told) → IsRefusedFor (Run units) text feed left told
+replay_refused units text journal feed left told (inl refused) = inl refused
+replay_refused units text journal feed left told (inr unrun) = inr unrun.1
+
+refused_from : (command : Command) (contents : List ℕ → Contents) (text : List ℕ) (feed left : Option (List ℕ)) (told : List Diagnostic)
+    → IsPlanFrom command contents text feed left (plans.Refused told) → IsRefusedUnder (task_of command) text feed left told
+refused_from (words.Run file workers units watch) contents text feed left told is = is
+refused_from (words.Check file) contents text feed left told is = is
+refused_from (words.List file) contents text feed left told is = is
+refused_from (words.Format file) contents text feed left told is = is
+refused_from (words.Make subscribers) contents text feed left told is = is
+refused_from (words.Record file workers units) contents text feed left told is = is
+refused_from (words.Replay file journal units) contents text feed left told is = replay_refused units text (contents journal) feed left told is
 
 refused_of_plan : (said : Option Command) (contents : List ℕ → Contents) (sources left : Sources) (before behind : Sinks) (told : List Diagnostic)
     → IsPlan said contents sources.input left.input (plans.Refused told)
     → Wrote before behind [] (lines_of told) → IsRefused said contents sources left before behind
 refused_of_plan None contents sources left before behind told is wrote = absurd (let no : ⊥ = cc in no)
 refused_of_plan (Some command) contents sources left before behind told is wrote =
-    refused_by (Some command) contents sources left before behind command (task_of command) is.text told refl refl is.told is.is wrote
+    record {
+      command = command;
+      named = refl;
+      text = is.text;
+      told = is.told;
+      diagnostics = told;
+      refused = refused_from command contents is.text sources.input left.input told is.is;
+      written = wrote;
+    }
 
 -- a plan whose status is that of a refusal is a refusal, of which no watcher tells
-refused_done : (said : Option Command) (contents : List ℕ → Contents) (sources left : Sources) (watch : Bool) (plan : Plan) (watchers : List Watching) (before behind : Sinks) (status : ℕ) (dropped : List ℕ)
-    → IsPlan said contents sources.input left.input plan → Wrote before behind (out_of plan) (err_of plan ++ told_by (shown_of watch plan) watchers) → status ≡ status_of plan
+refused_done : (said : Option Command) (contents : List ℕ → Contents) (sources left : Sources) (showing : Showing) (plan : Plan) (watchers : List Watching) (before behind : Sinks) (status : ℕ) (dropped : List ℕ)
+    → IsPlan said contents sources.input left.input plan → Wrote before behind (out_of showing.journal plan) (err_of plan ++ told_by (shown_of showing.watch plan) watchers) → status ≡ status_of plan
     → (outcome_with plan status dropped).status ≡ 3 → IsRefused said contents sources left before behind
-refused_done said contents sources left watch plans.Usage watchers before behind status dropped is wrote status_is refused = absurd (let no : ⊥ = cc in no)
-refused_done said contents sources left watch (plans.Refused told) watchers before behind status dropped is wrote status_is refused =
+refused_done said contents sources left showing plans.Usage watchers before behind status dropped is wrote status_is refused = absurd (let no : ⊥ = cc in no)
+refused_done said contents sources left showing (plans.Refused told) watchers before behind status dropped is wrote status_is refused =
     refused_of_plan said contents sources left before behind told is (subst (λ (t : List ℕ). Wrote before behind [] t) (append-nil (lines_of told)) wrote)
-refused_done said contents sources left watch plans.Accepted watchers before behind status dropped is wrote status_is refused = absurd (let no : ⊥ = cc in no)
-refused_done said contents sources left watch (plans.Listed built) watchers before behind status dropped is wrote status_is refused = absurd (let no : ⊥ = cc in no)
-refused_done said contents sources left watch (plans.Formatted canonical) watchers before behind status dropped is wrote status_is refused = absurd (let no : ⊥ = cc in no)
-refused_done said contents sources left watch plans.InputTooLong watchers before behind status dropped is wrote status_is refused = absurd (let no : ⊥ = cc in no)
-refused_done said contents sources left watch (plans.Ran ran) watchers before behind status dropped is wrote status_is refused =
+refused_done said contents sources left showing plans.Accepted watchers before behind status dropped is wrote status_is refused = absurd (let no : ⊥ = cc in no)
+refused_done said contents sources left showing (plans.Listed built) watchers before behind status dropped is wrote status_is refused = absurd (let no : ⊥ = cc in no)
+refused_done said contents sources left showing (plans.Formatted canonical) watchers before behind status dropped is wrote status_is refused = absurd (let no : ⊥ = cc in no)
+refused_done said contents sources left showing plans.InputTooLong watchers before behind status dropped is wrote status_is refused = absurd (let no : ⊥ = cc in no)
+refused_done said contents sources left showing plans.JournalTooLong watchers before behind status dropped is wrote status_is refused = absurd (let no : ⊥ = cc in no)
+refused_done said contents sources left showing (plans.Judged judgement) watchers before behind status dropped is wrote status_is refused =
+    absurd (no_judgement_is_refused judgement (sym status_is ∙ refused))
+refused_done said contents sources left showing (plans.Ran ran) watchers before behind status dropped is wrote status_is refused =
     absurd (no_run_is_refused ran.driven.value.over ran.driven.value.events (sym status_is ∙ refused))
 
 -- a plan that was broken off has another status
@@ -243,18 +274,20 @@ refused_broken (plans.Listed built) dropped refused = let no : ⊥ = cc in no
 refused_broken (plans.Formatted canonical) dropped refused = let no : ⊥ = cc in no
 refused_broken plans.InputTooLong dropped refused = let no : ⊥ = cc in no
 refused_broken (plans.Ran ran) dropped refused = let no : ⊥ = cc in no
+refused_broken plans.JournalTooLong dropped refused = let no : ⊥ = cc in no
+refused_broken (plans.Judged judgement) dropped refused = let no : ⊥ = cc in no
 
-refused_carried : (said : Option Command) (contents : List ℕ → Contents) (sources left : Sources) (watch : Bool) (plan : Plan) (watchers after : List Watching) (before behind : Sinks) (outcome : Outcome)
-    → IsPlan said contents sources.input left.input plan → IsCarriedOut watch plan watchers after before behind outcome → outcome.status ≡ 3 → IsRefused said contents sources left before behind
-refused_carried said contents sources left watch plan watchers after before behind _ is (done stayed wrote) refused =
-    refused_done said contents sources left watch plan watchers before behind (status_of plan) (dropped_of (shown_of watch plan) watchers) is wrote refl refused
-refused_carried said contents sources left watch plan watchers after before behind _ is (broken stayed cut) refused =
-    absurd (refused_broken plan (dropped_of (shown_of watch plan) watchers) refused)
-refused_carried said contents sources left watch plan watchers after before behind _ is (no_memory partly nothing) refused = absurd (let no : ⊥ = cc in no)
+refused_carried : (said : Option Command) (contents : List ℕ → Contents) (sources left : Sources) (showing : Showing) (plan : Plan) (watchers after : List Watching) (before behind : Sinks) (outcome : Outcome)
+    → IsPlan said contents sources.input left.input plan → IsCarriedOut showing plan watchers after before behind outcome → outcome.status ≡ 3 → IsRefused said contents sources left before behind
+refused_carried said contents sources left showing plan watchers after before behind _ is (done stayed wrote) refused =
+    refused_done said contents sources left showing plan watchers before behind (status_of plan) (dropped_of (shown_of showing.watch plan) watchers) is wrote refl refused
+refused_carried said contents sources left showing plan watchers after before behind _ is (broken stayed cut) refused =
+    absurd (refused_broken plan (dropped_of (shown_of showing.watch plan) watchers) refused)
+refused_carried said contents sources left showing plan watchers after before behind _ is (no_memory partly nothing) refused = absurd (let no : ⊥ = cc in no)
 
 pub refused_of : (said : Option Command) (contents : List ℕ → Contents) (watchers after : List Watching) (sources left : Sources) (before behind : Sinks) (outcome : Outcome)
     → IsAnswer said contents watchers after sources left before behind outcome → outcome.status ≡ 3 → IsRefused said contents sources left before behind
 refused_of said contents watchers after sources left before behind outcome (planned plan is same carried) refused =
-    refused_carried said contents sources left (watch_of said) plan watchers after before behind outcome is carried refused
+    refused_carried said contents sources left (showing_said said) plan watchers after before behind outcome is carried refused
 refused_of said contents watchers after sources left before behind _ (unread command named fault same nothing) refused = absurd (let no : ⊥ = cc in no)
 refused_of said contents watchers after sources left before behind _ (no_memory_before same nothing) refused = absurd (let no : ⊥ = cc in no)

@@ -10,7 +10,7 @@ use Rattle.text_to_code.specs.declared.told.Told.{Told}
 use Rattle.text_to_code.specs.declared.told.Told.TheVariants as tellings
 use Rattle.std.specs.declared.option.Option.{Option}
 use Rattle.chill_top.specs.Commands.{IsTextOf}
-use Rattle.chill_top.specs.Reading.{IsReadingOf}
+use Rattle.chill_top.specs.Reading.{IsReadingOf, IsReadingUpTo}
 use Rattle.outside_ports.specs.Library.{Contents, untold, missing, held, Gives}
 use Rattle.outside_ports.specs.declared.library.PortFault.{PortFault}
 use Rattle.chill_top.specs.Reading.{IsFront}
@@ -52,14 +52,14 @@ ended (held text) read piece at n place front gives none room =
     sym (take_all (length read) text (omega (arith, gives.end none room, place))) ∙ front
 
 -- what was read to the end of a file is the file's text
-pub reading-whole : (told : Contents) (read : List ℕ) → IsTextOf told read → (text : List ℕ) × IsTextOf told text × IsReadingOf text read
-reading-whole told read is = (read, is, inl refl)
+pub reading-whole : (told : Contents) (most : ℕ) (read : List ℕ) → IsTextOf told read → (text : List ℕ) × IsTextOf told text × IsReadingUpTo most text read
+reading-whole told most read is = (read, is, inl refl)
 
 -- what was read as far as it goes is the front of a file's text
-pub reading-front : (told : Contents) (read : List ℕ) → length read ≡ 262145 → IsFront told read → (text : List ℕ) × IsTextOf told text × IsReadingOf text read
-reading-front untold read long front = (read, tt, inl refl)
-reading-front missing read long front = absurd (let no : ⊥ = omega (arith, long, ap length front) in no)
-reading-front (held text) read long front = (text, refl, inr (sym front ∙ ap (λ (n : ℕ). take n text) long))
+pub reading-front : (told : Contents) (most : ℕ) (read : List ℕ) → 0 < most → length read ≡ most → IsFront told read → (text : List ℕ) × IsTextOf told text × IsReadingUpTo most text read
+reading-front untold most read some long front = (read, tt, inl refl)
+reading-front missing most read some long front = absurd (let no : ⊥ = omega (arith, some, long, ap length front) in no)
+reading-front (held text) most read some long front = (text, refl, inr (sym front ∙ ap (λ (n : ℕ). take n text) long))
 
 -- what is no longer than a text may be was read whole
 pub reading-short : (text read : List ℕ) → IsReadingOf text read → length read ≤ 262144 → read ≡ text

@@ -1,17 +1,17 @@
 -- Faults of ports, each with its cause.
-use Rattle.std.specs.Prelude.{◌≡◌, ℕ, ◌<◌, List, length, take, Some}
+use Rattle.std.specs.Prelude.{ℕ, ◌<◌, List, length, take}
 use Rattle.std.specs.declared.option.Option.{Option}
 use Rattle.std.specs.Io.KnownBytes.{Appends, Keeps}
 use Rattle.outside_ports.specs.Faults.{Rose}
 use Rattle.outside_ports.specs.Library.{Contents}
 use Rattle.word_reader.specs.declared.command.Command.{Command}
-use Rattle.chill_top.specs.Commands.{file_of, IsTextBy, Runs}
+use Rattle.chill_top.specs.Commands.{IsTextBy, Names, Runs}
 use Rattle.chill_top.specs.Plan.{ReadsInput}
 
--- the library's count for the file that the command names rose
+-- the library's count for a file that the command names rose
 pub record IsReadFault (command : Command) (before now : List ℕ → ℕ) : Type 0 where
   pub file : List ℕ
-  pub named : file_of command ≡ Some file
+  pub named : Names command file
   pub rose : Rose (before file) (now file)
 
 -- the feed's count rose, under a command that runs its text, of which the program reads input

@@ -1,5 +1,5 @@
 -- What a call hands back, and what its ports and watchers are like before and behind it.
-use Rattle.std.specs.Prelude.{◌≡◌, ◌⊎◌, ℕ, Bool, false, List, [], ◌++◌, if◌then◌else◌, None, Some, Ok, Err}
+use Rattle.std.specs.Prelude.{◌≡◌, ◌⊎◌, ℕ, Bool, List, [], ◌++◌, if◌then◌else◌, None, Some, Ok, Err}
 use Rattle.std.specs.List.{flat_map}
 use Rattle.std.specs.declared.option.Option.{Option}
 use Rattle.std.specs.declared.result.Result.{Result}
@@ -16,16 +16,16 @@ use Rattle.run_texts.specs.Report.{report_of}
 use Rattle.text_to_code.specs.Telling.{IsUnread}
 use Rattle.watchers.specs.Shown.{stayed, places, IsLeft}
 use Rattle.word_reader.specs.declared.command.Command.{Command}
-use Rattle.world_model.specs.Journal.{output_of}
-use Rattle.chill_top.specs.Commands.{task_of, is_watched, IsTextBy}
+use Rattle.chill_top.specs.Commands.{task_of, showing_said, IsTextBy}
 use Rattle.chill_top.specs.Runs.{status_of_run}
-use Rattle.chill_top.specs.Plan.{IsPlan, IsRefusedFor, IsRunOf, status_of, out_of, err_of}
+use Rattle.chill_top.specs.Plan.{IsPlan, IsRefusedFor, IsRunOf, status_of, written_of, out_of, err_of}
 use Rattle.chill_top.specs.Causes.{IsReadFault, IsFeedFault, IsOutBroken, IsErrBroken}
 use Rattle.chill_top.specs.declared.plan.Plan.{Plan}
 use Rattle.chill_top.specs.declared.plan.Plan.TheVariants as plans
 use Rattle.chill_top.specs.declared.read.ReadRefusal.{ReadRefusal}
 use Rattle.chill_top.specs.declared.read.ReadRefusal.TheVariants as refusals
 use Rattle.chill_top.specs.declared.task.Task.{Task}
+use Rattle.chill_top.specs.declared.task.Showing.{Showing}
 use Rattle.chill_top.specs.declared.task.Task.TheVariants.{Format, Build}
 use Rattle.chill_top.specs.declared.task.Purpose.TheVariants.{Run}
 use Rattle.chill_top.specs.declared.top.Outcome.{Outcome}
@@ -43,6 +43,8 @@ outcome_with plans.Accepted status dropped = without_run status
 outcome_with (plans.Listed built) status dropped = record { status = status; over = None; events = []; program = Some built.value.program; code = Some built.value.code; machines = []; dropped = [] }
 outcome_with (plans.Formatted canonical) status dropped = without_run status
 outcome_with plans.InputTooLong status dropped = without_run status
+outcome_with plans.JournalTooLong status dropped = without_run status
+outcome_with (plans.Judged judgement) status dropped = without_run status
 outcome_with (plans.Ran ran) status dropped = record {
   status = status;
   over = Some ran.driven.value.over;
@@ -63,6 +65,8 @@ shown_of watch plans.Accepted = None
 shown_of watch (plans.Listed built) = None
 shown_of watch (plans.Formatted canonical) = None
 shown_of watch plans.InputTooLong = None
+shown_of watch plans.JournalTooLong = None
+shown_of watch (plans.Judged judgement) = None
 shown_of watch (plans.Ran ran) = if watch then Some ran.driven.value.events else None
 
 -- the watchers that are left, the places of those that were dropped, and the texts of those that are left
@@ -129,15 +133,15 @@ pub record SameCounts (before behind : Sources) : Type 0 where
 -- ---- the answers
 
 -- What comes of a plan: the watchers are shown what is to be shown, and then all is written.
-pub data IsCarriedOut (watch : Bool) (plan : Plan) (watchers after : List Watching) (before behind : Sinks) : Outcome → Type 0 where
+pub data IsCarriedOut (showing : Showing) (plan : Plan) (watchers after : List Watching) (before behind : Sinks) : Outcome → Type 0 where
   -- all was written
-  done : after ≡ watchers_after (shown_of watch plan) watchers → Wrote before behind (out_of plan) (err_of plan ++ told_by (shown_of watch plan) watchers)
-      → IsCarriedOut watch plan watchers after before behind (outcome_with plan (status_of plan) (dropped_of (shown_of watch plan) watchers))
+  done : after ≡ watchers_after (shown_of showing.watch plan) watchers → Wrote before behind (out_of showing.journal plan) (err_of plan ++ told_by (shown_of showing.watch plan) watchers)
+      → IsCarriedOut showing plan watchers after before behind (outcome_with plan (status_of plan) (dropped_of (shown_of showing.watch plan) watchers))
   -- a sink failed
-  broken : after ≡ watchers_after (shown_of watch plan) watchers → IsCutShort before behind (out_of plan) (err_of plan ++ told_by (shown_of watch plan) watchers)
-      → IsCarriedOut watch plan watchers after before behind (outcome_with plan 5 (dropped_of (shown_of watch plan) watchers))
+  broken : after ≡ watchers_after (shown_of showing.watch plan) watchers → IsCutShort before behind (out_of showing.journal plan) (err_of plan ++ told_by (shown_of showing.watch plan) watchers)
+      → IsCarriedOut showing plan watchers after before behind (outcome_with plan 5 (dropped_of (shown_of showing.watch plan) watchers))
   -- no memory was to be had for the texts
-  no_memory : IsPartlyShown (shown_of watch plan) watchers after → NothingWritten before behind → IsCarriedOut watch plan watchers after before behind (without_run 8)
+  no_memory : IsPartlyShown (shown_of showing.watch plan) watchers after → NothingWritten before behind → IsCarriedOut showing plan watchers after before behind (without_run 8)
 
 -- nothing was written, no watcher was shown anything, and there is no run
 pub record IsNothing (watchers after : List Watching) (before behind : Sinks) (outcome : Outcome) (status : ℕ) : Type 0 where
@@ -146,21 +150,20 @@ pub record IsNothing (watchers after : List Watching) (before behind : Sinks) (o
   pub is : outcome ≡ without_run status
 
 -- what is answered of a plan, or where there is none
-abbrev pub Answers : Bool → Result Plan ReadRefusal → List Watching → List Watching → Sinks → Sinks → Outcome → Type 0
-Answers watch (Ok plan) watchers after before behind outcome = IsCarriedOut watch plan watchers after before behind outcome
-Answers watch (Err refusals.Fault) watchers after before behind outcome = IsNothing watchers after before behind outcome 4
-Answers watch (Err refusals.Memory) watchers after before behind outcome = IsNothing watchers after before behind outcome 8
+abbrev pub Answers : Showing → Result Plan ReadRefusal → List Watching → List Watching → Sinks → Sinks → Outcome → Type 0
+Answers showing (Ok plan) watchers after before behind outcome = IsCarriedOut showing plan watchers after before behind outcome
+Answers showing (Err refusals.Fault) watchers after before behind outcome = IsNothing watchers after before behind outcome 4
+Answers showing (Err refusals.Memory) watchers after before behind outcome = IsNothing watchers after before behind outcome 8
 
 -- the watchers of a command are shown its journal
 abbrev pub watch_of : Option Command → Bool
-watch_of None = false
-watch_of (Some command) = is_watched command
+watch_of said = (showing_said said).watch
 
 -- What a call answers, for the command of its words, what the library and the feed tell, and the ports and the watchers before
 -- and behind it.
 pub data IsAnswer (said : Option Command) (contents : List ℕ → Contents) (watchers after : List Watching) (sources left : Sources) (before behind : Sinks) : Outcome → Type 0 where
   -- the plan for the words was carried out
-  planned : {outcome : Outcome} (plan : Plan) → IsPlan said contents sources.input left.input plan → SameCounts sources left → IsCarriedOut (watch_of said) plan watchers after before behind outcome
+  planned : {outcome : Outcome} (plan : Plan) → IsPlan said contents sources.input left.input plan → SameCounts sources left → IsCarriedOut (showing_said said) plan watchers after before behind outcome
       → IsAnswer said contents watchers after sources left before behind outcome
   -- a file or the input wasn't read
   unread : (command : Command) → said ≡ Some command → IsReadFault command sources.library left.library ⊎ IsFeedFault command contents sources.feed left.feed → after ≡ watchers → NothingWritten before behind
@@ -172,15 +175,19 @@ pub data IsAnswer (said : Option Command) (contents : List ℕ → Contents) (wa
 abbrev pub IsReported : Sinks → Sinks → ℕ → ℕ → List ℕ → List ℕ → Type 0
 IsReported before behind status of_run out err = ((status ≡ of_run) × Wrote before behind out err) ⊎ ((status ≡ 5) × IsCutShort before behind out err)
 
+-- what a command writes of the events of its run: their output, or under `record` their text
+abbrev pub written_by : Option Command → List Event → List ℕ
+written_by said events = written_of (showing_said said).journal events
+
 -- the events that the watchers of a command are shown
 abbrev pub events_shown : Option Command → List Event → Option (List Event)
 events_shown said events = if watch_of said then Some events else None
 
 -- The journal of an outcome: the outcome holds a program for the text of the command, and its code, and the events are a run of that
 -- code to its end, from the facts of that program with its input and the budget; the machines stand where the events leave them.
--- The texts that were written are the output of the events, and their report with the names of that program. Where that
--- program is well elaborated, the events are a run of the program's meaning, and the runs of the code are those of that meaning,
--- `run (of_text, same_runs)`.
+-- The texts that were written are the output of the events, or under `record` their text, and their report with the names of that
+-- program. Where that program is well elaborated, the events are a run of the program's meaning, and the runs of the code are those
+-- of that meaning, `run (of_text, same_runs)`.
 pub record IsJournal (said : Option Command) (contents : List ℕ → Contents) (watchers : List Watching) (sources left : Sources) (before behind : Sinks) (outcome : Outcome) (over : Over) : Type 0 where
   pub command : Command
   pub named : said ≡ Some command
@@ -193,7 +200,7 @@ pub record IsJournal (said : Option Command) (contents : List ℕ → Contents) 
   pub given : outcome.program ≡ Some program
   pub held : outcome.code ≡ Some code
   pub run : IsRunOf units text program.checked.value code sources.input left.input (record { events = outcome.events; machines = outcome.machines; over = over })
-  pub reported : IsReported before behind outcome.status (status_of_run over outcome.events) (output_of outcome.events)
+  pub reported : IsReported before behind outcome.status (status_of_run over outcome.events) (written_by said outcome.events)
       (report_of program.checked.value outcome.events over ++ told_by (events_shown said outcome.events) watchers)
 
 -- the diagnostics of a text that is refused under a task, and what is left of the input

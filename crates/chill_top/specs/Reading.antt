@@ -11,9 +11,13 @@ IsFront untold read = Unit {0}
 IsFront missing read = read ≡ []
 IsFront (held text) read = take (length read) text ≡ read
 
+-- what was read is the text, or so many bytes of a longer one
+abbrev pub IsReadingUpTo : ℕ → List ℕ → List ℕ → Type 0
+IsReadingUpTo most text read = (read ≡ text) ⊎ (read ≡ take most text)
+
 -- what was read is the text, or the first 262145 bytes of a longer one
 abbrev pub IsReadingOf : List ℕ → List ℕ → Type 0
-IsReadingOf text read = (read ≡ text) ⊎ (read ≡ take 262145 text)
+IsReadingOf text read = IsReadingUpTo 262145 text read
 
 -- what was read is a reading of the text of the command
 pub record IsRead (command : Command) (contents : List ℕ → Contents) (read : List ℕ) : Type 0 where

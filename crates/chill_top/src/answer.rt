@@ -2,11 +2,13 @@
 ghost use Rattle.std.specs.Prelude.{◌≡◌, [], IfOk};
 ghost use Rattle.chill_top.specs.Plan as plans;
 ghost use Rattle.chill_top.specs.Runs as runs;
+ghost use Rattle.journal_verdict.specs.Lines as verdicts;
 ghost use Rattle.run_texts.specs.Report.{report_of};
-ghost use Rattle.world_model.specs.Journal.{output_of};
 
 use crate::plan::{Plan, Ran};
 use chill_base::{Memory, Text};
+use journal_text::write_journal;
+use journal_verdict::{Judgement, err_of, out_of};
 use kernel_base::{Event, How, Over, Request};
 use list_texts::{code_text, layout_text};
 use listing::diagnostics_text;
@@ -17,10 +19,13 @@ use text_to_code::Built;
 
 // The line for words that are no command.
 const USAGE: &str =
-    "usage: chill run FILE [--workers N] [--units N] [--watch] | check FILE | list FILE | format FILE | make N\n";
+    "usage: chill run FILE [--workers N] [--units N] [--watch] | check FILE | list FILE | format FILE | make N | record FILE [--workers N] [--units N] | replay FILE JOURNAL [--units N]\n";
 
 // The line for an input that is too long.
 const TOO_LONG: &str = "input longer than 1048576 bytes\n";
+
+// The line for a journal that is too long.
+const JOURNAL_TOO_LONG: &str = "journal longer than 1073741824 bytes\n";
 
 /// What is to be written.
 #[derive(Drop)]
@@ -39,6 +44,8 @@ pub(crate) fn status_of(plan: &Plan) -> u8
         Plan::Accepted | Plan::Listed(_) | Plan::Formatted(_) => 0,
         Plan::InputTooLong => 9,
         Plan::Ran(ran) => status_of_run(&ran.driven),
+        Plan::JournalTooLong => 10,
+        Plan::Judged(judgement) => journal_verdict::status_of(judgement),
     }
 }
 
@@ -84,9 +91,9 @@ fn is_raised(event: &Event) -> bool
     }
 }
 
-/// What a plan writes.
-pub(crate) fn texts_of(alloc: Global, plan: &Plan) -> Result<Texts, Memory>
-    ensures out { IfOk result (λ texts. texts.out ≡ plans.out_of plan.now) }
+/// What a plan writes: of a run its output, or its journal.
+pub(crate) fn texts_of(alloc: Global, journal: bool, plan: &Plan) -> Result<Texts, Memory>
+    ensures out { IfOk result (λ texts. texts.out ≡ plans.out_of journal plan.now) }
     ensures err { IfOk result (λ texts. texts.err ≡ plans.err_of plan.now) }
 {
     match plan {
@@ -96,8 +103,19 @@ pub(crate) fn texts_of(alloc: Global, plan: &Plan) -> Result<Texts, Memory>
         Plan::Listed(built) => Ok(output(alloc, listing(alloc, built)?)),
         Plan::Formatted(canonical) => Ok(output(alloc, copy_of(alloc, canonical.as_slice())?)),
         Plan::InputTooLong => Ok(report(alloc, copy_of(alloc, TOO_LONG.as_bytes())?)),
-        Plan::Ran(ran) => texts_of_run(alloc, ran),
+        Plan::Ran(ran) => texts_of_run(alloc, journal, ran),
+        Plan::JournalTooLong => Ok(report(alloc, copy_of(alloc, JOURNAL_TOO_LONG.as_bytes())?)),
+        Plan::Judged(judgement) => texts_of_judgement(alloc, judgement),
     }
+}
+
+fn texts_of_judgement(alloc: Global, judgement: &Judgement) -> Result<Texts, Memory>
+    ensures out { IfOk result (λ texts. texts.out ≡ verdicts.out_of judgement.now) }
+    ensures err { IfOk result (λ texts. texts.err ≡ verdicts.err_of judgement.now) }
+{
+    let out = out_of(alloc, judgement)?;
+    let err = err_of(alloc, judgement)?;
+    Ok(Texts { out, err })
 }
 
 fn copy_of(alloc: Global, bytes: &[u8]) -> Result<Text, Memory>
@@ -136,14 +154,27 @@ fn report(alloc: Global, err: Text) -> Texts
     }
 }
 
-fn texts_of_run(alloc: Global, ran: &Ran) -> Result<Texts, Memory>
-    ensures out { IfOk result (λ texts. texts.out ≡ output_of ran.now.driven.value.events) }
+// What is written of events: their output, or their text.
+fn written(alloc: Global, journal: bool, events: &[Event]) -> Result<Text, Memory>
+    ensures { IfOk result (λ text. text ≡ plans.written_of journal events.now) }
+{
+    if journal {
+        write_journal(alloc, events)
+    } else {
+        output_text(alloc, events)
+    }
+}
+
+fn texts_of_run(alloc: Global, journal: bool, ran: &Ran) -> Result<Texts, Memory>
+    ensures out { IfOk result (λ texts. texts.out
+        ≡ plans.written_of journal ran.now.driven.value.events) }
     ensures err { IfOk result (λ texts. texts.err
-        ≡ report_of ran.now.built.value.program.checked.value ran.now.driven.value.events ran.now.driven.value.over) }
+        ≡ report_of ran.now.built.value.program.checked.value ran.now.driven.value.events
+        ran.now.driven.value.over) }
 {
     let driven = &ran.driven;
     let events = driven.events.as_slice();
-    let out = output_text(alloc, events)?;
+    let out = written(alloc, journal, events)?;
     let err = report_text(alloc, ran.built.program.checked(), events, driven.over)?;
     Ok(Texts { out, err })
 }

@@ -22,7 +22,8 @@ const PIECE: usize = 65_536;
 pub(crate) fn read_input<I: Feed>(alloc: Global, feed: &mut I) -> Result<Vec<u8>, ReadRefusal>
     ensures input { IfOk result (λ read. IsInputRead (I.bytes feed.old) read.items) }
     ensures stays { OnOk result (I.faults feed.new ≡ I.faults feed.old) }
-    ensures fault { IsErrOf result ReadRefusal.Fault → Rose (I.faults feed.old) (I.faults feed.new) }
+    ensures fault { IsErrOf result ReadRefusal.Fault
+        → Rose (I.faults feed.old) (I.faults feed.new) }
 {
     let mut input = Vec::new(alloc);
     let mut piece = buffer(alloc, PIECE)?;
@@ -42,13 +43,20 @@ fn take_piece<I: Feed>(
     input: &mut Vec<u8>,
 ) -> Result<bool, ReadRefusal>
     requires room { 0 < length piece.old }
-    ensures taken { OnOk result ((told : Option (List ℕ)) → IsTaken told (I.bytes feed.old) input.old.items → IsTaken told (I.bytes feed.new) input.new.items) }
-    ensures more { IfOk result (λ more. OnTrue more (length input.old.items < length input.new.items)) }
-    ensures fits { OnOk result (length input.new.items ≤ length input.old.items + length piece.old) }
-    ensures end { IfOk result (λ more. OnFalse more ((told : Option (List ℕ)) → IsTaken told (I.bytes feed.old) input.old.items → IsWholeInput told input.new.items)) }
+    ensures taken { OnOk result ((told : Option (List ℕ))
+        → IsTaken told (I.bytes feed.old) input.old.items
+        → IsTaken told (I.bytes feed.new) input.new.items) }
+    ensures more { IfOk result (λ more.
+        OnTrue more (length input.old.items < length input.new.items)) }
+    ensures fits { OnOk result
+        (length input.new.items ≤ length input.old.items + length piece.old) }
+    ensures end { IfOk result (λ more. OnFalse more ((told : Option (List ℕ))
+        → IsTaken told (I.bytes feed.old) input.old.items
+        → IsWholeInput told input.new.items)) }
     ensures kept { IfOk result (λ more. OnFalse more (input.new.items ≡ input.old.items)) }
     ensures stays { OnOk result (I.faults feed.new ≡ I.faults feed.old) }
-    ensures fault { IsErrOf result ReadRefusal.Fault → Rose (I.faults feed.old) (I.faults feed.new) }
+    ensures fault { IsErrOf result ReadRefusal.Fault
+        → Rose (I.faults feed.old) (I.faults feed.new) }
 {
     let count = feed.take(piece)?;
     if count == 0 {

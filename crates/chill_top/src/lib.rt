@@ -10,6 +10,7 @@ mod answer;
 mod input;
 mod plan;
 mod read;
+mod replay;
 mod run;
 mod source;
 mod stage;

@@ -1,6 +1,7 @@
 // What comes of a command, and how far it comes without a run.
 use chill_base::Text;
 use diagnostics::Diagnostics;
+use journal_verdict::Judgement;
 use kernel_base::Facts;
 use serial_run::Driven;
 use text_to_code::Built;
@@ -29,6 +30,10 @@ pub enum Plan {
     InputTooLong,
     /// The text was run.
     Ran(Ran),
+    /// The journal has too many bytes.
+    JournalTooLong,
+    /// The journal was held against the text.
+    Judged(Judgement),
 }
 
 /// A program that is to be run, and the sound facts from which it is.

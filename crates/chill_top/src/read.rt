@@ -3,18 +3,12 @@ ghost use Rattle.std.specs.Prelude.{◌≡◌, ◌+◌, ◌<◌, ◌≤◌, ℕ,
 ghost use Rattle.std.specs.Bool.{OnTrue, OnFalse};
 ghost use Rattle.outside_ports.specs.Faults.{Rose};
 ghost use Rattle.chill_top.specs.Commands.{IsTextOf};
-ghost use Rattle.chill_top.specs.Reading.{IsFront, IsReadingOf};
+ghost use Rattle.chill_top.specs.Reading.{IsFront, IsReadingUpTo};
 ghost use Rattle.chill_top.specs.declared.read.ReadRefusal.TheVariants.{Fault, Memory as no_memory};
 
 use chill_base::Memory;
 use outside_ports::{Library, PortFault};
 use std::alloc::{AllocError, Global};
-
-// A text has at most this many bytes.
-const MAX_BYTES: usize = 262_144;
-
-// A longer text is read this far.
-const MAX_READ: usize = MAX_BYTES + 1;
 
 // A file is read in pieces of at most this many bytes.
 const PIECE: usize = 65_536;
@@ -50,21 +44,27 @@ impl From<Memory> for ReadRefusal {
     }
 }
 
-/// Reads a file to its end, or as far as one byte past the longest text.
-pub(crate) fn read_text<L: Library>(
+/// Reads a file to its end, or as far as so many bytes.
+pub(crate) fn read_file<L: Library>(
     alloc: Global,
     library: &mut L,
     name: &str,
+    most: usize,
 ) -> Result<Vec<u8>, ReadRefusal>
+    requires some { 0 < most }
+    ensures same { (n : List ℕ) → L.contents library.new n ≡ L.contents library.old n }
     ensures kept { OnOk result ((n : List ℕ) → L.faults library.new n ≡ L.faults library.old n) }
-    ensures text { IfOk result (λ read. (text : List ℕ) × IsTextOf (L.contents library.old name.now) text × IsReadingOf text read.items) }
-    ensures fault { IsErrOf result ReadRefusal.Fault → Rose (L.faults library.old name.now) (L.faults library.new name.now) }
+    ensures text { IfOk result (λ read. (text : List ℕ)
+        × IsTextOf (L.contents library.old name.now) text
+        × IsReadingUpTo most text read.items) }
+    ensures fault { IsErrOf result ReadRefusal.Fault
+        → Rose (L.faults library.old name.now) (L.faults library.new name.now) }
 {
     let mut text = Vec::new(alloc);
     let mut piece = buffer(alloc, PIECE)?;
-    'pieces: while text.len() < MAX_READ {
-        let most = (MAX_READ - text.len()).min(PIECE);
-        if !read_piece(library, name, &mut piece[..most], &mut text)? {
+    'pieces: while text.len() < most {
+        let room = (most - text.len()).min(PIECE);
+        if !read_piece(library, name, &mut piece[..room], &mut text)? {
             return Ok(text);
         }
     }
@@ -88,13 +88,16 @@ fn read_piece<L: Library>(
     requires room { 0 < length piece.old }
     requires front { IsFront (L.contents library.old name.now) text.old.items }
     ensures front { OnOk result (IsFront (L.contents library.new name.now) text.new.items) }
-    ensures more { IfOk result (λ more. OnTrue more (length text.old.items < length text.new.items)) }
+    ensures more { IfOk result (λ more.
+        OnTrue more (length text.old.items < length text.new.items)) }
     ensures fits { OnOk result (length text.new.items ≤ length text.old.items + length piece.old) }
-    ensures end { IfOk result (λ more. OnFalse more (IsTextOf (L.contents library.old name.now) text.new.items)) }
+    ensures end { IfOk result (λ more.
+        OnFalse more (IsTextOf (L.contents library.old name.now) text.new.items)) }
     ensures kept { IfOk result (λ more. OnFalse more (text.new.items ≡ text.old.items)) }
     ensures same { (n : List ℕ) → L.contents library.new n ≡ L.contents library.old n }
     ensures stays { OnOk result ((n : List ℕ) → L.faults library.new n ≡ L.faults library.old n) }
-    ensures fault { IsErrOf result ReadRefusal.Fault → Rose (L.faults library.old name.now) (L.faults library.new name.now) }
+    ensures fault { IsErrOf result ReadRefusal.Fault
+        → Rose (L.faults library.old name.now) (L.faults library.new name.now) }
 {
     let count = library.read(name, text.len() as u64, piece)?;
     if count == 0 {

@@ -3,7 +3,7 @@ ghost use Rattle.std.specs.Prelude.{◌≡◌, ◌⊎◌, ℕ, List, [], None, f
 ghost use Rattle.outside_ports.specs.Faults.{Rose};
 ghost use Rattle.chill_top.specs.Causes.{IsReadFault, IsFeedFault};
 ghost use Rattle.chill_top.specs.Commands.{IsRunning, IsRunningTask, Runs, file_of};
-ghost use Rattle.chill_top.specs.Plan.{AreFactsOf, HasNoFacts, IsFormatPlan, IsStageFor, IsStageOf, ReadsInput};
+ghost use Rattle.chill_top.specs.Plan.{AreFactsOf, HasNoFacts, IsFormatPlan, IsSoundStage, IsStageFor, IsStageOf, ReadsInput};
 ghost use Rattle.chill_top.specs.Reading.{IsInputRead, IsReadingOf};
 ghost use Rattle.chill_top.specs.declared.task.Task.TheVariants as tasks;
 ghost use Rattle.chill_top.specs.declared.task.Purpose.TheVariants as purposes;
@@ -12,6 +12,7 @@ ghost use Rattle.text_to_code.specs.Telling.{HasCode, Tells};
 use crate::input::{MAX_INPUT, read_input};
 use crate::plan::{Plan, Ready, Stage};
 use crate::read::ReadRefusal;
+use crate::replay::{held_of, plan_for_journal};
 use crate::source::read_source;
 use crate::task::{Purpose, Task, task_of};
 use chill_base::{Memory, Text};
@@ -26,11 +27,14 @@ use word_reader::Command;
 // The input of a program: what is read where it reads one, and else none.
 fn input_of<I: Feed>(alloc: Global, built: &Built, feed: &mut I) -> Result<Text, ReadRefusal>
     ensures input { IfOk result (λ input.
-        MatchBool built.now.program.checked.value.reads_input (IsInputRead (I.bytes feed.old) input) (input ≡ [])) }
+        MatchBool built.now.program.checked.value.reads_input
+        (IsInputRead (I.bytes feed.old) input) (input ≡ [])) }
     ensures untouched { built.now.program.checked.value.reads_input ≡ false → feed.new ≡ feed.old }
     ensures stays { OnOk result (I.faults feed.new ≡ I.faults feed.old) }
-    ensures fault { IsErrOf result ReadRefusal.Fault → Rose (I.faults feed.old) (I.faults feed.new) }
-    ensures reads { IsErrOf result ReadRefusal.Fault → built.now.program.checked.value.reads_input ≡ true }
+    ensures fault { IsErrOf result ReadRefusal.Fault
+        → Rose (I.faults feed.old) (I.faults feed.new) }
+    ensures reads { IsErrOf result ReadRefusal.Fault
+        → built.now.program.checked.value.reads_input ≡ true }
 {
     if !built.program.checked().reads_input {
         return Ok(Text::new(alloc));
@@ -59,7 +63,7 @@ fn facts_for(alloc: Global, built: &Built, input: Text, units: u64) -> Result<Op
 }
 
 // How far a program comes that is to be run: its input is read. Facts that aren't sound come of no program that breaks no rule.
-fn stage_for_run<I: Feed>(
+pub(crate) fn stage_for_run<I: Feed>(
     alloc: Global,
     built: Box<Built>,
     units: u64,
@@ -67,10 +71,14 @@ fn stage_for_run<I: Feed>(
 ) -> Result<Stage, ReadRefusal>
     ensures stage { IfOk result (λ stage. (text : List ℕ)
         → HasCode text built.value.program.checked.value built.value.code
-        → IsStageFor (tasks.Build (purposes.Run units)) text (I.bytes feed.old) (I.bytes feed.new) stage) }
+        → IsStageFor (tasks.Build (purposes.Run units)) text
+        (I.bytes feed.old) (I.bytes feed.new) stage) }
     ensures stays { OnOk result (I.faults feed.new ≡ I.faults feed.old) }
-    ensures fault { IsErrOf result ReadRefusal.Fault → Rose (I.faults feed.old) (I.faults feed.new) }
-    ensures reads { IsErrOf result ReadRefusal.Fault → built.value.program.checked.value.reads_input ≡ true }
+    ensures fault { IsErrOf result ReadRefusal.Fault
+        → Rose (I.faults feed.old) (I.faults feed.new) }
+    ensures reads { IsErrOf result ReadRefusal.Fault
+        → built.value.program.checked.value.reads_input ≡ true }
+    ensures sound { IfOk result IsSoundStage }
 {
     let input = input_of(alloc, &built, feed)?;
     if input.len() > MAX_INPUT {
@@ -94,7 +102,8 @@ fn stage_for_told<I: Feed>(
     ensures stays { OnOk result (I.faults feed.new ≡ I.faults feed.old) }
     ensures fault { IsErrOf result ReadRefusal.Fault
         → IsRunning purpose × Rose (I.faults feed.old) (I.faults feed.new) }
-    ensures reads { IsErrOf result ReadRefusal.Fault → (text : List ℕ) → Tells text told → ReadsInput text }
+    ensures reads { IsErrOf result ReadRefusal.Fault
+        → (text : List ℕ) → Tells text told → ReadsInput text }
     ensures unfed { (IsRunning purpose → ⊥) → feed.new ≡ feed.old }
 {
     match told {
@@ -109,7 +118,8 @@ fn stage_for_told<I: Feed>(
 
 // The plan for what was read of a text that is formatted.
 fn formatted(alloc: Global, read: &[u8]) -> Result<Plan, Memory>
-    ensures { IfOk result (λ plan. (text : List ℕ) → IsReadingOf text read.now → IsFormatPlan text plan) }
+    ensures { IfOk result (λ plan. (text : List ℕ)
+        → IsReadingOf text read.now → IsFormatPlan text plan) }
 {
     match format_text(alloc, read)? {
         Formatted::Refused(told) => Ok(Plan::Refused(told)),
@@ -160,5 +170,8 @@ pub(crate) fn make_stage<L: Library, I: Feed>(
     ensures unfed { (Runs command.now → ⊥) → feed.new ≡ feed.old }
 {
     let read = read_source(alloc, command, library)?;
-    stage_for_text(alloc, task_of(command), &read, feed)
+    match held_of(command) {
+        Some(held) => Ok(Stage::Decided(plan_for_journal(alloc, &read, &held, library, feed)?)),
+        None => stage_for_text(alloc, task_of(command), &read, feed),
+    }
 }

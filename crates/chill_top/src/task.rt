@@ -16,7 +16,7 @@ pub(crate) enum Task {
 /// What the code of a text is built for.
 #[derive(Clone, Copy)]
 pub(crate) enum Purpose {
-    /// It is run, with a budget.
+    /// It is run, or a journal is held against it, with a budget.
     Run { units: u64 },
     Check,
     List,
@@ -35,7 +35,9 @@ pub(crate) fn task_of(command: &Command) -> Task
     ensures { result ≡ commands.task_of command.now }
 {
     match command {
-        Command::Run { units, .. } => Task::Build(Purpose::Run { units: *units }),
+        Command::Run { units, .. }
+        | Command::Record { units, .. }
+        | Command::Replay { units, .. } => Task::Build(Purpose::Run { units: *units }),
         Command::Check { .. } => Task::Build(Purpose::Check),
         Command::List { .. } => Task::Build(Purpose::List),
         Command::Format { .. } => Task::Format,
@@ -43,16 +45,36 @@ pub(crate) fn task_of(command: &Command) -> Task
     }
 }
 
-/// Whether the watchers are shown the journal.
-pub(crate) fn is_watched(command: &Command) -> bool
-    ensures { result ≡ commands.is_watched command.now }
+/// What of a run is written and shown.
+#[derive(Clone, Copy)]
+pub(crate) struct Showing {
+    /// The watchers are shown the journal.
+    pub watch: bool,
+    /// The journal's text is written in place of the output.
+    pub journal: bool,
+}
+
+/// What of its run a command writes and shows.
+pub(crate) fn showing_of(command: &Command) -> Showing
+    ensures { result ≡ commands.showing_of command.now }
 {
     match command {
-        Command::Run { watch, .. } => *watch,
+        Command::Run { watch, .. } => Showing {
+            watch: *watch,
+            journal: false,
+        },
+        Command::Record { .. } => Showing {
+            watch: false,
+            journal: true,
+        },
         Command::Check { .. }
         | Command::List { .. }
         | Command::Format { .. }
-        | Command::Make { .. } => false,
+        | Command::Make { .. }
+        | Command::Replay { .. } => Showing {
+            watch: false,
+            journal: false,
+        },
     }
 }
 
@@ -61,9 +83,12 @@ pub(crate) fn workers_of(command: &Command) -> Option<u32>
     ensures { IfSome result (λ count. (2 ≤ count) × (count ≤ 16)) }
 {
     let count = match command {
-        Command::Run { workers, .. } => *workers,
+        Command::Run { workers, .. } | Command::Record { workers, .. } => *workers,
         Command::Make { .. } => MADE_WORKERS,
-        Command::Check { .. } | Command::List { .. } | Command::Format { .. } => 1,
+        Command::Check { .. }
+        | Command::List { .. }
+        | Command::Format { .. }
+        | Command::Replay { .. } => 1,
     };
     if 1 < count && count <= MAX_WORKERS {
         Some(count)

@@ -15,7 +15,7 @@ use crate::plan::{Plan, Stage};
 use crate::read::ReadRefusal;
 use crate::run::{Workers, run_alone, run_by_workers};
 use crate::stage::make_stage;
-use crate::task::{is_watched, workers_of};
+use crate::task::{Showing, showing_of, workers_of};
 use crate::watching::show;
 use crate::write::write_all;
 use chill_base::{Memory, Numbers};
@@ -33,7 +33,7 @@ use word_reader::{Command, WordRefusal, read_words};
 #[derive(Drop)]
 pub struct Outcome {
     /// 0 done, 1 raised, 2 usage, 3 refused, 4 a fault of reading, 5 a fault of writing, 6 stuck, 7 spent, 8 no memory,
-    /// 9 input too long.
+    /// 9 input too long, 10 a bad journal, 11 no run.
     pub status: u8,
     /// How the run was over, where there was one.
     pub over: Option<Over>,
@@ -48,6 +48,12 @@ pub struct Outcome {
     /// The places of the watchers that were dropped, rising.
     pub dropped: Numbers,
 }
+
+// Words that are no command write nothing of a run.
+const NOTHING_SHOWN: Showing = Showing {
+    watch: false,
+    journal: false,
+};
 
 // Statuses that no plan has.
 const READ_FAULT: u8 = 4;
@@ -83,45 +89,46 @@ struct Prepared {
 // Makes the texts of a plan, and shows the watchers what is to be shown.
 fn prepare(
     alloc: Global,
-    watch: bool,
+    showing: Showing,
     plan: &Plan,
     watchers: &mut Vec<Box<dyn Watcher>>,
 ) -> Result<Prepared, Memory>
     requires few { length watchers.old.items < 2 ^ 32 }
-    ensures out { IfOk result (λ p. p.texts.out ≡ out_of plan.now) }
+    ensures out { IfOk result (λ p. p.texts.out ≡ out_of showing.journal plan.now) }
     ensures err { IfOk result (λ p. p.texts.err ≡ err_of plan.now
-        ++ told_by (shown_of watch plan.now) (map (λ b. watching b) watchers.old.items)) }
+        ++ told_by (shown_of showing.watch plan.now) (map (λ b. watching b) watchers.old.items)) }
     ensures dropped { IfOk result (λ p. p.dropped
-        ≡ dropped_of (shown_of watch plan.now) (map (λ b. watching b) watchers.old.items)) }
+        ≡ dropped_of (shown_of showing.watch plan.now) (map (λ b. watching b) watchers.old.items)) }
     ensures stayed { OnOk result (map (λ b. watching b) watchers.new.items
-        ≡ watchers_after (shown_of watch plan.now) (map (λ b. watching b) watchers.old.items)) }
-    ensures partly { OnErr result (IsPartlyShown (shown_of watch plan.now)
+        ≡ watchers_after (shown_of showing.watch plan.now)
+        (map (λ b. watching b) watchers.old.items)) }
+    ensures partly { OnErr result (IsPartlyShown (shown_of showing.watch plan.now)
         (map (λ b. watching b) watchers.old.items) (map (λ b. watching b) watchers.new.items)) }
-    ensures unwatched { watch ≡ false → watchers.new ≡ watchers.old }
+    ensures unwatched { showing.watch ≡ false → watchers.new ≡ watchers.old }
 {
-    let mut texts = texts_of(alloc, plan)?;
-    let dropped = show(alloc, watch, plan, watchers, &mut texts.err)?;
+    let mut texts = texts_of(alloc, showing.journal, plan)?;
+    let dropped = show(alloc, showing.watch, plan, watchers, &mut texts.err)?;
     Ok(Prepared { texts, dropped })
 }
 
 // Carries out a plan.
 fn carry_out<O: Sink, E: Sink>(
     alloc: Global,
-    watch: bool,
+    showing: Showing,
     plan: Plan,
     watchers: &mut Vec<Box<dyn Watcher>>,
     out: &mut O,
     err: &mut E,
 ) -> Outcome
     requires few { length watchers.old.items < 2 ^ 32 }
-    ensures carried { IsCarriedOut watch plan
+    ensures carried { IsCarriedOut showing plan
         (map (λ b. watching b) watchers.old.items) (map (λ b. watching b) watchers.new.items)
         (sinks_at (O.faults out.old) (E.faults err.old) (O.taken out.old) (E.taken err.old))
         (sinks_at (O.faults out.new) (E.faults err.new) (O.taken out.new) (E.taken err.new))
         result }
-    ensures unwatched { watch ≡ false → watchers.new ≡ watchers.old }
+    ensures unwatched { showing.watch ≡ false → watchers.new ≡ watchers.old }
 {
-    match prepare(alloc, watch, &plan, watchers) {
+    match prepare(alloc, showing, &plan, watchers) {
         Ok(prepared) => {
             if !write_texts(&prepared.texts, out, err) {
                 return outcome_of(alloc, plan, WRITE_FAULT, prepared.dropped);
@@ -136,22 +143,22 @@ fn carry_out<O: Sink, E: Sink>(
 // Carries out a plan, or answers why there is none.
 fn answer<O: Sink, E: Sink>(
     alloc: Global,
-    watch: bool,
+    showing: Showing,
     planned: Result<Plan, ReadRefusal>,
     watchers: &mut Vec<Box<dyn Watcher>>,
     out: &mut O,
     err: &mut E,
 ) -> Outcome
     requires few { length watchers.old.items < 2 ^ 32 }
-    ensures answered { Answers watch planned
+    ensures answered { Answers showing planned
         (map (λ b. watching b) watchers.old.items) (map (λ b. watching b) watchers.new.items)
         (sinks_at (O.faults out.old) (E.faults err.old) (O.taken out.old) (E.taken err.old))
         (sinks_at (O.faults out.new) (E.faults err.new) (O.taken out.new) (E.taken err.new))
         result }
-    ensures unwatched { watch ≡ false → watchers.new ≡ watchers.old }
+    ensures unwatched { showing.watch ≡ false → watchers.new ≡ watchers.old }
 {
     match planned {
-        Ok(plan) => carry_out(alloc, watch, plan, watchers, out, err),
+        Ok(plan) => carry_out(alloc, showing, plan, watchers, out, err),
         Err(ReadRefusal::Memory) => without_run(alloc, NO_MEMORY),
         Err(ReadRefusal::Fault) => without_run(alloc, READ_FAULT),
     }
@@ -164,12 +171,14 @@ fn plan_alone<L: Library, I: Feed>(
     library: &mut L,
     input: &mut I,
 ) -> Result<Plan, ReadRefusal>
-    ensures plan { IfOk result (IsPlanOf command.now (L.contents library.old) (I.bytes input.old) (I.bytes input.new)) }
+    ensures plan { IfOk result
+        (IsPlanOf command.now (L.contents library.old) (I.bytes input.old) (I.bytes input.new)) }
     ensures stays { OnOk result (I.faults input.new ≡ I.faults input.old) }
     ensures kept { OnOk result ((n : List ℕ) → L.faults library.new n ≡ L.faults library.old n) }
     ensures fault { IsErrOf result ReadRefusal.Fault
         → IsReadFault command.now (L.faults library.old) (L.faults library.new)
-        ⊎ IsFeedFault command.now (L.contents library.old) (I.faults input.old) (I.faults input.new) }
+        ⊎ IsFeedFault command.now (L.contents library.old)
+        (I.faults input.old) (I.faults input.new) }
     ensures no_file { commands.file_of command.now ≡ None → library.new ≡ library.old }
     ensures unfed { (Runs command.now → ⊥) → input.new ≡ input.old }
 {
@@ -187,12 +196,14 @@ fn plan_by_workers<R: Threads + Wait + Sync, L: Library, I: Feed, G: Gate>(
     input: &mut I,
     workers: &Workers<'_, R, G>,
 ) -> Result<Plan, ReadRefusal>
-    ensures plan { IfOk result (IsPlanOf command.now (L.contents library.old) (I.bytes input.old) (I.bytes input.new)) }
+    ensures plan { IfOk result
+        (IsPlanOf command.now (L.contents library.old) (I.bytes input.old) (I.bytes input.new)) }
     ensures stays { OnOk result (I.faults input.new ≡ I.faults input.old) }
     ensures kept { OnOk result ((n : List ℕ) → L.faults library.new n ≡ L.faults library.old n) }
     ensures fault { IsErrOf result ReadRefusal.Fault
         → IsReadFault command.now (L.faults library.old) (L.faults library.new)
-        ⊎ IsFeedFault command.now (L.contents library.old) (I.faults input.old) (I.faults input.new) }
+        ⊎ IsFeedFault command.now (L.contents library.old)
+        (I.faults input.old) (I.faults input.new) }
     ensures no_file { commands.file_of command.now ≡ None → library.new ≡ library.old }
     ensures unfed { (Runs command.now → ⊥) → input.new ≡ input.old }
 {
@@ -221,7 +232,8 @@ pub fn chill_alone<L: Library, I: Feed, O: Sink, E: Sink>(
         (sinks_at (O.faults out.old) (E.faults err.old) (O.taken out.old) (E.taken err.old))
         (sinks_at (O.faults out.new) (E.faults err.new) (O.taken out.new) (E.taken err.new))
         result }
-    ensures journal { IfSome result.over (λ over. IsJournal (Some command.now) (L.contents library.old)
+    ensures journal { IfSome result.over (λ over. IsJournal (Some command.now)
+        (L.contents library.old)
         (map (λ b. watching b) watchers.old.items)
         (sources_at (L.faults library.old) (I.faults input.old) (I.bytes input.old))
         (sources_at (L.faults library.new) (I.faults input.new) (I.bytes input.new))
@@ -240,7 +252,7 @@ pub fn chill_alone<L: Library, I: Feed, O: Sink, E: Sink>(
     ensures unfed { (Runs command.now → ⊥) → input.new ≡ input.old }
 {
     let planned = plan_alone(alloc, command, library, input);
-    answer(alloc, is_watched(command), planned, watchers, out, err)
+    answer(alloc, showing_of(command), planned, watchers, out, err)
 }
 
 /// Carries out the command that the words mean. Where it runs a text by several workers it waits for the kernel's lock; each
@@ -264,20 +276,23 @@ pub fn chill<R: Threads + Wait + Sync, L: Library, I: Feed, O: Sink, E: Sink, G:
         (sinks_at (O.faults out.old) (E.faults err.old) (O.taken out.old) (E.taken err.old))
         (sinks_at (O.faults out.new) (E.faults err.new) (O.taken out.new) (E.taken err.new))
         result }
-    ensures journal { IfSome result.over (λ over. IsJournal (said (map string_bytes words.now)) (L.contents library.old)
+    ensures journal { IfSome result.over (λ over. IsJournal (said (map string_bytes words.now))
+        (L.contents library.old)
         (map (λ b. watching b) watchers.old.items)
         (sources_at (L.faults library.old) (I.faults input.old) (I.bytes input.old))
         (sources_at (L.faults library.new) (I.faults input.new) (I.bytes input.new))
         (sinks_at (O.faults out.old) (E.faults err.old) (O.taken out.old) (E.taken err.old))
         (sinks_at (O.faults out.new) (E.faults err.new) (O.taken out.new) (E.taken err.new))
         result over) }
-    ensures refused { result.status ≡ 3 → IsRefused (said (map string_bytes words.now)) (L.contents library.old)
+    ensures refused { result.status ≡ 3 → IsRefused (said (map string_bytes words.now))
+        (L.contents library.old)
         (sources_at (L.faults library.old) (I.faults input.old) (I.bytes input.old))
         (sources_at (L.faults library.new) (I.faults input.new) (I.bytes input.new))
         (sinks_at (O.faults out.old) (E.faults err.old) (O.taken out.old) (E.taken err.old))
         (sinks_at (O.faults out.new) (E.faults err.new) (O.taken out.new) (E.taken err.new)) }
     // Without `--watch` the watchers are untouched.
-    ensures unwatched { watch_of (said (map string_bytes words.now)) ≡ false → watchers.new ≡ watchers.old }
+    ensures unwatched { watch_of (said (map string_bytes words.now)) ≡ false
+        → watchers.new ≡ watchers.old }
     // Where the words are no command that names a file, no file is read, and where they are none that runs a text, no input.
     ensures no_file { option_and_then commands.file_of (said (map string_bytes words.now)) ≡ None
         → library.new ≡ library.old }
@@ -288,11 +303,18 @@ pub fn chill<R: Threads + Wait + Sync, L: Library, I: Feed, O: Sink, E: Sink, G:
             Some(count) => {
                 let workers = Workers { rt, gate, count };
                 let planned = plan_by_workers(alloc, &command, library, input, &workers);
-                answer(alloc, is_watched(&command), planned, watchers, out, err)
+                answer(alloc, showing_of(&command), planned, watchers, out, err)
             }
             None => chill_alone(alloc, &command, library, input, out, err, watchers),
         },
-        Err(WordRefusal::Usage) => answer(alloc, false, Ok(Plan::Usage), watchers, out, err),
+        Err(WordRefusal::Usage) => answer(
+            alloc,
+            NOTHING_SHOWN,
+            Ok(Plan::Usage),
+            watchers,
+            out,
+            err,
+        ),
         Err(WordRefusal::Memory) => without_run(alloc, NO_MEMORY),
     }
 }
@@ -327,8 +349,13 @@ fn outcome_of(alloc: Global, plan: Plan, status: u8, dropped: Numbers) -> Outcom
                 dropped: Numbers::new(alloc),
             }
         }
-        Plan::Usage | Plan::Refused(_) | Plan::Accepted | Plan::Formatted(_) | Plan::InputTooLong =>
-            without_run(alloc, status),
+        Plan::Usage
+        | Plan::Refused(_)
+        | Plan::Accepted
+        | Plan::Formatted(_)
+        | Plan::InputTooLong
+        | Plan::JournalTooLong
+        | Plan::Judged(_) => without_run(alloc, status),
     }
 }
 

@@ -42,6 +42,8 @@ pub(crate) fn show(
         | Plan::Accepted
         | Plan::Listed(_)
         | Plan::Formatted(_)
-        | Plan::InputTooLong => Ok(Numbers::new(alloc)),
+        | Plan::InputTooLong
+        | Plan::JournalTooLong
+        | Plan::Judged(_) => Ok(Numbers::new(alloc)),
     }
 }

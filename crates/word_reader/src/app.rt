@@ -15,7 +15,9 @@ pub fn app<'a>(alloc: Global) -> Result<Command<'a>, AllocError> {
         .subcommand(one(alloc, "check", "file")?)?
         .subcommand(one(alloc, "list", "file")?)?
         .subcommand(one(alloc, "format", "file")?)?
-        .subcommand(one(alloc, "make", "number")?)
+        .subcommand(one(alloc, "make", "number")?)?
+        .subcommand(record(alloc)?)?
+        .subcommand(replay(alloc)?)
 }
 
 fn run<'a>(alloc: Global) -> Result<Command<'a>, AllocError> {
@@ -28,6 +30,18 @@ fn run<'a>(alloc: Global) -> Result<Command<'a>, AllocError> {
         .arg(workers)?
         .arg(units)?
         .arg(watch)
+}
+
+fn record<'a>(alloc: Global) -> Result<Command<'a>, AllocError> {
+    let workers = Arg::new(alloc, "workers").long("workers");
+    let units = Arg::new(alloc, "units").long("units");
+    one(alloc, "record", "file")?.arg(workers)?.arg(units)
+}
+
+fn replay<'a>(alloc: Global) -> Result<Command<'a>, AllocError> {
+    let journal = Arg::new(alloc, "journal").required(true);
+    let units = Arg::new(alloc, "units").long("units");
+    one(alloc, "replay", "file")?.arg(journal)?.arg(units)
 }
 
 // A command with one word.
@@ -54,6 +68,16 @@ pub fn wording<'a>(matches: &ArgMatches<'a>) -> Option<Wording<'a>> {
         }),
         "format" => Some(Wording::Format {
             file: found.get_str("file")?,
+        }),
+        "record" => Some(Wording::Record {
+            file: found.get_str("file")?,
+            workers: option(found, "workers", 4, 16)?,
+            units: option(found, "units", 1_000_000, 10_000_000)? as u64,
+        }),
+        "replay" => Some(Wording::Replay {
+            file: found.get_str("file")?,
+            journal: found.get_str("journal")?,
+            units: option(found, "units", 1_000_000, 10_000_000)? as u64,
         }),
         _ => Some(Wording::Make {
             subscribers: number(1, 200, found.get_str("number")?.as_bytes())?,

@@ -39,7 +39,8 @@ impl FileName {
 /// What the program is to do.
 #[derive(Drop)]
 pub enum Command {
-    /// Runs a program with 1 to 16 workers and a budget of 1 to 10,000,000 units, and shows its journal to the watchers.
+    /// Runs a program with 1 to 16 workers and a budget of 1 to 10,000,000 units, and shows its
+    /// journal to the watchers.
     Run {
         file: FileName,
         workers: u32,
@@ -61,5 +62,17 @@ pub enum Command {
     /// Runs an exchange of 1 to 200 subscribers.
     Make {
         subscribers: u32,
+    },
+    /// Runs a program as `Run` does, and writes its journal.
+    Record {
+        file: FileName,
+        workers: u32,
+        units: u64,
+    },
+    /// Tells whether a journal is a run of a program, with a budget of 1 to 10,000,000 units.
+    Replay {
+        file: FileName,
+        journal: FileName,
+        units: u64,
     },
 }

@@ -1,11 +1,14 @@
 // Which command words are: by the first word, and by what the others say (our own choice).
-ghost use Rattle.std.specs.Prelude.{◌≡◌, true, false, IfOk, option_map, option_and_then, map, string_bytes};
+ghost use Rattle.std.specs.Prelude.{◌≡◌, IfOk, option_map, option_and_then, map, string_bytes};
+ghost use Rattle.word_reader.specs.Reading as manners;
 ghost use Rattle.word_reader.specs.Reading.{read_by, word_at as text_at};
-ghost use Rattle.word_reader.specs.Said.{command_of, run_of, file_of, made_of, check_of, list_of, format_of, said};
+ghost use Rattle.word_reader.specs.declared.command.Command.TheVariants as variants;
+ghost use Rattle.word_reader.specs.Said.{IsSaid, command_of, run_of, record_of, replay_of, said};
+ghost use Rattle.word_reader.specs.Said.{file_of, check_of, list_of, format_of, made_of};
 
 use crate::command::{Command, FileName};
 use crate::number::number;
-use crate::reading::walk;
+use crate::reading::{plain_manner, record_manner, replay_manner, run_manner, walk};
 use std::alloc::{AllocError, Global};
 
 /// A command whose file is named by one of the words.
@@ -28,6 +31,16 @@ pub enum Wording<'a> {
     },
     Make {
         subscribers: u32,
+    },
+    Record {
+        file: &'a str,
+        workers: u32,
+        units: u64,
+    },
+    Replay {
+        file: &'a str,
+        journal: &'a str,
+        units: u64,
     },
 }
 
@@ -58,8 +71,38 @@ impl Wording<'_> {
                 file: FileName::new(alloc, file)?,
             }),
             Wording::Make { subscribers } => Ok(Command::Make { subscribers }),
+            Wording::Record {
+                file,
+                workers,
+                units,
+            } => recorded(alloc, file, workers, units),
+            Wording::Replay {
+                file,
+                journal,
+                units,
+            } => replayed(alloc, file, journal, units),
         }
     }
+}
+
+fn recorded(alloc: Global, file: &str, workers: u32, units: u64) -> Result<Command, AllocError>
+    ensures { IfOk result (λ c. c ≡ variants.Record file.now workers units) }
+{
+    Ok(Command::Record {
+        file: FileName::new(alloc, file)?,
+        workers,
+        units,
+    })
+}
+
+fn replayed(alloc: Global, file: &str, journal: &str, units: u64) -> Result<Command, AllocError>
+    ensures { IfOk result (λ c. c ≡ variants.Replay file.now journal.now units) }
+{
+    Ok(Command::Replay {
+        file: FileName::new(alloc, file)?,
+        journal: FileName::new(alloc, journal)?,
+        units,
+    })
 }
 
 /// The command that the words mean.
@@ -80,6 +123,10 @@ pub fn decide(words: &[String]) -> Option<Wording<'_>>
                 format(rest)
             } else if verb == "make" {
                 make(rest)
+            } else if verb == "record" {
+                record(rest)
+            } else if verb == "replay" {
+                replay(rest)
             } else {
                 None
             }
@@ -97,9 +144,9 @@ fn word_at(words: &[String], i: usize) -> &str
 }
 
 fn run(words: &[String]) -> Option<Wording<'_>>
-    ensures { option_map command_of result ≡ option_and_then run_of (read_by true words.entry.now) }
+    ensures { IsSaid result run_of (read_by manners.run_manner words.entry.now) }
 {
-    let reading = walk(true, words)?;
+    let reading = walk(run_manner(), words)?;
     let place = reading.place?;
     Some(Wording::Run {
         file: word_at(words, place),
@@ -109,38 +156,64 @@ fn run(words: &[String]) -> Option<Wording<'_>>
     })
 }
 
+fn record(words: &[String]) -> Option<Wording<'_>>
+    ensures { IsSaid result record_of (read_by manners.record_manner words.entry.now) }
+{
+    let reading = walk(record_manner(), words)?;
+    let place = reading.place?;
+    Some(Wording::Record {
+        file: word_at(words, place),
+        workers: reading.workers.unwrap_or(4),
+        units: reading.units.unwrap_or(1_000_000) as u64,
+    })
+}
+
+fn replay(words: &[String]) -> Option<Wording<'_>>
+    ensures { IsSaid result replay_of (read_by manners.replay_manner words.entry.now) }
+{
+    let reading = walk(replay_manner(), words)?;
+    let place = reading.place?;
+    let second = reading.second?;
+    Some(Wording::Replay {
+        file: word_at(words, place),
+        journal: word_at(words, second),
+        units: reading.units.unwrap_or(1_000_000) as u64,
+    })
+}
+
 // The one word of a command without options.
 fn only_word(words: &[String]) -> Option<&str>
-    ensures { option_map (λ word. word.now) result ≡ option_and_then file_of (read_by false words.entry.now) }
+    ensures { option_map (λ word. word.now) result
+        ≡ option_and_then file_of (read_by manners.plain_manner words.entry.now) }
 {
-    let reading = walk(false, words)?;
+    let reading = walk(plain_manner(), words)?;
     let place = reading.place?;
     Some(word_at(words, place))
 }
 
 fn check(words: &[String]) -> Option<Wording<'_>>
-    ensures { option_map command_of result ≡ option_and_then check_of (read_by false words.entry.now) }
+    ensures { IsSaid result check_of (read_by manners.plain_manner words.entry.now) }
 {
     let file = only_word(words)?;
     Some(Wording::Check { file })
 }
 
 fn list(words: &[String]) -> Option<Wording<'_>>
-    ensures { option_map command_of result ≡ option_and_then list_of (read_by false words.entry.now) }
+    ensures { IsSaid result list_of (read_by manners.plain_manner words.entry.now) }
 {
     let file = only_word(words)?;
     Some(Wording::List { file })
 }
 
 fn format(words: &[String]) -> Option<Wording<'_>>
-    ensures { option_map command_of result ≡ option_and_then format_of (read_by false words.entry.now) }
+    ensures { IsSaid result format_of (read_by manners.plain_manner words.entry.now) }
 {
     let file = only_word(words)?;
     Some(Wording::Format { file })
 }
 
 fn make(words: &[String]) -> Option<Wording<'_>>
-    ensures { option_map command_of result ≡ option_and_then made_of (read_by false words.entry.now) }
+    ensures { IsSaid result made_of (read_by manners.plain_manner words.entry.now) }
 {
     let word = only_word(words)?;
     let subscribers = number(1, 200, word.as_bytes())?;

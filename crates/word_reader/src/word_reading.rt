@@ -66,6 +66,30 @@ fn is_same(one: Wording<'_>, other: Wording<'_>) -> bool
         (Wording::List { file }, Wording::List { file: f }) => file == f,
         (Wording::Format { file }, Wording::Format { file: f }) => file == f,
         (Wording::Make { subscribers }, Wording::Make { subscribers: s }) => subscribers == s,
+        (
+            Wording::Record {
+                file,
+                workers,
+                units,
+            },
+            Wording::Record {
+                file: f,
+                workers: w,
+                units: u,
+            },
+        ) => file == f && workers == w && units == u,
+        (
+            Wording::Replay {
+                file,
+                journal,
+                units,
+            },
+            Wording::Replay {
+                file: f,
+                journal: j,
+                units: u,
+            },
+        ) => file == f && journal == j && units == u,
         _ => false,
     }
 }

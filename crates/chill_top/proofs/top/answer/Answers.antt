@@ -8,10 +8,10 @@ use Rattle.chill_top.proofs.top.answer.Goals as goal
 pub returns-in-Err-Memory-clause-answered : goal.returns-in-Err-Memory-clause-answered
 returns-in-Err-Memory-clause-answered g c =
     let is : c.args.planned ≡ Err Memory = search rules in
-    answers_memory c.args.watch c.args.planned _ _ _ _ is (record { out = keeps_same _; err = keeps_same _ }) c.without_run.ensures
+    answers_memory c.args.showing c.args.planned _ _ _ _ is (record { out = keeps_same _; err = keeps_same _ }) c.without_run.ensures
 
 -- something wasn't read
 pub returns-in-Err-Fault-clause-answered : goal.returns-in-Err-Fault-clause-answered
 returns-in-Err-Fault-clause-answered g c =
     let is : c.args.planned ≡ Err Fault = search rules in
-    answers_fault c.args.watch c.args.planned _ _ _ _ is (record { out = keeps_same _; err = keeps_same _ }) c.without_run-in-Err-Fault.ensures
+    answers_fault c.args.showing c.args.planned _ _ _ _ is (record { out = keeps_same _; err = keeps_same _ }) c.without_run-in-Err-Fault.ensures

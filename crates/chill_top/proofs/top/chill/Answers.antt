@@ -8,7 +8,7 @@ use Rattle.chill_top.proofs.top.chill.Goals as goal
 pub returns-in-Some-clause-answer : goal.returns-in-Some-clause-answer
 returns-in-Some-clause-answer g c =
     let made = c.plan_by_workers-planned in
-    answer_of _ c.in-Ok.command _ _ _ _ _ _ _ c.is_watched.result made.result _ c.in-Ok.ensures.ok c.is_watched.ensures made.ensures.plan made.ensures.kept made.ensures.stays made.ensures.fault c.answer.ensures.answered
+    answer_of _ c.in-Ok.command _ _ _ _ _ _ _ c.showing_of.result made.result _ c.in-Ok.ensures.ok c.showing_of.ensures made.ensures.plan made.ensures.kept made.ensures.stays made.ensures.fault c.answer.ensures.answered
 
 pub returns-in-Some-clause-journal : goal.returns-in-Some-clause-journal
 returns-in-Some-clause-journal g c = journal_of _ _ _ _ _ _ _ _ _ (returns-in-Some-clause-answer g c)
