@@ -144,7 +144,7 @@ pub held-plan : (command : Command) (contents behind : List ℕ → Contents) (f
     → IsStageOf command contents feed left (stages.Decided plan)
 held-plan command contents behind feed left read journal units plan found holds same is =
     let of_journal : IsReplayPlan units found.text (contents journal) feed left plan =
-        subst (λ (of : Contents). IsReplayPlan units found.text of feed left plan) same (is found.text found.reading) in
+    subst (λ (of : Contents). IsReplayPlan units found.text of feed left plan) same (is found.text found.reading) in
     record {
       text = found.text;
       told = found.told;

@@ -4,7 +4,6 @@ use Rattle.std.specs.List.{flat_map}
 use Rattle.std.specs.declared.option.Option.{Option}
 use Rattle.std.specs.declared.result.Result.{Result}
 use Rattle.std.specs.Io.KnownBytes.{Appends, Keeps}
-use Rattle.elaborate.specs.declared.program.Program.{Program}
 use Rattle.code_types.specs.declared.code.Code.{Code}
 use Rattle.diagnostics.specs.declared.diagnostic.Diagnostic.{Diagnostic}
 use Rattle.kernel_base.specs.declared.ends.Over.{Over}
@@ -13,6 +12,7 @@ use Rattle.listing.specs.Diagnostics.{lines_of}
 use Rattle.outside_ports.specs.Library.{Contents}
 use Rattle.outside_ports.specs.Watcher.{Watching, told}
 use Rattle.run_texts.specs.Report.{report_of}
+use Rattle.text_to_code.specs.Building.{Program}
 use Rattle.text_to_code.specs.Telling.{IsUnread}
 use Rattle.watchers.specs.Shown.{stayed, places, IsLeft}
 use Rattle.word_reader.specs.declared.command.Command.{Command}

@@ -20,13 +20,13 @@ use crate::watching::show;
 use crate::write::write_all;
 use chill_base::{Memory, Numbers};
 use code_guard::Guarded;
-use elaborate::Program;
 use kernel_base::{Events, Over};
 use outside_ports::{Feed, Gate, Library, Sink, Watcher};
 use serial_run::Machines;
 use std::alloc::Global;
 use std::sync::Wait;
 use std::thread::Threads;
+use text_to_code::Program;
 use word_reader::{Command, WordRefusal, read_words};
 
 /// What a call answered.
