@@ -1,3 +1,4 @@
 pub mod ExprInRange
 pub mod StatementInRange
 pub mod Laws
+pub mod Placed

@@ -65,7 +65,7 @@ abbrev members_in : Shape → ℕ
 members_in (part n r b s) = count_within b
 members_in s = 0
 
-abbrev domains_in : Option Bounds → Shape → List Domain
+abbrev pub domains_in : Option Bounds → Shape → List Domain
 domains_in o like_int = domain_in o ∷ []
 domains_in o like_boolean = domain_in o ∷ []
 domains_in o like_char = domain_in o ∷ []
@@ -96,7 +96,7 @@ single_domains no_more o e = absurd (let f : ⊥ = cc in f)
 single_domains (next_field name at m fs) o e = absurd (let f : ⊥ = cc in f)
 
 mutual
-  shaped : (m : ModeTree) → IsTrue (parts_fit m) → domains_of m ≡ domains_in (bounds_of m) (shape_of m)
+  pub shaped : (m : ModeTree) → IsTrue (parts_fit m) → domains_of m ≡ domains_in (bounds_of m) (shape_of m)
   shaped int p = refl
   shaped boolean p = refl
   shaped char p = refl
