@@ -1,15 +1,14 @@
 -- The bodies of an elaborated program have few alternatives, and their statements stand as those of a text.
-use Rattle.std.proofs.Common.{◌≡◌, ℕ, zero, suc, ◌+◌, ◌≤◌, ◌<◌, Bool, true, false, List, [], ◌∷◌, ◌++◌, length, Option, Some, None, Contains, refl, sym, ap, ◌∙◌, subst, arith, true≢false}
+use Rattle.std.proofs.Common.{◌≡◌, ℕ, zero, suc, ◌≤◌, true, List, [], ◌∷◌, length, Option, Some, None, Contains, sym, ap, ◌∙◌, subst, arith, true≢false}
 use Rattle.std.specs.Prelude.{map, flat_map, slice_get}
 use Rattle.chill_tree.specs.declared.tree.name.Name.{Name}
 use Rattle.chill_tree.specs.StatementTree.{BodyTree, HandlerTree, body_nodes, handler_node}
-use Rattle.chill_tree.specs.ItemTree.{ProcedureTree, ProcessTree, ItemTree, ProgramTree, ModulionTree, modulion_item}
+use Rattle.chill_tree.specs.ItemTree.{ProgramTree, ModulionTree, modulion_item}
 use Rattle.modes.specs.ModeTree.{ModeTree}
 use Rattle.names_model.specs.declared.definition.Inside.TheVariants.{Outermost}
-use Rattle.names_model.specs.declared.definition.Definition.{Definition}
 use Rattle.names_model.specs.Definitions.{text_definitions}
 use Rattle.names_model.specs.Resolving.{level_of}
-use Rattle.text_size.specs.Sizes.{item_size, modulions_size, program_size, procedure_size, process_size, parts_size, handler_size, body_size, some_handler_size}
+use Rattle.text_size.specs.Sizes.{modulions_size, program_size, parts_size, handler_size}
 use Rattle.program_trees.specs.StatementTree as done
 use Rattle.program_trees.specs.ProgramTree.{BodyRowTree, CheckedTree}
 use Rattle.checks_model.specs.Ground.{Ground, Origin, Predefined, a_procedure, a_process, a_predefined}
@@ -21,27 +20,25 @@ use Rattle.written_laws.specs.Written.{Each}
 use Rattle.written_laws.proofs.Shown.{each_append, each_any, each_flat}
 use Rattle.written_laws.proofs.Sets.{each_more}
 use Rattle.written_laws.proofs.WrittenSo.{each_predefined, each_there}
-use Rattle.elaborated_laws.proofs.Told.{no_some, same_some, there_chained}
-use Rattle.elaboration_model.specs.Parts.{made_of, made_each}
-use Rattle.elaboration_model.specs.Numbering.{Source, Row, has_body, count_before, local_defined}
-use Rattle.elaboration_model.specs.Exceptions.{exception_number}
-use Rattle.elaboration_model.specs.Statements.{in_body, body, handled, some_names}
+use Rattle.elaborated_laws.proofs.Told.{same_some, there_chained}
+use Rattle.elaboration_model.specs.Numbering.{Source, Row, has_body, count_before}
+use Rattle.elaboration_model.specs.Statements.{in_body, body, handled}
 use Rattle.elaboration_model.specs.Modulions.{modulions_done}
-use Rattle.elaboration_model.specs.Elaborated.{rows_made, locals_of, listed_by, result_of, inside_of, outermost_body, process_body, procedure_body, procedure_made, body_as, outermost, bodies_of, source_of, elaborated}
+use Rattle.elaboration_model.specs.Elaborated.{rows_made, locals_of, listed_by, result_of, inside_of, outermost_body, process_body, procedure_body, procedure_made, body_as, outermost, source_of, elaborated}
 use Rattle.expression_laws.specs.Nodes.{NodesOf}
 use Rattle.expression_laws.proofs.Actions.{each_first, each_later}
 use Rattle.expression_laws.proofs.Exits.{exits_there}
 use Rattle.expression_laws.proofs.Nodes.{nodes_there}
 use Rattle.expression_laws.proofs.Outside.{row_parts}
 use Rattle.expression_laws.proofs.Text.{of_member}
-use Rattle.program_laws.proofs.Rows.{SiteSo, IsReceivedAs}
+use Rattle.program_laws.proofs.Rows.{SiteSo}
 use Rattle.program_laws.proofs.Counters.{processes_clean}
 use Rattle.program_laws.proofs.Defined.{names_list, sites_so}
 use Rattle.head_laws.proofs.Rows.{MadeOf, made_parts, three_parts, each_row}
 use Rattle.head_laws.proofs.Heads.{FiveParts, five_parts}
-use Rattle.compilable_laws.specs.Few.{StatementsHaveFew, HandlerHasFew, BodyHasFew, HasFewThings, HasFew}
+use Rattle.compilable_laws.specs.Few.{BodyHasFew}
 use Rattle.range_laws.specs.StatementInRange.{ExceptionsInRange}
-use Rattle.range_laws.specs.Placed.{AreInOrder, StatementsPlaced, HandlerPlaced, BodyPlaced, BodiesPlaced}
+use Rattle.range_laws.specs.Placed.{AreInOrder, BodyPlaced}
 use Rattle.made_laws.proofs.Runs.{SiteRun, text_runs}
 use Rattle.made_laws.proofs.Order.{in_order}
 use Rattle.made_laws.proofs.Statements.{SiteOrdered, StatementsOk, HandlerOk, ItemsOk, exceptions_ok, handler_ok, body_ok}

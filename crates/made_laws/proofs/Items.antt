@@ -1,33 +1,32 @@
 -- What modulions do in the outermost process, as it is elaborated: it has few alternatives, and stands as that of a text.
-use Rattle.std.proofs.Common.{◌≡◌, ℕ, ◌+◌, ◌≤◌, Bool, true, false, List, [], ◌∷◌, ◌++◌, Option, Some, None, refl, sym, ap, ◌∙◌, subst, arith, true≢false}
+use Rattle.std.proofs.Common.{◌≡◌, ℕ, ◌≤◌, Bool, true, false, List, [], Option, Some, None, refl, sym, ◌∙◌, subst, arith, true≢false}
 use Rattle.std.specs.Prelude.{if◌then◌else◌, not, option_map, option_and_then}
 use Rattle.std.specs.List.{list_any}
 use Rattle.chill_tree.specs.declared.tree.name.Name.{Name}
 use Rattle.chill_tree.specs.declared.tree.item.ModulionKind.{ModulionKind}
 use Rattle.chill_tree.specs.declared.tree.item.ModulionKind.TheVariants as modulions
-use Rattle.chill_tree.specs.StatementTree.{HandlerTree, handler_node}
+use Rattle.chill_tree.specs.StatementTree.{handler_node}
 use Rattle.chill_tree.specs.ItemTree.{ItemTree, ItemNodes, seize, grant, local_item, signals, procedure, process, modulion, action, no_items, more_items, items_in}
 use Rattle.names_model.specs.ItemParts.{is_region}
-use Rattle.text_size.specs.Sizes.{item_size, items_size, handler_size, some_handler_size, statement_size}
-use Rattle.diagnostics.specs.declared.diagnostic.Diagnostic.{Diagnostic}
+use Rattle.text_size.specs.Sizes.{item_size, items_size}
 use Rattle.diagnostics.specs.declared.rule.Rule.TheVariants as rules
 use Rattle.program_trees.specs.StatementTree as done
 use Rattle.program_trees.specs.ProgramTree.{CheckedTree}
-use Rattle.checks_model.specs.Told.{tell_at, told_if}
+use Rattle.checks_model.specs.Told.{tell_at}
 use Rattle.checks_model.specs.ProcessRules.{told_item}
 use Rattle.checks_model.specs.ProcessRules as process_rules
-use Rattle.checks_model.specs.Sites.{Site, in_no_procedure, at_item, sites_of, sites_of_handler, sites_of_item, sites_of_items}
+use Rattle.checks_model.specs.Sites.{Site, in_no_procedure, sites_of_handler, sites_of_item, sites_of_items}
 use Rattle.written_laws.specs.Written.{Each}
-use Rattle.elaborated_laws.proofs.Told.{not_broken, no_some, same_some, there_mapped, there_chained}
+use Rattle.elaborated_laws.proofs.Told.{not_broken, same_some, there_mapped, there_chained}
 use Rattle.elaboration_model.specs.Parts.{made_of}
 use Rattle.elaboration_model.specs.Numbering.{Source, thing_defined, region_number}
 use Rattle.elaboration_model.specs.Statements.{in_body, statement, handled, declarations, before}
-use Rattle.elaboration_model.specs.Modulions.{has_value, region_action, modulion_action, item_before, items_done, modulions_done}
+use Rattle.elaboration_model.specs.Modulions.{has_value, region_action, modulion_action, item_before, items_done}
 use Rattle.expression_laws.proofs.Actions.{each_first, each_later}
 use Rattle.head_laws.proofs.Rows.{made_parts}
-use Rattle.compilable_laws.specs.Few.{StatementsHaveFew, StatementHasFew, ActionHasFew, HandlerHasFew}
-use Rattle.range_laws.specs.Placed.{StatementsPlaced, StatementPlaced, ActionPlaced, HandlerPlaced}
-use Rattle.made_laws.proofs.Statements.{SiteOrdered, ItemsOk, HandlerOk, local_before, statement_ok, handler_ok}
+use Rattle.compilable_laws.specs.Few.{StatementHasFew, ActionHasFew}
+use Rattle.range_laws.specs.Placed.{StatementsPlaced, StatementPlaced, ActionPlaced}
+use Rattle.made_laws.proofs.Statements.{SiteOrdered, ItemsOk, local_before, statement_ok, handler_ok}
 
 same_region : (kind : ModulionKind) → process_rules.is_region kind ≡ is_region kind
 same_region modulions.Module = refl

@@ -1,13 +1,13 @@
 -- The modes that a text writes have places for their scalars: no place is impossible, and no two fields share a bit.
 use Rattle.std.proofs.Common.{◌≡◌, ℕ, suc, Bool, true, false, List, [], ◌∷◌, ◌++◌, length, map, Option, Some, None, refl, ap, sym, ◌∙◌, subst, append_assoc, arith}
-use Rattle.std.specs.Prelude.{◌&&◌, ◌||◌, not, is_ok, is_some, if◌then◌else◌, IsTrue, slice_get, option_map, option_and_then, ℤ}
+use Rattle.std.specs.Prelude.{◌&&◌, ◌||◌, not, is_ok, is_some, if◌then◌else◌, IsTrue, option_map, option_and_then, ℤ}
 use Rattle.std.proofs.Math.Seq.{get_or-append_seam}
 use Rattle.std.proofs.lemmas.Option.{same_Some}
 use Rattle.chill_tree.specs.declared.tree.name.Name.{Name}
 use Rattle.chill_tree.specs.ModeTree as written
 use Rattle.diagnostics.specs.declared.diagnostic.Diagnostic.{Diagnostic}
 use Rattle.diagnostics.specs.declared.rule.Rule.TheVariants as rules
-use Rattle.modes.specs.ModeTree.{ModeTree, int, boolean, char, instance, set_of, range, powerset, chars, array, structure, event, buffer, read, FieldNodes, no_fields, more_fields, PlaceTree, SpreadTree, words, packed, step}
+use Rattle.modes.specs.ModeTree.{ModeTree, set_of, range, powerset, chars, array, structure, event, buffer, read, FieldNodes, no_fields, more_fields, PlaceTree, SpreadTree, words, packed, step}
 use Rattle.modes.specs.Bounds.{values_of}
 use Rattle.layout_map.specs.Place.{is_possible, is_possible_step, shares}
 use Rattle.layout_map.specs.Numbered.{some_placed, all_placed, are_mixed, is_misplaced}
@@ -17,12 +17,12 @@ use Rattle.names_model.specs.NameRules.{tell}
 use Rattle.checks_model.specs.Ground.{Ground, number_at, mode_of_name}
 use Rattle.checks_model.specs.Told.{told_if, is_none_told, holds_of_both}
 use Rattle.checks_model.specs.WrittenModes as model
-use Rattle.checks_model.specs.WrittenModes.{unless_told, told_large, set_named, range_from, told_range, needed_number, mode_of_discrete, told_name, discrete_name, told_discrete_name, told_of_powerset, length_of, mode_of_base, told_at_array, array_from, told_spread, spread_there, step_misfits, holds_of_three, is_impossible_spread, mode_of_index, told_at_structure, told_fields, told_field, told_overlap, shares_with, is_twice, have_places, has_place, held_place, field_from, fields_from, structure_from, fields_there, fields_named, FieldThere, is_packed, place_there, place_has_no_int, if_whole, mode_of, some_length_of, buffer_from}
+use Rattle.checks_model.specs.WrittenModes.{told_large, set_named, range_from, told_range, needed_number, mode_of_discrete, told_name, discrete_name, told_discrete_name, told_of_powerset, length_of, mode_of_base, told_at_array, array_from, told_spread, spread_there, step_misfits, holds_of_three, is_impossible_spread, mode_of_index, told_at_structure, told_fields, told_field, told_overlap, shares_with, is_twice, have_places, has_place, held_place, field_from, fields_from, structure_from, fields_there, fields_named, FieldThere, is_packed, place_there, place_has_no_int, if_whole, mode_of, some_length_of, buffer_from}
 use Rattle.constant_operators.specs.Laid.{step_is_laid, are_apart, is_laid, fields_are_laid}
-use Rattle.table_laws.specs.Names.{names_in_discrete, names_in_index, names_in_some_place, names_in_spread, names_in_base, names_in_fields, names_in_some, names_in_mode}
+use Rattle.table_laws.specs.Names.{names_in_discrete, names_in_index, names_in_some_place, names_in_spread, names_in_base, names_in_fields, names_in_mode}
 use Rattle.written_laws.specs.Written.{Each}
 use Rattle.expression_laws.proofs.Actions.{each_first, each_later}
-use Rattle.made_laws.proofs.Gates.{kept_some, then_none, if_none, or_none}
+use Rattle.made_laws.proofs.Gates.{kept_some, then_none, if_none, or_none, append_none}
 
 and-true : (a b : Bool) → IsTrue a → IsTrue b → IsTrue (a && b)
 and-true true b h k = k

@@ -1,6 +1,6 @@
 -- The modes that the names of a text stand for have places for their scalars.
-use Rattle.std.proofs.Common.{◌≡◌, ◌<◌, ℕ, Bool, true, false, List, [], ◌∷◌, ◌++◌, Option, Some, None, length, true≢false, refl, sym, ap, ◌∙◌, ◌⊎◌, inl, inr, subst, arith, Contains, IsTrue}
-use Rattle.std.specs.Prelude.{IfSome, map, flat_map, slice_get, option_map, option_and_then}
+use Rattle.std.proofs.Common.{◌≡◌, ◌≤◌, ℕ, Bool, true, false, List, [], ◌∷◌, Option, Some, None, length, true≢false, refl, sym, ap, ◌∙◌, inl, inr, subst, arith, Contains, IsTrue}
+use Rattle.std.specs.Prelude.{IfSome, slice_get, option_map, option_and_then}
 use Rattle.std.proofs.lemmas.Bool.{cases_lt}
 use Rattle.std.proofs.lemmas.Option.{slice_get_past}
 use Rattle.names_laws.proofs.Members.{none_in, in_cases}
@@ -9,16 +9,16 @@ use Rattle.chill_tree.specs.ModeTree as written
 use Rattle.chill_tree.specs.ItemTree.{ProgramTree}
 use Rattle.modes.specs.ModeTree.{ModeTree, named}
 use Rattle.text_size.specs.Sizes.{program_size}
-use Rattle.checks_model.specs.Ground.{Ground, Origin, Entry, Predefined, of_mode, a_mode, a_synonym, an_element, a_location, a_parameter, a_counter, a_received, a_procedure, a_process, a_signal, a_modulion, a_predefined, number_at, origin_of, entry_of, named_mode}
+use Rattle.checks_model.specs.Ground.{Ground, Origin, Entry, Predefined, of_mode, a_mode, a_predefined, number_at, origin_of, named_mode}
 use Rattle.checks_model.specs.Origins.{text_origins, predefined_origins, in_both_cases, origins_of}
 use Rattle.checks_model.specs.WrittenModes.{mode_of}
 use Rattle.checks_model.specs.Table.{entry_with_counters}
 use Rattle.checks_model.specs.Diagnoses.{BreaksNoRule}
 use Rattle.constant_operators.specs.Laid.{is_laid}
-use Rattle.table_laws.specs.Names.{names_in_mode, names_needed}
+use Rattle.table_laws.specs.Names.{names_in_mode}
 use Rattle.table_laws.specs.Frames.{is_read}
-use Rattle.table_laws.specs.OneTable.{AllDone, NeedsDone, NeedsEarlier, IsOrder}
-use Rattle.elaborated_laws.proofs.Told.{no_some, same_some, there_mapped, there_chained}
+use Rattle.table_laws.specs.OneTable.{AllDone, NeedsDone, NeedsEarlier}
+use Rattle.elaborated_laws.proofs.Told.{no_some, same_some, there_mapped}
 use Rattle.order_laws.proofs.Selves.{text_order}
 use Rattle.written_laws.specs.Written.{Each}
 use Rattle.written_laws.proofs.Shown.{each_append, each_flat}
@@ -81,7 +81,7 @@ module _ (text : List ℕ) (t : ProgramTree) (h : Ground) (has : BreaksNoRule te
   unread e d None is fits = nothing_laid e (Some d)
   unread e d (Some (a_predefined p)) is fits = predefined_laid e (Some d) p (fits (a_predefined p) refl)
   unread e d (Some (a_mode novel w)) is fits = absurd (true≢false is)
-  unread e d (Some o) is fits m there = no_some m there
+  unread e d (Some o) is fits = λ m there. no_some m there
 
   done_laid : (done : List ℕ) (n : Name) → AllLaid done → (is_read (origin_of h n) ≡ true → IfSome (number_at h.uses n.at) (Contains done)) → IsNameLaid h n
   done_laid done n laid there = by_number (number_at h.uses n.at) (λ d at. by d at (is_read (slice_get h.origins d)) refl)
@@ -96,11 +96,11 @@ module _ (text : List ℕ) (t : ProgramTree) (h : Ground) (has : BreaksNoRule te
 
   by_origin : (done : List ℕ) (d : ℕ) (o : Option Origin) → AllLaid done → ((x : Origin) → o ≡ Some x → IsLaidOrigin x) → NeedsDone h done o → LaidBy (option_map (entry_with_counters h) o) (Some d) o
   by_origin done d None laid fits needs = nothing_laid None (Some d)
-  by_origin done d (Some (a_mode novel w)) laid fits needs m is =
+  by_origin done d (Some (a_mode novel w)) laid fits needs = λ m is.
       let there = there_mapped (named d novel) (mode_of h true w) m is in
       subst (λ (x : ModeTree). IsTrue (is_laid x)) there.2 (mode_laid h true w there.0 (names_laid done (names_in_mode w) laid needs) there.1)
   by_origin done d (Some (a_predefined p)) laid fits needs = predefined_laid (Some (entry_with_counters h (a_predefined p))) (Some d) p (fits (a_predefined p) refl)
-  by_origin done d (Some o) laid fits needs m is = no_some m is
+  by_origin done d (Some o) laid fits needs = λ m is. no_some m is
 
   number_laid : (done : List ℕ) (d : ℕ) → AllLaid done → NeedsDone h done (slice_get h.origins d) → IsLaidAt d
   number_laid done d laid needs = by (slice_get h.origins d) refl

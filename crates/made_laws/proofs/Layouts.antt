@@ -1,5 +1,5 @@
 -- The places that the modes of shared locations have are possible, and share no bit.
-use Rattle.std.proofs.Common.{◌≡◌, ℕ, Bool, true, false, ◌&&◌, List, Some, refl, sym, ap, ◌∙◌, subst, true≢false}
+use Rattle.std.proofs.Common.{◌≡◌, ℕ, true, ◌&&◌, List, Some, sym, ap, ◌∙◌, subst, true≢false}
 use Rattle.std.specs.Prelude.{All, slice_get}
 use Rattle.chill_tree.specs.ItemTree.{ProgramTree}
 use Rattle.modes.specs.ModeTree.{ModeTree}

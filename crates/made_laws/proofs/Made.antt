@@ -1,13 +1,12 @@
 -- An elaborated program has few things, and its statements stand as those of a text.
-use Rattle.std.proofs.Common.{◌≡◌, ◌≤◌, ℕ, List, Option, Some, None, refl, sym, ap, ◌∙◌, subst, arith}
-use Rattle.std.specs.Prelude.{length}
+use Rattle.std.proofs.Common.{◌≡◌, ◌≤◌, ℕ, List, Option, Some, None, refl, subst, arith}
 use Rattle.chill_tree.specs.ItemTree.{ProgramTree}
 use Rattle.text_size.specs.Sizes.{program_size}
 use Rattle.program_trees.specs.ProgramTree.{CheckedTree}
 use Rattle.checks_model.specs.Ground.{Ground}
 use Rattle.elaborated_laws.proofs.Told.{no_some, same_some}
 use Rattle.elaborated_laws.proofs.Rows.{text_size_is}
-use Rattle.elaboration_model.specs.Numbering.{has_body, is_shared, is_signal}
+use Rattle.elaboration_model.specs.Numbering.{is_shared, is_signal}
 use Rattle.checks_model.specs.ProcessRules.{meets_event, meets_buffer, meets_nothing}
 use Rattle.elaboration_model.specs.Elaborated.{rows_made, location_row, event_row, buffer_row, signal_row, bodies_of, program_of, made_of_five, source_of, elaborated}
 use Rattle.head_laws.proofs.Few.{few_things}

@@ -1,6 +1,6 @@
 -- The locals that get what a RECEIVE CASE receives have numbers one behind the other.
-use Rattle.std.proofs.Common.{◌≡◌, ℕ, zero, suc, ◌+◌, ◌==◌, Bool, true, false, ◌&&◌, List, [], ◌∷◌, length, take, Option, Some, None, refl, sym, ap, ◌∙◌, subst, true≢false}
-use Rattle.std.specs.Prelude.{cond, flat_map, slice_get, not, if◌then◌else◌, option_map, option_and_then}
+use Rattle.std.proofs.Common.{◌≡◌, ℕ, zero, suc, ◌==◌, Bool, true, false, List, [], ◌∷◌, length, take, Some, refl, sym, ap, ◌∙◌, subst}
+use Rattle.std.specs.Prelude.{cond, slice_get, not, if◌then◌else◌, option_map, option_and_then}
 use Rattle.std.specs.List.{filter}
 use Rattle.std.proofs.lemmas.Bool.{eq-eqb}
 use Rattle.chill_tree.specs.declared.tree.name.Name.{Name}
@@ -11,21 +11,21 @@ use Rattle.names_model.specs.declared.definition.Definition.{Definition}
 use Rattle.names_model.specs.Identifiers.{identifier}
 use Rattle.names_model.specs.Definitions.{text_definitions}
 use Rattle.names_model.specs.Resolving.{level_of}
-use Rattle.checks_model.specs.Ground.{Ground, Origin, a_received, number_at}
+use Rattle.checks_model.specs.Ground.{Ground, a_received, number_at}
 use Rattle.checks_model.specs.Origins.{text_origins}
 use Rattle.checks_model.specs.Table.{numbered}
 use Rattle.checks_model.specs.Told.{holds_of}
 use Rattle.checks_model.specs.Diagnoses.{BreaksNoRule}
 use Rattle.written_laws.specs.Written.{Each}
 use Rattle.elaborated_laws.proofs.Told.{of_both, no_some, same_some}
-use Rattle.elaboration_model.specs.Parts.{made_of, made_each}
+use Rattle.elaboration_model.specs.Parts.{made_each}
 use Rattle.elaboration_model.specs.Numbering.{Row, rows, may_be_local, is_location, is_direct, count_before, body_around, is_local_of, a_local, no_thing, local_in, thing_by, thing_of, local_number, local_defined}
 use Rattle.elaboration_model.specs.Elaborated.{source_of}
 use Rattle.expression_laws.specs.Things.{RowAt}
 use Rattle.expression_laws.proofs.Outside.{defined_at, row_parts}
 use Rattle.expression_laws.proofs.Things.{in_body}
 use Rattle.program_laws.proofs.Rows.{IsReceivedAs}
-use Rattle.program_laws.proofs.Defined.{DefinedIn, names_list, defined_in}
+use Rattle.program_laws.proofs.Defined.{names_list, defined_in}
 use Rattle.program_laws.proofs.Grounds.{all_placed}
 use Rattle.head_laws.proofs.Rows.{made_parts}
 use Rattle.range_laws.specs.Placed.{AreNext, AreInOrder}

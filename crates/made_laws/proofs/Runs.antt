@@ -18,7 +18,7 @@ use Rattle.names_model.specs.declared.definition.Definition.{Definition}
 use Rattle.names_model.specs.declared.part.Mention.{Mention}
 use Rattle.names_model.specs.declared.part.Clause.{Clause}
 use Rattle.names_model.specs.Identifiers.{identifier, identifiers}
-use Rattle.names_model.specs.Parts.{PartTree, routine, modulion, part_nodes}
+use Rattle.names_model.specs.Parts.{PartTree, routine, part_nodes}
 use Rattle.names_model.specs.Sizes.{elements_in, head_size, sizes_of, block_of}
 use Rattle.names_model.specs.Definitions.{within, defined, elements_defined, params_defined, definitions_in}
 use Rattle.names_model.specs.declared.kind.Need.TheVariants as needs
@@ -26,9 +26,9 @@ use Rattle.names_model.specs.ExprMentions.{used, mentions_of, mentions_of_some, 
 use Rattle.names_model.specs.ModeMentions.{mentions_of_mode, mentions_of_some_mode}
 use Rattle.names_model.specs.StatementParts.{clause, mentioned, labelled, local_parts, received_parts, simple_parts, control_parts, turn_parts, statement_parts, bracketed_parts, action_parts, branch_parts, case_parts, event_parts, receive_parts, otherwise_parts, handler_parts, exception_parts, body_parts}
 use Rattle.names_model.specs.ItemParts.{whole_body, item_parts, each_item}
-use Rattle.checks_model.specs.Sites.{Site, Around, in_procedure, in_no_procedure, at_item, at_synonym, at_mode_definition, at_declaration, at_mode, at_simple, at_condition, at_selector, at_labels, at_control, at_set, at_priority, at_event, at_source, at_received, at_exceptions, at_body, at_program, some_site, events_listed, sites_of_local, sites_of, sites_of_bracketed, sites_of_each, sites_of_branches, sites_of_cases, sites_of_events, sites_of_receives, sites_of_otherwise, sites_of_handler, sites_of_exceptions, sites_of_parts, sites_of_modes, sites_of_result, sites_of_body, sites_of_procedure, sites_of_process, sites_of_item, sites_of_items, locals_of_body}
+use Rattle.checks_model.specs.Sites.{Site, Around, in_procedure, in_no_procedure, at_item, at_synonym, at_mode_definition, at_declaration, at_mode, at_simple, at_condition, at_selector, at_labels, at_control, at_set, at_priority, at_source, at_received, at_exceptions, at_body, some_site, events_listed, sites_of_local, sites_of, sites_of_bracketed, sites_of_each, sites_of_branches, sites_of_cases, sites_of_events, sites_of_receives, sites_of_otherwise, sites_of_handler, sites_of_exceptions, sites_of_parts, sites_of_modes, sites_of_result, sites_of_body, sites_of_procedure, sites_of_process, sites_of_item, sites_of_items, locals_of_body}
 use Rattle.written_laws.specs.Written.{Each}
-use Rattle.written_laws.proofs.Shown.{each_append, each_map, each_any, each_flat}
+use Rattle.written_laws.proofs.Shown.{each_append, each_map, each_any}
 use Rattle.written_laws.proofs.Sets.{each_more}
 use Rattle.program_laws.proofs.DefinitionNames.{definitions_split}
 

@@ -1,25 +1,23 @@
 -- Statements as they are elaborated: they have few alternatives, and stand as those of a text.
-use Rattle.std.proofs.Common.{◌≡◌, ℕ, zero, suc, ◌+◌, ◌*◌, ◌<◌, ◌≤◌, Bool, true, false, List, [], ◌∷◌, ◌++◌, ℤ, length, Option, Some, None, refl, sym, ap, ◌∙◌, subst, arith}
+use Rattle.std.proofs.Common.{◌≡◌, ℕ, suc, ◌+◌, ◌<◌, ◌≤◌, Bool, true, false, List, [], ◌∷◌, ◌++◌, length, Option, Some, None, refl, sym, subst, arith}
 use Rattle.std.specs.Prelude.{if◌then◌else◌, map, option_map, option_and_then}
 use Rattle.std.specs.Str.{bytes_eq}
 use Rattle.chill_tree.specs.declared.tree.name.Name.{Name}
 use Rattle.chill_tree.specs.declared.tree.expr.Operator.{Operator}
 use Rattle.chill_tree.specs.ExprTree.{ExprTree, expr_nodes}
 use Rattle.chill_tree.specs.LocalTree.{DeclarationTree, LocalTree, synonyms, syn_modes, new_modes, locations}
-use Rattle.chill_tree.specs.SimpleTree.{SimpleTree, assign, update, call_of, exit, return_with, result_of, assert_that, cause, stop, start_of, delay, continue_event, send, ControlTree}
+use Rattle.chill_tree.specs.SimpleTree.{SimpleTree, assign, update, call_of, exit, return_with, result_of, assert_that, cause, stop, start_of, delay, continue_event, send}
 use Rattle.chill_tree.specs.StatementTree.{StatementTree, BracketedTree, StatementNodes, ElsIfNodes, CaseNodes, NamedNodes, ReceiveNodes, OtherwiseNode, HandlerNode, BodyNodes, empty, simple, bracketed, if_then, case_of, do_loop, begin_end, delay_case, receive_case, no_statements, more_statements, no_branches, more_branches, no_cases, more_cases, no_named, more_named, no_receives, more_receives, no_otherwise, otherwise, no_handler, handler, no_parts, more_locals, more_actions}
 use Rattle.modes.specs.ModeTree.{ModeTree, ClassTree}
 use Rattle.modes.specs.Bounds.{bounds_of}
-use Rattle.modes.specs.Scalars.{lowest_of}
-use Rattle.text_size.specs.Nodes.{nodes, nodes_in_some, nodes_in_labels}
-use Rattle.text_size.specs.Sizes.{nodes_in_simple, nodes_in_control, nodes_in_local, statement_size, bracketed_size, statements_size, branches_size, cases_size, named_size, receives_size, otherwise_size, handler_size, parts_size}
+use Rattle.text_size.specs.Sizes.{statement_size, bracketed_size, statements_size, branches_size, cases_size, named_size, receives_size, otherwise_size, handler_size, parts_size}
 use Rattle.program_trees.specs.ExprTree as made
 use Rattle.program_trees.specs.StatementTree as done
 use Rattle.program_trees.specs.ProgramTree.{CheckedTree}
 use Rattle.checks_model.specs.Ground.{Predefined, put_int, put_text, put_nl, get_int, origin_of}
 use Rattle.checks_model.specs.Operations.{is_measuring}
 use Rattle.checks_model.specs.Classes.{class_of, Callee, calls, routine, no_callee, callee_named}
-use Rattle.checks_model.specs.Sites.{Site, Around as Place, at_item, at_simple, at_condition, at_selector, at_labels, at_control, at_set, at_priority, at_source, at_received, at_exceptions, some_site, events_listed, sites_of_local, sites_of, sites_of_bracketed, sites_of_each, sites_of_branches, sites_of_cases, sites_of_events, sites_of_receives, sites_of_otherwise, sites_of_handler, sites_of_exceptions, sites_of_parts}
+use Rattle.checks_model.specs.Sites.{Site, Around as Place, at_item, at_set, at_priority, at_received, some_site, events_listed, sites_of_local, sites_of, sites_of_bracketed, sites_of_each, sites_of_branches, sites_of_cases, sites_of_events, sites_of_receives, sites_of_otherwise, sites_of_handler, sites_of_exceptions, sites_of_parts}
 use Rattle.checks_model.specs.ActionRules.{one_spelling}
 use Rattle.checks_model.specs.ProcessRules.{told_item}
 use Rattle.written_laws.specs.Written.{Each}
@@ -27,11 +25,10 @@ use Rattle.elaborated_laws.proofs.Told.{no_some, same_some, there_mapped, there_
 use Rattle.elaboration_model.specs.Parts.{made_of, made_of_three, made_each, made_of_some}
 use Rattle.elaboration_model.specs.Numbering.{Source, body_used, event_used, local_defined}
 use Rattle.elaboration_model.specs.Exceptions.{place_among, of_language, number_in_language, first_of, exception_number}
-use Rattle.elaboration_model.specs.Expressions.{Target, expr_as, expr_alone, received_by, received_each, arguments, only_one, target, class_first, operator_between, routine_on, formals_by, modes_by}
-use Rattle.elaboration_model.specs.Statements.{Around, within, outwards, priority, label, plain, base_defined, locals_among, set_locals, declared_as, first_mode, declaration, declarations, before, called, routine_action, evaluated, routine_by, call_action, sent, given_back, updated, action_of, control, some_names, receives_from, first_is_buffer, set_location, source_used, with_receive, delayed, is_labelled, statement, holding, each, choices, cases, delays, receives, otherwise_done, or_else, handled, exceptions, body}
+use Rattle.elaboration_model.specs.Expressions.{Target, expr_alone, received_by, received_each, arguments, only_one, target, class_first, routine_on, formals_by, modes_by}
+use Rattle.elaboration_model.specs.Statements.{Around, within, outwards, priority, label, plain, base_defined, locals_among, set_locals, declared_as, first_mode, declaration, declarations, before, called, routine_action, evaluated, call_action, sent, given_back, updated, action_of, control, some_names, receives_from, first_is_buffer, set_location, source_used, with_receive, is_labelled, statement, holding, each, choices, cases, delays, receives, otherwise_done, or_else, handled, exceptions, body}
 use Rattle.expression_laws.proofs.Actions.{each_first, each_later}
 use Rattle.head_laws.proofs.Rows.{made_parts, three_parts}
-use Rattle.code_laws.specs.InRange.{IsNumber32}
 use Rattle.code_laws.specs.StatementsInRange.{count_of_delays}
 use Rattle.compilable_laws.specs.Few.{StatementsHaveFew, StatementHasFew, HandlerHasFew, HandledHaveFew, OtherwiseHasFew, ActionHasFew, ChoicesHaveFew, CasesHaveFew, DelaysHaveFew, ReceivesHaveFew}
 use Rattle.range_laws.specs.StatementInRange.{ExceptionsInRange}

@@ -1,12 +1,12 @@
 -- The numbers in expressions of a typed program are in range.
 use Rattle.std.proofs.Common.{◌≡◌, ℕ, zero, suc, ◌+◌, ◌-◌, ◌*◌, ◌<◌, ◌≤◌, List, [], ◌∷◌, length, Option, Some, None, inl, inr, refl, sym, ap, ◌∙◌, subst, arith, IsTrue}
-use Rattle.std.specs.Prelude.{slice_get, min, nat_eq, ◌&&◌, All, IfSome}
+use Rattle.std.specs.Prelude.{slice_get, nat_eq, ◌&&◌, All, IfSome}
 use Rattle.std.proofs.lemmas.Bool.Decides.{nat_tests}
 use Rattle.std.proofs.lemmas.Option.{slice_get_within}
 use Rattle.std.proofs.lemmas.List.Elements.{All-head, All-tail}
 use Rattle.modes.specs.declared.mode.Bounds.{Bounds}
-use Rattle.modes.specs.ModeTree.{ModeTree, boolean, int, instance, FieldNodes, no_fields, more_fields}
-use Rattle.modes.specs.Form.{form_of, of_int, of_boolean}
+use Rattle.modes.specs.ModeTree.{ModeTree, FieldNodes, no_fields, more_fields}
+use Rattle.modes.specs.Form.{form_of}
 use Rattle.modes.specs.Bounds.{bounds_of, values_of, count_between}
 use Rattle.modes.specs.Scalars.{scalars_of, scalars_in_fields}
 use Rattle.modes.specs.Similar.{Similar, shape_of}
@@ -20,7 +20,6 @@ use Rattle.checked_program.specs.declared.expr.Prefix.{Prefix}
 use Rattle.checked_program.specs.declared.expr.Prefix.TheVariants.{Minus, Not, Complement}
 use Rattle.checked_program.specs.declared.expr.Routine.{Routine}
 use Rattle.checked_program.specs.declared.expr.Routine.TheVariants.{Number, Absolute, Cardinality, Successor, Predecessor, Least, Greatest}
-use Rattle.checked_program.specs.declared.program.Parameter.{Parameter}
 use Rattle.checked_program.specs.declared.program.Passing.{Passing}
 use Rattle.checked_program.specs.declared.program.Passing.TheVariants.{In, Out, InOut}
 use Rattle.program_ranges.specs.Around.{bounds_fit}
@@ -29,7 +28,7 @@ use Rattle.program_trees.specs.ExprTree.{ExprTree, expr, OperationTree, constant
 use Rattle.program_trees.specs.ProgramTree.{LocationRowTree, BufferRowTree, LocalRowTree, BodyRowTree, CheckedTree}
 use Rattle.source_meaning.specs.Values.{domains_of}
 use Rattle.source_meaning.specs.Typed.{IsTyped}
-use Rattle.source_meaning.specs.TypedValues.{Context, BaseHas, BufferHas, IsRootOfEither, IsOnInts, IsOnTruths, AreSets, AreOrdered, BinaryHas, PrefixHas, RoutineHas, IsParameter, IsFirstField, HasMode, OperationHas, IsTakenBy, ElementsHave, FieldsHave, AllHave, PartsLead, RangesHave, LocationHas, IsTypedStart, AllTaken, IsTypedCall, ArgumentsFit}
+use Rattle.source_meaning.specs.TypedValues.{Context, BaseHas, IsRootOfEither, IsOnInts, IsOnTruths, AreSets, BinaryHas, PrefixHas, RoutineHas, IsParameter, HasMode, OperationHas, IsTakenBy, ElementsHave, FieldsHave, AllHave, PartsLead, RangesHave, LocationHas, IsTypedStart, AllTaken, IsTypedCall, ArgumentsFit}
 use Rattle.text_laws.proofs.Values.{count_field_domains, within_length, count_domains}
 use Rattle.text_laws.proofs.Operations.{set_members}
 use Rattle.text_laws.proofs.Taking.{form_fits}
@@ -37,8 +36,8 @@ use Rattle.text_laws.proofs.Stores.{RowsFit, row_fits}
 use Rattle.text_laws.proofs.SoundFacts.{all_at}
 use Rattle.text_laws.proofs.ExprAsks.{rows_typed, parts_lead, structure_form, array_form}
 use Rattle.scheme_heights.proofs.ModeCounts.{scalars_few}
-use Rattle.range_laws.specs.ExprInRange.{scalars_held, LocalInRange, BaseInRange, PassedInRange, ResultInRange, CallGives, ExprInRange, OperationInRange, ReceivedInRange, AllInRange, ValuesInRange, PartsInRange, RangesInRange, LocationInRange, StartInRange, CallInRange, ArgumentsInRange, NumberInRange}
-use Rattle.typed_ranges.proofs.Modes.{same_count, discrete_one, alike_one, int_one, boolean_one, set_one, root_count, either_count, members_told, array_count, array_some, structure_length, field_inside, LiesInside, element_inside}
+use Rattle.range_laws.specs.ExprInRange.{scalars_held, BaseInRange, PassedInRange, ResultInRange, CallGives, ExprInRange, OperationInRange, ReceivedInRange, AllInRange, ValuesInRange, PartsInRange, RangesInRange, LocationInRange, StartInRange, CallInRange, ArgumentsInRange, NumberInRange}
+use Rattle.typed_ranges.proofs.Modes.{same_count, discrete_one, alike_one, int_one, boolean_one, set_one, root_count, either_count, members_told, array_count, array_some, structure_length, field_inside, element_inside}
 
 -- ---- tests
 

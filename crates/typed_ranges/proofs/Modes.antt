@@ -1,6 +1,6 @@
 -- How many scalars modes of the language have, by their forms and their shapes; and what lies in them.
-use Rattle.std.proofs.Common.{◌≡◌, ℕ, zero, suc, ◌+◌, ◌*◌, ◌≤◌, List, [], ◌∷◌, length, length-append, Bool, true, false, Option, Some, None, inl, inr, refl, sym, ap, ◌∙◌, subst, arith, IsTrue}
-use Rattle.std.specs.Prelude.{ℤ, pos, negsuc, neg_ℤ, ◌+ℤ◌, ◌-ℤ◌, ◌≤ℤ◌, int_le, nat_le, ◌&&◌, min, slice_get}
+use Rattle.std.proofs.Common.{◌≡◌, ℕ, zero, suc, ◌+◌, ◌*◌, ◌≤◌, List, length, length-append, true, false, Option, Some, None, inl, inr, refl, sym, ap, ◌∙◌, subst, arith, IsTrue}
+use Rattle.std.specs.Prelude.{ℤ, pos, negsuc, neg_ℤ, ◌+ℤ◌, ◌-ℤ◌, ◌≤ℤ◌, int_le, nat_le, ◌&&◌, min}
 use Rattle.std.proofs.lemmas.Int.{ints}
 use Rattle.std.proofs.lemmas.Bool.Decides.{nat_tests}
 use Rattle.modes.specs.declared.mode.Bounds.{Bounds}
@@ -15,7 +15,7 @@ use Rattle.modes.proofs.SimilarLemmas.{both, of_both}
 use Rattle.layout_map.proofs.Narrow.{bounds-small, Small, values-from}
 use Rattle.layout_map.proofs.Steps.{le-from}
 use Rattle.program_ranges.specs.Around.{is_int, are_ints, are_members}
-use Rattle.source_meaning.specs.Values.{Domain, member_domains, domains_of, domains_of_fields}
+use Rattle.source_meaning.specs.Values.{member_domains, domains_of, domains_of_fields}
 use Rattle.source_meaning.specs.TypedValues.{HasField, IsIndexed, IsStructure, IsArray, IsRootOfEither}
 use Rattle.text_laws.proofs.Held.{untrue}
 use Rattle.text_laws.proofs.Values.{count_domains}
