@@ -1,0 +1,4 @@
+pub mod Tokens
+pub mod Exprs
+pub mod Statements
+pub mod Items

@@ -1,0 +1,12 @@
+pub mod Runs
+pub mod Order
+pub mod Statements
+pub mod Items
+pub mod Sizes
+pub mod Bodies
+pub mod Made
+pub mod Numbers
+pub mod Gates
+pub mod Laid
+pub mod LaidNames
+pub mod Layouts
