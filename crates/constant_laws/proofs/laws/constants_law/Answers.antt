@@ -1,0 +1,5 @@
+use Rattle.constant_laws.proofs.laws.constants_law.Goals as goal
+use Rattle.constant_laws.proofs.Constants.{constant_fits}
+
+pub returns : goal.returns
+returns c = record { fits = constant_fits }
