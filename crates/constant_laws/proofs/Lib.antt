@@ -7,3 +7,5 @@ pub mod Routines
 pub mod Measures
 pub mod Tuples
 pub mod Constants
+pub mod Possible
+pub mod Names

@@ -1,5 +1,5 @@
 -- What UPPER, LOWER and SIZE measure has a mode that a location may have, in which no place is impossible.
-use Rattle.std.proofs.Common.{◌≡◌, ◌≤◌, ℕ, arith, ◌&&◌, Bool, true, false, List, Option, Some, None, refl, sym, ap, ◌∙◌, subst, true≢false}
+use Rattle.std.proofs.Common.{◌≡◌, ◌≤◌, ℕ, arith, ◌&&◌, Bool, true, false, List, [], ◌∷◌, ◌++◌, Option, Some, None, refl, sym, ap, ◌∙◌, subst, true≢false}
 use Rattle.std.specs.Prelude.{if◌then◌else◌}
 use Rattle.std.specs.Str.{bytes_eq}
 use Rattle.chill_tree.specs.declared.tree.name.Name.{Name}
@@ -19,7 +19,8 @@ use Rattle.elaborated_laws.proofs.Told.{no_some, same_some, both_left, both_righ
 use Rattle.elaborated_laws.proofs.Modes.{language_declarable}
 use Rattle.elaborated_laws.proofs.Classes.{FormIs, FieldsAre, form_is}
 use Rattle.constant_laws.specs.Places.{is_possible_spread, is_possible_at, are_possible, fields_are_possible}
-use Rattle.constant_laws.specs.Constants.{IsNameFit}
+use Rattle.table_laws.specs.Names.{names_in, names_in_each}
+use Rattle.constant_laws.specs.Constants.{IsNameFit, AreNamesFit}
 use Rattle.constant_laws.proofs.Routines.{IsMeasuredWell, MeasuresWell}
 
 -- ---- parts
@@ -109,34 +110,42 @@ located_well (a_mode_of None) e o is fits possible = tt
 located_well misfit e o is fits possible = tt
 located_well other e o is fits possible = tt
 
-module _ (g : Ground) (fit : (n : Name) → IsNameFit g n) where
-  name_located : (n : Name) → MeasuresWell (located_name (entry_of g n) (origin_of g n))
-  name_located n = located_well (located_name (entry_of g n) (origin_of g n)) (entry_of g n) (origin_of g n) refl (fit n).modes.mode (fit n).located
+pub fit_first : (g : Ground) (ns ks : List Name) → AreNamesFit g (ns ++ ks) → AreNamesFit g ns
+fit_first g [] ks fit = tt
+fit_first g (n ∷ ns) ks fit = (fit.0, fit_first g ns ks fit.1)
 
-  own_well : (n : Name) (o : Option ModeTree) → mode_of_name g n ≡ o → MeasuresWell (a_mode_of o)
-  own_well n (Some m) is = record { declarable = (fit n).modes.own m is; possible = (fit n).own m is }
-  own_well n None is = tt
+pub fit_later : (g : Ground) (ns ks : List Name) → AreNamesFit g (ns ++ ks) → AreNamesFit g ks
+fit_later g [] ks fit = fit
+fit_later g (n ∷ ns) ks fit = fit_later g ns ks fit.1
 
-  predefined_well : (n : Name) (m : ModeTree) → origin_of g n ≡ Some (a_predefined (of_mode m)) → IsMeasuredWell m
-  predefined_well n m is =
+module _ (g : Ground) where
+  name_located : (n : Name) → IsNameFit g n → MeasuresWell (located_name (entry_of g n) (origin_of g n))
+  name_located n fit = located_well (located_name (entry_of g n) (origin_of g n)) (entry_of g n) (origin_of g n) refl fit.modes.mode fit.located
+
+  own_well : (n : Name) (o : Option ModeTree) → IsNameFit g n → mode_of_name g n ≡ o → MeasuresWell (a_mode_of o)
+  own_well n (Some m) fit is = record { declarable = fit.modes.own m is; possible = fit.own m is }
+  own_well n None fit is = tt
+
+  predefined_well : (n : Name) (m : ModeTree) → IsNameFit g n → origin_of g n ≡ Some (a_predefined (of_mode m)) → IsMeasuredWell m
+  predefined_well n m fit is =
       let named_is : mode_of_name g n ≡ Some m = ap (named_mode (entry_of g n) (number_at g.uses n.at)) is ∙ predefined_mode (entry_of g n) (number_at g.uses n.at) m in
-      record { declarable = (fit n).modes.own m named_is; possible = (fit n).own m named_is }
+      record { declarable = fit.modes.own m named_is; possible = fit.own m named_is }
 
-  name_measured : (n : Name) (o : Option Origin) → origin_of g n ≡ o → MeasuresWell (located_name (entry_of g n) o) → MeasuresWell (measured_name (mode_of_name g n) (entry_of g n) o)
-  name_measured n (Some (a_mode novel w)) is well = own_well n (mode_of_name g n) refl
-  name_measured n (Some (a_predefined (of_mode m))) is well = predefined_well n m is
-  name_measured n o is well = well
+  name_measured : (n : Name) (o : Option Origin) → IsNameFit g n → origin_of g n ≡ o → MeasuresWell (located_name (entry_of g n) o) → MeasuresWell (measured_name (mode_of_name g n) (entry_of g n) o)
+  name_measured n (Some (a_mode novel w)) fit is well = own_well n (mode_of_name g n) fit refl
+  name_measured n (Some (a_predefined (of_mode m))) fit is well = predefined_well n m fit is
+  name_measured n o fit is well = well
 
-  located_measures : (e : ExprTree) → MeasuresWell (located g e)
-  located_measures (name n) = name_located n
-  located_measures (apply at e es) = part_measures element_of_form (located g e) element_well (located_measures e)
-  located_measures (field at e n) = part_measures (field_of_form n.text) (located g e) (field_well n.text) (located_measures e)
-  located_measures e = tt
+  located_measures : (e : ExprTree) → AreNamesFit g (names_in e) → MeasuresWell (located g e)
+  located_measures (name n) fit = name_located n fit.0
+  located_measures (apply at e es) fit = part_measures element_of_form (located g e) element_well (located_measures e (fit_first g (names_in e) (names_in_each es) fit))
+  located_measures (field at e n) fit = part_measures (field_of_form n.text) (located g e) (field_well n.text) (located_measures e fit)
+  located_measures e fit = tt
 
-  measures : (e : ExprTree) → MeasuresWell (measured g e)
-  measures (name n) = name_measured n (origin_of g n) refl (name_located n)
-  measures e = located_measures e
+  measures : (e : ExprTree) → AreNamesFit g (names_in e) → MeasuresWell (measured g e)
+  measures (name n) fit = name_measured n (origin_of g n) fit.0 refl (name_located n fit.0)
+  measures e fit = located_measures e fit
 
-  pub first_measures : (es : ExprNodes) → MeasuresWell (measured_first g es)
-  first_measures no_exprs = tt
-  first_measures (more_exprs e es) = measures e
+  pub first_measures : (es : ExprNodes) → AreNamesFit g (names_in_each es) → MeasuresWell (measured_first g es)
+  first_measures no_exprs fit = tt
+  first_measures (more_exprs e es) fit = measures e (fit_first g (names_in e) (names_in_each es) fit)

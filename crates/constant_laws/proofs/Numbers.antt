@@ -41,8 +41,8 @@ IsInside b c = (c.low ≤ℤ b.low) × (b.high ≤ℤ c.high)
 pub inside : (b c : Bounds) (z : ℤ) → IsInside b c → IsBetween (Some b) z → IsBetween (Some c) z
 inside b c z within is = (trans c.low b.low z within.0 is.0, trans z b.high c.high is.1 within.1)
 
-pub at_most : (n : ℕ) → is_from_to 1 4096 n ≡ true → (1 ≤ n) × (n ≤ 4096)
-at_most n fits = (leb-true 1 n (both_left (nat_le 1 n) (nat_le n 4096) fits), leb-true n 4096 (both_right (nat_le 1 n) (nat_le n 4096) fits))
+pub at_most : (high n : ℕ) → is_from_to 1 high n ≡ true → (1 ≤ n) × (n ≤ high)
+at_most high n fits = (leb-true 1 n (both_left (nat_le 1 n) (nat_le n high) fits), leb-true n high (both_right (nat_le 1 n) (nat_le n high) fits))
 
 set_ordered : (n : ℕ) → 1 ≤ n → pos 0 ≤ℤ (pos n -ℤ pos 1)
 set_ordered n some = grind (arith, ints, some)
@@ -78,7 +78,7 @@ bounds_fit boolean b fits is = subst AreInOrder (same_some (record { low = pos 0
 bounds_fit char b fits is = subst AreInOrder (same_some (record { low = pos 0; high = pos 255 }) b is) (record { ordered = below (pos 0) (pos 255) refl; within = (below int_bounds.low (pos 0) refl, below (pos 255) int_bounds.high refl) })
 bounds_fit instance b fits is = no_some b is
 bounds_fit (set_of d n) b fits is =
-    let few = at_most n fits in
+    let few = at_most 4096 n fits in
     subst AreInOrder (same_some (record { low = pos 0; high = pos n -ℤ pos 1 }) b is) (record { ordered = set_ordered n few.0; within = set_inside n few.0 few.1 })
 bounds_fit (range p l h) b fits is =
     let r = range_in l h (bounds_of p) (both_right (parts_fit p) (lie_in l h (bounds_of p)) fits) in

@@ -65,11 +65,11 @@ class_order nothing b fits is = no_some b is
 
 -- a powerset has few members
 abbrev FewMembers : FormTree → Type 0
-FewMembers (of_powerset e) = values_of e ≤ 4096
+FewMembers (of_powerset e) = values_of e ≤ 32
 FewMembers f = Unit {0}
 
 members_few : (m : ModeTree) → parts_fit m ≡ true → FewMembers (form_of m)
-members_few (powerset e) fits = (at_most (values_of e) (both_right (parts_fit e) (is_from_to 1 4096 (values_of e)) fits)).1
+members_few (powerset e) fits = (at_most 32 (values_of e) (both_right (parts_fit e) (is_from_to 1 32 (values_of e)) fits)).1
 members_few (range p l h) fits = members_few p (both_left (parts_fit p) (lie_in l h (bounds_of p)) fits)
 members_few (read m) fits = members_few m fits
 members_few (named d n m) fits = members_few m fits
@@ -81,7 +81,7 @@ declared_few (buffer l e) fits = tt
 declared_few (named d n m) fits = declared_few m fits
 declared_few m fits = members_few m fits.parts
 
-class_few : (c : ClassTree) (e : ModeTree) → HasDeclarable c → form_in c ≡ Some (of_powerset e) → values_of e ≤ 4096
+class_few : (c : ClassTree) (e : ModeTree) → HasDeclarable c → form_in c ≡ Some (of_powerset e) → values_of e ≤ 32
 class_few (value m) e fits is = subst FewMembers (same_some (form_of m) (of_powerset e) is) (declared_few m fits)
 class_few (derived m) e fits is = subst FewMembers (same_some (form_of m) (of_powerset e) is) (declared_few m fits)
 class_few null e fits is = no_some (of_powerset e) is
@@ -196,7 +196,7 @@ card_fits : (k c : ClassTree) (bs : List Bool) (x : ValueTree) → HasDeclarable
 card_fits k c bs x declared set is fits same =
     let p = powerset_in k set in
     let long = members_long k bs fits p.mode p.form in
-    let few : count_within (bounds_of p.mode) ≤ 4096 = class_few k p.mode declared p.form in
+    let few : count_within (bounds_of p.mode) ≤ 32 = class_few k p.mode declared p.form in
     let count = counted bs in
     of_int_class c x (pos (count_true bs)) is (natural_within (count_true bs) (omega (arith, long, few, count))) same
 

@@ -218,11 +218,11 @@ some_leaf char fits = omega arith
 some_leaf instance fits = omega arith
 some_leaf (set_of d n) fits = omega arith
 some_leaf (range p l h) fits = omega arith
-some_leaf (powerset m) fits = some_numbers (values_of m) (at_most (values_of m) (both_right (parts_fit m) (is_from_to 1 4096 (values_of m)) fits)).0
+some_leaf (powerset m) fits = some_numbers (values_of m) (at_most 32 (values_of m) (both_right (parts_fit m) (is_from_to 1 32 (values_of m)) fits)).0
 some_leaf (chars n) fits = omega arith
 some_leaf (array i e how) fits =
     let inner = both_right (parts_fit i) (is_from_to 1 4096 (values_of i) && parts_fit e) fits in
-    some_product (values_of i) (leaves_of e) (at_most (values_of i) (both_left (is_from_to 1 4096 (values_of i)) (parts_fit e) inner)).0 (some_leaf e (both_right (is_from_to 1 4096 (values_of i)) (parts_fit e) inner))
+    some_product (values_of i) (leaves_of e) (at_most 4096 (values_of i) (both_left (is_from_to 1 4096 (values_of i)) (parts_fit e) inner)).0 (some_leaf e (both_right (is_from_to 1 4096 (values_of i)) (parts_fit e) inner))
 some_leaf (structure no_fields p) fits = absurd (true≢false (sym fits))
 some_leaf (structure (more_fields n m at fs) p) fits = let first = some_leaf m (both_left (parts_fit m) (fields_fit fs) fits) in omega (arith, first)
 some_leaf (event l) fits = absurd (true≢false (sym fits))
@@ -258,7 +258,7 @@ mutual
   laid_low (chars n) dense c q fits possible few = lower (q + n * 4096) (q + max 1 n * 4096) (times n (one character dense) c) (omega arith) (times_low 4096 n (one character dense) c q (λ d r less. plain_low 8 false dense d r (omega arith) less) few)
   laid_low (array i e how) dense c q fits possible few =
       let inner = both_right (parts_fit i) (is_from_to 1 4096 (values_of i) && parts_fit e) fits in
-      let some = (at_most (values_of i) (both_left (is_from_to 1 4096 (values_of i)) (parts_fit e) inner)).0 in
+      let some = (at_most 4096 (values_of i) (both_left (is_from_to 1 4096 (values_of i)) (parts_fit e) inner)).0 in
       let fit = both_right (is_from_to 1 4096 (values_of i)) (parts_fit e) inner in
       closed_low (q + values_of i * leaves_of e * 4096) (elements how (values_of i) (scalar_of e) (laid e) (up c))
       (elements_low i e how (up c) q some (some_leaf e fit) (both_left (is_possible_spread (values_of i) e how) (are_possible e) possible) (λ d x r less. laid_low e d x r fit (both_right (is_possible_spread (values_of i) e how) (are_possible e) possible) less) (up_less c q few))

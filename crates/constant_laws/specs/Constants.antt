@@ -8,6 +8,7 @@ use Rattle.checks_model.specs.Ground.{Ground, Entry, Origin, origin_of, entry_of
 use Rattle.checks_model.specs.Classes.{class_as, class_of_origin, a_mode_of, located_name}
 use Rattle.checks_model.specs.Constants.{has_form, constant_as, value_of_name}
 use Rattle.checks_model.specs.ConstantRules.{Standing, is_by_itself, told_as}
+use Rattle.table_laws.specs.Names.{names_in}
 use Rattle.elaborated_laws.specs.Known.{IsKnownName}
 use Rattle.elaborated_laws.specs.Classes.{HasModes, HasShortTexts}
 use Rattle.written_laws.specs.Written.{Each}
@@ -65,9 +66,13 @@ pub record IsNameFit (g : Ground) (n : Name) : Type 0 where
   pub located : (m : ModeTree) → located_name (entry_of g n) (origin_of g n) ≡ a_mode_of (Some m) → are_possible m ≡ true
   pub own : (m : ModeTree) → mode_of_name g n ≡ Some m → are_possible m ≡ true
 
+abbrev pub AreNamesFit : Ground → List Name → Type 0
+AreNamesFit g [] = Unit {0}
+AreNamesFit g (n ∷ ns) = IsNameFit g n × AreNamesFit g ns
+
 -- ---- the law
 
 -- The value of a constant in which nothing is told is one of its class's mode.
 abbrev pub ConstantFitsLaw : Type 0
 ConstantFitsLaw = (g : Ground) (s : Standing) (m : Option ModeTree) (e : ExprTree) (c : ClassTree) (v : ValueTree)
-    → ((n : Name) → IsNameFit g n) → HasShortTexts e → HasBytes e → IsReceived s m → FitsSynonym g s m e → told_as g s m e ≡ [] → has_form g (not (is_by_itself s)) e ≡ true → class_as g m e ≡ Some c → constant_as g m e ≡ Some v → FitsClass c v
+    → AreNamesFit g (names_in e) → HasShortTexts e → HasBytes e → IsReceived s m → FitsSynonym g s m e → told_as g s m e ≡ [] → has_form g (not (is_by_itself s)) e ≡ true → class_as g m e ≡ Some c → constant_as g m e ≡ Some v → FitsClass c v
