@@ -1,3 +1,6 @@
 pub mod Flat
 pub mod Modes
 pub mod Operators
+pub mod Made
+pub mod Paths
+pub mod Behind

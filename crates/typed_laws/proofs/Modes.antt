@@ -69,6 +69,12 @@ its_form nothing m f is form = no_some f form
 pub its_mode : (c : ClassTree) (m k : ModeTree) → mode_for c ≡ Some m → mode_in c ≡ Some k → k ≡ m
 its_mode c m k is own = same_some k m (sym (mode_for_in c k own) ∙ is)
 
+pub declared_mode : (c : ClassTree) (m : ModeTree) → HasDeclarable c → mode_for c ≡ Some m → IsDeclarable m
+declared_mode (value k) m fits is = subst IsDeclarable (same_some k m is) fits
+declared_mode (derived k) m fits is = subst IsDeclarable (same_some k m is) fits
+declared_mode null m fits is = subst IsDeclarable (same_some instance m is) instance_language
+declared_mode nothing m fits is = no_some m is
+
 -- ---- similar modes
 
 instance_form : (f : FormTree) → is_instance f ≡ true → f ≡ of_instance

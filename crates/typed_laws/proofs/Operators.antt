@@ -115,11 +115,17 @@ tested_same test other null m is holds = absurd (true≢false (sym holds))
 tested_same test other nothing m is holds = no_some m is
 
 -- operands of compatible classes, with their modes
-record Operands (l r c : ClassTree) (a b m : ModeTree) : Type 0 where
-  left : mode_for l ≡ Some a
-  right : mode_for r ≡ Some b
-  result : mode_for c ≡ Some m
-  declarable : IsDeclarable a
+pub record Operands (l r c : ClassTree) (a b m : ModeTree) : Type 0 where
+  pub left : mode_for l ≡ Some a
+  pub right : mode_for r ≡ Some b
+  pub result : mode_for c ≡ Some m
+  pub declarable : IsDeclarable a
+
+its_set : (k : ClassTree) → class_is is_powerset k ≡ true → (e : ModeTree) × (form_in k ≡ Some (of_powerset e))
+its_set (value x) is = let e = powerset_form (form_of x) is in (e.0, ap Some e.1)
+its_set (derived x) is = let e = powerset_form (form_of x) is in (e.0, ap Some e.1)
+its_set null is = absurd (true≢false (sym is))
+its_set nothing is = absurd (true≢false (sym is))
 
 module _ (l r c : ClassTree) (a b m : ModeTree) (of : Operands l r c a b m) where
   alike : are_compatible l r ≡ true → Similar a b
@@ -155,12 +161,7 @@ module _ (l r c : ClassTree) (a b m : ModeTree) (of : Operands l r c a b m) wher
     where
       by : (x : Bool) → class_is is_powerset l ≡ x → x ≡ false
       by false is = refl
-      by true is = absurd (apart (its_set l is).0 (its_set l is).1)
-      its_set : (k : ClassTree) → class_is is_powerset k ≡ true → (e : ModeTree) × (form_in k ≡ Some (of_powerset e))
-      its_set (value x) is = let e = powerset_form (form_of x) is in (e.0, ap Some e.1)
-      its_set (derived x) is = let e = powerset_form (form_of x) is in (e.0, ap Some e.1)
-      its_set null is = absurd (true≢false (sym is))
-      its_set nothing is = absurd (true≢false (sym is))
+      by true is = (let own = its_set l is in absurd (apart own.0 own.1))
 
   ints : (o : Operator) → ((e : ModeTree) → form_in l ≡ Some (of_powerset e) → ⊥) → is_logic o ≡ false → InTable o → IsOnInts a b m
   ints o apart none t =
