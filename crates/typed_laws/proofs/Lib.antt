@@ -4,3 +4,5 @@ pub mod Operators
 pub mod Made
 pub mod Paths
 pub mod Behind
+pub mod Tuples
+pub mod Brackets

@@ -101,10 +101,10 @@ GoesTo ctx x m = (own : ModeTree) × HasMode ctx x own × Similar own m
 module _ (s : Source) (ctx : Context) (known : AllNamesKnown s) where
   constant_typed : (r : Receiver) (e : ExprTree) (c : ClassTree) (x : made.ExprTree) → AreNamesTyped s ctx (names_in e) → HasBytes e → IsClean s.known r e → class_as s.known (received_mode r) e ≡ Some c → is_of_values c ≡ true → has_form s.known false e ≡ true
       → constant_expr (class_as s.known (received_mode r) e) (constant_as s.known (received_mode r) e) ≡ Some x → TypedAs ctx x c
-  constant_typed r e c x names bytes clean class valued form made =
+  constant_typed r e c x names bytes clean class valued form built =
       let m = received_mode r in
       let of_constant : ClassTree → ValueTree → made.ExprTree = λ c v. made.expr (count_in c) (made.root_bounds c) (made.constant (scalars_in v)) in
-      let p = made_parts of_constant (class_as s.known m e) (constant_as s.known m e) x made in
+      let p = made_parts of_constant (class_as s.known m e) (constant_as s.known m e) x built in
       let received : IsReceived by_itself m = record { there = λ apart. absurd (true≢false apart); fits = clean.receives } in
       let fit = constant_fits s.known by_itself m e c p.second (names_fit s ctx (names_in e) names) clean.named.short bytes received (λ is. absurd (true≢false (sym is))) (told_any s.known m None e ∙ clean.constants) form class p.of_second in
       let own = mode_of_class c (class_declarable s m e c known clean.named clean.receives class) valued in
@@ -113,39 +113,39 @@ module _ (s : Source) (ctx : Context) (known : AllNamesKnown s) where
 
   operation_typed : (r : Receiver) (e : ExprTree) (c : ClassTree) (o : Option made.OperationTree) (x : made.ExprTree) → IsClean s.known r e → class_as s.known (received_mode r) e ≡ Some c → is_of_values c ≡ true
       → ((op : made.OperationTree) → o ≡ Some op → FoldedBy ctx c op) → made_of (λ c o. made.expr (count_in c) (made.root_bounds c) o) (class_as s.known (received_mode r) e) o ≡ Some x → TypedAs ctx x c
-  operation_typed r e c o x clean class valued has made =
+  operation_typed r e c o x clean class valued has built =
       let m = received_mode r in
       let of_operation : ClassTree → made.OperationTree → made.ExprTree = λ c o. made.expr (count_in c) (made.root_bounds c) o in
-      let p = made_parts of_operation (class_as s.known m e) o x made in
+      let p = made_parts of_operation (class_as s.known m e) o x built in
       let own = mode_of_class c (class_declarable s m e c known clean.named clean.receives class) valued in
       let whole = ap (λ k. of_operation k p.second) (same_some c p.first (sym class ∙ p.of_first)) ∙ p.whole in
       record { mode = own.mode; of = own.of; has = subst (λ y. HasMode ctx y own.mode) whole (own.fits, own.count, own.bounds, has p.second p.of_second own.mode own.of own.fits) }
 
   pub folded_typed : (r : Receiver) (e : ExprTree) (c : ClassTree) (o : Option made.OperationTree) (x : made.ExprTree) → AreNamesTyped s ctx (names_in e) → HasBytes e → IsClean s.known r e → class_as s.known (received_mode r) e ≡ Some c → is_of_values c ≡ true
       → (has_form s.known false e ≡ false → (op : made.OperationTree) → o ≡ Some op → FoldedBy ctx c op) → folded s (received_mode r) e o ≡ Some x → TypedAs ctx x c
-  folded_typed r e c o x names bytes clean class valued has made = by (has_form s.known false e) refl made
+  folded_typed r e c o x names bytes clean class valued has built = by (has_form s.known false e) refl built
     where
       by : (b : Bool) → has_form s.known false e ≡ b
           → (if b then unless_told (told_of_constants s.known e) (constant_expr (class_as s.known (received_mode r) e) (constant_as s.known (received_mode r) e)) else made_of (λ c o. made.expr (count_in c) (made.root_bounds c) o) (class_as s.known (received_mode r) e) o) ≡ Some x → TypedAs ctx x c
-      by true form made =
-          constant_typed r e c x names bytes clean class valued form (subst (λ l. unless_told l (constant_expr (class_as s.known (received_mode r) e) (constant_as s.known (received_mode r) e)) ≡ Some x) clean.constants made)
-      by false form made = operation_typed r e c o x clean class valued (has form) made
+      by true form built =
+          constant_typed r e c x names bytes clean class valued form (subst (λ l. unless_told l (constant_expr (class_as s.known (received_mode r) e) (constant_as s.known (received_mode r) e)) ≡ Some x) clean.constants built)
+      by false form built = operation_typed r e c o x clean class valued (has form) built
 
   -- ---- values that go to a place
 
   goes_to : (k : ModeTree) (e : ExprTree) (x : made.ExprTree) → IsWellNamed s.known e → value_told s.known (of_mode (Some k)) e (told_in s.known (of_mode (Some k)) e) ≡ [] → ValueTyped s ctx (Some k) e → expr_as s (Some k) e ≡ Some x → GoesTo ctx x k
-  goes_to k e x named none typed made =
+  goes_to k e x named none typed built =
       let v = value_goes s k e known named none in
-      let t = typed v.class x v.is (goes_valued v.class k v.goes) v.told made in
+      let t = typed v.class x v.is (goes_valued v.class k v.goes) v.told built in
       (t.mode, t.has, goes_alike v.class t.mode k t.of v.goes)
 
   pub goes_typed : (m : Option ModeTree) (e : ExprTree) (x : made.ExprTree) → IsWellNamed s.known e → value_told s.known (of_mode m) e (told_in s.known (of_mode m) e) ≡ [] → ValueTyped s ctx m e → expr_as s m e ≡ Some x → (k : ModeTree) → m ≡ Some k → GoesTo ctx x k
-  goes_typed None e x named none typed made k is = no_some k is
-  goes_typed (Some j) e x named none typed made k is = subst (λ q. GoesTo ctx x q) (same_some j k is) (goes_to j e x named none typed made)
+  goes_typed None e x named none typed built k is = no_some k is
+  goes_typed (Some j) e x named none typed built k is = subst (λ q. GoesTo ctx x q) (same_some j k is) (goes_to j e x named none typed built)
 
   pub taken_typed : (m : Option ModeTree) (e : ExprTree) (r : made.ReceivedTree) → IsWellNamed s.known e → value_told s.known (of_mode m) e (told_in s.known (of_mode m) e) ≡ [] → ValueTyped s ctx m e → received_as m (expr_as s m e) ≡ Some r → (k : ModeTree) → m ≡ Some k → IsTakenBy ctx r k
-  taken_typed m e r named none typed made k is =
+  taken_typed m e r named none typed built k is =
       let of_both : ModeTree → made.ExprTree → made.ReceivedTree = λ m e. made.received e (bounds_of m) in
-      let p = made_parts of_both m (expr_as s m e) r made in
+      let p = made_parts of_both m (expr_as s m e) r built in
       let goes = goes_typed m e p.second named none typed p.of_second k is in
       subst (λ q. IsTakenBy ctx q k) p.whole (goes, ap bounds_of (same_some k p.first (sym is ∙ p.of_first)))

@@ -203,7 +203,7 @@ module _ (l r c : ClassTree) (a b m : ModeTree) (of : Operands l r c a b m) wher
 
   by_order : (o : Operator) (set number op : Binary) → between_sets o ≡ Some set → between_numbers o ≡ Some number → (AreSets a b × (m ≡ boolean) → BinaryHas set a b m) → (AreOrdered a b × (m ≡ boolean) → BinaryHas number a b m)
       → when (are_compatible l r && class_is has_order l) (derived boolean) ≡ Some c → by_form o (form_in l) ≡ Some op → BinaryHas op a b m
-  by_order o set number op of_set of_number set_has number_has is made = elim (order_has o op is (operator_by o (form_in l) op made)) [
+  by_order o set number op of_set of_number set_has number_has is built = elim (order_has o op is (operator_by o (form_in l) op built)) [
     | inl fit ↦ subst (λ k. BinaryHas k a b m) (same_some set op (sym of_set ∙ fit.1)) (set_has fit.0)
     | inr fit ↦ subst (λ k. BinaryHas k a b m) (same_some number op (sym of_number ∙ fit.1)) (number_has fit.0)
   ]
@@ -221,9 +221,9 @@ module _ (l r c : ClassTree) (a b m : ModeTree) (of : Operands l r c a b m) wher
 
   -- a value among the members of a powerset
   member_has : (op : Binary) → when (can_be_member l r) (derived boolean) ≡ Some c → option_map binaries.Member (member_bounds (form_in r)) ≡ Some op → BinaryHas op a b m
-  member_has op is made =
+  member_has op is built =
       let fit = when_is (can_be_member l r) (derived boolean) c is in
-      let bounds = there_mapped binaries.Member (member_bounds (form_in r)) op made in
+      let bounds = there_mapped binaries.Member (member_bounds (form_in r)) op built in
       let k = member_in l (form_in r) fit.0 in
       subst (λ x. BinaryHas x a b m) bounds.2
       (k.0, its_form r b (of_powerset k.0) of.right k.1.0, sym (ap member_bounds k.1.0) ∙ bounds.1, goes_alike l a k.0 of.left k.1.1, is_boolean_result fit.1)
@@ -233,28 +233,28 @@ module _ (l r c : ClassTree) (a b m : ModeTree) (of : Operands l r c a b m) wher
       member_in l f goes = absurd (true≢false (sym goes))
 
 pub binary_has : (o : Operator) (l r c : ClassTree) (a b m : ModeTree) (op : Binary) → Operands l r c a b m → class_of_binary o l r ≡ Some c → operator_between o l r ≡ Some op → BinaryHas op a b m
-binary_has ops.Equal l r c a b m op of is made = subst (λ k. BinaryHas k a b m) (same_some binaries.Equal op made) (equal_has l r c a b m of (not (class_is is_meeting l || class_is is_meeting r)) is)
-binary_has ops.NotEqual l r c a b m op of is made = subst (λ k. BinaryHas k a b m) (same_some binaries.NotEqual op made) (equal_has l r c a b m of (not (class_is is_meeting l || class_is is_meeting r)) is)
-binary_has ops.In l r c a b m op of is made = member_has l r c a b m of op is made
-binary_has ops.Less l r c a b m op of is made = by_order l r c a b m of ops.Less binaries.ProperlyIncluded binaries.Less op refl refl (λ h. h) (λ h. h) is made
-binary_has ops.LessOrEqual l r c a b m op of is made = by_order l r c a b m of ops.LessOrEqual binaries.Included binaries.LessOrEqual op refl refl (λ h. h) (λ h. h) is made
-binary_has ops.Greater l r c a b m op of is made = by_order l r c a b m of ops.Greater binaries.ProperlyIncludes binaries.Greater op refl refl (λ h. h) (λ h. h) is made
-binary_has ops.GreaterOrEqual l r c a b m op of is made = by_order l r c a b m of ops.GreaterOrEqual binaries.Includes binaries.GreaterOrEqual op refl refl (λ h. h) (λ h. h) is made
-binary_has ops.Or l r c a b m op of is made =
-    by_both l r c a b m of ops.Or binaries.Union binaries.Or op refl refl (λ h. h) (λ apart t. truths l r c a b m of ops.Or apart refl t) (in_table l r c a b m of ops.Or is) (operator_by ops.Or (form_in l) op made)
-binary_has ops.And l r c a b m op of is made =
-    by_both l r c a b m of ops.And binaries.Intersection binaries.And op refl refl (λ h. h) (λ apart t. truths l r c a b m of ops.And apart refl t) (in_table l r c a b m of ops.And is) (operator_by ops.And (form_in l) op made)
-binary_has ops.Xor l r c a b m op of is made =
-    by_both l r c a b m of ops.Xor binaries.SymmetricDifference binaries.Xor op refl refl (λ h. h) (λ apart t. truths l r c a b m of ops.Xor apart refl t) (in_table l r c a b m of ops.Xor is) (operator_by ops.Xor (form_in l) op made)
-binary_has ops.Minus l r c a b m op of is made =
-    by_both l r c a b m of ops.Minus binaries.Difference binaries.Subtract op refl refl (λ h. h) (λ apart t. ints l r c a b m of ops.Minus apart refl t) (in_table l r c a b m of ops.Minus is) (operator_by ops.Minus (form_in l) op made)
-binary_has ops.OrIf l r c a b m op of is made = by_numbers l r c a b m of ops.OrIf binaries.OrIf op refl refl (λ apart t. truths l r c a b m of ops.OrIf apart refl t) (in_table l r c a b m of ops.OrIf is) (operator_by ops.OrIf (form_in l) op made)
-binary_has ops.AndIf l r c a b m op of is made = by_numbers l r c a b m of ops.AndIf binaries.AndIf op refl refl (λ apart t. truths l r c a b m of ops.AndIf apart refl t) (in_table l r c a b m of ops.AndIf is) (operator_by ops.AndIf (form_in l) op made)
-binary_has ops.Plus l r c a b m op of is made = by_numbers l r c a b m of ops.Plus binaries.Add op refl refl (λ apart t. ints l r c a b m of ops.Plus apart refl t) (in_table l r c a b m of ops.Plus is) (operator_by ops.Plus (form_in l) op made)
-binary_has ops.Times l r c a b m op of is made = by_numbers l r c a b m of ops.Times binaries.Multiply op refl refl (λ apart t. ints l r c a b m of ops.Times apart refl t) (in_table l r c a b m of ops.Times is) (operator_by ops.Times (form_in l) op made)
-binary_has ops.Divide l r c a b m op of is made = by_numbers l r c a b m of ops.Divide binaries.Divide op refl refl (λ apart t. ints l r c a b m of ops.Divide apart refl t) (in_table l r c a b m of ops.Divide is) (operator_by ops.Divide (form_in l) op made)
-binary_has ops.Mod l r c a b m op of is made = by_numbers l r c a b m of ops.Mod binaries.Modulo op refl refl (λ apart t. ints l r c a b m of ops.Mod apart refl t) (in_table l r c a b m of ops.Mod is) (operator_by ops.Mod (form_in l) op made)
-binary_has ops.Rem l r c a b m op of is made = by_numbers l r c a b m of ops.Rem binaries.Remainder op refl refl (λ apart t. ints l r c a b m of ops.Rem apart refl t) (in_table l r c a b m of ops.Rem is) (operator_by ops.Rem (form_in l) op made)
+binary_has ops.Equal l r c a b m op of is built = subst (λ k. BinaryHas k a b m) (same_some binaries.Equal op built) (equal_has l r c a b m of (not (class_is is_meeting l || class_is is_meeting r)) is)
+binary_has ops.NotEqual l r c a b m op of is built = subst (λ k. BinaryHas k a b m) (same_some binaries.NotEqual op built) (equal_has l r c a b m of (not (class_is is_meeting l || class_is is_meeting r)) is)
+binary_has ops.In l r c a b m op of is built = member_has l r c a b m of op is built
+binary_has ops.Less l r c a b m op of is built = by_order l r c a b m of ops.Less binaries.ProperlyIncluded binaries.Less op refl refl (λ h. h) (λ h. h) is built
+binary_has ops.LessOrEqual l r c a b m op of is built = by_order l r c a b m of ops.LessOrEqual binaries.Included binaries.LessOrEqual op refl refl (λ h. h) (λ h. h) is built
+binary_has ops.Greater l r c a b m op of is built = by_order l r c a b m of ops.Greater binaries.ProperlyIncludes binaries.Greater op refl refl (λ h. h) (λ h. h) is built
+binary_has ops.GreaterOrEqual l r c a b m op of is built = by_order l r c a b m of ops.GreaterOrEqual binaries.Includes binaries.GreaterOrEqual op refl refl (λ h. h) (λ h. h) is built
+binary_has ops.Or l r c a b m op of is built =
+    by_both l r c a b m of ops.Or binaries.Union binaries.Or op refl refl (λ h. h) (λ apart t. truths l r c a b m of ops.Or apart refl t) (in_table l r c a b m of ops.Or is) (operator_by ops.Or (form_in l) op built)
+binary_has ops.And l r c a b m op of is built =
+    by_both l r c a b m of ops.And binaries.Intersection binaries.And op refl refl (λ h. h) (λ apart t. truths l r c a b m of ops.And apart refl t) (in_table l r c a b m of ops.And is) (operator_by ops.And (form_in l) op built)
+binary_has ops.Xor l r c a b m op of is built =
+    by_both l r c a b m of ops.Xor binaries.SymmetricDifference binaries.Xor op refl refl (λ h. h) (λ apart t. truths l r c a b m of ops.Xor apart refl t) (in_table l r c a b m of ops.Xor is) (operator_by ops.Xor (form_in l) op built)
+binary_has ops.Minus l r c a b m op of is built =
+    by_both l r c a b m of ops.Minus binaries.Difference binaries.Subtract op refl refl (λ h. h) (λ apart t. ints l r c a b m of ops.Minus apart refl t) (in_table l r c a b m of ops.Minus is) (operator_by ops.Minus (form_in l) op built)
+binary_has ops.OrIf l r c a b m op of is built = by_numbers l r c a b m of ops.OrIf binaries.OrIf op refl refl (λ apart t. truths l r c a b m of ops.OrIf apart refl t) (in_table l r c a b m of ops.OrIf is) (operator_by ops.OrIf (form_in l) op built)
+binary_has ops.AndIf l r c a b m op of is built = by_numbers l r c a b m of ops.AndIf binaries.AndIf op refl refl (λ apart t. truths l r c a b m of ops.AndIf apart refl t) (in_table l r c a b m of ops.AndIf is) (operator_by ops.AndIf (form_in l) op built)
+binary_has ops.Plus l r c a b m op of is built = by_numbers l r c a b m of ops.Plus binaries.Add op refl refl (λ apart t. ints l r c a b m of ops.Plus apart refl t) (in_table l r c a b m of ops.Plus is) (operator_by ops.Plus (form_in l) op built)
+binary_has ops.Times l r c a b m op of is built = by_numbers l r c a b m of ops.Times binaries.Multiply op refl refl (λ apart t. ints l r c a b m of ops.Times apart refl t) (in_table l r c a b m of ops.Times is) (operator_by ops.Times (form_in l) op built)
+binary_has ops.Divide l r c a b m op of is built = by_numbers l r c a b m of ops.Divide binaries.Divide op refl refl (λ apart t. ints l r c a b m of ops.Divide apart refl t) (in_table l r c a b m of ops.Divide is) (operator_by ops.Divide (form_in l) op built)
+binary_has ops.Mod l r c a b m op of is built = by_numbers l r c a b m of ops.Mod binaries.Modulo op refl refl (λ apart t. ints l r c a b m of ops.Mod apart refl t) (in_table l r c a b m of ops.Mod is) (operator_by ops.Mod (form_in l) op built)
+binary_has ops.Rem l r c a b m op of is built = by_numbers l r c a b m of ops.Rem binaries.Remainder op refl refl (λ apart t. ints l r c a b m of ops.Rem apart refl t) (in_table l r c a b m of ops.Rem is) (operator_by ops.Rem (form_in l) op built)
 
 -- ---- before an operand
 
@@ -314,29 +314,29 @@ same_value : (k j : ClassTree) (m n : ModeTree) → k ≡ j → mode_for k ≡ S
 same_value k j m n same first second = same_some m n (sym second ∙ (ap mode_for (sym same) ∙ first))
 
 pub routine_has : (p : Predefined) (c k : ClassTree) (a m : ModeTree) (t : Routine) → IsDeclarable a → mode_for c ≡ Some a → mode_for k ≡ Some m → class_of_routine p c ≡ Some k → routine_on p c ≡ Some t → RoutineHas t a m
-routine_has num c k a m t fits of result is made =
+routine_has num c k a m t fits of result is built =
     let both = when_is (class_is is_discrete c) (derived int) k is in
-    subst (λ x. RoutineHas x a m) (same_some routines.Number t made) (discrete_bounds c a of fits both.0, same_value (derived int) k m int both.1 refl result)
-routine_has succ c k a m t fits of result is made =
+    subst (λ x. RoutineHas x a m) (same_some routines.Number t built) (discrete_bounds c a of fits both.0, same_value (derived int) k m int both.1 refl result)
+routine_has succ c k a m t fits of result is built =
     let both = when_is (class_is is_discrete c) c k is in
-    let b = there_mapped (λ b. routines.Successor b.high) (class_bounds c) t made in
+    let b = there_mapped (λ b. routines.Successor b.high) (class_bounds c) t built in
     subst (λ x. RoutineHas x a m) b.2 ((b.0, bounds_in_class c a b.0 of b.1, refl), same_value c k m a both.1 of result)
-routine_has pred c k a m t fits of result is made =
+routine_has pred c k a m t fits of result is built =
     let both = when_is (class_is is_discrete c) c k is in
-    let b = there_mapped (λ b. routines.Predecessor b.low) (class_bounds c) t made in
+    let b = there_mapped (λ b. routines.Predecessor b.low) (class_bounds c) t built in
     subst (λ x. RoutineHas x a m) b.2 ((b.0, bounds_in_class c a b.0 of b.1, refl), same_value c k m a both.1 of result)
-routine_has abs c k a m t fits of result is made =
+routine_has abs c k a m t fits of result is built =
     let both = if_is (class_is is_int c) (their_class c c) k is in
-    subst (λ x. RoutineHas x a m) (same_some routines.Absolute t made) (int_form (form_of a) (tested_form is_int c a of both.0), own_mode c k a m of result both.1)
-routine_has card c k a m t fits of result is made =
+    subst (λ x. RoutineHas x a m) (same_some routines.Absolute t built) (int_form (form_of a) (tested_form is_int c a of both.0), own_mode c k a m of result both.1)
+routine_has card c k a m t fits of result is built =
     let both = when_is (class_is is_powerset c) (derived int) k is in
-    subst (λ x. RoutineHas x a m) (same_some routines.Cardinality t made) (powerset_form (form_of a) (tested_form is_powerset c a of both.0), same_value (derived int) k m int both.1 refl result)
-routine_has min c k a m t fits of result is made =
-    let b = there_mapped (λ b. routines.Least b.low) (member_bounds (form_in c)) t made in
+    subst (λ x. RoutineHas x a m) (same_some routines.Cardinality t built) (powerset_form (form_of a) (tested_form is_powerset c a of both.0), same_value (derived int) k m int both.1 refl result)
+routine_has min c k a m t fits of result is built =
+    let b = there_mapped (λ b. routines.Least b.low) (member_bounds (form_in c)) t built in
     let own = member_is (form_in c) k m b.0 result is b.1 in
     subst (λ x. RoutineHas x a m) b.2 (b.0, its_form c a (of_powerset m) of own.0, own.1, refl)
-routine_has max c k a m t fits of result is made =
-    let b = there_mapped (λ b. routines.Greatest b.low) (member_bounds (form_in c)) t made in
+routine_has max c k a m t fits of result is built =
+    let b = there_mapped (λ b. routines.Greatest b.low) (member_bounds (form_in c)) t built in
     let own = member_is (form_in c) k m b.0 result is b.1 in
     subst (λ x. RoutineHas x a m) b.2 (b.0, its_form c a (of_powerset m) of own.0, own.1, refl)
-routine_has p c k a m t fits of result is made = no_some k is
+routine_has p c k a m t fits of result is built = no_some k is

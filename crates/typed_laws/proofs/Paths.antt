@@ -55,16 +55,15 @@ with_one ctx p part m q t last is = subst (PathTyped ctx) is (record { of = t.of
 
 has_field : (n : List ℕ) (fs : FieldNodes) (from : ℕ) (m : ModeTree) → field_in n fs ≡ Some m → HasField fs from (from + first_in n fs) m
 has_field n no_fields from m is = no_some m is
-has_field n (more_fields own k at fs) from m is = by (bytes_eq own n) is
+has_field n (more_fields own k at fs) from m is = by (bytes_eq own n) is (λ is. has_field n fs (from + scalars_of k) m is)
   where
-    later : field_in n fs ≡ Some m → HasField fs (from + scalars_of k) (from + scalars_of k + first_in n fs) m
-    later is = has_field n fs (from + scalars_of k) m is
-    by : (b : Bool) → (if b then Some k else field_in n fs) ≡ Some m → HasField (more_fields own k at fs) from (from + (if b then 0 else scalars_of k + first_in n fs)) m
-    by true is = inl (omega arith, same_some k m is)
-    by false is = inr (subst (λ j. HasField fs (from + scalars_of k) j m) (omega arith) (later is))
+    by : (b : Bool) → (if b then Some k else field_in n fs) ≡ Some m → (field_in n fs ≡ Some m → HasField fs (from + scalars_of k) (from + scalars_of k + first_in n fs) m)
+        → HasField (more_fields own k at fs) from (from + (if b then 0 else scalars_of k + first_in n fs)) m
+    by true is later = inl (omega arith, same_some k m is)
+    by false is later = inr (subst (λ j. HasField fs (from + scalars_of k) j m) (omega arith) (later is))
 
 field_lead : (n : List ℕ) (f : FormTree) (m : ModeTree) → field_of_form n f ≡ Some m → (fs : FieldNodes) × IsStructure f fs × HasField fs 0 (first_of_field n f) m
-field_lead n (of_structure fs p) m is = (fs, refl, has_field n fs 0 m is)
+field_lead n (of_structure fs p) m is = (fs, refl, subst (λ j. HasField fs 0 j m) (omega arith) (has_field n fs 0 m is))
 field_lead n f m is = no_some m is
 
 pub field_typed : (ctx : Context) (n : List ℕ) (p q : Path) → PathTyped ctx p → field_path n p ≡ Some q → PathTyped ctx q
@@ -72,6 +71,11 @@ field_typed ctx n p q t is =
     let there = there_mapped (λ m. with_part (made.one_field (first_of_field n (form_of p.mode)) (scalars_of m)) m p) (field_of_form n (form_of p.mode)) q is in
     let lead = field_lead n (form_of p.mode) there.0 there.1 in
     with_one ctx p (made.one_field (first_of_field n (form_of p.mode)) (scalars_of there.0)) there.0 q t (lead.0, there.0, lead.1, lead.2, refl, refl) there.2
+
+pub field_mode : (n : List ℕ) (p q : Path) (m : ModeTree) → field_of_form n (form_of p.mode) ≡ Some m → field_path n p ≡ Some q → q.mode ≡ m
+field_mode n p q m has is =
+    let there = there_mapped (λ m. with_part (made.one_field (first_of_field n (form_of p.mode)) (scalars_of m)) m p) (field_of_form n (form_of p.mode)) q is in
+    sym (ap (λ (x : Path). x.mode) there.2) ∙ same_some there.0 m (sym there.1 ∙ has)
 
 -- ---- elements
 
@@ -86,6 +90,12 @@ element_typed ctx x p q i t index goes is =
     let made_by = made_parts of_both (index_bounds (form_of p.mode)) (element_of_form (form_of p.mode)) q is in
     with_one ctx p (made.one_element x made_by.first (scalars_of made_by.second)) made_by.second q t
     (i, made_by.second, indexed (form_of p.mode) made_by.first i made_by.second made_by.of_first made_by.of_second index, goes, refl, refl) made_by.whole
+
+pub element_mode : (x : made.ExprTree) (p q : Path) (m : ModeTree) → element_of_form (form_of p.mode) ≡ Some m → element_path x p ≡ Some q → q.mode ≡ m
+element_mode x p q m has is =
+    let of_both : Bounds → ModeTree → Path = λ b m. with_part (made.one_element x b (scalars_of m)) m p in
+    let built_by = made_parts of_both (index_bounds (form_of p.mode)) (element_of_form (form_of p.mode)) q is in
+    sym (ap (λ (y : Path). y.mode) built_by.whole) ∙ same_some built_by.second m (sym built_by.of_second ∙ has)
 
 -- ---- names
 
