@@ -5,4 +5,5 @@ pub mod Made
 pub mod Paths
 pub mod Behind
 pub mod Tuples
-pub mod Brackets
+pub mod Bracketed
+pub mod Expressions
