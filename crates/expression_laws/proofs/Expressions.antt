@@ -159,7 +159,7 @@ member_part fits k own holds is = ap (λ b. if b then part_mode k (form_of own) 
     members (of_powerset m) is = refl
     members f is = absurd (true≢false (sym is))
 
-member_there : (f : FormTree) → is_powerset f ≡ true → IsSome (part_mode 0 f)
+pub member_there : (f : FormTree) → is_powerset f ≡ true → IsSome (part_mode 0 f)
 member_there (of_powerset m) is = refl
 member_there f is = absurd (true≢false (sym is))
 

@@ -52,7 +52,7 @@ ArgumentsTyped s ctx es = (fs : List Formal) (as' : made.ArgumentNodes) → AreF
 module _ (s : Source) (ctx : Context) (known : AllNamesKnown s) where
   -- ---- routines
 
-  operand_typed : (es : ExprNodes) (d : ClassTree) (x : made.ExprTree) → OnlyTyped s ctx es → class_of_first s.known es ≡ Some d → is_of_values d ≡ true → told_in_args s.known (replicate (count_exprs es) nothing_asked) es ≡ [] → only_one s None es ≡ Some x → TypedAs ctx x d
+  pub operand_typed : (es : ExprNodes) (d : ClassTree) (x : made.ExprTree) → OnlyTyped s ctx es → class_of_first s.known es ≡ Some d → is_of_values d ≡ true → told_in_args s.known (replicate (count_exprs es) nothing_asked) es ≡ [] → only_one s None es ≡ Some x → TypedAs ctx x d
   operand_typed no_exprs d x only is valued none built = no_some d is
   operand_typed (more_exprs e no_exprs) d x only is valued none built =
       only nothing_asked d x no_receiver (told_inside s.known nothing_asked e (none_first (value_told s.known nothing_asked e (told_in s.known nothing_asked e)) [] none)) is valued built

@@ -40,7 +40,7 @@ use Rattle.source_meaning.specs.TypedValues.{Context, HasMode, OperationHas, Bin
 use Rattle.typed_laws.specs.Typed.{mode_for, TypedAs, AreParameters, AreTaken, AreNamesTyped, ExprTypedLaw}
 use Rattle.typed_laws.proofs.Modes.{mode_for_in, declared_mode}
 use Rattle.typed_laws.proofs.Operators.{Operands, binary_has, prefix_has}
-use Rattle.typed_laws.proofs.Made.{made_parts, if_parts, three_parts, typed_first, typed_later, FoldedBy, GoesTo, ValueTyped, folded_typed, goes_typed, taken_typed}
+use Rattle.typed_laws.proofs.Made.{made_parts, if_parts, three_parts, typed_first, typed_later, FoldedBy, TakenEach, taken_row, GoesTo, ValueTyped, folded_typed, goes_typed, taken_typed}
 use Rattle.typed_laws.proofs.Paths.{PathTyped, value_path_typed, location_typed}
 use Rattle.typed_laws.proofs.Tuples.{PartsTaken, tuple_typed, uniform_typed, tuple_class, of_class}
 use Rattle.typed_laws.proofs.Behind.{OnlyTyped, ArgumentsTyped}
@@ -101,7 +101,7 @@ name_typed s ctx known n c k p names clean class has valued built = by (is_const
 -- ---- the laws
 
 mutual
-  expr_typed : (s : Source) (ctx : Context) (known : AllNamesKnown s) (r : Receiver) (e : ExprTree) (c : ClassTree) (x : made.ExprTree) → AreNamesTyped s ctx (names_in e) → HasBytes e → IsClean s.known r e → class_as s.known (received_mode r) e ≡ Some c → is_of_values c ≡ true → expr_as s (received_mode r) e ≡ Some x → TypedAs ctx x c
+  pub expr_typed : (s : Source) (ctx : Context) (known : AllNamesKnown s) (r : Receiver) (e : ExprTree) (c : ClassTree) (x : made.ExprTree) → AreNamesTyped s ctx (names_in e) → HasBytes e → IsClean s.known r e → class_as s.known (received_mode r) e ≡ Some c → is_of_values c ≡ true → expr_as s (received_mode r) e ≡ Some x → TypedAs ctx x c
   expr_typed s ctx known r (whole at n) c x names bytes clean class valued built = folded_typed s ctx known r (whole at n) c None x names bytes clean class valued (λ form op is. no_some op is) built
   expr_typed s ctx known r (character at n) c x names bytes clean class valued built = folded_typed s ctx known r (character at n) c None x names bytes clean class valued (λ form op is. no_some op is) built
   expr_typed s ctx known r (text at n) c x names bytes clean class valued built = folded_typed s ctx known r (text at n) c None x names bytes clean class valued (λ form op is. no_some op is) built
@@ -132,7 +132,7 @@ mutual
       let parts = made_parts (λ b rs. made.start (made.started b rs)) (body_used s n) (received_each s ms es) op is in
       let p = process_of (origin_of g n) named.stands.0 in
       let row = names.0.started p.0 parts.first p.1 parts.of_first in
-      let taken = received_typed s ctx known ms es parts.second names.1 bytes (known n).places own clean.constants fit parts.of_second row.row 0 (subst (λ q. AreTaken row.row 0 (modes_by s q)) (sym p.1) row.parameters) in
+      let taken = taken_row ctx parts.second ms row.row 0 (received_typed s ctx known ms es parts.second names.1 bytes (known n).places own clean.constants fit parts.of_second) (subst (λ q. AreTaken row.row 0 (modes_by s q)) (sym p.1) row.parameters) in
       subst (λ q. OperationHas ctx q m) parts.whole (same_some m instance (sym of ∙ ap mode_for (sym (same_some (derived instance) c class))), (row.row, row.is, row.sort, taken))) built
   expr_typed s ctx known r (tuple at n b rs) c x names bytes clean class valued built =
       let g = s.known in
@@ -254,18 +254,18 @@ mutual
       (λ is. ap (λ x. holds_of (λ p. are_arguments s.known (is_measuring p) es) (value_routine x)) is) built
   path_typed s ctx known e names bytes c k q clean named class has valued built = absurd (true≢false (sym named))
 
-  only_typed : (s : Source) (ctx : Context) (known : AllNamesKnown s) (es : ExprNodes) → AreNamesTyped s ctx (names_in_each es) → HaveBytes es → AreWellNamed s.known false es → told_in_each s.known es ≡ [] → OnlyTyped s ctx es
+  pub only_typed : (s : Source) (ctx : Context) (known : AllNamesKnown s) (es : ExprNodes) → AreNamesTyped s ctx (names_in_each es) → HaveBytes es → AreWellNamed s.known false es → told_in_each s.known es ≡ [] → OnlyTyped s ctx es
   only_typed s ctx known no_exprs names bytes named constants = tt
   only_typed s ctx known (more_exprs e no_exprs) names bytes named constants =
       λ r c x receives inside class valued built. expr_typed s ctx known r e c x (typed_first s ctx (names_in e) [] names) bytes.0 (record { named = record { short = named.short.0; paths = named.paths.0; tuples = named.tuples.0; stands = named.stands.0 }; receives = receives; constants = none_first (told_as s.known by_itself None e) [] constants; told = inside }) class valued built
   only_typed s ctx known (more_exprs e (more_exprs f fs)) names bytes named constants = tt
 
-  received_typed : (s : Source) (ctx : Context) (known : AllNamesKnown s) (ms : List (Option ModeTree)) (es : ExprNodes) (xs : made.ReceivedNodes) → AreNamesTyped s ctx (names_in_each es) → HaveBytes es → ArePlaces ms → AreWellNamed s.known false es → told_in_each s.known es ≡ [] → ArgumentsClean s.known of_mode ms es
-      → received_each s ms es ≡ Some xs → (row : BodyRowTree) (k : ℕ) → AreTaken row k ms → AllTaken ctx xs row k
-  received_typed s ctx known [] no_exprs xs names bytes places named constants clean built row k are = subst (λ q. AllTaken ctx q row k) (same_some made.no_received xs built) are
-  received_typed s ctx known (m ∷ ms) no_exprs xs names bytes places named constants clean built row k are = no_some xs built
-  received_typed s ctx known [] (more_exprs e es) xs names bytes places named constants clean built row k are = (let count = clean.count in absurd (omega (arith, count)))
-  received_typed s ctx known (m ∷ ms) (more_exprs e es) xs names bytes places named constants clean built row k are =
+  pub received_typed : (s : Source) (ctx : Context) (known : AllNamesKnown s) (ms : List (Option ModeTree)) (es : ExprNodes) (xs : made.ReceivedNodes) → AreNamesTyped s ctx (names_in_each es) → HaveBytes es → ArePlaces ms → AreWellNamed s.known false es → told_in_each s.known es ≡ [] → ArgumentsClean s.known of_mode ms es
+      → received_each s ms es ≡ Some xs → TakenEach ctx xs ms
+  received_typed s ctx known [] no_exprs xs names bytes places named constants clean built = subst (λ q. TakenEach ctx q []) (same_some made.no_received xs built) refl
+  received_typed s ctx known (m ∷ ms) no_exprs xs names bytes places named constants clean built = no_some xs built
+  received_typed s ctx known [] (more_exprs e es) xs names bytes places named constants clean built = (let count = clean.count in absurd (omega (arith, count)))
+  received_typed s ctx known (m ∷ ms) (more_exprs e es) xs names bytes places named constants clean built =
       let g = s.known in
       let first = value_told g (of_mode m) e (told_in g (of_mode m) e) in
       let later = told_in_args g (map of_mode ms) es in
@@ -276,10 +276,10 @@ mutual
       let count = clean.count in
       let parts = made_parts made.more_received (received_as m (expr_as s m e)) (received_each s ms es) xs built in
       let q = value_in m places.0.there in
-      let rest = received_typed s ctx known ms es parts.second (typed_later s ctx (names_in e) (names_in_each es) names) bytes.1 places.1 others (none_later (told_as g by_itself None e) (told_in_each g es) constants) (record { count = omega (arith, count); told = none_later first later clean.told }) parts.of_second row (suc k) are.1 in
-      subst (λ y. AllTaken ctx y row k) parts.whole (q.0, are.0 q.0 q.1, taken_typed s ctx known m e parts.first own (none_first first later clean.told) of_value parts.of_first q.0 q.1, rest)
+      let rest = received_typed s ctx known ms es parts.second (typed_later s ctx (names_in e) (names_in_each es) names) bytes.1 places.1 others (none_later (told_as g by_itself None e) (told_in_each g es) constants) (record { count = omega (arith, count); told = none_later first later clean.told }) parts.of_second in
+      subst (λ y. TakenEach ctx y (m ∷ ms)) parts.whole (q.0, ms, ap (λ y. y ∷ ms) q.1, taken_typed s ctx known m e parts.first own (none_first first later clean.told) of_value parts.of_first q.0 q.1, rest)
 
-  arguments_typed : (s : Source) (ctx : Context) (known : AllNamesKnown s) (fs : List Formal) (es : ExprNodes) (xs : made.ArgumentNodes) → AreNamesTyped s ctx (names_in_each es) → HaveBytes es → AreFormals fs → AreWellNamed s.known false es → told_in_each s.known es ≡ [] → ArgumentsClean s.known receiver_for fs es
+  pub arguments_typed : (s : Source) (ctx : Context) (known : AllNamesKnown s) (fs : List Formal) (es : ExprNodes) (xs : made.ArgumentNodes) → AreNamesTyped s ctx (names_in_each es) → HaveBytes es → AreFormals fs → AreWellNamed s.known false es → told_in_each s.known es ≡ [] → ArgumentsClean s.known receiver_for fs es
       → arguments s fs es ≡ Some xs → (row : BodyRowTree) (k : ℕ) → AreParameters row k fs → ArgumentsFit ctx xs row k
   arguments_typed s ctx known [] no_exprs xs names bytes formals named constants clean built row k are = subst (λ q. ArgumentsFit ctx q row k) (same_some made.no_arguments xs built) are
   arguments_typed s ctx known (f ∷ fs) no_exprs xs names bytes formals named constants clean built row k are = no_some xs built

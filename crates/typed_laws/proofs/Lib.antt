@@ -7,3 +7,4 @@ pub mod Behind
 pub mod Tuples
 pub mod Bracketed
 pub mod Expressions
+pub mod Actions

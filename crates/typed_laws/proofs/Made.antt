@@ -1,6 +1,6 @@
 -- What is made of parts; expressions that are constants or operations; values that go to a place.
-use Rattle.std.proofs.Common.{◌≡◌, ℕ, Bool, true, false, List, [], ◌∷◌, ◌++◌, Option, Some, None, refl, sym, ap, ◌∙◌, subst, true≢false}
-use Rattle.std.specs.Prelude.{if◌then◌else◌}
+use Rattle.std.proofs.Common.{◌≡◌, ℕ, suc, Bool, true, false, List, [], ◌∷◌, ◌++◌, Option, Some, None, refl, sym, ap, ◌∙◌, subst, true≢false}
+use Rattle.std.specs.Prelude.{if◌then◌else◌, map}
 use Rattle.chill_tree.specs.declared.tree.name.Name.{Name}
 use Rattle.chill_tree.specs.ExprTree.{ExprTree}
 use Rattle.modes.specs.ModeTree.{ModeTree, ClassTree}
@@ -8,6 +8,7 @@ use Rattle.modes.specs.Bounds.{bounds_of}
 use Rattle.modes.specs.Language.{IsOfLanguage}
 use Rattle.modes.specs.Similar.{Similar}
 use Rattle.program_trees.specs.ExprTree as made
+use Rattle.program_trees.specs.ProgramTree.{BodyRowTree}
 use Rattle.checks_model.specs.ValueTrees.{ValueTree, scalars_in}
 use Rattle.checks_model.specs.Classes.{class_as}
 use Rattle.checks_model.specs.Constants.{has_form, constant_as}
@@ -19,15 +20,15 @@ use Rattle.elaborated_laws.proofs.Told.{no_some, same_some}
 use Rattle.there_laws.specs.Constants.{IsReceived}
 use Rattle.elaboration_model.specs.Numbering.{Source}
 use Rattle.elaboration_model.specs.Parts.{made_of, made_of_three, made_if}
-use Rattle.elaboration_model.specs.Expressions.{count_in, constant_expr, folded, received_as, expr_as}
+use Rattle.elaboration_model.specs.Expressions.{count_in, constant_expr, folded, received_as, head_mode, rest_of, expr_as}
 use Rattle.expression_laws.specs.Names.{is_of_values, IsWellNamed, AllNamesKnown}
 use Rattle.expression_laws.specs.Expressions.{IsClean}
 use Rattle.expression_laws.proofs.Values.{goes_valued}
 use Rattle.expression_laws.proofs.Parts.{told_any, class_declarable, value_goes}
 use Rattle.constant_laws.specs.Constants.{HasBytes, AreNamesFit}
 use Rattle.constant_laws.proofs.Constants.{constant_fits}
-use Rattle.source_meaning.specs.TypedValues.{Context, HasMode, OperationHas, IsTakenBy}
-use Rattle.typed_laws.specs.Typed.{mode_for, TypedAs, AreNamesTyped}
+use Rattle.source_meaning.specs.TypedValues.{Context, HasMode, OperationHas, IsTakenBy, AllTaken, AllHave}
+use Rattle.typed_laws.specs.Typed.{mode_for, TypedAs, AreTaken, AreNamesTyped}
 use Rattle.typed_laws.proofs.Flat.{flat_value}
 use Rattle.typed_laws.proofs.Modes.{mode_of_class, value_of_class, goes_alike}
 
@@ -97,6 +98,36 @@ ValueTyped s ctx m e = (c : ClassTree) (x : made.ExprTree) → class_as s.known 
 
 abbrev pub GoesTo : Context → made.ExprTree → ModeTree → Type 0
 GoesTo ctx x m = (own : ModeTree) × HasMode ctx x own × Similar own m
+
+-- ---- values that go to places of modes
+
+-- each is taken by a mode
+abbrev pub TakenEach : Context → made.ReceivedNodes → List (Option ModeTree) → Type 0
+TakenEach ctx made.no_received ms = ms ≡ []
+TakenEach ctx (made.more_received r rs) ms = (m : ModeTree) × (rest : List (Option ModeTree)) × (ms ≡ Some m ∷ rest) × IsTakenBy ctx r m × TakenEach ctx rs rest
+
+-- by the parameters of a process
+pub taken_row : (ctx : Context) (xs : made.ReceivedNodes) (ms : List (Option ModeTree)) (row : BodyRowTree) (k : ℕ) → TakenEach ctx xs ms → AreTaken row k ms → AllTaken ctx xs row k
+taken_row ctx made.no_received ms row k taken are = subst (λ l. AreTaken row k l) taken are
+taken_row ctx (made.more_received r rs) ms row k taken are =
+    let all = subst (λ l. AreTaken row k l) taken.2 are in
+    (taken.0, all.0 taken.0 refl, taken.3, taken_row ctx rs taken.1 row (suc k) taken.4 all.1)
+
+-- by the parts of a signal
+pub have_each : (ctx : Context) (xs : made.ReceivedNodes) (ms : List ModeTree) → TakenEach ctx xs (map Some ms) → AllHave ctx xs ms
+have_each ctx made.no_received [] taken = refl
+have_each ctx made.no_received (m ∷ ms) taken = absurd (true≢false (sym (ap is_empty taken)))
+  where
+    is_empty : List (Option ModeTree) → Bool
+    is_empty [] = true
+    is_empty (x ∷ xs) = false
+have_each ctx (made.more_received r rs) [] taken = absurd (true≢false (ap is_empty taken.2))
+  where
+    is_empty : List (Option ModeTree) → Bool
+    is_empty [] = true
+    is_empty (x ∷ xs) = false
+have_each ctx (made.more_received r rs) (m ∷ ms) taken =
+    (m, ms, refl, subst (λ k. IsTakenBy ctx r k) (same_some taken.0 m (sym (ap head_mode taken.2))) taken.3, have_each ctx rs ms (subst (λ l. TakenEach ctx rs l) (sym (ap rest_of taken.2)) taken.4))
 
 module _ (s : Source) (ctx : Context) (known : AllNamesKnown s) where
   constant_typed : (r : Receiver) (e : ExprTree) (c : ClassTree) (x : made.ExprTree) → AreNamesTyped s ctx (names_in e) → HasBytes e → IsClean s.known r e → class_as s.known (received_mode r) e ≡ Some c → is_of_values c ≡ true → has_form s.known false e ≡ true

@@ -32,15 +32,15 @@ use Rattle.typed_laws.proofs.Modes.{tested_form, its_form, its_mode, mode_for_in
 
 -- ---- tests
 
-int_form : (f : FormTree) → is_int f ≡ true → f ≡ of_int
+pub int_form : (f : FormTree) → is_int f ≡ true → f ≡ of_int
 int_form of_int is = refl
 int_form f is = absurd (true≢false (sym is))
 
-boolean_form : (f : FormTree) → is_boolean f ≡ true → f ≡ of_boolean
+pub boolean_form : (f : FormTree) → is_boolean f ≡ true → f ≡ of_boolean
 boolean_form of_boolean is = refl
 boolean_form f is = absurd (true≢false (sym is))
 
-chars_form : (f : FormTree) → is_chars f ≡ true → (n : ℕ) × (f ≡ of_chars n)
+pub chars_form : (f : FormTree) → is_chars f ≡ true → (n : ℕ) × (f ≡ of_chars n)
 chars_form (of_chars n) is = (n, refl)
 chars_form f is = absurd (true≢false (sym is))
 
@@ -48,15 +48,15 @@ powerset_form : (f : FormTree) → is_powerset f ≡ true → (e : ModeTree) × 
 powerset_form (of_powerset m) is = (m, refl)
 powerset_form f is = absurd (true≢false (sym is))
 
-when_is : (b : Bool) (x y : ClassTree) → when b x ≡ Some y → (b ≡ true) × (x ≡ y)
+pub when_is : (b : Bool) (x y : ClassTree) → when b x ≡ Some y → (b ≡ true) × (x ≡ y)
 when_is true x y is = (refl, same_some x y is)
 when_is false x y is = no_some y is
 
-if_is : (b : Bool) (k : Option ClassTree) (y : ClassTree) → (if b then k else None) ≡ Some y → (b ≡ true) × (k ≡ Some y)
+pub if_is : (b : Bool) (k : Option ClassTree) (y : ClassTree) → (if b then k else None) ≡ Some y → (b ≡ true) × (k ≡ Some y)
 if_is true k y is = (refl, is)
 if_is false k y is = no_some y is
 
-both_if : (a b : Bool) (k member : Option ClassTree) (y : ClassTree) → (if a && b then k else member) ≡ Some y → member ≡ None → (a ≡ true) × ((b ≡ true) × (k ≡ Some y))
+pub both_if : (a b : Bool) (k member : Option ClassTree) (y : ClassTree) → (if a && b then k else member) ≡ Some y → member ≡ None → (a ≡ true) × ((b ≡ true) × (k ≡ Some y))
 both_if true true k member y is none = (refl, (refl, is))
 both_if true false k member y is none = no_some y (sym none ∙ is)
 both_if false b k member y is none = no_some y (sym none ∙ is)
