@@ -7,4 +7,3 @@ pub mod Behind
 pub mod Tuples
 pub mod Bracketed
 pub mod Expressions
-pub mod Actions

@@ -184,11 +184,16 @@ module _ (l r c : ClassTree) (a b m : ModeTree) (of : Operands l r c a b m) wher
 
   ordered : are_compatible l r ≡ true → class_is has_order l ≡ true → ((e : ModeTree) → form_in l ≡ Some (of_powerset e) → ⊥) → derived boolean ≡ c → AreOrdered a b × (m ≡ boolean)
   ordered same has apart is =
-      let none = sym (tested_same is_powerset has_order l a of.left has) ∙ no_powerset apart in
-      ((elim (ordered_form (form_of a) (tested_form has_order l a of.left has) none) [
-        | inl discrete ↦ inl (value_in (bounds_of a) (discrete_there a of.declarable discrete))
-        | inr text ↦ inr text
-      ], alike same), is_boolean_result is)
+      let none = sym (tested_same is_powerset has_order l a of.left has) ∙ no_powerset apart in (
+        (
+          elim (ordered_form (form_of a) (tested_form has_order l a of.left has) none) [
+            | inl discrete ↦ inl (value_in (bounds_of a) (discrete_there a of.declarable discrete))
+            | inr text ↦ inr text
+          ],
+          alike same,
+        ),
+        is_boolean_result is,
+      )
 
   equal_has : (x : Bool) → when (are_compatible l r && x) (derived boolean) ≡ Some c → Similar a b × (m ≡ boolean)
   equal_has x is = let fit = when_is (are_compatible l r && x) (derived boolean) c is in (alike (both_left (are_compatible l r) x fit.0), is_boolean_result fit.1)

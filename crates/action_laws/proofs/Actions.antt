@@ -63,7 +63,7 @@ use Rattle.source_meaning.specs.TypedValues.{Context, BufferHas, HasMode, Locati
 use Rattle.source_meaning.specs.TypedStatements as typed
 use Rattle.source_meaning.specs.TypedStatements.{IsCondition, IsReceiver, IsTypedSend, IsTypedReturn, IsTypedAction}
 use Rattle.typed_laws.specs.Typed.{mode_for, TypedAs, AreParameters, AreTaken, IsNameTyped, AreNamesTyped}
-use Rattle.typed_laws.specs.Actions.{IsSound, IsMessageTyped, is_updating, StandsAround, ActionTypedLaw}
+use Rattle.action_laws.specs.Actions.{IsSound, IsMessageTyped, is_updating, StandsAround, ActionTypedLaw}
 use Rattle.typed_laws.proofs.Modes.{mode_for_in, tested_form, its_form, declared_mode, compatible_alike}
 use Rattle.typed_laws.proofs.Operators.{int_form, boolean_form, chars_form, both_if, when_is, if_is, Operands, binary_has, routine_has}
 use Rattle.typed_laws.proofs.Made.{made_parts, if_parts, TakenEach, taken_row, have_each, goes_typed, taken_typed}
