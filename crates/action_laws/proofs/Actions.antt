@@ -23,8 +23,8 @@ use Rattle.program_trees.specs.ExprTree as made
 use Rattle.program_trees.specs.StatementTree as done
 use Rattle.checks_model.specs.Alike.{is_int, is_chars, is_boolean, is_powerset, is_discrete, is_meeting, class_is, are_compatible, goes_with}
 use Rattle.checks_model.specs.Ground.{Ground, Origin, Predefined, of_mode as of_its_mode, truth, no_instance, num, succ, pred, abs, card, min, max, upper, lower, size, put_int, put_text, put_nl, get_int, origin_of, message_parts}
-use Rattle.checks_model.specs.Operations.{form_in, member_class, class_of_binary, class_of_routine, operands_misfit, is_measuring, arguments_of, gives_no_value, takes, their_class}
-use Rattle.checks_model.specs.Classes.{class_as, class_of, class_of_first, class_of_call, class_of_measure, class_of_measured, class_behind, result_class, Measured, a_mode_of, misfit, other, measured_mode, Callee, calls, routine, no_callee, callee_named, measured_first, count_exprs}
+use Rattle.checks_model.specs.Operations.{form_in, class_of_measure, measured_mode, member_class, class_of_binary, class_of_routine, operands_misfit, is_measuring, arguments_of, gives_no_value, takes, their_class}
+use Rattle.checks_model.specs.Classes.{class_as, class_of, class_of_first, class_of_call, class_of_measured, class_behind, result_class, Measured, a_mode_of, misfit, other, Callee, calls, routine, no_callee, callee_named, measured_first, count_exprs}
 use Rattle.checks_model.specs.ConstantRules.{told_of_constants, told_in_each, told_needed, told_some_needed}
 use Rattle.checks_model.specs.Told.{tell_at, told_if, then_told, holds_of, holds_of_both}
 use Rattle.checks_model.specs.ValueRules.{Receiver, nothing_asked, of_mode, condition, received_mode, told_value, told_some_value, value_told, told_in, told_in_args, told_inside_each, told_behind, told_number, receivers_of, each_receiver, receivers_behind, clean_class}
@@ -58,7 +58,7 @@ use Rattle.expression_laws.proofs.Known.{known_there, called_by, procedure_of, p
 use Rattle.expression_laws.proofs.Parts.{class_declarable, value_goes}
 use Rattle.expression_laws.proofs.Applied.{RoutineParts, first_declarable, same_first, receiver_for, ArgumentsClean, arguments_clean, procedure_receivers, process_receivers}
 use Rattle.expression_laws.proofs.Expressions.{only_there}
-use Rattle.expression_laws.proofs.Actions.{value_known, test_holds, target_told, target_declarable, operands_fit, listed_named, listed_told, brackets_named, brackets_told, RoutineTold, routine_told, routine_behind, routine_named, first_class, none_single, each_first, each_later, flat_both, sent_met, same_args, some_named, some_told, instance_fits}
+use Rattle.expression_laws.proofs.Actions.{value_known, test_holds, target_told, target_declarable, listed_named, listed_told, brackets_named, brackets_told, RoutineTold, routine_told, routine_behind, routine_named, first_class, none_single, each_first, each_later, flat_both, sent_met, same_args, some_named, some_told, instance_fits}
 use Rattle.source_meaning.specs.TypedValues.{Context, BufferHas, HasMode, LocationHas, IsTakenBy, BinaryHas, RoutineHas, IsTypedCall}
 use Rattle.source_meaning.specs.TypedStatements as typed
 use Rattle.source_meaning.specs.TypedStatements.{IsCondition, IsReceiver, IsTypedSend, IsTypedReturn, IsTypedAction}
@@ -72,6 +72,9 @@ use Rattle.typed_laws.proofs.Bracketed.{free_typed}
 use Rattle.typed_laws.proofs.Expressions.{expr_typed, only_typed, received_typed, arguments_typed, path_typed_law}
 
 -- ---- the operator of an assignment
+
+operands_fit : (o : Operator) (m : Option ModeTree) (c : Option ClassTree) (k : ModeTree) (d : ClassTree) → m ≡ Some k → c ≡ Some d → holds_of_both (operands_misfit o) (option_map value m) c ≡ false → IsSome (class_of_binary o (value k) d)
+operands_fit o m c k d mode class fits = not_true (is_some (class_of_binary o (value k) d)) (ap (λ x. holds_of_both (operands_misfit o) (Some (value k)) x) (sym class) ∙ (ap (λ x. holds_of_both (operands_misfit o) (option_map value x) c) (sym mode) ∙ fits))
 
 table_root : (b : Bool) (a : ModeTree) (d c : ClassTree) (own : ModeTree) → mode_for d ≡ Some own → (if b && are_compatible (value a) d then their_class (value a) d else None) ≡ Some c → (c ≡ value (root_of a)) × Similar (root_of a) a
 table_root b a d c own is built =
@@ -188,18 +191,18 @@ module _ (s : Source) (around : typed.Around) (known : AllNamesKnown s) where
   -- ---- values
 
   pub value_alone : (e : ExprTree) (c : ClassTree) (x : made.ExprTree) → IsSound s around.context e → IsWellNamed s.known e → told_of_constants s.known e ≡ [] → told_in s.known nothing_asked e ≡ [] → class_of s.known e ≡ Some c → is_of_values c ≡ true → expr_alone s e ≡ Some x → TypedAs around.context x c
-  value_alone e c x sound named constants told is valued built = expr_typed s around.context known nothing_asked e c x sound.names sound.bytes (record { named = named; receives = no_receiver; constants = constants; told = told }) is valued built
+  value_alone e c x sound well constants told is valued built = expr_typed s around.context known nothing_asked e c x sound.names sound.bytes (record { named = well; receives = no_receiver; constants = constants; told = told }) is valued built
 
   pub value_received : (m : Option ModeTree) (e : ExprTree) (r : made.ReceivedTree) → IsSound s around.context e → ((k : ModeTree) → m ≡ Some k → IsDeclarable k) → IsWellNamed s.known e → told_of_constants s.known e ≡ [] → told_value s.known (of_mode m) e ≡ [] → received_by s m e ≡ Some r → (k : ModeTree) → m ≡ Some k → IsTakenBy around.context r k
-  value_received m e r sound fits named constants none built k is =
-      taken_typed s around.context known m e r named none
-      (λ d y class good told at. expr_typed s around.context known (of_mode m) e d y sound.names sound.bytes (record { named = named; receives = fits; constants = constants; told = told }) class good at) built k is
+  value_received m e r sound fits well constants none built k is =
+      taken_typed s around.context known m e r well none
+      (λ d y class good told at. expr_typed s around.context known (of_mode m) e d y sound.names sound.bytes (record { named = well; receives = fits; constants = constants; told = told }) class good at) built k is
 
   pub condition_typed : (e : ExprTree) (x : made.ExprTree) → IsSound s around.context e → IsWellNamed s.known e → told_of_constants s.known e ≡ [] → told_value s.known condition e ≡ [] → expr_alone s e ≡ Some x → IsCondition around.context x
-  condition_typed e x sound named constants none built =
-      let v = value_known s condition e known named refl none in
+  condition_typed e x sound well constants none built =
+      let v = value_known s condition e known well refl none in
       let passes = test_holds is_boolean (class_of s.known e) v.class (tell_at rules.S4 (place_of e)) v.is v.received in
-      let t = expr_typed s around.context known condition e v.class x sound.names sound.bytes (record { named = named; receives = no_receiver; constants = constants; told = v.told }) v.is (class_valued is_boolean v.class refl passes) built in
+      let t = expr_typed s around.context known condition e v.class x sound.names sound.bytes (record { named = well; receives = no_receiver; constants = constants; told = v.told }) v.is (class_valued is_boolean v.class refl passes) built in
       (t.mode, t.has, boolean_form (form_of t.mode) (tested_form is_boolean v.class t.mode t.of passes))
 
   -- ---- assignments
@@ -277,7 +280,7 @@ module _ (s : Source) (around : typed.Around) (known : AllNamesKnown s) where
 
   pub started_typed : (n : Name) (es : List ExprTree) (x : done.ActionTree) → stands_for_process (origin_of s.known n) ≡ true → IsNameTyped s around.context n → Each (IsSound s around.context) es → Each (IsWellNamed s.known) es → flat_map (told_of_constants s.known) es ≡ []
       → told_arguments s.known (receivers_of s.known n) (expr_nodes es) n.at ≡ [] → made_of (λ b rs. done.start_of (made.started b rs)) (body_used s n) (received_each s (modes_by s (origin_of s.known n)) (expr_nodes es)) ≡ Some x → IsTypedAction around x
-  started_typed n es x stands typed_name sound named constants none built =
+  started_typed n es x stands typed_name sound well constants none built =
       let g = s.known in
       let ms = modes_by s (origin_of g n) in
       let nodes = expr_nodes es in
@@ -288,12 +291,12 @@ module _ (s : Source) (around : typed.Around) (known : AllNamesKnown s) where
       let p = process_of (origin_of g n) stands in
       let row = typed_name.started p.0 parts.first p.1 parts.of_first in
       let all = listed_typed es sound in
-      let taken = taken_row around.context parts.second ms row.row 0 (received_typed s around.context known ms nodes parts.second all.0 all.1 (known n).places (listed_named g es named) (sym (listed_told g es) ∙ constants) fit parts.of_second) (subst (λ q. AreTaken row.row 0 (modes_by s q)) (sym p.1) row.parameters) in
+      let taken = taken_row around.context parts.second ms row.row 0 (received_typed s around.context known ms nodes parts.second all.0 all.1 (known n).places (listed_named g es well) (sym (listed_told g es) ∙ constants) fit parts.of_second) (subst (λ q. AreTaken row.row 0 (modes_by s q)) (sym p.1) row.parameters) in
       subst (λ q. IsTypedAction around q) parts.whole (row.row, row.is, row.sort, taken)
 
   procedure_typed : (n : Name) (es : ExprNodes) (x : done.ActionTree) → stands_for_procedure (origin_of s.known n) ≡ true → IsNameTyped s around.context n → AreNamesTyped s around.context (names_in_each es) → HaveBytes es → AreWellNamed s.known false es → told_in_each s.known es ≡ []
       → told_arguments s.known (receivers_of s.known n) es n.at ≡ [] → made_of (λ b as'. done.perform (made.called b as')) (body_used s n) (arguments s (formals_by s (origin_of s.known n)) es) ≡ Some x → IsTypedAction around x
-  procedure_typed n es x stands typed_name names bytes named constants none built =
+  procedure_typed n es x stands typed_name names bytes well constants none built =
       let g = s.known in
       let fs = formals_by s (origin_of g n) in
       let args = told_in_args g (each_receiver (receivers_of g n) (count_exprs es)) es in
@@ -302,7 +305,7 @@ module _ (s : Source) (around : typed.Around) (known : AllNamesKnown s) where
       let parts = made_parts (λ b as'. done.perform (made.called b as')) (body_used s n) (arguments s fs es) x built in
       let p = procedure_of (origin_of g n) stands in
       let row = typed_name.called p.0 parts.first p.1 parts.of_first in
-      let fit_all = arguments_typed s around.context known fs es parts.second names bytes (known n).formals named constants fit parts.of_second row.row 0 (subst (λ q. AreParameters row.row 0 (formals_by s q)) (sym p.1) row.parameters) in
+      let fit_all = arguments_typed s around.context known fs es parts.second names bytes (known n).formals well constants fit parts.of_second row.row 0 (subst (λ q. AreParameters row.row 0 (formals_by s q)) (sym p.1) row.parameters) in
       subst (λ q. IsTypedAction around q) parts.whole (row.row.result, (row.row, row.is, row.sort, refl, row.reached, fit_all))
 
   -- ---- routines
@@ -345,58 +348,58 @@ module _ (s : Source) (around : typed.Around) (known : AllNamesKnown s) where
   -- what is evaluated
   evaluated_typed : (n : Name) (es : ExprNodes) (p : Predefined) (x : done.ActionTree) → IsSound s around.context (apply n.at (name n) es) → IsWellNamed s.known (apply n.at (name n) es) → told_of_constants s.known (apply n.at (name n) es) ≡ [] → callee_named s.known n ≡ routine p → gives_no_value p ≡ false
       → ((c : ClassTree) → class_of_call p (measured_first s.known es) (class_of_first s.known es) ≡ Some c → is_of_values c ≡ true) → RoutineTold s.known p es → option_map done.evaluate (expr_alone s (apply n.at (name n) es)) ≡ Some x → IsTypedAction around x
-  evaluated_typed n es p x sound named constants is gives valued told built =
+  evaluated_typed n es p x sound well constants is gives valued told built =
       let g = s.known in
       let e = apply n.at (name n) es in
       let behind = routine_behind g p es n.at (class_of g (name n)) [] gives told in
       let untold = subst (λ k. told_behind g k n.at (class_of g (name n)) [] (told_in_args g (receivers_behind g k (clean_class [] (class_of g (name n))) (count_exprs es)) es) (told_inside_each g es) es ≡ []) (sym is) behind in
-      let c = value_in (class_of g e) (clean_there g nothing_asked e (known_there s known e named.tuples named.stands) refl untold) in
+      let c = value_in (class_of g e) (clean_there g nothing_asked e (known_there s known e well.tuples well.stands) refl untold) in
       let class = ap (λ k. class_behind k (result_class g (name n)) (class_of g (name n)) (measured_first g es) (class_of_first g es)) (sym is) ∙ c.1 in
       let there = there_mapped done.evaluate (expr_alone s e) x built in
-      let t = value_alone e c.0 there.0 sound named constants untold c.1 (valued c.0 class) there.1 in
+      let t = value_alone e c.0 there.0 sound well constants untold c.1 (valued c.0 class) there.1 in
       subst (λ q. IsTypedAction around q) there.2 (t.mode, t.has)
 
   routine_typed_by : (n : Name) (es : List ExprTree) (p : Predefined) (x : done.ActionTree) → IsSound s around.context (apply n.at (name n) (expr_nodes es)) → IsWellNamed s.known (apply n.at (name n) (expr_nodes es)) → told_of_constants s.known (apply n.at (name n) (expr_nodes es)) ≡ [] → callee_named s.known n ≡ routine p
       → (is_measuring p ≡ false → RoutineParts s (expr_nodes es) × OnlyTyped s around.context (expr_nodes es)) → RoutineTold s.known p (expr_nodes es) → routine_by s p n es ≡ Some x → IsTypedAction around x
-  routine_typed_by n es get_int x sound named constants is parts told built = evaluated_typed n (expr_nodes es) get_int x sound named constants is refl (λ c class. subst (λ k. is_of_values k ≡ true) (same_some (value int) c class) refl) told built
-  routine_typed_by n es upper x sound named constants is parts told built = evaluated_typed n (expr_nodes es) upper x sound named constants is refl (λ c class. measured_valued upper (measured_first s.known (expr_nodes es)) c refl class) told built
-  routine_typed_by n es lower x sound named constants is parts told built = evaluated_typed n (expr_nodes es) lower x sound named constants is refl (λ c class. measured_valued lower (measured_first s.known (expr_nodes es)) c refl class) told built
-  routine_typed_by n es size x sound named constants is parts told built = evaluated_typed n (expr_nodes es) size x sound named constants is refl (λ c class. measured_valued size (measured_first s.known (expr_nodes es)) c refl class) told built
-  routine_typed_by n es put_nl x sound named constants is parts told built = subst (λ q. IsTypedAction around q) (same_some done.put_line x built) tt
-  routine_typed_by n es put_int x sound named constants is parts told built =
+  routine_typed_by n es get_int x sound well constants is parts told built = evaluated_typed n (expr_nodes es) get_int x sound well constants is refl (λ c class. subst (λ k. is_of_values k ≡ true) (same_some (value int) c class) refl) told built
+  routine_typed_by n es upper x sound well constants is parts told built = evaluated_typed n (expr_nodes es) upper x sound well constants is refl (λ c class. measured_valued upper (measured_first s.known (expr_nodes es)) c refl class) told built
+  routine_typed_by n es lower x sound well constants is parts told built = evaluated_typed n (expr_nodes es) lower x sound well constants is refl (λ c class. measured_valued lower (measured_first s.known (expr_nodes es)) c refl class) told built
+  routine_typed_by n es size x sound well constants is parts told built = evaluated_typed n (expr_nodes es) size x sound well constants is refl (λ c class. measured_valued size (measured_first s.known (expr_nodes es)) c refl class) told built
+  routine_typed_by n es put_nl x sound well constants is parts told built = subst (λ q. IsTypedAction around q) (same_some done.put_line x built) tt
+  routine_typed_by n es put_int x sound well constants is parts told built =
       let y = there_mapped done.put_int (only_one s None (expr_nodes es)) x built in
       let a = argument_tested is_int (expr_nodes es) y.0 refl (argument_first (expr_nodes es) y.0 (parts refl).0 (parts refl).1 told.count told.arguments y.1) told.fits in
       subst (λ q. IsTypedAction around q) y.2 (a.mode, a.has, int_form (form_of a.mode) a.form)
-  routine_typed_by n es put_text x sound named constants is parts told built =
+  routine_typed_by n es put_text x sound well constants is parts told built =
       let y = there_mapped done.put_text (only_one s None (expr_nodes es)) x built in
       let a = argument_tested is_chars (expr_nodes es) y.0 refl (argument_first (expr_nodes es) y.0 (parts refl).0 (parts refl).1 told.count told.arguments y.1) told.fits in
       let f = chars_form (form_of a.mode) a.form in
       subst (λ q. IsTypedAction around q) y.2 (a.mode, f.0, a.has, f.1)
-  routine_typed_by n es num x sound named constants is parts told built = dropped_typed num (expr_nodes es) x (parts refl).0 (parts refl).1 told.count told.fits told.arguments built
-  routine_typed_by n es succ x sound named constants is parts told built = dropped_typed succ (expr_nodes es) x (parts refl).0 (parts refl).1 told.count told.fits told.arguments built
-  routine_typed_by n es pred x sound named constants is parts told built = dropped_typed pred (expr_nodes es) x (parts refl).0 (parts refl).1 told.count told.fits told.arguments built
-  routine_typed_by n es abs x sound named constants is parts told built = dropped_typed abs (expr_nodes es) x (parts refl).0 (parts refl).1 told.count told.fits told.arguments built
-  routine_typed_by n es card x sound named constants is parts told built = dropped_typed card (expr_nodes es) x (parts refl).0 (parts refl).1 told.count told.fits told.arguments built
-  routine_typed_by n es min x sound named constants is parts told built = dropped_typed min (expr_nodes es) x (parts refl).0 (parts refl).1 told.count told.fits told.arguments built
-  routine_typed_by n es max x sound named constants is parts told built = dropped_typed max (expr_nodes es) x (parts refl).0 (parts refl).1 told.count told.fits told.arguments built
-  routine_typed_by n es (of_its_mode m) x sound named constants is parts told built = absurd (true≢false (sym (routine_named n (origin_of s.known n) (of_its_mode m) is)))
-  routine_typed_by n es (truth b) x sound named constants is parts told built = absurd (true≢false (sym (routine_named n (origin_of s.known n) (truth b) is)))
-  routine_typed_by n es no_instance x sound named constants is parts told built = absurd (true≢false (sym (routine_named n (origin_of s.known n) no_instance is)))
+  routine_typed_by n es num x sound well constants is parts told built = dropped_typed num (expr_nodes es) x (parts refl).0 (parts refl).1 told.count told.fits told.arguments built
+  routine_typed_by n es succ x sound well constants is parts told built = dropped_typed succ (expr_nodes es) x (parts refl).0 (parts refl).1 told.count told.fits told.arguments built
+  routine_typed_by n es pred x sound well constants is parts told built = dropped_typed pred (expr_nodes es) x (parts refl).0 (parts refl).1 told.count told.fits told.arguments built
+  routine_typed_by n es abs x sound well constants is parts told built = dropped_typed abs (expr_nodes es) x (parts refl).0 (parts refl).1 told.count told.fits told.arguments built
+  routine_typed_by n es card x sound well constants is parts told built = dropped_typed card (expr_nodes es) x (parts refl).0 (parts refl).1 told.count told.fits told.arguments built
+  routine_typed_by n es min x sound well constants is parts told built = dropped_typed min (expr_nodes es) x (parts refl).0 (parts refl).1 told.count told.fits told.arguments built
+  routine_typed_by n es max x sound well constants is parts told built = dropped_typed max (expr_nodes es) x (parts refl).0 (parts refl).1 told.count told.fits told.arguments built
+  routine_typed_by n es (of_its_mode m) x sound well constants is parts told built = absurd (true≢false (sym (routine_named n (origin_of s.known n) (of_its_mode m) is)))
+  routine_typed_by n es (truth b) x sound well constants is parts told built = absurd (true≢false (sym (routine_named n (origin_of s.known n) (truth b) is)))
+  routine_typed_by n es no_instance x sound well constants is parts told built = absurd (true≢false (sym (routine_named n (origin_of s.known n) no_instance is)))
 
   pub called_typed : (n : Name) (es : List ExprTree) (k : Callee) (x : done.ActionTree) → callee_named s.known n ≡ k → IsSound s around.context (apply n.at (name n) (expr_nodes es)) → IsWellNamed s.known (apply n.at (name n) (expr_nodes es)) → told_of_constants s.known (apply n.at (name n) (expr_nodes es)) ≡ []
       → told_routine s.known k (expr_nodes es) n.at ≡ [] → call_action s k n es ≡ Some x → IsTypedAction around x
-  called_typed n es (calls m) x is sound named constants none built =
+  called_typed n es (calls m) x is sound well constants none built =
       let g = s.known in
       let by = called_by n m (origin_of g n) is in
-      procedure_typed n (expr_nodes es) x by.1 sound.names.0 sound.names.1 sound.bytes.1 (brackets_named g n (expr_nodes es) (ap measures is) named) (brackets_told g n (expr_nodes es) constants)
+      procedure_typed n (expr_nodes es) x by.1 sound.names.0 sound.names.1 sound.bytes.1 (brackets_named g n (expr_nodes es) (ap measures is) well) (brackets_told g n (expr_nodes es) constants)
       (subst (λ y. told_arguments g (receivers_of g y) (expr_nodes es) n.at ≡ []) (sym by.0) none) built
-  called_typed n es (routine p) x is sound named constants none built =
+  called_typed n es (routine p) x is sound well constants none built =
       let g = s.known in
       let nodes = expr_nodes es in
       let told = routine_told g p nodes n.at none in
-      let parts : is_measuring p ≡ false → RoutineParts s nodes × OnlyTyped s around.context nodes = λ apart. (let own = brackets_named g n nodes (ap measures is ∙ apart) named in (record { known = known; named = own; only = only_there s nodes known own (brackets_told g n nodes constants) }, only_typed s around.context known nodes sound.names.1 sound.bytes.1 own (brackets_told g n nodes constants))) in
-      routine_typed_by n es p x sound named constants is parts told built
-  called_typed n es no_callee x is sound named constants none built = no_some x built
+      let parts : is_measuring p ≡ false → RoutineParts s nodes × OnlyTyped s around.context nodes = λ apart. (let own = brackets_named g n nodes (ap measures is ∙ apart) well in (record { known = known; named = own; only = only_there s nodes known own (brackets_told g n nodes constants) }, only_typed s around.context known nodes sound.names.1 sound.bytes.1 own (brackets_told g n nodes constants))) in
+      routine_typed_by n es p x sound well constants is parts told built
+  called_typed n es no_callee x is sound well constants none built = no_some x built
 
   -- ---- priorities and results
 
@@ -413,7 +416,7 @@ module _ (s : Source) (around : typed.Around) (known : AllNamesKnown s) where
 
   pub given_typed : (a : Around) (place_of_return : sites.Around) (at : Pos) (e : ExprTree) (r : made.ReceivedTree) → IsAround s a place_of_return → StandsAround s a place_of_return around → IsSound s around.context e → IsWellNamed s.known e → told_of_constants s.known e ≡ []
       → told_if (not_allowed (returning_of s.known place_of_return) true) (tell_at rules.S9 at) ++ told_value s.known (result_receiver (returning_of s.known place_of_return)) e ≡ [] → given_back s a e ≡ Some r → IsTypedReturn around (Some r)
-  given_typed a place_of_return at e r is stands sound named constants none built =
+  given_typed a place_of_return at e r is stands sound well constants none built =
       let wrong = told_if (not_allowed (returning_of s.known place_of_return) true) (tell_at rules.S9 at) in
       let told = told_value s.known (result_receiver (returning_of s.known place_of_return)) e in
       by (returning_of s.known place_of_return) refl (not_broken (not_allowed (returning_of s.known place_of_return) true) (tell_at rules.S9 at) (none_first wrong told none)) (none_later wrong told none)
@@ -424,18 +427,18 @@ module _ (s : Source) (around : typed.Around) (known : AllNamesKnown s) where
       by (a_value m) same allowed none =
           let k = value_in m (is.place m same).there in
           let own = is.result m same in
-          (stands.sort (λ other. not_returning m (sym same ∙ other)), k.0, stands.result ∙ (own ∙ k.1), value_received m e r sound (is.place m same).fits named constants none (subst (λ j. received_by s j e ≡ Some r) own built) k.0 k.1)
+          (stands.sort (λ none_is. not_returning m (sym same ∙ none_is)), k.0, stands.result ∙ (own ∙ k.1), value_received m e r sound (is.place m same).fits well constants none (subst (λ j. received_by s j e ≡ Some r) own built) k.0 k.1)
 
   -- ---- SEND
 
   receiver_typed : (to : Option ExprTree) (x : Option made.ExprTree) → Each (IsSound s around.context) (some_expr to) → Each (IsWellNamed s.known) (some_expr to) → flat_map (told_of_constants s.known) (some_expr to) ≡ [] → told_some_value s.known (of_mode (Some instance)) to ≡ [] → receiver s to ≡ Some x → IsReceiver around.context x
-  receiver_typed None x sound named constants none built = subst (λ q. IsReceiver around.context q) (same_some None x built) tt
-  receiver_typed (Some e) x sound named constants none built =
+  receiver_typed None x sound well constants none built = subst (λ q. IsReceiver around.context q) (same_some None x built) tt
+  receiver_typed (Some e) x sound well constants none built =
       let there = there_mapped Some (expr_as s (Some instance) e) x built in
       let fits : (k : ModeTree) → Some instance ≡ Some k → IsDeclarable k = λ k same. subst IsDeclarable (same_some instance k same) instance_fits in
       let clean_is = none_single (told_of_constants s.known e) constants in
-      let goes = goes_typed s around.context known (Some instance) e there.0 named.0 none
-      (λ d y class good told at. expr_typed s around.context known (of_mode (Some instance)) e d y sound.0.names sound.0.bytes (record { named = named.0; receives = fits; constants = clean_is; told = told }) class good at) there.1 instance refl
+      let goes = goes_typed s around.context known (Some instance) e there.0 well.0 none
+      (λ d y class good told at. expr_typed s around.context known (of_mode (Some instance)) e d y sound.0.names sound.0.bytes (record { named = well.0; receives = fits; constants = clean_is; told = told }) class good at) there.1 instance refl
       in
       subst (λ q. IsReceiver around.context q) there.2 (goes.0, goes.1, instance_form goes.0 goes.2)
 
@@ -550,6 +553,6 @@ action_typed_law s a around at (send p n es to q) x known is stands clean sound 
     let known_message = (known n).message clean.stands (sent_met g n to (none_first met inside processes)) in
     let by = made_parts done.send (sent s n es to) (priority s q) x built in
     subst (λ y. IsTypedAction at y) by.whole
-    (sent_typed s at known n es to by.first known_message typed_names (each_first (IsSound s at.context) parts target_is sounds) (each_later (IsSound s at.context) parts target_is sounds) (each_first (IsWellNamed g) parts target_is named) (each_later (IsWellNamed g) parts target_is named)
+    (sent_typed s at known n es to by.first known_message typed_names (each_first (IsSound s at.context) parts target_is sounds) (each_later (IsSound s at.context) parts target_is sounds) (each_first (IsWellNamed g) parts target_is well) (each_later (IsWellNamed g) parts target_is well)
     (none_first part_constants target_constants constants) (none_later part_constants target_constants constants) (none_first message to_whom behind) (none_later message to_whom behind) by.of_first,
     priority_small s at known q by.second (none_later (flat_map (told_of_constants g) (parts ++ target_is)) (told_some_needed g q) clean.modes) (none_later (met ++ inside) ranked clean.processes) by.of_second)

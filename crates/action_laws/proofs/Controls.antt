@@ -125,6 +125,10 @@ steps_parts down (Some k) (Some from) None to c x is = no_some x is
 steps_parts down (Some k) (Some from) (Some step) None c x is = no_some x is
 steps_parts down (Some k) (Some from) (Some step) (Some to) None x is = no_some x is
 
+-- a statement around, of which the context alone is asked
+around_it : Context → typed.Around
+around_it ctx = record { context = ctx; sort = sorts.Outermost; result = None; labels = 0 }
+
 module _ (s : Source) (ctx : Context) (known : AllNamesKnown s) where
   -- an expression whose class passes a test
   record TestedTyped (test : FormTree → Bool) (e : ExprTree) (x : made.ExprTree) : Type 0 where
@@ -160,15 +164,11 @@ module _ (s : Source) (ctx : Context) (known : AllNamesKnown s) where
         typed_as = expr_typed s ctx known set_of_members e v.class x sound.names sound.bytes (record { named = named; receives = no_receiver; constants = constants; told = v.told }) v.is (class_valued is_powerset v.class refl passes) built;
       }
 
-  -- a statement around, of which the context alone is asked
-  around_it : typed.Around
-  around_it = record { context = ctx; sort = sorts.Outermost; result = None; labels = 0 }
-
   some_condition : (c : Option ExprTree) (x : Option made.ExprTree) → Each (IsSound s ctx) (some_expr c) → Each (IsWellNamed s.known) (some_expr c) → flat_map (told_of_constants s.known) (some_expr c) ≡ [] → told_some_value s.known condition c ≡ [] → made_of_some (expr_alone s) c ≡ Some x → IsSomeCondition ctx x
   some_condition None x sound named constants none built = subst (λ q. IsSomeCondition ctx q) (same_some None x built) tt
   some_condition (Some e) x sound named constants none built =
       let there = there_mapped Some (expr_alone s e) x built in
-      subst (λ q. IsSomeCondition ctx q) there.2 (condition_typed s around_it known e there.0 sound.0 named.0 (none_single (told_of_constants s.known e) constants) none there.1)
+      subst (λ q. IsSomeCondition ctx q) there.2 (condition_typed s (around_it ctx) known e there.0 sound.0 named.0 (none_single (told_of_constants s.known e) constants) none there.1)
 
   some_step : (counter : ModeTree) (f : FormTree) (b : Option ExprTree) (x : Option made.ExprTree) → (is_int (form_of counter) ≡ true → f ≡ of_int) → Each (IsSound s ctx) (some_expr b) → Each (IsWellNamed s.known) (some_expr b) → flat_map (told_of_constants s.known) (some_expr b) ≡ [] → told_step s.known (Some counter) b ≡ []
       → made_of_some (expr_alone s) b ≡ Some x → IsStepped ctx x f
@@ -215,3 +215,56 @@ module _ (s : Source) (ctx : Context) (known : AllNamesKnown s) where
       their_there (derived a) nothing is = (derived (root_of a), refl)
       their_there null h is = absurd (true≢false (sym is))
       their_there nothing h is = absurd (true≢false (sym is))
+
+pub control_typed_law : ControlTypedLaw
+control_typed_law s ctx (while_holds at c) x known clean_is sound typed_names built =
+    let there = there_mapped done.while_true (expr_alone s c) x built in
+    subst (λ q. IsTypedControl ctx q) there.2 (condition_typed s (around_it ctx) known c there.0 sound.0 clean_is.named.0 (none_single (told_of_constants s.known c) clean_is.modes) clean_is.statements there.1)
+control_typed_law s ctx (for_ever at) x known clean_is sound typed_names built = subst (λ q. IsTypedControl ctx q) (same_some done.for_ever x built) tt
+control_typed_law s ctx (for_members at n set c) x known clean_is sound typed_names built =
+    let g = s.known in
+    let others = flat_map (told_of_constants g) (some_expr c) in
+    let inside = told_value g set_of_members set in
+    let turned = told_some_value g condition c in
+    let parts = members_parts (local_defined s n) (expr_alone s set) (low_of (mode_defined s n)) (made_of_some (expr_alone s) c) x built in
+    let t = set_typed s ctx known set parts.members sound.0 clean_is.named.0 (none_first (told_of_constants g set) others clean_is.modes) (none_first inside turned clean_is.statements) parts.of_members in
+    let of = powerset_in t.class t.passes in
+    let mode_is : counter_mode g (for_members at n set c) ≡ Some of.mode = ap (λ k. option_and_then member_in (option_and_then form_in k)) t.clean_is ∙ ap (option_and_then member_in) of.form in
+    let least = there_mapped (λ (b : Bounds). b.low) (option_and_then bounds_of (mode_defined s n)) parts.least parts.of_least in
+    let bounds = sym (ap (option_and_then bounds_of) (typed_names.0 ∙ mode_is)) ∙ least.1 in
+    subst (λ q. IsTypedControl ctx q) parts.whole
+    ((t.typed_as.mode, of.mode, least.0, t.typed_as.has, its_form t.class t.typed_as.mode (of_powerset of.mode) t.typed_as.of of.form, bounds, least.2, typed_names.1 of.mode parts.counter mode_is parts.of_counter),
+    some_condition s ctx known c parts.condition_is sound.1 clean_is.named.1 (none_later (told_of_constants g set) others clean_is.modes) (none_later inside turned clean_is.statements) parts.of_condition)
+control_typed_law s ctx (for_steps at n from step down to c) x known clean_is sound typed_names built =
+    let g = s.known in
+    let start_is = told_value g bound from in
+    let end_is = told_value g bound to in
+    let misfits = holds_of_both bounds_misfit (clean g from) (clean g to) in
+    let misfit = told_if misfits (tell_at rules.S8 (place_of to)) in
+    let counter = counter_of_both (clean g from) (clean g to) in
+    let stepped_is = told_step g counter step in
+    let turned = told_some_value g condition c in
+    let first_four = none_first (start_is ++ end_is ++ misfit ++ stepped_is) turned clean_is.statements in
+    let first_three = none_first (start_is ++ end_is ++ misfit) stepped_is first_four in
+    let first_two = none_first (start_is ++ end_is) misfit first_three in
+    let behind = flat_map (told_of_constants g) (some_expr step ++ to ∷ some_expr c) in
+    let own = flat_map (told_of_constants g) (some_expr step) in
+    let last = flat_map (told_of_constants g) (some_expr c) in
+    let constants = sym (flat_both (told_of_constants g) (some_expr step) (to ∷ some_expr c)) ∙ none_later (told_of_constants g from) behind clean_is.modes in
+    let to_constants = none_later own (told_of_constants g to ++ last) constants in
+    let later = each_later (IsWellNamed g) (some_expr step) (to ∷ some_expr c) clean_is.named.1 in
+    let sounds = each_later (IsSound s ctx) (some_expr step) (to ∷ some_expr c) sound.1 in
+    let parts = steps_parts down (local_defined s n) (expr_alone s from) (made_of_some (expr_alone s) step) (expr_alone s to) (made_of_some (expr_alone s) c) x built in
+    let a = bound_typed s ctx known from parts.start sound.0 clean_is.named.0 (none_first (told_of_constants g from) behind clean_is.modes) (none_first start_is end_is first_two) parts.of_start in
+    let b = bound_typed s ctx known to parts.end sounds.0 later.0 (none_first (told_of_constants g to) last to_constants) (none_later start_is end_is first_two) parts.of_end in
+    let fit = not_broken misfits (tell_at rules.S8 (place_of to)) (none_later (start_is ++ end_is) misfit first_three) in
+    let apart : bounds_misfit a.class b.class ≡ false = ap (λ k. holds_of_both bounds_misfit k (Some b.class)) (sym a.clean_is) ∙ (ap (λ k. holds_of_both bounds_misfit (clean g from) k) (sym b.clean_is) ∙ fit) in
+    let both : (class_is is_discrete a.class && class_is is_discrete b.class) ≡ true = ap (λ k. k && class_is is_discrete b.class) a.passes ∙ b.passes in
+    let same = not_true (are_compatible a.class b.class) (not_second (class_is is_discrete a.class && class_is is_discrete b.class) (not (are_compatible a.class b.class)) both apart) in
+    let m = counter_is s ctx known a.class b.class a.typed_as.mode b.typed_as.mode a.typed_as.of b.typed_as.of a.passes b.passes same in
+    let mode_is : counter ≡ Some m.mode = ap (λ k. counter_of_both k (clean g to)) a.clean_is ∙ (ap (λ k. counter_of_both (Some a.class) k) b.clean_is ∙ m.is) in
+    subst (λ q. IsTypedControl ctx q) parts.whole
+    ((m.mode, a.typed_as.mode, b.typed_as.mode, m.bounds, a.typed_as.has, b.typed_as.has, compatible_alike a.class b.class a.typed_as.mode b.typed_as.mode a.typed_as.of b.typed_as.of same, typed_names m.mode parts.counter mode_is parts.of_counter, m.root, m.bounded,
+    some_step s ctx known m.mode (form_of a.typed_as.mode) step parts.by m.int_is (each_first (IsSound s ctx) (some_expr step) (to ∷ some_expr c) sound.1) (each_first (IsWellNamed g) (some_expr step) (to ∷ some_expr c) clean_is.named.1) (none_first own (told_of_constants g to ++ last) constants)
+    (subst (λ k. told_step g k step ≡ []) mode_is (none_later (start_is ++ end_is ++ misfit) stepped_is first_four)) parts.of_step),
+    some_condition s ctx known c parts.condition_is sounds.1 later.1 (none_later (told_of_constants g to) last to_constants) (none_later (start_is ++ end_is ++ misfit ++ stepped_is) turned clean_is.statements) parts.of_condition)
