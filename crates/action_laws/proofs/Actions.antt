@@ -537,7 +537,7 @@ action_typed_law s a around at (send p n es to q) x known is stands clean sound 
     let g = s.known in
     let parts = some_exprs es in
     let target_is = some_expr to in
-    let named = each_first (IsWellNamed g) (parts ++ target_is) (some_expr q) clean.named in
+    let well = each_first (IsWellNamed g) (parts ++ target_is) (some_expr q) clean.named in
     let sounds = each_first (IsSound s at.context) (parts ++ target_is) (some_expr q) sound in
     let constants = sym (flat_both (told_of_constants g) parts target_is) ∙ none_first (flat_map (told_of_constants g) (parts ++ target_is)) (told_some_needed g q) clean.modes in
     let part_constants = flat_map (told_of_constants g) parts in
@@ -552,7 +552,8 @@ action_typed_law s a around at (send p n es to q) x known is stands clean sound 
     let processes = none_first (met ++ inside) ranked clean.processes in
     let known_message = (known n).message clean.stands (sent_met g n to (none_first met inside processes)) in
     let by = made_parts done.send (sent s n es to) (priority s q) x built in
-    subst (λ y. IsTypedAction at y) by.whole
-    (sent_typed s at known n es to by.first known_message typed_names (each_first (IsSound s at.context) parts target_is sounds) (each_later (IsSound s at.context) parts target_is sounds) (each_first (IsWellNamed g) parts target_is well) (each_later (IsWellNamed g) parts target_is well)
-    (none_first part_constants target_constants constants) (none_later part_constants target_constants constants) (none_first message to_whom behind) (none_later message to_whom behind) by.of_first,
-    priority_small s at known q by.second (none_later (flat_map (told_of_constants g) (parts ++ target_is)) (told_some_needed g q) clean.modes) (none_later (met ++ inside) ranked clean.processes) by.of_second)
+    subst (λ y. IsTypedAction at y) by.whole (
+      sent_typed s at known n es to by.first known_message typed_names (each_first (IsSound s at.context) parts target_is sounds) (each_later (IsSound s at.context) parts target_is sounds) (each_first (IsWellNamed g) parts target_is well) (each_later (IsWellNamed g) parts target_is well)
+          (none_first part_constants target_constants constants) (none_later part_constants target_constants constants) (none_first message to_whom behind) (none_later message to_whom behind) by.of_first,
+      priority_small s at known q by.second (none_later (flat_map (told_of_constants g) (parts ++ target_is)) (told_some_needed g q) clean.modes) (none_later (met ++ inside) ranked clean.processes) by.of_second,
+    )

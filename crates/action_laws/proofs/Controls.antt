@@ -79,6 +79,7 @@ root_bounded m is = elim (single_bounds (root_of m) (ap is_single (root_shape m 
     instance_like : (f : FormTree) → is_instance f ≡ true → is_like_instance (form_shape f) ≡ true
     instance_like of_instance is = refl
     instance_like f is = absurd (true≢false (sym is))
+
     no_instance : (f : FormTree) → is_discrete f ≡ true → is_like_instance (form_shape f) ≡ true → ⊥
     no_instance of_instance is other = true≢false (sym is)
     no_instance f is other = true≢false (sym other)
@@ -126,7 +127,7 @@ steps_parts down (Some k) (Some from) (Some step) None c x is = no_some x is
 steps_parts down (Some k) (Some from) (Some step) (Some to) None x is = no_some x is
 
 -- a statement around, of which the context alone is asked
-around_it : Context → typed.Around
+abbrev around_it : Context → typed.Around
 around_it ctx = record { context = ctx; sort = sorts.Outermost; result = None; labels = 0 }
 
 module _ (s : Source) (ctx : Context) (known : AllNamesKnown s) where
@@ -232,9 +233,10 @@ control_typed_law s ctx (for_members at n set c) x known clean_is sound typed_na
     let mode_is : counter_mode g (for_members at n set c) ≡ Some of.mode = ap (λ k. option_and_then member_in (option_and_then form_in k)) t.clean_is ∙ ap (option_and_then member_in) of.form in
     let least = there_mapped (λ (b : Bounds). b.low) (option_and_then bounds_of (mode_defined s n)) parts.least parts.of_least in
     let bounds = sym (ap (option_and_then bounds_of) (typed_names.0 ∙ mode_is)) ∙ least.1 in
-    subst (λ q. IsTypedControl ctx q) parts.whole
-    ((t.typed_as.mode, of.mode, least.0, t.typed_as.has, its_form t.class t.typed_as.mode (of_powerset of.mode) t.typed_as.of of.form, bounds, least.2, typed_names.1 of.mode parts.counter mode_is parts.of_counter),
-    some_condition s ctx known c parts.condition_is sound.1 clean_is.named.1 (none_later (told_of_constants g set) others clean_is.modes) (none_later inside turned clean_is.statements) parts.of_condition)
+    subst (λ q. IsTypedControl ctx q) parts.whole (
+      (t.typed_as.mode, of.mode, least.0, t.typed_as.has, its_form t.class t.typed_as.mode (of_powerset of.mode) t.typed_as.of of.form, bounds, least.2, typed_names.1 of.mode parts.counter mode_is parts.of_counter),
+      some_condition s ctx known c parts.condition_is sound.1 clean_is.named.1 (none_later (told_of_constants g set) others clean_is.modes) (none_later inside turned clean_is.statements) parts.of_condition,
+    )
 control_typed_law s ctx (for_steps at n from step down to c) x known clean_is sound typed_names built =
     let g = s.known in
     let start_is = told_value g bound from in
@@ -263,8 +265,20 @@ control_typed_law s ctx (for_steps at n from step down to c) x known clean_is so
     let same = not_true (are_compatible a.class b.class) (not_second (class_is is_discrete a.class && class_is is_discrete b.class) (not (are_compatible a.class b.class)) both apart) in
     let m = counter_is s ctx known a.class b.class a.typed_as.mode b.typed_as.mode a.typed_as.of b.typed_as.of a.passes b.passes same in
     let mode_is : counter ≡ Some m.mode = ap (λ k. counter_of_both k (clean g to)) a.clean_is ∙ (ap (λ k. counter_of_both (Some a.class) k) b.clean_is ∙ m.is) in
-    subst (λ q. IsTypedControl ctx q) parts.whole
-    ((m.mode, a.typed_as.mode, b.typed_as.mode, m.bounds, a.typed_as.has, b.typed_as.has, compatible_alike a.class b.class a.typed_as.mode b.typed_as.mode a.typed_as.of b.typed_as.of same, typed_names m.mode parts.counter mode_is parts.of_counter, m.root, m.bounded,
-    some_step s ctx known m.mode (form_of a.typed_as.mode) step parts.by m.int_is (each_first (IsSound s ctx) (some_expr step) (to ∷ some_expr c) sound.1) (each_first (IsWellNamed g) (some_expr step) (to ∷ some_expr c) clean_is.named.1) (none_first own (told_of_constants g to ++ last) constants)
-    (subst (λ k. told_step g k step ≡ []) mode_is (none_later (start_is ++ end_is ++ misfit) stepped_is first_four)) parts.of_step),
-    some_condition s ctx known c parts.condition_is sounds.1 later.1 (none_later (told_of_constants g to) last to_constants) (none_later (start_is ++ end_is ++ misfit ++ stepped_is) turned clean_is.statements) parts.of_condition)
+    subst (λ q. IsTypedControl ctx q) parts.whole (
+      (
+        m.mode,
+        a.typed_as.mode,
+        b.typed_as.mode,
+        m.bounds,
+        a.typed_as.has,
+        b.typed_as.has,
+        compatible_alike a.class b.class a.typed_as.mode b.typed_as.mode a.typed_as.of b.typed_as.of same,
+        typed_names m.mode parts.counter mode_is parts.of_counter,
+        m.root,
+        m.bounded,
+        some_step s ctx known m.mode (form_of a.typed_as.mode) step parts.by m.int_is (each_first (IsSound s ctx) (some_expr step) (to ∷ some_expr c) sound.1) (each_first (IsWellNamed g) (some_expr step) (to ∷ some_expr c) clean_is.named.1) (none_first own (told_of_constants g to ++ last) constants)
+            (subst (λ k. told_step g k step ≡ []) mode_is (none_later (start_is ++ end_is ++ misfit) stepped_is first_four)) parts.of_step,
+      ),
+      some_condition s ctx known c parts.condition_is sounds.1 later.1 (none_later (told_of_constants g to) last to_constants) (none_later (start_is ++ end_is ++ misfit ++ stepped_is) turned clean_is.statements) parts.of_condition,
+    )
