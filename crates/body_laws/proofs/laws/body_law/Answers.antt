@@ -1,0 +1,5 @@
+use Rattle.body_laws.proofs.laws.body_law.Goals as goal
+use Rattle.body_laws.proofs.Statements.{statement_typed_law, body_typed_law, handler_typed_law}
+
+pub returns : goal.returns
+returns c = record { statements = statement_typed_law; bodies = body_typed_law; handlers = handler_typed_law }
