@@ -1,7 +1,7 @@
 -- What a name leads to, by the row that is made of its definition.
-use Rattle.std.proofs.Common.{◌≡◌, ℕ, ◌<◌, List, length, Option, Some, None, refl, sym, ap, ◌∙◌, subst}
+use Rattle.std.proofs.Common.{◌≡◌, ℕ, ◌<◌, List, [], ◌∷◌, length, Option, Some, None, refl, sym, ap, ◌∙◌, subst}
 use Rattle.std.proofs.lemmas.Option.{slice_get_within}
-use Rattle.std.specs.Prelude.{option_map, option_and_then, slice_get}
+use Rattle.std.specs.Prelude.{map, option_map, option_and_then, slice_get}
 use Rattle.chill_tree.specs.declared.tree.name.Name.{Name}
 use Rattle.chill_tree.specs.ItemTree.{ProgramTree}
 use Rattle.modes.specs.ModeTree.{ModeTree, event, buffer, read, named}
@@ -10,18 +10,32 @@ use Rattle.names_model.specs.Definitions.{text_definitions}
 use Rattle.names_model.specs.Resolving.{level_of}
 use Rattle.checked_program.specs.declared.expr.Base.{Base}
 use Rattle.checked_program.specs.declared.expr.Base.TheVariants as bases
-use Rattle.program_trees.specs.ProgramTree.{CheckedTree, LocationRowTree, LocalRowTree, BufferRowTree}
-use Rattle.checks_model.specs.Ground.{Ground, Entry, entry_of, mode_of_entry, number_at, buffer_element, element_of}
+use Rattle.program_trees.specs.ProgramTree.{CheckedTree, LocationRowTree, LocalRowTree, BufferRowTree, SignalRowTree}
+use Rattle.checks_model.specs.Ground.{Ground, Entry, Origin, a_signal, origin_of, message_of, message_parts, entry_of, mode_of_entry, number_at, buffer_element, element_of}
 use Rattle.elaborated_laws.specs.Rows.{LeadsTo}
 use Rattle.elaborated_laws.proofs.Rows.{leads}
 use Rattle.elaborated_laws.proofs.Told.{no_some, same_some, there_mapped, there_chained}
-use Rattle.elaboration_model.specs.Numbering.{Source, Row, Thing, a_local, a_shared, an_event, a_buffer, a_message, a_region, a_body, no_thing, thing_of, thing_used, event_number, buffer_number, buffer_used, event_used}
-use Rattle.elaboration_model.specs.Elaborated.{source_of, region_around, locals_of, buffer_as, elaborated}
+use Rattle.elaboration_model.specs.Numbering.{Source, Row, Thing, a_local, a_shared, an_event, a_buffer, a_message, a_region, a_body, no_thing, thing_of, thing_used, event_number, buffer_number, buffer_used, event_used, body_used}
+use Rattle.elaboration_model.specs.Parts.{made_of, made_of_some, made_each}
+use Rattle.elaboration_model.specs.Elaborated.{source_of, region_around, locals_of, buffer_as, parts_known, signal_as, elaborated}
 use Rattle.elaboration_model.specs.Expressions.{base_of}
 use Rattle.expression_laws.proofs.Outside.{RowParts, row_parts}
 use Rattle.source_meaning.specs.TypedValues.{Context, IsReached, BaseHas, BufferHas}
-use Rattle.source_meaning.specs.TypedStatements.{IsEvent}
+use Rattle.source_meaning.specs.TypedStatements.{IsEvent, SignalHas}
 use Rattle.lead_laws.specs.Leads.{IsWithin, IsNameWithin, IsInBody, NameLeads, NameLeadsLaw}
+
+-- what is made of two parts
+record MadeParts {A B C : Type 0} (f : A → B → C) (a : Option A) (b : Option B) (y : C) : Type 0 where
+  first : A
+  second : B
+  of_first : a ≡ Some first
+  of_second : b ≡ Some second
+  whole : f first second ≡ y
+
+made_parts : {A B C : Type 0} (f : A → B → C) (a : Option A) (b : Option B) (y : C) → made_of f a b ≡ Some y → MadeParts f a b y
+made_parts f (Some a) (Some b) y is = record { first = a; second = b; of_first = refl; of_second = refl; whole = same_some (f a b) y is }
+made_parts f None b y is = no_some y is
+made_parts f (Some a) None y is = no_some y is
 
 module _ (g : Ground) (t : ProgramTree) (p : CheckedTree) (ctx : Context) (body : ℕ) (made : elaborated g t ≡ Some p) (is_in : IsInBody (source_of g t) p ctx body) where
   -- the definition of a name, with what it leads to
@@ -112,8 +126,33 @@ module _ (g : Ground) (t : ProgramTree) (p : CheckedTree) (ctx : Context) (body 
       by (a_body j) used number = no_some k number
       by no_thing used number = no_some k number
 
+  -- the parts of a signal are those of its row
+  all_some : (ms : List (Option ModeTree)) (own : List ModeTree) → made_each (λ (m : Option ModeTree). m) ms ≡ Some own → ms ≡ map Some own
+  all_some [] own is = ap (map Some) (same_some [] own is)
+  all_some (m ∷ ms) own is =
+      let parts = made_parts (λ (y : ModeTree) (ys : List ModeTree). y ∷ ys) m (made_each (λ (m : Option ModeTree). m) ms) own is in
+      ap (λ x. x ∷ ms) parts.of_first ∙ (ap (λ xs. Some parts.first ∷ xs) (all_some ms parts.second parts.of_second) ∙ ap (map Some) parts.whole)
+
+  signal_leads : (n : Name) (k : ℕ) (ms : List (Option ModeTree)) → thing_used (source_of g t) n ≡ Some (a_message k) → message_parts g n ≡ Some ms → (own : List ModeTree) × (SignalHas ctx k own × (ms ≡ map Some own))
+  signal_leads n k ms used_as are =
+      let used = used_is n (a_message k) used_as in
+      let lead = used.leads_to in
+      let parts = row_parts (text_definitions (level_of t)) g.origins g.entries used.number lead.0 lead.2 in
+      let entry : entry_of g n ≡ Some parts.entry = ap (option_and_then (slice_get g.entries)) used.is ∙ parts.has in
+      let origin : origin_of g n ≡ Some lead.0.origin = ap (option_and_then (slice_get g.origins)) used.is ∙ parts.origin in
+      let message = sym (ap (λ e. message_of e (Some lead.0.origin)) entry) ∙ (sym (ap (message_of (entry_of g n)) origin) ∙ are) in
+      by lead.0.origin used.number lead.0 parts.entry lead.1 parts.has message lead.4 lead.3
+    where
+      by : (o : Origin) (d : ℕ) (r : Row) (e : Entry) (made_row : SignalRowTree) → slice_get g.entries d ≡ Some e → message_of (Some e) (Some o) ≡ Some ms → signal_as (source_of g t) d r o ≡ Some made_row → slice_get p.signals k ≡ Some made_row → (own : List ModeTree) × (SignalHas ctx k own × (ms ≡ map Some own))
+      by (a_signal own) d r e made_row has message is at =
+          let signal_of : List ModeTree → Option ℕ → SignalRowTree = λ ms to. record { definition = d; name = r.name; parts = ms; process = to } in
+          let there = made_parts signal_of (parts_known g d) (made_of_some (body_used (source_of g t)) own.process) made_row is in
+          let modes = all_some e.parts there.first (sym (ap (option_and_then (λ (e : Entry). made_each (λ (m : Option ModeTree). m) e.parts)) has) ∙ there.of_first) in
+          (there.first, ((made_row, ap (λ (q : CheckedTree). slice_get q.signals k) is_in.program ∙ at, sym (ap (λ (q : SignalRowTree). q.parts) there.whole)), sym (same_some e.parts ms message) ∙ modes))
+      by o d r e made_row has message is at = no_some made_row is
+
   name_leads : (n : Name) → IsNameWithin (source_of g t) ctx body n → NameLeads (source_of g t) ctx n
-  name_leads n within = record { base = λ m b mode is. base_leads n m b within mode is; buffer = buffer_leads n; event = event_leads n }
+  name_leads n within = record { base = λ m b mode is. base_leads n m b within mode is; buffer = buffer_leads n; event = event_leads n; signal = signal_leads n }
 
 pub name_leads_law : NameLeadsLaw
 name_leads_law g t p ctx body n made is_in within = name_leads g t p ctx body made is_in n within

@@ -2,7 +2,7 @@
 ghost use Rattle.lead_laws.specs.Leads.{NameLeadsLaw};
 
 /// In the elaborated program of a text a name that is used leads to a location or a local of its mode, where what it names is
-/// reached, to a buffer of its elements, or to an event.
+/// reached, to a buffer of its elements, to an event, or to a signal of its parts.
 pub fn lead_law()
     ensures names { NameLeadsLaw }
 {}
