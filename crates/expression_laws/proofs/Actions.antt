@@ -97,15 +97,15 @@ operand_tested s test e c known named constants told is passes valued = record {
 
 -- ---- locations that are written
 
-record TargetTold (g : Ground) (t : ExprTree) : Type 0 where
-  free : is_free (place g t).access ≡ true
-  mode : ModeTree
-  has : (path_of g t).mode ≡ Some mode
-  class : class_of g t ≡ Some (value mode)
-  is : target_mode g t ≡ Some mode
-  told : told_in g nothing_asked t ≡ []
+pub record TargetTold (g : Ground) (t : ExprTree) : Type 0 where
+  pub free : is_free (place g t).access ≡ true
+  pub mode : ModeTree
+  pub has : (path_of g t).mode ≡ Some mode
+  pub class : class_of g t ≡ Some (value mode)
+  pub is : target_mode g t ≡ Some mode
+  pub told : told_in g nothing_asked t ≡ []
 
-target_told : (g : Ground) (t : ExprTree) → told_target g t ≡ [] → TargetTold g t
+pub target_told : (g : Ground) (t : ExprTree) → told_target g t ≡ [] → TargetTold g t
 target_told g t none =
     let indices = told_in_indices g t in
     let read = told_if (cannot_be_written (place g t)) (tell_at rules.S3 (place_of t)) in
@@ -114,7 +114,7 @@ target_told g t none =
     let own = in_place g t (free_located g t free) in
     record { free = free; mode = own.mode; has = own.is; class = own.class; is = ap (λ l. if is_none_told l then (place g t).mode else None) clean ∙ own.is; told = sym own.told ∙ clean }
 
-target_declarable : (s : Source) (t : ExprTree) (m : ModeTree) → AllNamesKnown s → IsWellNamed s.known t → class_of s.known t ≡ Some (value m) → IsDeclarable m
+pub target_declarable : (s : Source) (t : ExprTree) (m : ModeTree) → AllNamesKnown s → IsWellNamed s.known t → class_of s.known t ≡ Some (value m) → IsDeclarable m
 target_declarable s t m known named class = class_declarable s None t (value m) known named no_receiver class
 
 -- a value that goes to a place of a mode
@@ -179,14 +179,14 @@ pub each_later : {A : Type 0} (P : A → Type 0) (xs ys : List A) → Each P (xs
 each_later P [] ys all = all
 each_later P (x ∷ xs) ys all = each_later P xs ys all.1
 
-listed_named : (g : Ground) (es : List ExprTree) → Each (IsWellNamed g) es → AreWellNamed g false (expr_nodes es)
+pub listed_named : (g : Ground) (es : List ExprTree) → Each (IsWellNamed g) es → AreWellNamed g false (expr_nodes es)
 listed_named g [] all = record { short = tt; paths = tt; tuples = tt; stands = tt }
 listed_named g (e ∷ es) all =
     let own = all.0 in
     let others = listed_named g es all.1 in
     record { short = (own.short, others.short); paths = (own.paths, others.paths); tuples = (own.tuples, others.tuples); stands = (own.stands, others.stands) }
 
-listed_told : (g : Ground) (es : List ExprTree) → flat_map (told_of_constants g) es ≡ told_in_each g (expr_nodes es)
+pub listed_told : (g : Ground) (es : List ExprTree) → flat_map (told_of_constants g) es ≡ told_in_each g (expr_nodes es)
 listed_told g [] = refl
 listed_told g (e ∷ es) = ap (λ l. told_of_constants g e ++ l) (listed_told g es)
 
@@ -194,7 +194,7 @@ pub flat_both : {A B : Type 0} (f : A → List B) (xs ys : List A) → flat_map 
 flat_both f [] ys = refl
 flat_both f (x ∷ xs) ys = ap (λ l. f x ++ l) (flat_both f xs ys) ∙ sym (append_assoc (f x) (flat_map f xs) (flat_map f ys))
 
-none_single : (xs : List Diagnostic) → xs ++ [] ≡ [] → xs ≡ []
+pub none_single : (xs : List Diagnostic) → xs ++ [] ≡ [] → xs ≡ []
 none_single xs none = none_first xs [] none
 
 -- ---- STARTs
@@ -223,17 +223,17 @@ procedure_called s n es known stands named constants none =
     let fit = arguments_clean g receiver_for fs (receivers_of g n) es n.at (procedure_receivers s n stands) (none_first args numbers none) (none_later args numbers none) in
     made_there (λ b as'. done.perform (made.called b as')) (body_used s n) (arguments s fs es) ((known n).called stands) (arguments_there s fs es known (known n).formals named constants fit)
 
-brackets_named : (g : Ground) (n : Name) (es : ExprNodes) → measures (callee_named g n) ≡ false → IsWellNamed g (apply n.at (name n) es) → AreWellNamed g false es
+pub brackets_named : (g : Ground) (n : Name) (es : ExprNodes) → measures (callee_named g n) ≡ false → IsWellNamed g (apply n.at (name n) es) → AreWellNamed g false es
 brackets_named g n es apart named = record { short = named.short.1; paths = named.paths.1.1; tuples = named.tuples.1; stands = subst (λ b. EachStands g b es) apart named.stands.1 }
 
-brackets_told : (g : Ground) (n : Name) (es : ExprNodes) → told_of_constants g (apply n.at (name n) es) ≡ [] → told_in_each g es ≡ []
+pub brackets_told : (g : Ground) (n : Name) (es : ExprNodes) → told_of_constants g (apply n.at (name n) es) ≡ [] → told_in_each g es ≡ []
 brackets_told g n es none = none_inside (told_in_each g es) (when_routine (value_routine (callee_named g n)) (λ p. told_if_constant (are_arguments g (is_measuring p) es) (told_call g n.at p es))) none
 
 -- what is told of a routine that stands as an action: nothing in its arguments, their number is right, and they fit
-record RoutineTold (g : Ground) (p : Predefined) (es : ExprNodes) : Type 0 where
-  arguments : told_in_routine g p es ≡ []
-  count : count_exprs es ≡ arguments_of p
-  fits : call_misfits g p es ≡ false
+pub record RoutineTold (g : Ground) (p : Predefined) (es : ExprNodes) : Type 0 where
+  pub arguments : told_in_routine g p es ≡ []
+  pub count : count_exprs es ≡ arguments_of p
+  pub fits : call_misfits g p es ≡ false
 
 inside_none : (g : Ground) (es : ExprNodes) → told_in_args g (replicate (count_exprs es) nothing_asked) es ≡ [] → told_inside_each g es ≡ []
 inside_none g no_exprs none = refl
@@ -249,7 +249,7 @@ routine_inside g p es none = by (is_measuring p) none
     by true none = none
     by false none = inside_none g es none
 
-routine_told : (g : Ground) (p : Predefined) (es : ExprNodes) (at : Pos) → told_routine g (routine p) es at ≡ [] → RoutineTold g p es
+pub routine_told : (g : Ground) (p : Predefined) (es : ExprNodes) (at : Pos) → told_routine g (routine p) es at ≡ [] → RoutineTold g p es
 routine_told g p es at none =
     let args = told_in_routine g p es in
     let numbers = told_number at (count_exprs es) (arguments_of p) in
@@ -264,7 +264,7 @@ routine_told g p es at none =
     }
 
 -- it is told of as an expression, too
-routine_behind : (g : Ground) (p : Predefined) (es : ExprNodes) (at : Pos) (base : Option ClassTree) (inside : List Diagnostic) → gives_no_value p ≡ false → RoutineTold g p es
+pub routine_behind : (g : Ground) (p : Predefined) (es : ExprNodes) (at : Pos) (base : Option ClassTree) (inside : List Diagnostic) → gives_no_value p ≡ false → RoutineTold g p es
     → told_behind g (routine p) at base inside (told_in_args g (replicate (count_exprs es) nothing_asked) es) (told_inside_each g es) es ≡ []
 routine_behind g p es at base inside gives told =
     let numbers : told_number at (count_exprs es) (arguments_of p) ≡ [] = ap (λ b. told_if (not b) (tell_at rules.S5 at)) (eq-eqb (count_exprs es) (arguments_of p) told.count) in
@@ -292,7 +292,7 @@ routine_alone s n es p known named constants is gives parts told =
     (routine_shown s p n.at (class_of g (name n)) [] es c.0 parts (ap (λ k. holds_of (λ p. are_arguments g (is_measuring p) es) (value_routine k)) (sym is) ∙ form)
     (ap (λ k. class_behind k (result_class g (name n)) (class_of g (name n)) (measured_first g es) (class_of_first g es)) (sym is) ∙ c.1) behind))
 
-first_class : (s : Source) (es : ExprNodes) → RoutineParts s es → count_exprs es ≡ 1 → told_in_args s.known (replicate (count_exprs es) nothing_asked) es ≡ [] → (c : ClassTree) × (class_of_first s.known es ≡ Some c)
+pub first_class : (s : Source) (es : ExprNodes) → RoutineParts s es → count_exprs es ≡ 1 → told_in_args s.known (replicate (count_exprs es) nothing_asked) es ≡ [] → (c : ClassTree) × (class_of_first s.known es ≡ Some c)
 first_class s no_exprs parts count none = absurd (omega (arith, count))
 first_class s (more_exprs e no_exprs) parts count none =
     let named = parts.named in
@@ -345,7 +345,7 @@ abbrev routine_or : Predefined → Callee → Predefined
 routine_or q (routine p) = p
 routine_or q _ = q
 
-routine_named : (n : Name) (o : Option Origin) (p : Predefined) → callee_by n o ≡ routine p → is_routine p ≡ true
+pub routine_named : (n : Name) (o : Option Origin) (p : Predefined) → callee_by n o ≡ routine p → is_routine p ≡ true
 routine_named n (Some (a_procedure q)) p is = absurd (true≢false (ap is_called is))
 routine_named n (Some (a_predefined q)) p is = by (is_routine q) refl is
   where
@@ -354,7 +354,7 @@ routine_named n (Some (a_predefined q)) p is = by (is_routine q) refl is
     by false same is = absurd (true≢false (sym (ap is_evaluated is)))
 routine_named n o p is = absurd (true≢false (sym (ap is_evaluated is)))
 
-call_stands : {A : Type 0} (n : Name) (o : Option Origin) → stands_for_call o ≡ true → callee_by n o ≡ no_callee → A
+pub call_stands : {A : Type 0} (n : Name) (o : Option Origin) → stands_for_call o ≡ true → callee_by n o ≡ no_callee → A
 call_stands n (Some (a_procedure p)) stands is = absurd (true≢false (ap is_called is))
 call_stands n (Some (a_predefined p)) stands is = absurd (true≢false (ap is_evaluated (sym (ap (λ b. if b then routine p else no_callee) stands) ∙ is)))
 call_stands n o stands is = absurd (true≢false (sym stands))
@@ -386,11 +386,11 @@ signals_messages g n none = by (met_at g n) none
     by (Some meets_event) none = none
     by (Some meets_nothing) none = none
 
-sent_met : (g : Ground) (n : Name) (to : Option ExprTree) → told_misfit g (purpose_of_send to) n ≡ [] → told_misfit g for_messages n ≡ []
+pub sent_met : (g : Ground) (n : Name) (to : Option ExprTree) → told_misfit g (purpose_of_send to) n ≡ [] → told_misfit g for_messages n ≡ []
 sent_met g n None none = none
 sent_met g n (Some e) none = signals_messages g n none
 
-same_args : (es : Option (List ExprTree)) → some_args es ≡ args_in es
+pub same_args : (es : Option (List ExprTree)) → some_args es ≡ args_in es
 same_args None = refl
 same_args (Some es) = refl
 
@@ -414,7 +414,7 @@ sent_made s (a_buffer k) [] es rs to takes is = absurd (true≢false (sym takes)
 sent_made s (a_buffer k) (m ∷ (l ∷ ms)) es rs to takes is = (let two = eqb-true (length (m ∷ (l ∷ ms))) 1 takes in absurd (omega (arith, two)))
 sent_made s thing ms es rs to takes is = absurd (true≢false (sym takes))
 
-instance_fits : IsDeclarable instance
+pub instance_fits : IsDeclarable instance
 instance_fits = record { parts = refl; size = (let e : 1 ≤ 4096 = omega arith in e) }
 
 receiver_there : (s : Source) (to : Option ExprTree) → AllNamesKnown s → Each (IsWellNamed s.known) (some_expr to) → flat_map (told_of_constants s.known) (some_expr to) ≡ [] → told_some_value s.known (of_mode (Some instance)) to ≡ [] → IsSome (receiver s to)
@@ -425,11 +425,11 @@ receiver_there s (Some e) known named constants none =
     map_there Some (expr_as s (Some instance) e)
     (value_by s (Some instance) e known place_is named.0 none (λ c is valued told. expr_there s (of_mode (Some instance)) e c known (record { named = named.0; receives = place_is.fits; constants = clean_is; told = told }) is valued))
 
-some_named : (g : Ground) (es : Option (List ExprTree)) → Each (IsWellNamed g) (some_exprs es) → AreWellNamed g false (args_in es)
+pub some_named : (g : Ground) (es : Option (List ExprTree)) → Each (IsWellNamed g) (some_exprs es) → AreWellNamed g false (args_in es)
 some_named g None all = record { short = tt; paths = tt; tuples = tt; stands = tt }
 some_named g (Some es) all = listed_named g es all
 
-some_told : (g : Ground) (es : Option (List ExprTree)) → flat_map (told_of_constants g) (some_exprs es) ≡ [] → told_in_each g (args_in es) ≡ []
+pub some_told : (g : Ground) (es : Option (List ExprTree)) → flat_map (told_of_constants g) (some_exprs es) ≡ [] → told_in_each g (args_in es) ≡ []
 some_told g None none = refl
 some_told g (Some es) none = sym (listed_told g es) ∙ none
 

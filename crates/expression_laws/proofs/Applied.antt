@@ -51,7 +51,7 @@ OnlyThere s no_exprs = Unit {0}
 OnlyThere s (more_exprs e no_exprs) = (r : Receiver) (c : ClassTree) → IsReceiverKnown r → told_in s.known r e ≡ [] → class_as s.known (received_mode r) e ≡ Some c → is_of_values c ≡ true → IsSome (expr_as s (received_mode r) e)
 OnlyThere s (more_exprs e (more_exprs f fs)) = Unit {0}
 
-first_named : (g : Ground) (e : ExprTree) (es : ExprNodes) → AreWellNamed g false (more_exprs e es) → IsWellNamed g e
+pub first_named : (g : Ground) (e : ExprTree) (es : ExprNodes) → AreWellNamed g false (more_exprs e es) → IsWellNamed g e
 first_named g e es well = record { short = well.short.0; paths = well.paths.0; tuples = well.tuples.0; stands = well.stands.0 }
 
 pub first_declarable : (s : Source) (es : ExprNodes) (d : ClassTree) → AllNamesKnown s → AreWellNamed s.known false es → class_of_first s.known es ≡ Some d → HasDeclarable d
@@ -70,11 +70,11 @@ operand_there s (more_exprs e (more_exprs f fs)) d only count is valued none = a
 -- ---- routines
 
 -- what is told of a routine: nothing in its arguments, and their number is right
-record RoutineClean (g : Ground) (p : Predefined) (es : ExprNodes) : Type 0 where
-  arguments : (if is_measuring p then told_inside_each g es else told_in_args g (replicate (count_exprs es) nothing_asked) es) ≡ []
-  count : count_exprs es ≡ arguments_of p
+pub record RoutineClean (g : Ground) (p : Predefined) (es : ExprNodes) : Type 0 where
+  pub arguments : (if is_measuring p then told_inside_each g es else told_in_args g (replicate (count_exprs es) nothing_asked) es) ≡ []
+  pub count : count_exprs es ≡ arguments_of p
 
-routine_clean : (g : Ground) (p : Predefined) (at : Pos) (base : Option ClassTree) (inside : List Diagnostic) (es : ExprNodes)
+pub routine_clean : (g : Ground) (p : Predefined) (at : Pos) (base : Option ClassTree) (inside : List Diagnostic) (es : ExprNodes)
     → told_behind g (routine p) at base inside (told_in_args g (replicate (count_exprs es) nothing_asked) es) (told_inside_each g es) es ≡ [] → RoutineClean g p es
 routine_clean g p at base inside es none =
     let in_args = if is_measuring p then told_inside_each g es else told_in_args g (replicate (count_exprs es) nothing_asked) es in
@@ -269,7 +269,7 @@ pub record PathThere (p : Option Path) (m : ModeTree) : Type 0 where
 
 -- ---- elements
 
-abbrev index_mode_for : FormTree → Option ModeTree
+abbrev pub index_mode_for : FormTree → Option ModeTree
 index_mode_for (of_array i e how) = Some i
 index_mode_for _ = None
 
@@ -311,7 +311,7 @@ class_index (derived m) f is = derived_index m ∙ ap index_mode_for (same_some 
 class_index null f is = no_some f is
 class_index nothing f is = no_some f is
 
-before_index : (before : Option ClassTree) (c : ClassTree) (f : FormTree) → before ≡ Some c → form_in c ≡ Some f → index_mode_of before ≡ index_mode_for f
+pub before_index : (before : Option ClassTree) (c : ClassTree) (f : FormTree) → before ≡ Some c → form_in c ≡ Some f → index_mode_of before ≡ index_mode_for f
 before_index before c f is form = ap index_mode_of is ∙ class_index c f form
 
 -- a tuple without a name is no number
@@ -319,20 +319,20 @@ not_number : {A : Type 0} (fits : FormTree → Bool) (c : ClassTree) → fits of
 not_number fits c apart is = no_some c (sym (ap (λ (b : Bool). when b (value int)) apart) ∙ is)
 
 -- what goes to INT is elaborated as what goes nowhere
-number_alone : (s : Source) (e : ExprTree) (c : ClassTree) → class_as s.known (Some int) e ≡ Some c → expr_as s (Some int) e ≡ expr_as s None e
+pub number_alone : (s : Source) (e : ExprTree) (c : ClassTree) → class_as s.known (Some int) e ≡ Some c → expr_as s (Some int) e ≡ expr_as s None e
 number_alone s (paren at e) c is = number_alone s e c is
 number_alone s (tuple at None b rs) c is = not_number (shape_fits rs) c refl is
 number_alone s (uniform at None b e) c is = not_number uniform_fits c refl is
 number_alone s e c is = refl
 
 -- the index of an element
-record IndexFor (f : FormTree) : Type 0 where
-  mode : ModeTree
-  is : index_of_form f ≡ Some mode
-  declarable : IsDeclarable mode
-  bounds : IsSome (index_bounds f)
+pub record IndexFor (f : FormTree) : Type 0 where
+  pub mode : ModeTree
+  pub is : index_of_form f ≡ Some mode
+  pub declarable : IsDeclarable mode
+  pub bounds : IsSome (index_bounds f)
 
-index_for : (f : FormTree) (k : ModeTree) → element_of_form f ≡ Some k → FormIs f → HasBounds f → IndexFor f
+pub index_for : (f : FormTree) (k : ModeTree) → element_of_form f ≡ Some k → FormIs f → HasBounds f → IndexFor f
 index_for (of_array i e how) k is fits bounds = record { mode = i; is = refl; declarable = language_declarable i fits.0; bounds = bounds }
 index_for (of_chars n) k is fits bounds = record { mode = int; is = refl; declarable = of_int_language; bounds = refl }
 index_for f k is fits bounds = no_some k is

@@ -44,7 +44,7 @@ use Rattle.expression_laws.proofs.Places.{value_path, location_shown, name_mode,
 
 -- ---- what is told in parts
 
-own_inside : (g : Ground) (e : ExprTree) → own_told g nothing_asked e (told_in g nothing_asked e) ≡ [] → told_in g nothing_asked e ≡ []
+pub own_inside : (g : Ground) (e : ExprTree) → own_told g nothing_asked e (told_in g nothing_asked e) ≡ [] → told_in g nothing_asked e ≡ []
 own_inside g e none = none_inside (told_in g nothing_asked e) (told_if (holds_of is_too_large (class_of g e)) (tell_at rules.L6 (place_of (bare e)))) none
 
 no_literal : (g : Ground) (e : ExprTree) → has_form g false e ≡ false → literal_in e ≡ None
@@ -52,7 +52,7 @@ no_literal g (whole at n) form = absurd (true≢false form)
 no_literal g e form = refl
 
 -- before what is no constant
-signed_inside : (g : Ground) (at : Pos) (o : Prefix) (e : ExprTree) → has_form g false e ≡ false → told_before g at o e (told_as g by_itself None e) ≡ [] → told_as g by_itself None e ≡ []
+pub signed_inside : (g : Ground) (at : Pos) (o : Prefix) (e : ExprTree) → has_form g false e ≡ false → told_before g at o e (told_as g by_itself None e) ≡ [] → told_as g by_itself None e ≡ []
 signed_inside g at prefixes.Not e form none = none_inside (told_as g by_itself None e) (told_if_constant (has_form g false e) (told_unary g at prefixes.Not e)) none
 signed_inside g at prefixes.Minus e form none =
     none_inside (told_as g by_itself None e) (told_if_constant (has_form g false e) (told_unary g at prefixes.Minus e)) (sym (minus_told g at e (told_as g by_itself None e) (no_literal g e form)) ∙ none)
@@ -61,20 +61,20 @@ mapped_back : {A B : Type 0} (f : A → B) (x : Option A) (y : B) → option_map
 mapped_back f x y is = let there = there_mapped f x y is in is_there x there.0 there.1
 
 -- the operands of an operator
-record OperandsOf (f : ClassTree → ClassTree → Option ClassTree) (l r : Option ClassTree) (c : ClassTree) : Type 0 where
-  left : ClassTree
-  is_left : l ≡ Some left
-  right : ClassTree
-  is_right : r ≡ Some right
-  result : f left right ≡ Some c
+pub record OperandsOf (f : ClassTree → ClassTree → Option ClassTree) (l r : Option ClassTree) (c : ClassTree) : Type 0 where
+  pub left : ClassTree
+  pub is_left : l ≡ Some left
+  pub right : ClassTree
+  pub is_right : r ≡ Some right
+  pub result : f left right ≡ Some c
 
-operands_of : (f : ClassTree → ClassTree → Option ClassTree) (l r : Option ClassTree) (c : ClassTree) → both_classes f l r ≡ Some c → OperandsOf f l r c
+pub operands_of : (f : ClassTree → ClassTree → Option ClassTree) (l r : Option ClassTree) (c : ClassTree) → both_classes f l r ≡ Some c → OperandsOf f l r c
 operands_of f (Some a) (Some b) c is = record { left = a; is_left = refl; right = b; is_right = refl; result = is }
 operands_of f None r c is = no_some c is
 operands_of f (Some a) None c is = no_some c is
 
 -- a class with a mode that is no event's
-mode_valued : (c : ClassTree) (k : ModeTree) → mode_in c ≡ Some k → not (is_meeting (form_of k)) ≡ true → is_of_values c ≡ true
+pub mode_valued : (c : ClassTree) (k : ModeTree) → mode_in c ≡ Some k → not (is_meeting (form_of k)) ≡ true → is_of_values c ≡ true
 mode_valued (value m) k has valued = subst (λ x. not (is_meeting (form_of x)) ≡ true) (sym (same_some m k has)) valued
 mode_valued (derived m) k has valued = subst (λ x. not (is_meeting (form_of x)) ≡ true) (sym (same_some m k has)) valued
 mode_valued null k has valued = no_some k has
@@ -83,20 +83,20 @@ mode_valued nothing k has valued = no_some k has
 -- ---- brackets
 
 -- what is there of the parts of brackets
-record BracketParts (s : Source) (e : ExprTree) (es : ExprNodes) : Type 0 where
-  known : AllNamesKnown s
-  named : IsWellNamed s.known e
-  base : (d : ClassTree) (k : ModeTree) → class_of s.known e ≡ Some d → mode_in d ≡ Some k → not (is_meeting (form_of k)) ≡ true → told_in s.known nothing_asked e ≡ [] → PathThere (path s e) k
-  operand : measures (callee_of s.known e) ≡ false → RoutineParts s es
-  each : measures (callee_of s.known e) ≡ false → ArgumentsThere s es
+pub record BracketParts (s : Source) (e : ExprTree) (es : ExprNodes) : Type 0 where
+  pub known : AllNamesKnown s
+  pub named : IsWellNamed s.known e
+  pub base : (d : ClassTree) (k : ModeTree) → class_of s.known e ≡ Some d → mode_in d ≡ Some k → not (is_meeting (form_of k)) ≡ true → told_in s.known nothing_asked e ≡ [] → PathThere (path s e) k
+  pub operand : measures (callee_of s.known e) ≡ false → RoutineParts s es
+  pub each : measures (callee_of s.known e) ≡ false → ArgumentsThere s es
 
 -- what is known of brackets behind what is called so
-record BracketsClean (s : Source) (e : ExprTree) (es : ExprNodes) (k : Callee) (c : ClassTree) : Type 0 where
-  is : callee_of s.known e ≡ k
-  form : holds_of (λ p. are_arguments s.known (is_measuring p) es) (value_routine k) ≡ false
-  class : class_behind k (result_class s.known e) (class_of s.known e) (measured_first s.known es) (class_of_first s.known es) ≡ Some c
-  valued : is_of_values c ≡ true
-  told : told_behind s.known k (place_of e) (class_of s.known e) (told_in s.known nothing_asked e) (told_in_args s.known (receivers_behind s.known k (clean_class (told_in s.known nothing_asked e) (class_of s.known e)) (count_exprs es)) es) (told_inside_each s.known es) es ≡ []
+pub record BracketsClean (s : Source) (e : ExprTree) (es : ExprNodes) (k : Callee) (c : ClassTree) : Type 0 where
+  pub is : callee_of s.known e ≡ k
+  pub form : holds_of (λ p. are_arguments s.known (is_measuring p) es) (value_routine k) ≡ false
+  pub class : class_behind k (result_class s.known e) (class_of s.known e) (measured_first s.known es) (class_of_first s.known es) ≡ Some c
+  pub valued : is_of_values c ≡ true
+  pub told : told_behind s.known k (place_of e) (class_of s.known e) (told_in s.known nothing_asked e) (told_in_args s.known (receivers_behind s.known k (clean_class (told_in s.known nothing_asked e) (class_of s.known e)) (count_exprs es)) es) (told_inside_each s.known es) es ≡ []
 
 -- a call or a routine, whatever stands before the brackets
 called_shown : (s : Source) (e : ExprTree) (es : ExprNodes) (c : ClassTree) (n : Name) → BracketParts s e es → BracketsClean s e es (calls n) c → IsSome (call_operation s n (arguments s (formals_called s (calls n)) es))
@@ -148,31 +148,31 @@ applied_path_shown s at e es c m no_callee parts clean class has brackets apart 
 
 -- ---- tuples
 
-parts_alone : (g : Ground) (n : Option Name) (has : Bool) → is_constant_tuple by_itself n has ≡ false → standing_of_parts by_itself n has ≡ by_itself
+pub parts_alone : (g : Ground) (n : Option Name) (has : Bool) → is_constant_tuple by_itself n has ≡ false → standing_of_parts by_itself n has ≡ by_itself
 parts_alone g n has form = ap (λ b. if b then (if is_judged by_itself n has then in_a_tuple else in_a_synonym) else by_itself) form
 
 -- the mode of a member, wherever it stands
-member_part : (fits : FormTree → Bool) (k : ℕ) (own : ModeTree) → fits (form_of own) ≡ true → is_powerset (form_of own) ≡ true → mode_of_part fits k (Some own) ≡ mode_of_part (λ f. true) 0 (Some own)
+pub member_part : (fits : FormTree → Bool) (k : ℕ) (own : ModeTree) → fits (form_of own) ≡ true → is_powerset (form_of own) ≡ true → mode_of_part fits k (Some own) ≡ mode_of_part (λ f. true) 0 (Some own)
 member_part fits k own holds is = ap (λ b. if b then part_mode k (form_of own) else None) holds ∙ members (form_of own) is
   where
     members : (f : FormTree) → is_powerset f ≡ true → part_mode k f ≡ part_mode 0 f
     members (of_powerset m) is = refl
     members f is = absurd (true≢false (sym is))
 
-member_there : (f : FormTree) → is_powerset f ≡ true → IsSome (part_mode 0 f)
+pub member_there : (f : FormTree) → is_powerset f ≡ true → IsSome (part_mode 0 f)
 member_there (of_powerset m) is = refl
 member_there f is = absurd (true≢false (sym is))
 
 -- a tuple whose parts have modes, and in which nothing is told from one of them on
-record PartsClean (g : Ground) (fits : FormTree → Bool) (own : ModeTree) (k : ℕ) (rs : RangeNodes) : Type 0 where
-  holds : fits (form_of own) ≡ true
-  declarable : IsDeclarable own
-  named : AreRangesWellNamed g rs
-  told : told_in_parts g fits k (Some own) rs ≡ []
+pub record PartsClean (g : Ground) (fits : FormTree → Bool) (own : ModeTree) (k : ℕ) (rs : RangeNodes) : Type 0 where
+  pub holds : fits (form_of own) ≡ true
+  pub declarable : IsDeclarable own
+  pub named : AreRangesWellNamed g rs
+  pub told : told_in_parts g fits k (Some own) rs ≡ []
 
 -- ---- arguments that are given back
 
-told_located : (g : Ground) (r : Receiver) (e : ExprTree) → is_located (path_of g e).access ≡ true → told_in g r e ≡ told_in g nothing_asked e
+pub told_located : (g : Ground) (r : Receiver) (e : ExprTree) → is_located (path_of g e).access ≡ true → told_in g r e ≡ told_in g nothing_asked e
 told_located g r (name n) is = refl
 told_located g r (field at e n) is = refl
 told_located g r (apply at e es) is = refl
@@ -187,7 +187,7 @@ located_named g (field at e n) is = located_named g e (part_access_located (fiel
 located_named g (apply at e es) is = located_named g e (part_access_located element_of_form (path_of g e) is)
 located_named g e is = absurd (true≢false (sym is))
 
-abbrev PathOf : Source → ExprTree → Type 0
+abbrev pub PathOf : Source → ExprTree → Type 0
 PathOf s e = (c : ClassTree) (k : ModeTree) → IsClean s.known nothing_asked e → is_name_with_parts e ≡ true → class_of s.known e ≡ Some c → mode_in c ≡ Some k → not (is_meeting (form_of k)) ≡ true → PathThere (path s e) k
 
 -- a location that can be written, with its mode
@@ -201,10 +201,10 @@ free_target s e k named constants told is has valued at =
     target_there s e k there
     (at (value k) k (record { named = named; receives = no_receiver; constants = constants; told = told }) (located_named g e there) (own.class ∙ ap (λ x. Some (value x)) same) refl valued)
 
-fits_parameter : (g : Ground) (e : ExprTree) (m : Option ModeTree) (k : ModeTree) → m ≡ Some k → holds_of (does_not_fit_parameter (place g e)) m ≡ false → (is_free (place g e).access && holds_of (λ own. are_v_equivalent own k) (place g e).mode) ≡ true
+pub fits_parameter : (g : Ground) (e : ExprTree) (m : Option ModeTree) (k : ModeTree) → m ≡ Some k → holds_of (does_not_fit_parameter (place g e)) m ≡ false → (is_free (place g e).access && holds_of (λ own. are_v_equivalent own k) (place g e).mode) ≡ true
 fits_parameter g e m k is fits = not_true (is_free (place g e).access && holds_of (λ own. are_v_equivalent own k) (place g e).mode) (ap (holds_of (does_not_fit_parameter (place g e))) (sym is) ∙ fits)
 
-equivalent_mode : (own : Option ModeTree) (k : ModeTree) → holds_of (λ own. are_v_equivalent own k) own ≡ true → (m : ModeTree) × ((own ≡ Some m) × (not (is_meeting (form_of m)) ≡ true))
+pub equivalent_mode : (own : Option ModeTree) (k : ModeTree) → holds_of (λ own. are_v_equivalent own k) own ≡ true → (m : ModeTree) × ((own ≡ Some m) × (not (is_meeting (form_of m)) ≡ true))
 equivalent_mode (Some m) k fits = (m, (refl, goes_valued (value m) k fits))
 equivalent_mode None k fits = absurd (true≢false (sym fits))
 
@@ -229,14 +229,14 @@ argument_made s e passings.InOut m place_is by_value back none = made_there (λ 
 
 -- ---- fields and brackets, by what is there of their parts
 
-field_there : (s : Source) (at : Pos) (e : ExprTree) (n : Name) (c : ClassTree) → AllNamesKnown s → IsWellNamed s.known (field at e n) → told_of_constants s.known e ≡ [] → told_in s.known nothing_asked e ≡ [] → class_of s.known (field at e n) ≡ Some c → is_of_values c ≡ true → PathOf s e
+pub field_there : (s : Source) (at : Pos) (e : ExprTree) (n : Name) (c : ClassTree) → AllNamesKnown s → IsWellNamed s.known (field at e n) → told_of_constants s.known e ≡ [] → told_in s.known nothing_asked e ≡ [] → class_of s.known (field at e n) ≡ Some c → is_of_values c ≡ true → PathOf s e
     → (k : ModeTree) × ((c ≡ value k) × PathThere (option_and_then (field_path n.text) (path s e)) k)
 field_there s at e n c known named constants told class valued base_at =
     let p = part_in (field_of_form n.text) (class_of s.known e) c refl class valued in
     let base : IsClean s.known nothing_asked e = record { named = record { short = named.short; paths = named.paths.1; tuples = named.tuples; stands = named.stands }; receives = no_receiver; constants = constants; told = told } in
     (p.own, (p.class, field_shown n.text (path s e) p.mode p.own (base_at p.whole p.mode base named.paths.0 p.is p.in_whole p.valued) p.has))
 
-bracket_parts : (s : Source) (at : Pos) (e : ExprTree) (es : ExprNodes) → AllNamesKnown s → IsWellNamed s.known (apply at e es) → told_of_constants s.known (apply at e es) ≡ []
+pub bracket_parts : (s : Source) (at : Pos) (e : ExprTree) (es : ExprNodes) → AllNamesKnown s → IsWellNamed s.known (apply at e es) → told_of_constants s.known (apply at e es) ≡ []
     → PathOf s e → (AreWellNamed s.known false es → told_in_each s.known es ≡ [] → OnlyThere s es) → (AreWellNamed s.known false es → told_in_each s.known es ≡ [] → ArgumentsThere s es) → BracketParts s e es
 bracket_parts s at e es known named constants base_at only_at each_at =
     let g = s.known in

@@ -1,0 +1,11 @@
+pub mod Numbers
+pub mod Same
+pub mod Shapes
+pub mod Operators
+pub mod Sizes
+pub mod Routines
+pub mod Measures
+pub mod Tuples
+pub mod Constants
+pub mod Possible
+pub mod Names
