@@ -25,12 +25,13 @@ use Rattle.value_queues.specs.Queues.{rank_of}
 use Rattle.buffers_signals.specs.Lists.{receiver_of, IsIn, lists}
 use Rattle.buffers_signals.specs.Arrivals.{process_in}
 
--- for each signal the process that may receive it, if its definition names one; the pending signals; the receivers that
--- wait, in the order in which they came; and for how many changes there is room
+-- for each signal the process that may receive it, if its definition names one; the pending signals, and the receivers that
+-- wait, in the order in which they came; the last send number; and for how many changes there is room
 pub record SeenSignals : Type 0 where
   pub wanted : List (Option ℕ)
   pub pending : List PendingSignal
   pub receivers : List Receiver
+  pub last : ℕ
   pub spare : ℕ
 
 -- a send of a signal that is there

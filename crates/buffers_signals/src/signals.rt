@@ -30,6 +30,7 @@ pub struct Signals {
     wanted: Lengths,
     pending: Vec<PendingSignal>,
     receivers: Receivers,
+    last: u32,
 }
 
 impl Model for Signals {
@@ -45,6 +46,7 @@ impl Model for Signals {
       wanted = s.wanted;
       pending = s.pending.items;
       receivers = s.receivers.receivers;
+      last = s.last;
       spare = min (spare s.pending) s.receivers.room;
     } };
 
@@ -56,11 +58,13 @@ impl Signals {
     pub fn new(alloc: Global, facts: &Facts) -> Result<Signals, Memory>
         ensures wanted { IfOk result (λ s. s.wanted ≡ facts.now.signals) }
         ensures empty { IfOk result (λ s. (s.pending ≡ []) × (s.receivers ≡ [])) }
+        ensures last { IfOk result (λ s. s.last ≡ 0) }
     {
         Ok(Signals {
             wanted: facts.signals.copy()?,
             pending: Vec::new(alloc),
             receivers: Receivers::new(alloc, facts.signals.len())?,
+            last: 0,
         })
     }
 
@@ -70,6 +74,7 @@ impl Signals {
         ensures wanted { self.new.wanted ≡ self.old.wanted }
         ensures pending { self.new.pending ≡ self.old.pending }
         ensures receivers { self.new.receivers ≡ self.old.receivers }
+        ensures last { self.new.last ≡ self.old.last }
         ensures spare { self.old.spare ≤ self.new.spare }
     {
         self.pending.reserve(n as usize)?;
@@ -93,11 +98,14 @@ impl Signals {
         self.receivers.at(signal)
     }
 
-    /// Sends a signal under this send number, where it isn't refused. It takes no memory, and is never delayed.
+    /// Sends a signal under this send number, which is behind all earlier ones, where it isn't refused. It takes no memory,
+    /// and is never delayed.
     pub fn send(&mut self, who: u32, send: u32, request: Request) -> Sent
         requires spare { 0 < self.old.spare }
+        requires next { self.old.last < send }
         requires is_send { IsSend self.old request }
         ensures sends { Sends self.old self.new who send request result }
+        ensures last { self.new.last ≤ send }
         ensures wanted { self.new.wanted ≡ self.old.wanted }
         ensures spare { self.old.spare ≤ self.new.spare + 1 }
     {
@@ -122,11 +130,14 @@ impl Signals {
 
     fn send_signal(&mut self, signal: PendingSignal) -> Sent
         requires spare { 0 < self.old.spare }
+        requires next { self.old.last < signal.value.send }
         requires there { signal.signal < length self.old.wanted }
         ensures sends { SendsTo self.old self.new signal result }
+        ensures last { self.new.last ≡ signal.value.send }
         ensures wanted { self.new.wanted ≡ self.old.wanted }
         ensures spare { self.old.spare ≤ self.new.spare + 1 }
     {
+        self.last = signal.value.send;
         let wanted = self.wanted.as_slice();
         self.receivers.each_once();
         if let Some(to) = receiver_for(wanted, &self.receivers, signal.signal, signal.to) {
@@ -146,6 +157,7 @@ impl Signals {
         requires is_receive { IsReceive self.old request }
         requires nothing { entry_of receiver_of self.old.receivers who ≡ None }
         ensures receives { Receives self.old self.new who process request result }
+        ensures last { self.new.last ≡ self.old.last }
         ensures wanted { self.new.wanted ≡ self.old.wanted }
         ensures spare { self.old.spare ≤ self.new.spare + 1 }
     {
@@ -167,6 +179,7 @@ impl Signals {
         requires spare { 0 < self.old.spare }
         requires nothing { entry_of receiver_of self.old.receivers who ≡ None }
         ensures receives { ReceivesFrom self.old self.new who process signals otherwise result }
+        ensures last { self.new.last ≡ self.old.last }
         ensures wanted { self.new.wanted ≡ self.old.wanted }
         ensures spare { self.old.spare ≤ self.new.spare + 1 }
     {
