@@ -1,15 +1,15 @@
 -- What is put into the bits of one scalar leaves those of the others.
-use Rattle.std.proofs.Common.{◌≡◌, ◌≢◌, ℕ, zero, suc, ◌+◌, ◌-◌, ◌*◌, ◌/◌, ◌%◌, ◌^◌, ◌<◌, ◌≤◌, ℤ, List, [], ◌∷◌, length, map, Bool, true, false, refl, sym, ap, ◌∙◌, subst, inl, inr, arith, Some, slice_get, slice_set}
-use Rattle.std.specs.Prelude.{nat_lt, slice_index_or, max, All, AllPairs}
+use Rattle.std.proofs.Common.{◌≡◌, ◌≢◌, ℕ, zero, suc, ◌+◌, ◌-◌, ◌/◌, ◌%◌, ◌^◌, ◌<◌, ◌≤◌, ℤ, List, [], ◌∷◌, length, true, false, refl, sym, ap, ◌∙◌, inl, inr, arith, Some, slice_get, slice_set}
+use Rattle.std.specs.Prelude.{nat_lt, slice_index_or}
 use Rattle.std.proofs.lemmas.Bool.{cases_Bool, cases_eq}
 use Rattle.std.proofs.lemmas.Bool.Decides.{nat_tests}
 use Rattle.std.proofs.lemmas.List.{get_or-set_same, get_or-set_other}
 use Rattle.std.proofs.lemmas.Nat.{pow_pos, shr-shr, mod-pow-add, field_of, mod-mul-add}
-use Rattle.std.proofs.lemmas.Option.{same_Some, slice_get_within}
+use Rattle.std.proofs.lemmas.Option.{same_Some}
 use Rattle.chill_base.specs.declared.layout.Bits.{Bits}
-use Rattle.layout_map.specs.Apart.{HasBit, ShareNoBit}
+use Rattle.layout_map.specs.Apart.{ShareNoBit}
 use Rattle.layout_map.specs.Spots.{words_of}
-use Rattle.layout_map.specs.Words.{IsInWord, IsSignedBelow, IsUnsignedBelow, IsWithinBits, coded_in, number_in, number_of_field, put_in}
+use Rattle.layout_map.specs.Words.{IsInWord, IsWithinBits, coded_in, number_in, number_of_field, put_in}
 use Rattle.layout_map.proofs.NumberLemmas.{coded-below, put_get}
 use Rattle.layout_map.proofs.WordLemmas.{put-high, put-low}
 use Rattle.packed_words.specs.Packed.{number_at, scalars_in}

@@ -1,17 +1,17 @@
 -- What is put into the bits of a scalar of a layout, whose facts are those that the facts of a run tell of it.
-use Rattle.std.proofs.Common.{◌≡◌, ◌≢◌, ℕ, ◌+◌, ◌-◌, ◌<◌, ◌≤◌, ℤ, zero, suc, List, [], ◌∷◌, ◌++◌, length, map, get_or, take, drop, Bool, true, false, refl, sym, ap, ◌∙◌, subst, inl, inr, arith, Some, slice_get, slice_set, MatchBool}
-use Rattle.std.specs.Prelude.{nat_lt, slice_index_or, All, AllPairs}
+use Rattle.std.proofs.Common.{◌≡◌, ◌≢◌, ℕ, ◌+◌, ◌-◌, ◌<◌, ◌≤◌, ℤ, suc, List, [], ◌∷◌, ◌++◌, length, get_or, take, drop, Bool, true, false, refl, sym, ap, ◌∙◌, subst, inl, inr, arith, Some, slice_get, slice_set, MatchBool}
+use Rattle.std.specs.Prelude.{nat_lt, All, AllPairs}
 use Rattle.std.specs.Option.{option_map}
 use Rattle.std.proofs.lemmas.Bool.{cases_Bool}
 use Rattle.std.proofs.lemmas.Bool.Decides.{nat_tests}
-use Rattle.std.proofs.lemmas.List.{drop_all, take-append-le, take_all}
+use Rattle.std.proofs.lemmas.List.{take-append-le, take_all}
 use Rattle.std.proofs.lemmas.Option.{same_Some, slice_get-map, slice_get-get_or, slice_get_within, get_or_from_slice_get}
 use Rattle.chill_base.specs.declared.layout.Bits.{Bits}
 use Rattle.kernel_base.specs.Facts as facts
 use Rattle.layout_map.specs.Apart.{ShareNoBit}
 use Rattle.layout_map.specs.Spots.{words_of}
-use Rattle.layout_map.specs.Words.{IsInWord, IsSignedBelow, IsUnsignedBelow, IsWithinBits, number_in}
-use Rattle.packed_words.specs.Packed.{HasOwnBits, IsPacked, number_at, scalars_in}
+use Rattle.layout_map.specs.Words.{IsInWord, IsSignedBelow, IsUnsignedBelow, IsWithinBits}
+use Rattle.packed_words.specs.Packed.{IsPacked, number_at, scalars_in}
 use Rattle.packed_words.proofs.Kept.{scalar_put, with_number, word_there}
 
 pub in_word : (b : Bits) → facts.IsInWord b → IsInWord b

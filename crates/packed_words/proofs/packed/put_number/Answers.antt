@@ -1,4 +1,4 @@
-use Rattle.std.proofs.Common.{◌≡◌, ◌∙◌, ap, length, get_or, List, ℕ, false, w64, arith}
+use Rattle.std.proofs.Common.{◌∙◌, ap, List, ℕ, false, w64, arith}
 use Rattle.std.proofs.lemmas.Int.{to_z-of_z}
 use Rattle.std.proofs.lemmas.Option.{slice_get-get_or}
 use Rattle.packed_words.specs.Packed.{scalars_in}

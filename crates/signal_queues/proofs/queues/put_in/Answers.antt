@@ -1,7 +1,7 @@
-use Rattle.std.proofs.Common.{◌≡◌, ◌∙◌, ℕ, List, map, ap, subst}
+use Rattle.std.proofs.Common.{◌≡◌, ◌∙◌, map, subst}
 use Rattle.std.specs.List.{insert}
 use Rattle.kernel_lists.specs.declared.best.Rank.{Rank}
-use Rattle.value_queues.specs.Queues.{AreInOrder, IsPlaceFor, rank_of}
+use Rattle.value_queues.specs.Queues.{IsPlaceFor, rank_of}
 use Rattle.value_queues.proofs.Ordered.{placed_here, placed_order}
 use Rattle.signal_queues.specs.Pending.{value_of}
 use Rattle.signal_queues.proofs.Kept.{map_insert}

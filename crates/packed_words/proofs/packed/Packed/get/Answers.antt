@@ -1,4 +1,4 @@
-use Rattle.std.proofs.Common.{◌≡◌, ◌<◌, length, subst, sym, w64, rules}
+use Rattle.std.proofs.Common.{◌<◌, length, subst, sym, w64, rules}
 use mir.Val.{SFits}
 use Rattle.std.proofs.lemmas.List.{length-map}
 use Rattle.std.proofs.lemmas.Int.{to_z-of_z}

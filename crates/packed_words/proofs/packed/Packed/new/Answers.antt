@@ -1,4 +1,4 @@
-use Rattle.std.proofs.Common.{◌≡◌, ◌<◌, ℕ, arith}
+use Rattle.std.proofs.Common.{arith}
 use Rattle.packed_words.proofs.Laid.{same_each}
 use Rattle.packed_words.proofs.packed.Packed.new.Goals as goal
 

@@ -1,4 +1,4 @@
-use Rattle.std.proofs.Common.{◌≡◌, ◌<◌, ℕ, ℤ, length, slice_get}
+use Rattle.std.proofs.Common.{◌≡◌, ◌<◌, ℕ, length, slice_get}
 use Rattle.packed_words.proofs.packed.Packed.new.Given as goal
 
 abbrev pub invariant-loop-k : goal.invariant-loop-k

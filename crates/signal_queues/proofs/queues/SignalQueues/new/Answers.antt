@@ -1,9 +1,9 @@
-use Rattle.std.proofs.Common.{◌≡◌, ◌++◌, ◌∷◌, [], List, length, map, replicate, subst, sym, ap, ◌∙◌, arith}
+use Rattle.std.proofs.Common.{◌≡◌, ◌++◌, ◌∷◌, [], List, length, map, subst, sym, ap, ◌∙◌, arith}
 use Rattle.std.specs.VecDeque.{deque_items}
 use Rattle.std.proofs.lemmas.List.{map-append, replicate-append-replicate}
 use Rattle.world_model.specs.declared.world.PendingSignal.{PendingSignal}
 use Rattle.value_queues.specs.Queues.{AreInOrder}
-use Rattle.signal_queues.specs.Pending.{AreKept, AreSent, IsKept, IsThere, Queue, value_of}
+use Rattle.signal_queues.specs.Pending.{AreKept, AreSent, IsKept, Queue, value_of}
 use Rattle.signal_queues.proofs.Kept.{kept_push, none_there, nothing_pending, nothing_sent}
 use Rattle.signal_queues.proofs.queues.SignalQueues.new.Goals as goal
 

@@ -1,4 +1,4 @@
-use Rattle.std.proofs.Common.{◌≡◌, [], replicate, length, map}
+use Rattle.std.proofs.Common.{◌≡◌, [], replicate, map}
 use Rattle.std.specs.VecDeque.{deque_items}
 use Rattle.signal_queues.specs.Pending.{AreKept}
 use Rattle.signal_queues.proofs.queues.SignalQueues.new.Given as goal
