@@ -1,5 +1,5 @@
 -- What the best of the values that go first in their buffers says of all that may be received.
-use Rattle.std.proofs.Common.{◌≡◌, ℕ, zero, suc, ◌<◌, List, [], ◌∷◌, Bool, true, false, not, refl, sym, ap, ◌∙◌, slice_get, Option, Some, None, is_some, IsSome, arith, eq-eqb, subst, length}
+use Rattle.std.proofs.Common.{◌≡◌, ℕ, zero, suc, ◌<◌, List, [], ◌∷◌, Bool, true, false, not, refl, sym, ap, ◌∙◌, slice_get, Option, Some, None, is_some, IsSome, arith, eq-eqb, get_or, subst, length}
 use Rattle.std.specs.Prelude.{IsFalse, ◌==◌, ◌&&◌, if◌then◌else◌, slice_index_or}
 use Rattle.std.proofs.lemmas.Bool.Decides.{nat_tests}
 use Rattle.std.proofs.lemmas.Bool.{eqb-true}
@@ -40,7 +40,7 @@ pub numbered : (o : Option ℕ) → is_some o ≡ true → (n : ℕ) × (o ≡ S
 numbered None e = cc
 numbered (Some n) e = (n, refl)
 
-some_true : (o : Option ℕ) → IsSome o → is_some o ≡ true
+pub some_true : (o : Option ℕ) → IsSome o → is_some o ≡ true
 some_true o h = h
 
 not_listed : (o : Option ℕ) → is_some o ≡ false → o ≡ None
@@ -74,8 +74,14 @@ stored_may None b held apart c = c
 stored_may (Some zero) b held apart c = cc
 stored_may (Some (suc n)) b held apart c = c
 
-not_itself : (a : Rank) → precedes_in a a ≡ false
+pub not_itself : (a : Rank) → precedes_in a a ≡ false
 not_itself a = grind (arith, nat_tests)
+
+-- within a list an index needs no default
+pub any_default : {X : Type 0} (xs : List X) (i : ℕ) (d e : X) → i < length xs → get_or xs i d ≡ get_or xs i e
+any_default [] i d e low = absurd (omega arith)
+any_default (x ∷ xs) zero d e low = refl
+any_default (x ∷ xs) (suc i) d e low = any_default xs i d e (omega arith)
 
 -- what is listed stands in the list, and what stands there is listed
 thing_at_by : (a : Alternative) (buffers : List Alternative) (thing : ℕ) (t : Bool) → (a.thing == thing) ≡ t → is_some (if t then Some a.number else number_for buffers thing) ≡ true
@@ -83,7 +89,7 @@ thing_at_by : (a : Alternative) (buffers : List Alternative) (thing : ℕ) (t : 
 thing_at_by a buffers thing true is some rest = (0, a, refl, eqb-true a.thing thing is)
 thing_at_by a buffers thing false is some rest = let r = rest some in (suc r.0, r.1, r.2, r.3)
 
-thing_at : (buffers : List Alternative) (thing : ℕ) → is_listed buffers thing ≡ true → (k : ℕ) × (x : Alternative) × (slice_get buffers k ≡ Some x) × (x.thing ≡ thing)
+pub thing_at : (buffers : List Alternative) (thing : ℕ) → is_listed buffers thing ≡ true → (k : ℕ) × (x : Alternative) × (slice_get buffers k ≡ Some x) × (x.thing ≡ thing)
 thing_at [] thing some = absurd (let f : ⊥ = cc in f)
 thing_at (a ∷ buffers) thing some = thing_at_by a buffers thing (a.thing == thing) refl some (λ h. thing_at buffers thing h)
 
@@ -91,7 +97,7 @@ listed_by : (a : Alternative) (buffers : List Alternative) (thing : ℕ) (t : Bo
 listed_by a buffers thing true h = refl
 listed_by a buffers thing false h = h
 
-listed_at : (buffers : List Alternative) (k : ℕ) (x : Alternative) → slice_get buffers k ≡ Some x → is_listed buffers x.thing ≡ true
+pub listed_at : (buffers : List Alternative) (k : ℕ) (x : Alternative) → slice_get buffers k ≡ Some x → is_listed buffers x.thing ≡ true
 listed_at [] k x at = absurd (let f : ⊥ = cc in f)
 listed_at (a ∷ buffers) zero x at = let same : (a.thing == x.thing) ≡ true = eq-eqb a.thing x.thing (ap (λ (y : Alternative). y.thing) (same_Some a x at)) in rw same refl
 listed_at (a ∷ buffers) (suc k) x at = listed_by a buffers x.thing (a.thing == x.thing) (listed_at buffers k x at)

@@ -4,3 +4,4 @@ pub mod Buffers
 pub mod Signals
 pub mod Ranks
 pub mod Steps
+pub mod Pending

@@ -3,7 +3,6 @@ use Rattle.std.specs.Prelude.{◌≡◌, ℕ, ◌==◌, ◌&&◌, Bool, true, fa
 use Rattle.std.specs.Option.{option_map}
 use Rattle.std.specs.declared.option.Option.{Option}
 use Rattle.kernel_base.specs.declared.request.Alternative.{Alternative}
-use Rattle.world_model.specs.declared.world.PendingSignal.{PendingSignal}
 use Rattle.world_model.specs.Lists.{number_for}
 use Rattle.kernel_lists.specs.declared.best.Rank.{Rank}
 use Rattle.kernel_lists.specs.Once.{entry_of}
@@ -15,7 +14,6 @@ use Rattle.value_queues.specs.Queues.{rank_of, values_in, first_rank}
 use Rattle.world_model.specs.declared.world.StoredValue.{StoredValue}
 use Rattle.buffers_signals.specs.Arrivals.{rank_in, senders_at}
 use Rattle.buffers_signals.specs.Lists.{sender_of}
-use Rattle.buffers_signals.specs.Signals.{may_receive}
 use Rattle.buffers_signals.specs.Buffers.{SeenBuffers, IsChoice, NoCandidate}
 
 -- of a buffer of length 0
@@ -63,7 +61,3 @@ abbrev pub IsSource : SeenBuffers → List Alternative → Source → Type 0
 IsSource b buffers (Stored place) = IsFrontAt b buffers place
 IsSource b buffers (Offered place) = IsOfferAt b buffers place
 IsSource b buffers Nowhere = NoCandidate b buffers
-
--- a pending signal that is listed and that the process may receive
-abbrev pub signal_rank : List (Option ℕ) → ℕ → ℕ → List Alternative → PendingSignal → Option Rank
-signal_rank wanted who process signals signal = if may_receive wanted signal.signal signal.to who process && is_listed signals signal.signal then Some (rank_of signal.value) else None

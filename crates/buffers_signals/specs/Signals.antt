@@ -1,5 +1,5 @@
 -- What a contract sees of the signals, and what sending and receiving do.
-use Rattle.std.specs.Prelude.{◌≡◌, ℕ, ◌<◌, ◌==◌, ◌&&◌, Bool, List, [], ◌∷◌, ◌++◌, length, slice_index_or, if◌then◌else◌, Some, None, IsTrue, IsFalse, IsSome}
+use Rattle.std.specs.Prelude.{◌≡◌, ℕ, ◌<◌, ◌≤◌, ◌==◌, ◌&&◌, Bool, List, [], ◌∷◌, ◌++◌, length, slice_index_or, if◌then◌else◌, Some, None, IsTrue, IsFalse, IsSome}
 use Rattle.std.specs.List.{find}
 use Rattle.std.specs.Option.{option_and_then}
 use Rattle.std.specs.declared.option.Option.{Option}
@@ -14,23 +14,25 @@ use Rattle.world_model.specs.Lists.{number_for}
 use Rattle.world_model.specs.Waiting.{is_process}
 use Rattle.world_model.specs.World.{signals_but}
 use Rattle.kernel_lists.specs.Best.{precedes_in}
-use Rattle.kernel_lists.specs.Once.{entry_of, others}
+use Rattle.kernel_lists.specs.Once.{AreOnce, entry_of, others}
 use Rattle.wait_queues.specs.declared.waiters.Waiter.{Waiter}
 use Rattle.buffers_signals.specs.declared.messages.Receiver.{Receiver}
 use Rattle.buffers_signals.specs.declared.messages.Sent.{Sent}
 use Rattle.buffers_signals.specs.declared.messages.Sent.TheVariants as sends
 use Rattle.buffers_signals.specs.declared.messages.Received.{Received}
 use Rattle.buffers_signals.specs.declared.messages.Received.TheVariants as receipts
+use Rattle.signal_queues.specs.Pending.{SeenPending}
 use Rattle.value_queues.specs.Queues.{rank_of}
 use Rattle.buffers_signals.specs.Lists.{receiver_of, IsIn, lists}
-use Rattle.buffers_signals.specs.Arrivals.{process_in}
+use Rattle.buffers_signals.specs.Arrivals.{SeenReceivers, process_in}
 
--- for each signal the process that may receive it, if its definition names one; the pending signals; the receivers that
--- wait, in the order in which they came; and for how many changes there is room
+-- for each signal the process that may receive it, if its definition names one; the pending signals, and the receivers that
+-- wait, in the order in which they came; the last send number; and for how many changes there is room
 pub record SeenSignals : Type 0 where
   pub wanted : List (Option ℕ)
   pub pending : List PendingSignal
   pub receivers : List Receiver
+  pub last : ℕ
   pub spare : ℕ
 
 -- a send of a signal that is there
@@ -92,14 +94,20 @@ Sends old new who send (SendSignal signal scalars to priority) sent = SendsTo ol
 Sends old new who send request sent = ⊥
 
 -- a pending signal that is listed and that the process may receive
-pub record IsFor (s : SeenSignals) (who process : ℕ) (signals : List Alternative) (signal : PendingSignal) : Type 0 where
-  pub pends : IsIn s.pending signal
+pub record MayTake (wanted : List (Option ℕ)) (pending : List PendingSignal) (who process : ℕ) (signals : List Alternative) (signal : PendingSignal) : Type 0 where
+  pub pends : IsIn pending signal
   pub listed : IsSome (number_for signals signal.signal)
-  pub may : IsTrue (may_receive s.wanted signal.signal signal.to who process)
+  pub may : IsTrue (may_receive wanted signal.signal signal.to who process)
 
 -- no listed signal pends that the process may receive
+abbrev pub NonePends : List (Option ℕ) → List PendingSignal → ℕ → ℕ → List Alternative → Type 0
+NonePends wanted pending who process signals = (signal : PendingSignal) → MayTake wanted pending who process signals signal → ⊥
+
+abbrev pub IsFor : SeenSignals → ℕ → ℕ → List Alternative → PendingSignal → Type 0
+IsFor s who process signals signal = MayTake s.wanted s.pending who process signals signal
+
 abbrev pub NoneFor : SeenSignals → ℕ → ℕ → List Alternative → Type 0
-NoneFor s who process signals = (signal : PendingSignal) → IsFor s who process signals signal → ⊥
+NoneFor s who process signals = NonePends s.wanted s.pending who process signals
 
 -- the signal may be received, and no other goes before it
 pub record IsChoice (s : SeenSignals) (who process : ℕ) (signals : List Alternative) (signal : PendingSignal) : Type 0 where
@@ -140,3 +148,10 @@ ReceivesFrom old new who process signals otherwise receipts.Delayed = DelaysRece
 abbrev pub Receives : SeenSignals → SeenSignals → ℕ → ℕ → Request → Received → Type 0
 Receives old new who process (ReceiveSignal signals otherwise) received = ReceivesFrom old new who process signals otherwise received
 Receives old new who process request received = ⊥
+
+-- What the signals keep: no process waits twice, each signal has its two queues, and none pends behind the last number.
+pub record AreKept (wanted : List (Option ℕ)) (pending : SeenPending) (receivers : SeenReceivers) (last : ℕ) : Type 0 where
+  pub once : AreOnce receiver_of receivers.receivers
+  pub receiving : receivers.places ≡ length wanted
+  pub pends : length pending.queues ≡ length wanted
+  pub drawn : pending.last ≤ last

@@ -3,14 +3,14 @@ ghost use Rattle.std.specs.Prelude.{◌≡◌, ℕ, ◌==◌, ◌&&◌, ◌+◌,
 ghost use Rattle.std.specs.List.{find};
 ghost use Rattle.std.specs.Option.{option_and_then, option_map};
 ghost use Rattle.kernel_lists.specs.Best.{IsBest, NoneRanked};
+ghost use Rattle.kernel_lists.specs.First.{IsFirst};
 ghost use Rattle.kernel_lists.specs.Once.{entry_of, AreOnce};
-ghost use Rattle.kernel_lists.specs.Room.{spare};
-ghost use Rattle.world_model.specs.World.{signals_but};
+ghost use Rattle.signal_queues.specs.Pending.{pending_in, queue_of};
 ghost use Rattle.buffers_signals.specs.Lists.{receiver_of};
-ghost use Rattle.buffers_signals.specs.Ranks.{signal_rank};
+ghost use Rattle.buffers_signals.specs.Pending.{IsChosen, may_take, rank_for};
 ghost use Rattle.wait_queues.specs.Waiting.{waiter_of};
 ghost use Rattle.buffers_signals.specs.Arrivals.{no_priority, receivers_at, receives_at, waits_at};
-ghost use Rattle.buffers_signals.specs.Signals.{IsSend, IsReceive, Sends, SendsTo, Receives, ReceivesFrom, may_receive, is_receiver, takes_any, waits_itself};
+ghost use Rattle.buffers_signals.specs.Signals.{IsSend, IsReceive, Sends, SendsTo, Receives, ReceivesFrom, NonePends, may_receive, is_receiver, takes_any, waits_itself};
 
 use crate::taking::answer_with;
 use crate::waiting::Receivers;
@@ -18,6 +18,7 @@ use crate::{Received, Receiver, Sent};
 use chill_base::{Item, Lengths, Memory};
 use kernel_base::{Alternative, Alternatives, Facts, Request};
 use kernel_lists::{Best, Rank, better};
+use signal_queues::SignalQueues;
 use std::alloc::Global;
 use std::marker::Model;
 use value_queues::rank;
@@ -28,27 +29,27 @@ use world_model::{PendingSignal, StoredValue, number_at, number_for};
 #[derive(Drop)]
 pub struct Signals {
     wanted: Lengths,
-    pending: Vec<PendingSignal>,
+    pending: SignalQueues,
     receivers: Receivers,
+    last: u32,
 }
 
 impl Model for Signals {
-    ghost use Rattle.std.specs.Prelude.{◌≡◌, length, min};
-    ghost use Rattle.kernel_lists.specs.Room.{spare};
-    ghost use Rattle.kernel_lists.specs.Once.{AreOnce};
-    ghost use Rattle.buffers_signals.specs.Lists.{receiver_of};
-    ghost use Rattle.buffers_signals.specs.Signals.{SeenSignals};
+    ghost use Rattle.std.specs.Prelude.{min};
+    ghost use Rattle.signal_queues.specs.Pending.{pending_in};
+    ghost use Rattle.buffers_signals.specs.Signals.{AreKept, SeenSignals};
 
     ghost Value = { SeenSignals };
 
     ghost view = { λ s. record {
       wanted = s.wanted;
-      pending = s.pending.items;
+      pending = pending_in s.pending;
       receivers = s.receivers.receivers;
-      spare = min (spare s.pending) s.receivers.room;
+      last = s.last;
+      spare = min s.pending.room s.receivers.room;
     } };
 
-    ghost invariant = { λ s. AreOnce receiver_of s.receivers.receivers × (s.receivers.places ≡ length s.wanted) };
+    ghost invariant = { λ s. AreKept s.wanted s.pending s.receivers s.last };
 }
 
 impl Signals {
@@ -56,11 +57,13 @@ impl Signals {
     pub fn new(alloc: Global, facts: &Facts) -> Result<Signals, Memory>
         ensures wanted { IfOk result (λ s. s.wanted ≡ facts.now.signals) }
         ensures empty { IfOk result (λ s. (s.pending ≡ []) × (s.receivers ≡ [])) }
+        ensures last { IfOk result (λ s. s.last ≡ 0) }
     {
         Ok(Signals {
             wanted: facts.signals.copy()?,
-            pending: Vec::new(alloc),
+            pending: SignalQueues::new(alloc, facts.signals.len())?,
             receivers: Receivers::new(alloc, facts.signals.len())?,
+            last: 0,
         })
     }
 
@@ -70,6 +73,7 @@ impl Signals {
         ensures wanted { self.new.wanted ≡ self.old.wanted }
         ensures pending { self.new.pending ≡ self.old.pending }
         ensures receivers { self.new.receivers ≡ self.old.receivers }
+        ensures last { self.new.last ≡ self.old.last }
         ensures spare { self.old.spare ≤ self.new.spare }
     {
         self.pending.reserve(n as usize)?;
@@ -93,11 +97,14 @@ impl Signals {
         self.receivers.at(signal)
     }
 
-    /// Sends a signal under this send number, where it isn't refused. It takes no memory, and is never delayed.
+    /// Sends a signal under this send number, which is behind all earlier ones, where it isn't refused. It takes no memory,
+    /// and is never delayed.
     pub fn send(&mut self, who: u32, send: u32, request: Request) -> Sent
         requires spare { 0 < self.old.spare }
+        requires next { self.old.last < send }
         requires is_send { IsSend self.old request }
         ensures sends { Sends self.old self.new who send request result }
+        ensures last { self.new.last ≤ send }
         ensures wanted { self.new.wanted ≡ self.old.wanted }
         ensures spare { self.old.spare ≤ self.new.spare + 1 }
     {
@@ -122,11 +129,14 @@ impl Signals {
 
     fn send_signal(&mut self, signal: PendingSignal) -> Sent
         requires spare { 0 < self.old.spare }
+        requires next { self.old.last < signal.value.send }
         requires there { signal.signal < length self.old.wanted }
         ensures sends { SendsTo self.old self.new signal result }
+        ensures last { self.new.last ≡ signal.value.send }
         ensures wanted { self.new.wanted ≡ self.old.wanted }
         ensures spare { self.old.spare ≤ self.new.spare + 1 }
     {
+        self.last = signal.value.send;
         let wanted = self.wanted.as_slice();
         self.receivers.each_once();
         if let Some(to) = receiver_for(wanted, &self.receivers, signal.signal, signal.to) {
@@ -136,7 +146,7 @@ impl Signals {
                 answer: answer_with(alternative, signal.value),
             };
         }
-        self.pending.push_reserved(signal);
+        self.pending.put(signal);
         Sent::Stored
     }
 
@@ -146,6 +156,7 @@ impl Signals {
         requires is_receive { IsReceive self.old request }
         requires nothing { entry_of receiver_of self.old.receivers who ≡ None }
         ensures receives { Receives self.old self.new who process request result }
+        ensures last { self.new.last ≡ self.old.last }
         ensures wanted { self.new.wanted ≡ self.old.wanted }
         ensures spare { self.old.spare ≤ self.new.spare + 1 }
     {
@@ -167,12 +178,13 @@ impl Signals {
         requires spare { 0 < self.old.spare }
         requires nothing { entry_of receiver_of self.old.receivers who ≡ None }
         ensures receives { ReceivesFrom self.old self.new who process signals otherwise result }
+        ensures last { self.new.last ≡ self.old.last }
         ensures wanted { self.new.wanted ≡ self.old.wanted }
         ensures spare { self.old.spare ≤ self.new.spare + 1 }
     {
         let wanted = self.wanted.as_slice();
-        if let Some(best) = best_pending(wanted, &self.pending, who, process, signals.as_slice()) {
-            let taken = take_signal(&mut self.pending, best.place);
+        if let Some(chosen) = choose(wanted, &self.pending, who, process, signals.as_slice()) {
+            let taken = self.pending.take(chosen.signal, chosen.place);
             let alternative = number_for(signals.as_slice(), taken.signal).unwrap();
             return Received::Got {
                 answer: answer_with(alternative, taken.value),
@@ -254,54 +266,89 @@ fn first_of(wanted: &[Option<u32>], receivers: &Receivers, signal: u32) -> Optio
     None
 }
 
-// Takes out the signal at a place, and with it all of its send number.
-fn take_signal(pending: &mut Vec<PendingSignal>, place: usize) -> PendingSignal
-    requires { place < length pending.old.items }
-    ensures taken { slice_get pending.old.items place ≡ Some result }
-    ensures rest { pending.new.items ≡ signals_but result.value.send pending.old.items }
-    ensures room { spare pending.old ≤ spare pending.new }
-{
-    let taken = pending.remove(place);
-    let send = taken.value.send;
-    pending.retain(move |signal| signal.value.send != send);
-    taken
+// Which signal is received: the one at a place of the queue of this signal.
+#[derive(Clone, Copy)]
+pub struct Chosen {
+    pub signal: u32,
+    pub place: usize,
 }
 
-fn rank_for(
+// Where the first of the pending signals of a name stands that a process may receive.
+fn first_for(
     wanted: &[Option<u32>],
-    signal: &PendingSignal,
+    pending: &SignalQueues,
     who: u32,
     process: u32,
-    signals: &[Alternative],
-) -> Option<Rank>
-    ensures { result ≡ signal_rank wanted.now who process signals.now signal.now }
+    signal: u32,
+) -> Option<usize>
+    ensures some { IfSome result (IsFirst (may_take wanted.now who process) (queue_of pending.now.queues signal)) }
+    ensures none { IfNone result (find (may_take wanted.now who process) (queue_of pending.now.queues signal) ≡ None) }
 {
-    if may_be_received(wanted, signal.signal, signal.to, who, process)
-        && number_for(signals, signal.signal).is_some()
-    {
-        Some(rank(&signal.value))
-    } else {
-        None
+    for place in 0..pending.count(signal) {
+        let other = pending.at(signal, place);
+        if may_be_received(wanted, other.signal, other.to, who, process) {
+            return Some(place);
+        }
+    }
+    None
+}
+
+fn rank_first(
+    wanted: &[Option<u32>],
+    pending: &SignalQueues,
+    who: u32,
+    process: u32,
+    signal: u32,
+) -> Option<Rank>
+    ensures { result ≡ rank_for wanted.now pending.now.queues who process signal }
+{
+    match first_for(wanted, pending, who, process, signal) {
+        Some(place) => Some(rank(&pending.at(signal, place).value)),
+        None => None,
     }
 }
 
-fn best_pending(
+// The listed signal whose first is the best of all that the process may receive.
+fn best_listed(
     wanted: &[Option<u32>],
-    pending: &[PendingSignal],
+    pending: &SignalQueues,
     who: u32,
     process: u32,
     signals: &[Alternative],
 ) -> Option<Best>
-    ensures some { IfSome result (IsBest (signal_rank wanted.now who process signals.now) pending.now) }
-    ensures none { IfNone result (NoneRanked (signal_rank wanted.now who process signals.now) pending.now) }
+    ensures some { IfSome result (IsBest (λ a. rank_for wanted.now pending.now.queues who process a.thing) signals.now) }
+    ensures none { IfNone result (NoneRanked (λ a. rank_for wanted.now pending.now.queues who process a.thing) signals.now) }
 {
     let mut found = None;
-    for place in 0..pending.len() {
+    for place in 0..signals.len() {
         found = better(
             found,
             place,
-            rank_for(wanted, &pending[place], who, process, signals),
+            rank_first(wanted, pending, who, process, signals[place].thing),
         );
     }
     found
+}
+
+fn choose(
+    wanted: &[Option<u32>],
+    pending: &SignalQueues,
+    who: u32,
+    process: u32,
+    signals: &[Alternative],
+) -> Option<Chosen>
+    ensures some { IfSome result (IsChosen wanted.now pending.now who process signals.now) }
+    ensures none { IfNone result (NonePends wanted.now (pending_in pending.now) who process signals.now) }
+{
+    pending.in_order();
+    match best_listed(wanted, pending, who, process, signals) {
+        Some(best) => {
+            let signal = signals[best.place].thing;
+            match first_for(wanted, pending, who, process, signal) {
+                Some(place) => Some(Chosen { signal, place }),
+                None => None,
+            }
+        }
+        None => None,
+    }
 }

@@ -27,6 +27,7 @@ pub record SameQueues (q new : Queues) : Type 0 where
   pub senders : new.buffers.senders ≡ q.buffers.senders
   pub receivers : new.buffers.receivers ≡ q.buffers.receivers
   pub last : new.buffers.last ≡ q.buffers.last
+  pub last_signal : new.signals.last ≡ q.signals.last
   pub wanted : new.signals.wanted ≡ q.signals.wanted
   pub pending : new.signals.pending ≡ q.signals.pending
   pub hearers : new.signals.receivers ≡ q.signals.receivers

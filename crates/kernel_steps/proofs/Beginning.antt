@@ -20,7 +20,7 @@ use Rattle.buffers_signals.specs.Buffers.{SeenBuffers}
 use Rattle.buffers_signals.specs.Lists.{receiver_of, sender_of}
 use Rattle.kernel_steps.specs.declared.state.State.{State}
 use Rattle.kernel_steps.specs.Keyed.{Mirrors}
-use Rattle.kernel_steps.specs.Kept.{IsBook, IsKept, Rests, world_in}
+use Rattle.kernel_steps.specs.Kept.{IsBook, IsKept, Rests, Stores, world_in}
 use Rattle.kernel_steps.specs.Queued.{Hears, Sleeps, Trades, receiving_in, sending_in}
 use Rattle.kernel_steps.specs.Seated.{Seated}
 use Rattle.kernel_steps.specs.Shuffled.{Shuffled}
@@ -67,7 +67,7 @@ all_left (x ∷ xs) = refl
 
 -- what is kept before the first event
 pub kept_open : (s : State) → IsSound s.facts → s.journal.events ≡ [] → Seated (opening s.facts) s.seats → Sleeps s.facts (opening s.facts) s.queues.events → Trades s.facts (opening s.facts) s.queues.buffers → Hears s.facts (opening s.facts) s.queues.signals → s.queues.sends ≡ 0
-    → s.queues.buffers.last ≡ 0 → s.store ≡ (opening s.facts).store → s.read ≡ 0 → s.arguments.items ≡ [] ∷ [] ∷ [] → IsKept s
+    → (s.queues.buffers.last ≡ 0) × (s.queues.signals.last ≡ 0) → Stores s.facts (opening s.facts) s.store → s.read ≡ 0 → s.arguments.items ≡ [] ∷ [] ∷ [] → IsKept s
 kept_open s sound events seated sleeps trades hears sends last store read arguments =
     let e : world_in s ≡ opening s.facts = ap (world_of s.facts) events in
     let rests : Rests s.facts (opening s.facts) s = record {
@@ -75,7 +75,7 @@ kept_open s sound events seated sleeps trades hears sends last store read argume
       trades = trades;
       hears = hears;
       sends = sends;
-      last = omega (arith, last);
+      last = (omega (arith, last.0), omega (arith, last.1));
       store = store;
       locations = length-map s.facts.store scalars_of;
       input = ap (λ (n : ℕ). drop n s.facts.input) read ∙ all_left s.facts.input;

@@ -121,6 +121,7 @@ pub record KeepsOthers (s s' : State) : Type 0 where
   pub argued : s'.arguments ≡ s.arguments
   pub sends : s'.queues.sends ≡ s.queues.sends
   pub wanted : s'.queues.signals.wanted ≡ s.queues.signals.wanted
+  pub last : s'.queues.signals.last ≡ s.queues.signals.last
 
 pub takes_serves : (s s' : State) (who ticks : ℕ) (list : List Alternative) (otherwise : Bool) (answer : Answer) (refill : Option ℕ) (r : Ready) → CanServe s who (ReceiveSignal list otherwise) r → InRange who ticks answer → KeepsOthers s s' → s'.seats ≡ s.seats
     → signals.Takes s.queues.signals s'.queues.signals who (slice_index_or (world_in s).processes who 0) list answer refill → s'.journal.events ≡ s.journal.events ++ Did who ticks (ReceiveSignal list otherwise) answer None ∷ [] → Serves s s' who ticks (ReceiveSignal list otherwise) (Now answer)
@@ -144,8 +145,8 @@ takes_serves s s' who ticks list otherwise answer refill r can range o seats h j
         receivers = rw h.receivers hears.receivers;
       };
       sends = o.sends ∙ k.rests.sends;
-      last = let e = ap (λ (b : SeenBuffers). b.last) o.buffers in omega (arith, e, o.sends, k.rests.last);
-      store = o.store ∙ k.rests.store;
+      last = let e = ap (λ (b : SeenBuffers). b.last) o.buffers in (omega (arith, e, o.sends, k.rests.last.0), omega (arith, o.last, o.sends, k.rests.last.1));
+      store = rw o.store k.rests.store;
       locations = k.rests.locations;
       input = ap (λ n. drop n s.facts.input) o.read ∙ k.rests.input;
       read = rw o.read k.rests.read;
@@ -166,8 +167,8 @@ nothing_serves s s' who ticks list otherwise r can w_in t_in o seats h journal =
       trades = rw o.buffers k.rests.trades;
       hears = record { wanted = o.wanted ∙ hears.wanted; pending = h.pending ∙ hears.pending; receivers = rw h.receivers hears.receivers };
       sends = o.sends ∙ k.rests.sends;
-      last = let e = ap (λ (b : SeenBuffers). b.last) o.buffers in omega (arith, e, o.sends, k.rests.last);
-      store = o.store ∙ k.rests.store;
+      last = let e = ap (λ (b : SeenBuffers). b.last) o.buffers in (omega (arith, e, o.sends, k.rests.last.0), omega (arith, o.last, o.sends, k.rests.last.1));
+      store = rw o.store k.rests.store;
       locations = k.rests.locations;
       input = ap (λ n. drop n s.facts.input) o.read ∙ k.rests.input;
       read = rw o.read k.rests.read;
@@ -213,8 +214,8 @@ delays_serves s s' who ticks list otherwise r going can w_in t_in o h journal ra
           receivers = rw (phases, same.processes, h.receivers) (mirror_begin receiver_of (hearing_in w.processes) s.queues.signals.receivers w.phases who Active new one active refl refl refl hears.receivers);
         };
         sends = o.sends ∙ k.rests.sends ∙ sym same.sends;
-        last = let e = ap (λ (b : SeenBuffers). b.last) o.buffers in omega (arith, e, o.sends, k.rests.last);
-        store = o.store ∙ k.rests.store ∙ sym same.store;
+        last = let e = ap (λ (b : SeenBuffers). b.last) o.buffers in (omega (arith, e, o.sends, k.rests.last.0), omega (arith, o.last, o.sends, k.rests.last.1));
+        store = rw (o.store, same.store) k.rests.store;
         locations = ap length same.store ∙ k.rests.locations;
         input = ap (λ n. drop n s.facts.input) o.read ∙ k.rests.input ∙ sym same.input;
         read = rw o.read k.rests.read;

@@ -26,6 +26,7 @@ use Rattle.kernel_steps.proofs.Quiet.{freed_keeps}
 use Rattle.kernel_steps.proofs.Served.{argues_same, serves_later}
 use Rattle.kernel_steps.proofs.Plain.{plain_serves}
 use Rattle.kernel_steps.proofs.Trading.{stored_kept}
+use Rattle.buffers_signals.specs.Signals.{SeenSignals}
 
 -- all but the seats and the buffers is as it was
 pub record KeepsOthers (s s' : State) : Type 0 where
@@ -56,8 +57,8 @@ nothing_serves s s' who ticks list otherwise r can w_in t_in o seats h journal =
       trades = record { lengths = o.lengths ∙ trades.lengths; each = trades.each; stored = stored_kept w w s.queues.buffers.stored s'.queues.buffers.stored refl h.stored trades.stored; senders = rw h.senders trades.senders; receivers = rw h.receivers trades.receivers };
       hears = rw o.signals k.rests.hears;
       sends = o.sends ∙ k.rests.sends;
-      last = omega (arith, o.last, o.sends, k.rests.last);
-      store = o.store ∙ k.rests.store;
+      last = let f = ap (λ (g : SeenSignals). g.last) o.signals in (omega (arith, o.last, o.sends, k.rests.last.0), omega (arith, f, o.sends, k.rests.last.1));
+      store = rw o.store k.rests.store;
       locations = k.rests.locations;
       input = ap (λ n. drop n s.facts.input) o.read ∙ k.rests.input;
       read = rw o.read k.rests.read;
@@ -98,8 +99,8 @@ delays_serves s s' who ticks list otherwise r going can w_in t_in o h journal ra
         trades = trades_receives s.facts w w1 s.queues.buffers s'.queues.buffers who list otherwise None back active phases same.processes same.stored o.lengths h.stored h.senders h.receivers trades;
         hears = rw o.signals (hears_stay s.facts w w1 s.queues.signals who Active new active phases same.processes same.pending refl refl k.rests.hears);
         sends = o.sends ∙ k.rests.sends ∙ sym same.sends;
-        last = omega (arith, o.last, o.sends, k.rests.last);
-        store = o.store ∙ k.rests.store ∙ sym same.store;
+        last = let f = ap (λ (g : SeenSignals). g.last) o.signals in (omega (arith, o.last, o.sends, k.rests.last.0), omega (arith, f, o.sends, k.rests.last.1));
+        store = rw (o.store, same.store) k.rests.store;
         locations = ap length same.store ∙ k.rests.locations;
         input = ap (λ n. drop n s.facts.input) o.read ∙ k.rests.input ∙ sym same.input;
         read = rw o.read k.rests.read;

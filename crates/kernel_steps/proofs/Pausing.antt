@@ -14,7 +14,7 @@ abbrev pub unready : State → State
 unready s = record s { ready = None }
 
 rests_unready : (s s' : State) → s'.facts ≡ s.facts → s'.queues ≡ s.queues → s'.store ≡ s.store → s'.read ≡ s.read → s'.taken ≡ s.taken → s'.arguments ≡ s.arguments → Rests s.facts (world_in s) s → Rests s.facts (world_in s) s'
-rests_unready s s' f q st r t a h = rests_same s.facts (world_in s) (world_in s) s s' refl (record { processes = refl; stored = refl; pending = refl; sends = refl; arguments = refl; queues = q; store = st ∙ h.store; locations = refl; input = rw r h.input; read = rw r h.read; taken = t; argued = rw a refl }) h
+rests_unready s s' f q st r t a h = rests_same s.facts (world_in s) (world_in s) s s' refl (record { processes = refl; stored = refl; pending = refl; sends = refl; arguments = refl; queues = q; store = rw st h.store; locations = refl; input = rw r h.input; read = rw r h.read; taken = t; argued = rw a refl }) h
 
 kept_unready : (s : State) → IsKept s → IsKept (unready s)
 kept_unready s k = record { sound = k.sound; book = k.book; seated = k.seated; rests = rests_unready s (unready s) refl refl refl refl refl refl k.rests }

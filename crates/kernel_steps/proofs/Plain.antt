@@ -1,19 +1,20 @@
 -- Requests that are answered at once and let nobody go on.
-use Rattle.std.proofs.Common.{◌≡◌, ℕ, ◌+◌, ◌≤◌, List, [], ◌∷◌, ◌++◌, length, append-nil, refl, sym, ap, ◌∙◌, arith, subst, Option, Some, None, slice_get}
+use Rattle.std.proofs.Common.{◌≡◌, ℕ, ◌+◌, ◌<◌, ◌≤◌, ℤ, pos, List, [], ◌∷◌, ◌++◌, length, append-nil, refl, sym, ap, ◌∙◌, arith, subst, Option, Some, None, slice_get}
 use Rattle.std.specs.Prelude.{slice_index_or, IsSomeAnd}
+use Rattle.std.proofs.lemmas.Option.{slice_get-get_or, slice_get_within, get_or_from_slice_get}
 use Rattle.kernel_base.specs.declared.facts.Facts.{Facts}
 use Rattle.chill_base.specs.declared.layout.Bits.{Bits}
 use Rattle.kernel_base.specs.declared.request.Place.{Place}
 use Rattle.kernel_base.specs.declared.request.Request.{Request}
 use Rattle.kernel_base.specs.declared.answer.Answer.{Answer}
 use Rattle.kernel_base.specs.declared.event.Event.TheVariants.{Did}
-use Rattle.kernel_base.specs.Facts.{LiesInLocation}
+use Rattle.kernel_base.specs.Facts.{FitsWrite, IsWithinBits, LiesInLocation}
 use Rattle.world_model.specs.declared.world.World.{World}
 use Rattle.world_model.specs.World.{after_request, opening}
 use Rattle.world_model.specs.Ranges.{IsNumber, IsAnswerInRange}
 use Rattle.world_model.specs.Allowed.{Answers}
 use Rattle.world_model.proofs.Well.{StoreFits, run_well, opening_well}
-use Rattle.shared_store.specs.Places.{LiesIn}
+use Rattle.shared_store.specs.Places.{FitAt, FitBits, LiesIn}
 use Rattle.kernel_steps.specs.declared.reply.Reply.TheVariants.{Now}
 use Rattle.kernel_steps.specs.declared.seats.Seats.{Seats}
 use Rattle.kernel_steps.specs.declared.state.Ready.{Ready}
@@ -74,9 +75,19 @@ lies_by : (facts : Facts) (w : World) (place : Place) (layout : Option (List Bit
 lies_by facts w place None is fits lies = absurd lies
 lies_by facts w place (Some layout) is fits lies = let e = fits place.location layout is in omega (arith, e, lies)
 
-pub lies_in : (s : State) (place : Place) → IsKept s → LiesInLocation s.facts place → LiesIn s.store place
+pub lies_in : (s : State) (place : Place) → IsKept s → LiesInLocation s.facts place → LiesIn s.store.scalars place
 lies_in s place k lies =
     let w = world_in s in
     let well = run_well s.facts (opening s.facts) s.journal.events k.book.run (opening_well s.facts k.sound) in
     let there : LiesIn w.store place = record { location = rw k.rests.locations lies.location; scalars = lies_by s.facts w place (slice_get s.facts.layouts place.location) refl well.store lies.scalars } in
-    subst (λ store. LiesIn store place) (sym k.rests.store) there
+    subst (λ (store : List (List ℤ)). LiesIn store place) (sym k.rests.store.0) there
+
+-- what is written fits the bits of its place in the store
+pub fits_in : (s : State) (place : Place) (scalars : List ℤ) → IsKept s → FitsWrite s.facts place scalars → FitBits s.store place scalars
+fits_in s place scalars k h =
+    let layouts = s.facts.layouts in
+    let layout = slice_index_or layouts place.location [] in
+    let low : place.location < length s.facts.layouts = let e = k.sound.locations in omega (arith, e, h.lies.location) in
+    let at : slice_get s.facts.layouts place.location ≡ Some (slice_index_or s.facts.layouts place.location []) = slice_get-get_or layouts place.location [] low in
+    subst (λ (all : List (List Bits)). FitAt (slice_index_or all place.location []) place.first scalars) (sym k.rests.store.1)
+    (λ i number bits there stands. subst (IsWithinBits bits) (get_or_from_slice_get scalars i number (pos 0) there) ((h.within i (slice_get_within scalars i number there)).layout layout bits at stands))

@@ -43,6 +43,7 @@ use Rattle.kernel_steps.proofs.Served.{argues_same, seated_same, sleeps_same, he
 use Rattle.kernel_steps.proofs.Plain.{InRange}
 use Rattle.kernel_steps.proofs.Hearing.{got_width}
 use Rattle.kernel_steps.proofs.NothingThere.{KeepsOthers}
+use Rattle.buffers_signals.specs.Signals.{SeenSignals}
 
 -- the world with these values in its buffers
 abbrev storing : World → List (List StoredValue) → World
@@ -199,8 +200,8 @@ leaves_none s s' list answer going k seated o h chooses =
         trades = trades_less s.facts w w1 s.queues.buffers s'.queues.buffers send refl refl refl o.lengths (ap (λ (v : Values). v.stored) left) (ap (λ (v : Values). v.senders) left) h.receivers k.trades;
         hears = rw o.signals (hears_same s.facts w w1 s.queues.signals refl refl refl k.hears);
         sends = o.sends ∙ k.sends;
-        last = omega (arith, o.last, o.sends, k.last);
-        store = o.store ∙ k.store;
+        last = let f = ap (λ (g : SeenSignals). g.last) o.signals in (omega (arith, o.last, o.sends, k.last.0), omega (arith, f, o.sends, k.last.1));
+        store = rw o.store k.store;
         locations = k.locations;
         input = ap (λ n. drop n s.facts.input) o.read ∙ k.input;
         read = rw o.read k.read;
@@ -226,8 +227,8 @@ leaves_some s s' list answer sender going k seated o h chooses =
         trades = trades_sent s.facts w w1 s.queues.buffers s'.queues.buffers sender c.buffer c.scalars c.priority (Some c.number) c.back new c.is refl refl refl refl c.each c.values o.lengths c.senders h.receivers k.trades;
         hears = rw o.signals (hears_stay s.facts w w1 s.queues.signals sender old new c.is refl refl refl refl refl k.hears);
         sends = o.sends ∙ k.sends;
-        last = omega (arith, o.last, o.sends, k.last);
-        store = o.store ∙ k.store;
+        last = let f = ap (λ (g : SeenSignals). g.last) o.signals in (omega (arith, o.last, o.sends, k.last.0), omega (arith, f, o.sends, k.last.1));
+        store = rw o.store k.store;
         locations = k.locations;
         input = ap (λ n. drop n s.facts.input) o.read ∙ k.input;
         read = rw o.read k.read;

@@ -32,6 +32,7 @@ use Rattle.kernel_steps.proofs.Refilled.{trades_handed, trades_stored, trades_se
 use Rattle.kernel_steps.proofs.Trading.{may_hand, nobody_receives, room_same}
 use Rattle.kernel_steps.proofs.Served.{argues_same, seated_same, sleeps_same, hears_same, serves_now, serves_later}
 use Rattle.kernel_steps.proofs.Plain.{plain_serves}
+use Rattle.buffers_signals.specs.Signals.{SeenSignals}
 
 -- all but the seats, the buffers and the send number is as it was
 pub record KeepsOthers (s s' : State) : Type 0 where
@@ -72,8 +73,8 @@ stores_serves s s' who ticks buffer scalars priority r can w_in t_in o seats h j
       trades = trades_stored s.facts w w1 s.queues.buffers s'.queues.buffers one low h.there refl refl refl o.lengths more h.senders h.receivers trades;
       hears = rw o.signals (hears_same s.facts w w1 s.queues.signals refl refl refl k.rests.hears);
       sends = o.sends ∙ ap (λ n. n + 1) k.rests.sends;
-      last = o.last;
-      store = o.store ∙ k.rests.store;
+      last = let f = ap (λ (g : SeenSignals). g.last) o.signals in (o.last, omega (arith, f, o.sends, k.rests.last.1));
+      store = rw o.store k.rests.store;
       locations = k.rests.locations;
       input = ap (λ n. drop n s.facts.input) o.read ∙ k.rests.input;
       read = rw o.read k.rests.read;
@@ -118,8 +119,8 @@ hands_serves s s' who ticks buffer scalars priority p answer r going can w_in t_
         trades = trades_handed s.facts w w1 s.queues.buffers s'.queues.buffers p h.receiver.things t.otherwise t.send t.back new at refl refl refl refl refl o.lengths h.stored h.senders h.receivers trades;
         hears = rw o.signals (hears_stay s.facts w w1 s.queues.signals p old new at refl refl refl refl refl k.rests.hears);
         sends = o.sends ∙ ap (λ n. n + 1) k.rests.sends;
-        last = o.last;
-        store = o.store ∙ k.rests.store;
+        last = let f = ap (λ (g : SeenSignals). g.last) o.signals in (o.last, omega (arith, f, o.sends, k.rests.last.1));
+        store = rw o.store k.rests.store;
         locations = k.rests.locations;
         input = ap (λ n. drop n s.facts.input) o.read ∙ k.rests.input;
         read = rw o.read k.rests.read;
@@ -166,8 +167,8 @@ delays_serves s s' who ticks buffer scalars priority r going can w_in t_in o h j
         trades = trades_sends s.facts w w1 s.queues.buffers s'.queues.buffers buffer one.value back active phases same.processes same.stored o.lengths h.stored more h.receivers trades;
         hears = rw o.signals (hears_stay s.facts w w1 s.queues.signals who Active new active phases same.processes same.pending refl refl k.rests.hears);
         sends = o.sends ∙ ap (λ n. n + 1) k.rests.sends ∙ sym same.sends;
-        last = o.last;
-        store = o.store ∙ k.rests.store ∙ sym same.store;
+        last = let f = ap (λ (g : SeenSignals). g.last) o.signals in (o.last, omega (arith, f, o.sends, k.rests.last.1));
+        store = rw (o.store, same.store) k.rests.store;
         locations = ap length same.store ∙ k.rests.locations;
         input = ap (λ n. drop n s.facts.input) o.read ∙ k.rests.input ∙ sym same.input;
         read = rw o.read k.rests.read;

@@ -22,7 +22,7 @@ use Rattle.kernel_steps.specs.declared.state.State.{State}
 use Rattle.kernel_steps.specs.Keyed.{AreTold, Mirrors}
 use Rattle.kernel_steps.specs.Queued.{delayed_in, sending_in, receiving_in, hearing_in, Sleeps, Trades, Hears}
 use Rattle.kernel_steps.specs.Seated.{Seated, Settles}
-use Rattle.kernel_steps.specs.Kept.{world_in, Rests, Argues, IsKept}
+use Rattle.kernel_steps.specs.Kept.{world_in, Rests, Argues, AreDrawn, IsKept, Stores}
 use Rattle.kernel_steps.specs.View.{view_of, handed, handed_by, IsGoing, Grows}
 use Rattle.kernel_steps.specs.Serving.{Serves, goes_of}
 use Rattle.kernel_steps.proofs.Placed.{placed_same}
@@ -65,7 +65,7 @@ pub record LeavesRest (facts : Facts) (w w' : World) (s s' : State) : Type 0 whe
   pub sends : w'.sends ≡ w.sends
   pub arguments : w'.arguments ≡ w.arguments
   pub queues : s'.queues ≡ s.queues
-  pub store : s'.store ≡ w'.store
+  pub store : Stores facts w' s'.store
   pub locations : length w'.store ≡ length w.store
   pub input : drop s'.read facts.input ≡ w'.input
   pub read : s'.read ≤ length facts.input
@@ -81,7 +81,7 @@ rests_same facts w w' s s' ph c r = record {
   trades = subst (λ (q : Queues). Trades facts w' q.buffers) (sym c.queues) (trades_same facts w w' s.queues.buffers ph c.processes c.stored r.trades);
   hears = subst (λ (q : Queues). Hears facts w' q.signals) (sym c.queues) (hears_same facts w w' s.queues.signals ph c.processes c.pending r.hears);
   sends = ap (λ (q : Queues). q.sends) c.queues ∙ r.sends ∙ sym c.sends;
-  last = subst (λ (q : Queues). q.buffers.last ≤ q.sends) (sym c.queues) r.last;
+  last = subst AreDrawn (sym c.queues) r.last;
   store = c.store;
   locations = c.locations ∙ r.locations;
   input = c.input;
@@ -98,7 +98,7 @@ rests_set facts w w' s s' who old new at ph a b a' b' d e f g h i c r = record {
   trades = subst (λ (q : Queues). Trades facts w' q.buffers) (sym c.queues) (trades_stay facts w w' s.queues.buffers who old new at ph c.processes c.stored d e f g r.trades);
   hears = subst (λ (q : Queues). Hears facts w' q.signals) (sym c.queues) (hears_stay facts w w' s.queues.signals who old new at ph c.processes c.pending h i r.hears);
   sends = ap (λ (q : Queues). q.sends) c.queues ∙ r.sends ∙ sym c.sends;
-  last = subst (λ (q : Queues). q.buffers.last ≤ q.sends) (sym c.queues) r.last;
+  last = subst AreDrawn (sym c.queues) r.last;
   store = c.store;
   locations = c.locations ∙ r.locations;
   input = c.input;

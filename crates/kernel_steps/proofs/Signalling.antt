@@ -48,6 +48,7 @@ pub record KeepsOthers (s s' : State) : Type 0 where
   pub argued : s'.arguments ≡ s.arguments
   pub sends : s'.queues.sends ≡ s.queues.sends + 1
   pub wanted : s'.queues.signals.wanted ≡ s.queues.signals.wanted
+  pub last : s'.queues.signals.last ≤ s'.queues.sends
 
 -- the signal as it is sent
 abbrev pub sent_by : State → ℕ → ℕ → List ℤ → Option ℕ → ℕ → PendingSignal
@@ -80,8 +81,8 @@ pends_serves s s' who ticks signal scalars to priority r can w_in t_in live o se
         receivers = rw h.receivers hears.receivers;
       };
       sends = o.sends ∙ ap (λ n. n + 1) k.rests.sends;
-      last = let e = ap (λ (b : SeenBuffers). b.last) o.buffers in omega (arith, e, o.sends, k.rests.last);
-      store = o.store ∙ k.rests.store;
+      last = let e = ap (λ (b : SeenBuffers). b.last) o.buffers in (omega (arith, e, o.sends, k.rests.last.0), o.last);
+      store = rw o.store k.rests.store;
       locations = k.rests.locations;
       input = ap (λ n. drop n s.facts.input) o.read ∙ k.rests.input;
       read = rw o.read k.rests.read;
@@ -131,8 +132,8 @@ hands_serves s s' who ticks signal scalars to priority p answer r going can w_in
           receivers = rw h.receivers (mirror_stop receiver_of (hearing_in w.processes) s.queues.signals.receivers w.phases p old new at refl hears.receivers);
         };
         sends = o.sends ∙ ap (λ n. n + 1) k.rests.sends;
-        last = let e = ap (λ (b : SeenBuffers). b.last) o.buffers in omega (arith, e, o.sends, k.rests.last);
-        store = o.store ∙ k.rests.store;
+        last = let e = ap (λ (b : SeenBuffers). b.last) o.buffers in (omega (arith, e, o.sends, k.rests.last.0), o.last);
+        store = rw o.store k.rests.store;
         locations = k.rests.locations;
         input = ap (λ n. drop n s.facts.input) o.read ∙ k.rests.input;
         read = rw o.read k.rests.read;

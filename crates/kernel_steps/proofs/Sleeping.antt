@@ -27,6 +27,7 @@ use Rattle.kernel_steps.proofs.Delays as delays
 use Rattle.kernel_steps.proofs.Quiet.{freed_keeps}
 use Rattle.kernel_steps.proofs.Served.{argues_same, serves_now, serves_later}
 use Rattle.buffers_signals.specs.Buffers.{SeenBuffers}
+use Rattle.buffers_signals.specs.Signals.{SeenSignals}
 
 -- all but the events and the seats is as it was
 pub record KeepsOthers (s s' : State) : Type 0 where
@@ -71,8 +72,8 @@ delay_serves s s' who ticks events priority r going can w_in t_in full o lengths
         trades = subst (λ b. Trades s.facts w1 b) (sym o.buffers) (trades_stay s.facts w w1 s.queues.buffers who Active new active phases same.processes same.stored refl refl refl refl k.rests.trades);
         hears = subst (λ h. Hears s.facts w1 h) (sym o.signals) (hears_stay s.facts w w1 s.queues.signals who Active new active phases same.processes same.pending refl refl k.rests.hears);
         sends = o.sends ∙ k.rests.sends ∙ sym same.sends;
-        last = let e = ap (λ (b : SeenBuffers). b.last) o.buffers in omega (arith, e, o.sends, k.rests.last);
-        store = o.store ∙ k.rests.store ∙ sym same.store;
+        last = let e = ap (λ (b : SeenBuffers). b.last) o.buffers in let f = ap (λ (g : SeenSignals). g.last) o.signals in (omega (arith, e, o.sends, k.rests.last.0), omega (arith, f, o.sends, k.rests.last.1));
+        store = rw (o.store, same.store) k.rests.store;
         locations = ap length same.store ∙ k.rests.locations;
         input = ap (λ n. drop n s.facts.input) o.read ∙ k.rests.input ∙ sym same.input;
         read = rw o.read k.rests.read;
@@ -110,8 +111,8 @@ resume_serves s s' who ticks event chose r going can w_in t_in p_in tied order w
         trades = subst (λ b. Trades s.facts w1 b) (sym o.buffers) (trades_stay s.facts w w1 s.queues.buffers p (Waiting (Delay t.events t.priority) t.send t.back) new t.is refl refl refl refl refl refl refl k.rests.trades);
         hears = subst (λ h. Hears s.facts w1 h) (sym o.signals) (hears_stay s.facts w w1 s.queues.signals p (Waiting (Delay t.events t.priority) t.send t.back) new t.is refl refl refl refl refl k.rests.hears);
         sends = o.sends ∙ k.rests.sends;
-        last = let e = ap (λ (b : SeenBuffers). b.last) o.buffers in omega (arith, e, o.sends, k.rests.last);
-        store = o.store ∙ k.rests.store;
+        last = let e = ap (λ (b : SeenBuffers). b.last) o.buffers in let f = ap (λ (g : SeenSignals). g.last) o.signals in (omega (arith, e, o.sends, k.rests.last.0), omega (arith, f, o.sends, k.rests.last.1));
+        store = rw o.store k.rests.store;
         locations = k.rests.locations;
         input = ap (λ n. drop n s.facts.input) o.read ∙ k.rests.input;
         read = rw o.read k.rests.read;

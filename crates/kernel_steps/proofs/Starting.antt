@@ -114,7 +114,7 @@ rests_started s s' who ticks process scalars each c r =
       });
       sends = rw c.queues r.sends;
       last = rw c.queues r.last;
-      store = c.store ∙ r.store;
+      store = rw c.store r.store;
       locations = r.locations;
       input = rw c.read r.input;
       read = rw c.read r.read;

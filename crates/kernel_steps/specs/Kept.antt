@@ -12,6 +12,8 @@ use Rattle.kernel_base.specs.Units.{units_of_all}
 use Rattle.world_model.specs.declared.world.World.{World}
 use Rattle.world_model.specs.World.{world_of}
 use Rattle.world_model.specs.Allowed.{IsRun}
+use Rattle.shared_store.specs.Places.{SeenStore}
+use Rattle.kernel_steps.specs.declared.state.Queues.{Queues}
 use Rattle.kernel_steps.specs.declared.state.Ready.{Ready}
 use Rattle.kernel_steps.specs.declared.state.State.{State}
 use Rattle.kernel_steps.specs.Queued.{Sleeps, Trades, Hears}
@@ -26,14 +28,22 @@ pub record Argues (w : World) (taken : ℕ) (arguments : List (List ℤ)) : Type
   pub each : length arguments ≡ length w.arguments
   pub same : (i : ℕ) → taken < i → slice_get arguments i ≡ slice_get w.arguments i
 
+-- the store has the scalars of a world, where the facts lay them
+abbrev pub Stores : Facts → World → SeenStore → Type 0
+Stores facts w store = (store.scalars ≡ w.store) × (store.layouts ≡ facts.layouts)
+
+-- no part has a send number behind the last
+abbrev pub AreDrawn : Queues → Type 0
+AreDrawn q = (q.buffers.last ≤ q.sends) × (q.signals.last ≤ q.sends)
+
 -- the queues, the store, the input and the arguments stand for a world
 pub record Rests (facts : Facts) (w : World) (s : State) : Type 0 where
   pub sleeps : Sleeps facts w s.queues.events
   pub trades : Trades facts w s.queues.buffers
   pub hears : Hears facts w s.queues.signals
   pub sends : s.queues.sends ≡ w.sends
-  pub last : s.queues.buffers.last ≤ s.queues.sends
-  pub store : s.store ≡ w.store
+  pub last : AreDrawn s.queues
+  pub store : Stores facts w s.store
   pub locations : length w.store ≡ length facts.store
   pub input : drop s.read facts.input ≡ w.input
   pub read : s.read ≤ length facts.input

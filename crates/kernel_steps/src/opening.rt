@@ -37,7 +37,7 @@ fn new_queues(alloc: Global, facts: &Facts) -> Result<Queues, Memory>
     ensures trades { IfOk result (λ q. Trades facts.now (worlds.opening facts.now) q.buffers) }
     ensures hears { IfOk result (λ q. Hears facts.now (worlds.opening facts.now) q.signals) }
     ensures sends { IfOk result (λ q. q.sends ≡ 0) }
-    ensures last { IfOk result (λ q. q.buffers.last ≡ 0) }
+    ensures last { IfOk result (λ q. (q.buffers.last ≡ 0) × (q.signals.last ≡ 0)) }
 {
     Ok(Queues {
         events: EventSets::new(alloc, &facts.events)?,

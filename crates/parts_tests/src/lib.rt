@@ -7,3 +7,5 @@
 mod messages;
 #[cfg(test)]
 mod parts;
+#[cfg(test)]
+mod store;

@@ -1,14 +1,9 @@
-use Rattle.std.proofs.Common.{◌≡◌, ℕ, zero, suc, ◌<◌, List, [], ◌∷◌, length, get_or, arith, refl}
+use Rattle.std.proofs.Common.{get_or, arith}
 use Rattle.kernel_base.specs.declared.request.Alternative.{Alternative}
 use Rattle.kernel_lists.proofs.Choice.{one_more, best_of_all, none_of_all}
 use Rattle.buffers_signals.specs.Ranks.{front_rank}
+use Rattle.buffers_signals.proofs.Choosing.{any_default}
 use Rattle.buffers_signals.proofs.receiving.best_front.Goals as goal
-
--- within a list an index needs no default
-any_default : {X : Type 0} (xs : List X) (i : ℕ) (d e : X) → i < length xs → get_or xs i d ≡ get_or xs i e
-any_default [] i d e low = absurd (omega arith)
-any_default (x ∷ xs) zero d e low = refl
-any_default (x ∷ xs) (suc i) d e low = any_default xs i d e (omega arith)
 
 pub loop-place-preserved : goal.loop-place-preserved
 loop-place-preserved c = rw (c.better-found.ensures, c.rank_front.ensures) (one_more (λ (a : Alternative). front_rank c.args.lengths.now c.args.stored.now.values c.args.senders.now.senders a.thing) c.args.buffers.now c.loop-place.place (get_or c.args.buffers.now c.loop-place.place (record { thing = 0; number = 0 })) c.loop-place.found c.loop-place-test.true (any_default c.args.buffers.now c.loop-place.place (record { thing = 0; number = 0 }) _ c.loop-place-test.true) c.loop-place.invariant)

@@ -47,7 +47,7 @@ returns-in-Got c =
     subst (λ (a : Answer). Serves s s' c.args.who c.args.ticks c.args.request (Now a)) (sym c.twin-handed.ensures)
     (subst (λ (r : Request). Serves s s' c.args.who c.args.ticks r (Now c.in-Got.answer)) (sym q.2)
     (takes_serves s s' c.args.who c.args.ticks q.0 q.1 c.in-Got.answer c.in-Got.refill c.args.ready can (record { who = search rules; ticks = search rules; answer = c.did.ensures.in_range })
-    (record { facts = refl; widest = refl; ready = refl; events = refl; buffers = refl; store = refl; read = refl; taken = refl; argued = refl; sends = refl; wanted = c.in-Got.ensures.wanted })
+    (record { facts = refl; widest = refl; ready = refl; events = refl; buffers = refl; store = refl; read = refl; taken = refl; argued = refl; sends = refl; wanted = c.in-Got.ensures.wanted; last = c.in-Got.ensures.last })
     refl h
     (c.did.ensures.events ∙ ap (λ (r : Request). s.journal.events ++ Did c.args.who c.args.ticks r c.in-Got.answer None ∷ []) can.is)))
 
@@ -62,7 +62,7 @@ returns-in-Otherwise c =
     let h : signals.TakesNothing s.queues.signals c.receive.new.self c.args.who (slice_index_or w.processes c.args.who 0) q.0 q.1 = subst (λ (p : ℕ). signals.TakesNothing s.queues.signals c.receive.new.self c.args.who p q.0 q.1) process (subst (λ (r : Request). signals.Receives s.queues.signals c.receive.new.self c.args.who c.process_of-process.result r received.Otherwise) q.2 c.in-Otherwise.ensures.receives) in
     subst (λ (r : Request). Serves s s' c.args.who c.args.ticks r (Now Otherwise)) (sym q.2)
     (nothing_serves s s' c.args.who c.args.ticks q.0 q.1 c.args.ready can (search rules) (search rules)
-    (record { facts = refl; widest = refl; ready = refl; events = refl; buffers = refl; store = refl; read = refl; taken = refl; argued = refl; sends = refl; wanted = c.in-Otherwise.ensures.wanted })
+    (record { facts = refl; widest = refl; ready = refl; events = refl; buffers = refl; store = refl; read = refl; taken = refl; argued = refl; sends = refl; wanted = c.in-Otherwise.ensures.wanted; last = c.in-Otherwise.ensures.last })
     refl h
     (c.did-in-Otherwise.ensures.events ∙ ap (λ (r : Request). s.journal.events ++ Did c.args.who c.args.ticks r Otherwise None ∷ []) can.is))
 
@@ -79,7 +79,7 @@ returns-in-Delayed c =
     subst (λ (reply : Reply). Serves s s' c.args.who c.args.ticks c.args.request reply) (sym c.waits.ensures.reply)
     (subst (λ (r : Request). Serves s s' c.args.who c.args.ticks r Later) (sym q.2)
     (delays_serves s s' c.args.who c.args.ticks q.0 q.1 c.args.ready c.wait-going.result can (search rules) (search rules)
-    (record { facts = refl; widest = refl; ready = refl; events = refl; buffers = refl; store = refl; read = refl; taken = refl; argued = refl; sends = refl; wanted = c.in-Delayed.ensures.wanted })
+    (record { facts = refl; widest = refl; ready = refl; events = refl; buffers = refl; store = refl; read = refl; taken = refl; argued = refl; sends = refl; wanted = c.in-Delayed.ensures.wanted; last = c.in-Delayed.ensures.last })
     h
     (c.waits.ensures.events ∙ ap (λ (r : Request). (s.journal.events ++ Waits c.args.who c.args.ticks r ∷ []) ++ goes_of c.wait-going.result) can.is) c.waits.ensures.in_range
     (c.wait-going.ensures.settles w (ReceiveSignal q.0 q.1) None k.seated c.requires.can.may.goes.active (λ region is. (journal_holds s.facts s.journal.events k.book.run).occupied c.args.who region (last_is_in (held_by w c.args.who) region is)))))

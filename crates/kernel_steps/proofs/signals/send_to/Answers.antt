@@ -36,7 +36,7 @@ returns-in-Handed c =
     let can = subst (λ (r : Request). CanServe s c.args.who r c.args.ready) q.3 c.requires.can in
     subst (λ (r : Request). Serves s s' c.args.who c.args.ticks r (Now answer)) (sym q.3)
     (hands_serves s s' c.args.who c.args.ticks q.0 q.1 c.args.to q.2 c.in-Handed.receiver c.in-Handed.answer c.args.ready c.hand-going.result can (search rules) (search rules) (search rules) c.requires.live
-    (record { facts = refl; widest = refl; ready = refl; events = refl; buffers = refl; store = refl; read = refl; taken = refl; argued = refl; sends = refl; wanted = c.in-Handed.ensures.wanted })
+    (record { facts = refl; widest = refl; ready = refl; events = refl; buffers = refl; store = refl; read = refl; taken = refl; argued = refl; sends = refl; wanted = c.in-Handed.ensures.wanted; last = c.in-Handed.ensures.last })
     h c.hand-going.ensures.settles
     (c.goes.ensures.events ∙ ap (λ l. l ++ goes_of c.hand-going.result) (c.did.ensures.events ∙ ap (λ (r : Request). s.journal.events ++ Did c.args.who c.args.ticks r answer None ∷ []) can.is)) c.goes.ensures.in_range)
 
@@ -49,6 +49,6 @@ returns-in-Stored c =
     let can = subst (λ (r : Request). CanServe s c.args.who r c.args.ready) q.3 c.requires.can in
     subst (λ (r : Request). Serves s s' c.args.who c.args.ticks r (Now Stored)) (sym q.3)
     (pends_serves s s' c.args.who c.args.ticks q.0 q.1 c.args.to q.2 c.args.ready can (search rules) (search rules) c.requires.live
-    (record { facts = refl; widest = refl; ready = refl; events = refl; buffers = refl; store = refl; read = refl; taken = refl; argued = refl; sends = refl; wanted = c.send.ensures.wanted })
+    (record { facts = refl; widest = refl; ready = refl; events = refl; buffers = refl; store = refl; read = refl; taken = refl; argued = refl; sends = refl; wanted = c.send.ensures.wanted; last = c.send.ensures.last })
     refl h
     (c.did-in-Stored.ensures.events ∙ ap (λ (r : Request). s.journal.events ++ Did c.args.who c.args.ticks r Stored None ∷ []) can.is))

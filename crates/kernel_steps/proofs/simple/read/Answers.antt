@@ -21,7 +21,7 @@ returns c =
     let k = c.requires.kept in
     let handed = c.twin_scalars-handed.result in
     let told : handed ≡ c.read.new.into.items = c.twin_scalars-handed.ensures ∙ c.deref.ensures.value in
-    let is : handed ≡ read_at w.store c.args.place = told ∙ c.read.ensures.scalars ∙ ap (λ (l : List ℤ). l ++ read_at s.store c.args.place) c.requires.room.first_empty ∙ ap (λ (st : List (List ℤ)). read_at st c.args.place) k.rests.store in
+    let is : handed ≡ read_at w.store c.args.place = told ∙ c.read.ensures.scalars ∙ ap (λ (l : List ℤ). l ++ read_at s.store.scalars c.args.place) c.requires.room.first_empty ∙ ap (λ (st : List (List ℤ)). read_at st c.args.place) k.rests.store.0 in
     plain_serves s _ c.args.who c.args.ticks (Read c.args.place) (Value handed) c.args.ready c.requires (record { who = search rules; ticks = search rules; answer = subst (λ (l : List ℤ). IsAnswerInRange (Value l)) (c.from_vec.ensures ∙ sym told) c.did.ensures.in_range }) (refl, ap Value is) (subst (λ (q : Request). width_of q ≤ s.widest) c.requires.is c.requires.room.width)
     (record { processes = refl; phases = refl; occupants = refl; held = refl; facts = refl; widest = refl; ready = refl; seats = refl; taken = refl; events = c.did.ensures.events ∙ ap (λ (l : List ℤ). s.journal.events ++ Did c.args.who c.args.ticks (Read c.args.place) (Value l) None ∷ []) (c.from_vec.ensures ∙ sym told); plain = refl })
     (rests_same s.facts w _ s _ refl (record { processes = refl; stored = refl; pending = refl; sends = refl; arguments = refl; queues = refl; store = k.rests.store; locations = refl; input = k.rests.input; read = k.rests.read; taken = refl; argued = refl }) k.rests)

@@ -4,7 +4,7 @@ use Rattle.kernel_base.specs.declared.request.Request.TheVariants.{Write}
 use Rattle.shared_store.specs.Places.{written_at}
 use Rattle.kernel_steps.specs.Kept.{world_in}
 use Rattle.kernel_steps.proofs.Served.{rests_same}
-use Rattle.kernel_steps.proofs.Plain.{lies_in, plain_serves}
+use Rattle.kernel_steps.proofs.Plain.{fits_in, lies_in, plain_serves}
 use Rattle.kernel_steps.proofs.simple.write.Goals as goal
 
 pub write-requires-clause-lies : goal.write-requires-clause-lies
@@ -12,6 +12,9 @@ write-requires-clause-lies c = lies_in c.args.s.now c.args.place c.requires.kept
 
 pub write-requires-clause-count : goal.write-requires-clause-count
 write-requires-clause-count c = c.requires.may.fits.count
+
+pub write-requires-clause-fits : goal.write-requires-clause-fits
+write-requires-clause-fits c = fits_in c.args.s.now c.args.place c.args.scalars c.requires.kept c.requires.may.fits
 
 pub did-requires : goal.did-requires
 did-requires c = omega (arith, c.requires.room.journal)
@@ -29,7 +32,7 @@ returns c =
       sends = refl;
       arguments = refl;
       queues = refl;
-      store = c.write.ensures ∙ ap (λ (st : List (List ℤ)). written_at st c.args.place c.args.scalars) k.rests.store;
+      store = (c.write.ensures.scalars ∙ ap (λ (st : List (List ℤ)). written_at st c.args.place c.args.scalars) k.rests.store.0, c.write.ensures.layouts ∙ k.rests.store.1);
       locations = length-set (world_in s).store c.args.place.location _;
       input = k.rests.input;
       read = k.rests.read;

@@ -11,5 +11,5 @@ use Rattle.buffers_signals.proofs.signals.Signals.receivers.Goals as goal
 
 pub returns-clause-exactly : goal.returns-clause-exactly
 returns-clause-exactly c = λ who.
-    ap (λ (ws : List Waiter). entry_of waiter_of ws who) c.at.ensures ∙ queue_entry receiver_of no_priority receives_at c.args.signal c.self.inside.receivers.receivers who c.self.invariant.0
+    ap (λ (ws : List Waiter). entry_of waiter_of ws who) c.at.ensures ∙ queue_entry receiver_of no_priority receives_at c.args.signal c.self.inside.receivers.receivers who c.self.invariant.once
     ∙ ap (λ (v : SeenSignals). option_and_then (waits_at receiver_of no_priority receives_at c.args.signal) (entry_of receiver_of v.receivers who)) c.self.view_is

@@ -1,4 +1,4 @@
-use Rattle.std.proofs.Common.{◌≡◌, ℕ, List, Option, length, ap, arith, sym, ◌∙◌}
+use Rattle.std.proofs.Common.{◌≡◌, ◌<◌, ℕ, List, Option, length, ap, arith, subst, sym, ◌∙◌}
 use Rattle.std.specs.List.{find}
 use Rattle.std.proofs.lemmas.Option.{same_Some}
 use Rattle.world_model.specs.Lists.{number_for}
@@ -14,7 +14,7 @@ use Rattle.buffers_signals.proofs.signals.Signals.send_signal.Goals as goal
 pub receiver_for-requires : goal.receiver_for-requires
 receiver_for-requires c =
     let wanted = ap (λ (v : SeenSignals). length v.wanted) c.self.view_is in
-    omega (arith, c.requires.there, wanted, c.self.invariant.1)
+    let places = c.self.invariant.receiving in omega (arith, c.requires.there, wanted, places)
 
 pub take-alternative-requires : goal.take-alternative-requires
 take-alternative-requires c =
@@ -39,7 +39,32 @@ returns-in-Some-clause-sends c =
     }
 
 pub invariant_of-self : goal.invariant_of-self
-invariant_of-self c = (
-  rw c.take-alternative.ensures.taken.rest (once_others receiver_of c.self.inside.receivers.receivers c.in-Some.to c.self.invariant.0),
-  c.take-alternative.ensures.places ∙ c.self.invariant.1,
-)
+invariant_of-self c =
+    let next : c.self.inside.last < c.args.signal.value.send = subst (λ (v : SeenSignals). v.last < c.args.signal.value.send) (sym c.self.view_is) c.requires.next in
+    let drawn = c.self.invariant.drawn in
+    record {
+      once = rw c.take-alternative.ensures.taken.rest (once_others receiver_of c.self.inside.receivers.receivers c.in-Some.to c.self.invariant.once);
+      receiving = c.take-alternative.ensures.places ∙ c.self.invariant.receiving;
+      pends = c.self.invariant.pends;
+      drawn = omega (arith, next, drawn);
+    }
+
+pub put-requires-clause-there : goal.put-requires-clause-there
+put-requires-clause-there c =
+    let wanted = ap (λ (v : SeenSignals). length v.wanted) c.self.view_is in
+    let pends = c.self.invariant.pends in
+    omega (arith, c.requires.there, wanted, pends)
+
+pub put-requires-clause-next : goal.put-requires-clause-next
+put-requires-clause-next c =
+    let next : c.self.inside.last < c.args.signal.value.send = subst (λ (v : SeenSignals). v.last < c.args.signal.value.send) (sym c.self.view_is) c.requires.next in
+    let drawn = c.self.invariant.drawn in
+    omega (arith, next, drawn)
+
+pub invariant_of-self-2 : goal.invariant_of-self-2
+invariant_of-self-2 c = record {
+  once = c.self.invariant.once;
+  receiving = c.self.invariant.receiving;
+  pends = c.put.ensures.places ∙ c.self.invariant.pends;
+  drawn = let e = c.put.ensures.last in omega (arith, e);
+}
