@@ -56,7 +56,7 @@ zipped (Some h) (Some j) (Some hs) (Some js) = refl
 
 of_row : (s : Source) (d : ℕ) (r : Row) (b : Bool) (bs : Option (List BodyRowTree)) (hs : Option (List BodyRowTree)) (js : Option (List Inside)) → bs ≡ made_of with_insides hs js
     → (if b then made_of (λ x xs. x ∷ xs) (body_as s d r r.origin) bs else bs)
-      ≡ made_of with_insides (if b then made_of (λ x xs. x ∷ xs) (head_as s d r r.origin) hs else hs) (if b then made_of (λ x xs. x ∷ xs) (inside_as s r.origin) js else js)
+    ≡ made_of with_insides (if b then made_of (λ x xs. x ∷ xs) (head_as s d r r.origin) hs else hs) (if b then made_of (λ x xs. x ∷ xs) (inside_as s r.origin) js else js)
 of_row s d r false bs hs js rest = rest
 of_row s d r true bs hs js rest = ap (λ (b : Option BodyRowTree). made_of (λ x xs. x ∷ xs) b bs) (of_origin s d r r.origin)
     ∙ ap (λ (bs : Option (List BodyRowTree)). made_of (λ x xs. x ∷ xs) (made_of with_inside (head_as s d r r.origin) (inside_as s r.origin)) bs) rest
@@ -64,7 +64,7 @@ of_row s d r true bs hs js rest = ap (λ (b : Option BodyRowTree). made_of (λ x
 
 of_rows : (s : Source) (d : ℕ) (rs : List Row)
     → rows_made (λ d r. body_as s d r r.origin) (λ r. has_body r.origin) d rs
-      ≡ made_of with_insides (rows_made (λ d r. head_as s d r r.origin) (λ r. has_body r.origin) d rs) (rows_made (λ d r. inside_as s r.origin) (λ r. has_body r.origin) d rs)
+    ≡ made_of with_insides (rows_made (λ d r. head_as s d r r.origin) (λ r. has_body r.origin) d rs) (rows_made (λ d r. inside_as s r.origin) (λ r. has_body r.origin) d rs)
 of_rows s d [] = refl
 of_rows s d (r ∷ rs) = of_row s d r (has_body r.origin) _ _ _ (of_rows s (suc d) rs)
 

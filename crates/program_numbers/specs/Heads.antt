@@ -1,5 +1,5 @@
 -- The elaborated program in two parts: its lists, with the heads of its bodies, and what its bodies do.
-use Rattle.std.specs.Prelude.{◌≡◌, ℕ, suc, List, [], ◌∷◌, Option, Some, None, option_map, option_and_then}
+use Rattle.std.specs.Prelude.{◌≡◌, ℕ, suc, false, List, [], ◌∷◌, Option, Some, None, option_map, option_and_then}
 use Rattle.chill_tree.specs.ItemTree.{ProcedureTree, ProgramTree}
 use Rattle.modes.specs.ModeTree.{ModeTree}
 use Rattle.program_trees.specs.StatementTree as done
@@ -11,6 +11,7 @@ use Rattle.elaboration_model.specs.Parts.{made_of}
 use Rattle.elaboration_model.specs.Numbering.{Source, Row, is_shared, is_signal, has_body, count_before}
 use Rattle.elaboration_model.specs.Modulions.{modulions_done}
 use Rattle.elaboration_model.specs.Elaborated.{rows_made, location_row, event_row, buffer_row, signal_row, locals_of, listed_by, result_of, inside_of, outermost_body, process_body, procedure_body, program_of, made_of_five, elaborated_by}
+use Rattle.checked_program.specs.declared.program.Checked.{Checked}
 use Rattle.program_numbers.specs.declared.numbering.Numbering.{Numbering}
 
 -- ---- what bodies do
@@ -64,9 +65,29 @@ headed s t =
     (rows_made (signal_row s) (λ r. is_signal r.origin) 0 s.rows)
     (heads_of s)
 
+-- a program whose exceptions are put into it last
+abbrev pub with_exceptions : List (List ℕ) → CheckedTree → CheckedTree
+with_exceptions own p = record p { exceptions = own }
+
 -- what a numbering has of it
 abbrev pub headed_by : Numbering → CheckedTree
-headed_by n = record (checked_tree n.rows.value) { exceptions = n.exceptions.spellings }
+headed_by n = with_exceptions n.exceptions.spellings (checked_tree n.rows.value)
+
+-- nothing but a size
+abbrev pub nothing_of : ℕ → Checked
+nothing_of size = record {
+  locations = [];
+  bodies = [];
+  regions = 0;
+  events = [];
+  buffers = [];
+  signals = [];
+  exceptions = [];
+  reads_input = false;
+  size = size;
+  definitions = [];
+  modulions = [];
+}
 
 -- ---- both together
 

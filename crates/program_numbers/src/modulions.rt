@@ -1,8 +1,13 @@
 // Modulions: the sizes of their texts, and what they use of the others (our own choice).
-use crate::refusal::ElaborationRefusal;
+ghost use Rattle.std.specs.Prelude.{◌≡◌, IfOk};
+ghost use Rattle.chill_tree.specs.ItemTree.{program_tree};
+ghost use Rattle.elaboration_model.specs.Modulions.{modulion_rows};
+ghost use Rattle.program_numbers.specs.Rows.{source_at, IsSource};
+ghost use Rattle.program_numbers.specs.Sources.{IsWalkOf};
+
 use crate::source::{Source, text};
 use checked_program::ModulionRow;
-use chill_base::{List, Numbers, Pos};
+use chill_base::{List, Memory, Numbers, Pos};
 use chill_tree::tree::{Item, Local, Modulion, Statement, Tree};
 use names_model::Resolved;
 use text_size::size_without_inner;
@@ -92,8 +97,24 @@ impl<'s, 'a, 'b> Drop for ModulionRows<'s, 'a, 'b> {
 }
 
 impl<'s, 'a, 'b> Source<'s, 'a, 'b> {
+    // Whether a definition stands in a piece of the text.
+    fn stands_in(&self, definition: u32, span: Span) -> bool {
+        match self
+            .walk
+            .evaluation
+            .defined
+            .as_slice()
+            .get(definition as usize)
+        {
+            None => false,
+            Some(own) => span.has(own.at),
+        }
+    }
+
     /// The modulions of a program.
-    pub fn modulions(&self, tree: &Tree) -> Result<List<ModulionRow>, ElaborationRefusal> {
+    pub fn modulions(&self, tree: &Tree) -> Result<List<ModulionRow>, Memory>
+        ensures { IsSource self.now → IsWalkOf (program_tree tree.now) self.now.walk.now → IfOk result (λ rows. rows ≡ modulion_rows (source_at self.now) (program_tree tree.now)) }
+    {
         let mut last_used = Numbers::new(self.alloc());
         for _ in self.things {
             last_used.push(0_u32)?;
@@ -128,12 +149,7 @@ impl<'s, 'a, 'b> ModulionRows<'s, 'a, 'b> {
 
     // Adds the rows of a modulion and of those in it. Answers the size of its text, which ends before a place.
     #[cycle(item)]
-    fn add(
-        &mut self,
-        own: &Modulion,
-        around: Option<u32>,
-        until: Pos,
-    ) -> Result<u32, ElaborationRefusal> {
+    fn add(&mut self, own: &Modulion, around: Option<u32>, until: Pos) -> Result<u32, Memory> {
         let number = self.add_row(own, around, until)?;
         let behind = match &own.handler {
             None => until,
@@ -154,12 +170,7 @@ impl<'s, 'a, 'b> ModulionRows<'s, 'a, 'b> {
     }
 
     // Adds the row of a modulion, whose size isn't known yet; its number.
-    fn add_row(
-        &mut self,
-        own: &Modulion,
-        around: Option<u32>,
-        until: Pos,
-    ) -> Result<u32, ElaborationRefusal> {
+    fn add_row(&mut self, own: &Modulion, around: Option<u32>, until: Pos) -> Result<u32, Memory> {
         let number = u32::try_from(self.rows.len()).unwrap_or(u32::MAX);
         let span = Span {
             from: own.name.at,
@@ -177,7 +188,7 @@ impl<'s, 'a, 'b> ModulionRows<'s, 'a, 'b> {
     }
 
     // The definitions of the text outside a piece of it that the piece uses, in the order of their first uses there.
-    fn uses_outside(&mut self, span: Span, row: u32) -> Result<Numbers, ElaborationRefusal> {
+    fn uses_outside(&mut self, span: Span, row: u32) -> Result<Numbers, Memory> {
         let mark = row.saturating_add(1);
         let mut found = Numbers::new(self.source.alloc());
         let uses = self.source.walk.evaluation.names.uses.as_slice();
@@ -189,7 +200,7 @@ impl<'s, 'a, 'b> ModulionRows<'s, 'a, 'b> {
                 continue;
             }
             *last = mark;
-            if !span.has(self.source.definition(own.to)?.name.at) {
+            if !self.source.stands_in(own.to, span) {
                 found.push(own.to)?;
             }
         }

@@ -3,29 +3,33 @@ ghost use Rattle.std.specs.Prelude.{◌≡◌, IfOk, option_map};
 ghost use Rattle.chill_tree.specs.ItemTree.{program_tree};
 ghost use Rattle.program_trees.specs.ProgramTree.{checked_tree};
 ghost use Rattle.elaboration_model.specs.Numbering as model;
-ghost use Rattle.elaboration_model.specs.Exceptions.{exception_number};
+ghost use Rattle.elaboration_model.specs.Exceptions.{exception_number, own_exceptions};
 ghost use Rattle.elaboration_model.specs.Elaborated.{source_of};
 ghost use Rattle.expr_rules.specs.Grounds.{ground_in};
 ghost use Rattle.program_numbers.specs.Answers.{Elaborates};
 ghost use Rattle.program_numbers.specs.Sources.{thing_tree, thing_at, source_in, HasNumbers, IsWalkOf};
-ghost use Rattle.program_numbers.specs.Heads.{headed, headed_by};
+ghost use Rattle.program_numbers.specs.Heads.{headed, headed_by, nothing_of, with_exceptions};
+ghost use Rattle.program_numbers.specs.Rows.{source_at, IsSource};
+ghost use Rattle.text_size.specs.Sizes.{program_size};
 
 use crate::exceptions::Exceptions;
 use crate::refusal::ElaborationRefusal;
+use crate::row::rows_of;
 use crate::source::Source;
 use crate::thing::Thing;
-use crate::things::{Things, things_of};
+use crate::things::{bodies_of, things_of};
 use checked_program::Checked;
 use chill_base::{List, Memory};
 use chill_tree::tree::{Name, Tree};
 use expr_rules::Walk;
 use std::alloc::Global;
+use text_exceptions::exceptions_named;
 use text_size::size_of_program;
 
 /// The numbers of a program's definitions and exceptions, and the lists of the elaborated program. Each list is in the
 /// order of the text.
 pub struct Numbering {
-    things: Things,
+    things: List<Thing>,
     exceptions: Exceptions,
     rows: Box<Checked>,
 }
@@ -44,8 +48,29 @@ impl Drop for Numbering {
     }
 }
 
+// The size of a text, where a `u32` has room for it.
+fn size_of(tree: &Tree) -> Result<u32, Memory>
+    ensures { IfOk result (λ size. size ≡ program_size (program_tree tree.now)) }
+{
+    let size = size_of_program(tree);
+    if size == u32::MAX {
+        return Err(Memory);
+    }
+    Ok(size)
+}
+
+// The exceptions that a text names and that aren't the language's.
+fn exceptions_of(alloc: Global, tree: &Tree) -> Result<Exceptions, Memory>
+    ensures { IfOk result (λ all. all.spellings ≡ own_exceptions (program_tree tree.now)) }
+{
+    let names = exceptions_named(alloc, tree)?;
+    Exceptions::none(alloc).behind(names.as_slice())
+}
+
 // A program of which only the size is known.
-fn empty_program(alloc: Global, tree: &Tree) -> Result<Box<Checked>, Memory> {
+fn empty_program(alloc: Global, size: u32) -> Result<Box<Checked>, Memory>
+    ensures { IfOk result (λ p. p.value ≡ nothing_of size) }
+{
     let program = Checked {
         locations: List::new(alloc),
         bodies: List::new(alloc),
@@ -55,7 +80,7 @@ fn empty_program(alloc: Global, tree: &Tree) -> Result<Box<Checked>, Memory> {
         signals: List::new(alloc),
         exceptions: List::new(alloc),
         reads_input: false,
-        size: size_of_program(tree),
+        size,
         definitions: List::new(alloc),
         modulions: List::new(alloc),
     };
@@ -63,19 +88,17 @@ fn empty_program(alloc: Global, tree: &Tree) -> Result<Box<Checked>, Memory> {
 }
 
 // The lists of a program, but for its exceptions.
-fn lists_of(
-    source: Source<'_, '_, '_>,
-    tree: &Tree,
-    exceptions: &Exceptions,
-) -> Result<Box<Checked>, ElaborationRefusal> {
-    let mut program = empty_program(source.alloc(), tree)?;
-    program.regions = source.regions();
-    program.reads_input = source.reads_input();
+fn lists_of(source: Source<'_, '_, '_>, tree: &Tree) -> Result<Box<Checked>, ElaborationRefusal>
+    ensures { IsSource source → IsWalkOf (program_tree tree.now) source.walk.now → Elaborates (headed (source_at source) (program_tree tree.now)) (λ p. with_exceptions source.exceptions.now.spellings (checked_tree p.value)) result }
+{
+    let mut program = empty_program(source.alloc(), size_of(tree)?)?;
     program.locations = source.locations()?;
     program.events = source.events()?;
     program.buffers = source.buffers()?;
     program.signals = source.signals()?;
-    program.bodies = source.bodies(exceptions)?;
+    program.bodies = source.heads()?;
+    program.regions = source.regions()?;
+    program.reads_input = source.reads_input();
     program.definitions = source.definitions()?;
     program.modulions = source.modulions(tree)?;
     Ok(program)
@@ -91,13 +114,19 @@ impl Numbering {
         ensures source { IsWalkOf (program_tree tree.now) walk.now → IfOk result (λ n. source_in walk.now n ≡ source_of (ground_in walk.now) (program_tree tree.now)) }
         ensures headed { IsWalkOf (program_tree tree.now) walk.now → Elaborates (headed (source_of (ground_in walk.now) (program_tree tree.now)) (program_tree tree.now)) headed_by result }
     {
-        let things = things_of(walk)?;
-        let exceptions = Exceptions::of(walk.evaluation.alloc, tree)?;
+        let alloc = walk.evaluation.alloc;
+        let rows = rows_of(walk)?;
+        let bodies = bodies_of(alloc, rows.as_slice())?;
+        let things = things_of(alloc, rows.as_slice(), bodies.as_slice())?;
+        let exceptions = exceptions_of(alloc, tree)?;
         let source = Source {
             walk,
+            rows: rows.as_slice(),
+            bodies: bodies.as_slice(),
             things: things.as_slice(),
+            exceptions: &exceptions,
         };
-        let rows = lists_of(source, tree, &exceptions)?;
+        let rows = lists_of(source, tree)?;
         Ok(Numbering {
             things,
             exceptions,
