@@ -1,2 +1,4 @@
 pub mod Answering
 pub mod Heads
+pub mod Rows
+pub mod Modulions
