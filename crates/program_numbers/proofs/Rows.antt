@@ -1,12 +1,11 @@
 -- Rows by their numbers, and how many there are before a number.
-use Rattle.std.proofs.Common.{◌≡◌, ◌≤◌, ℕ, zero, suc, List, [], ◌∷◌, Bool, true, false, Option, Some, None, length, take, map, refl, ap, sym, ◌∙◌, arith}
+use Rattle.std.proofs.Common.{◌≡◌, ◌≤◌, ℕ, zero, suc, List, [], ◌∷◌, Bool, true, false, Option, Some, None, length, take, map, refl, ap, sym, ◌∙◌, arith, absurd}
 use Rattle.std.specs.Prelude.{slice_get, if◌then◌else◌, cond}
 use Rattle.std.specs.List.{filter}
 use Rattle.names_model.specs.declared.definition.Definition.{Definition}
 use Rattle.checks_model.specs.Ground.{Origin, Entry}
 use Rattle.elaboration_model.specs.Parts.{made_of_three}
 use Rattle.elaboration_model.specs.Numbering.{Row, rows, count_before}
-use Rattle.elaborated_laws.proofs.Told.{no_some, same_some}
 
 abbrev pub row_made : Definition → Origin → Entry → Row
 row_made d o e = record { name = d.name.spelling; inside = d.inside; origin = o; mode = e.mode }
@@ -46,8 +45,8 @@ deeper test q rs k r true is one =
 deeper test q rs k r false is one = passed test (suc k) q rs false is ∙ one ∙ ap (λ n. if test r then suc n else n) (sym (passed test k q rs false is))
 
 pub count-next : (test : Row → Bool) (rs : List Row) (k : ℕ) (r : Row) → slice_get rs k ≡ Some r → count_before test (suc k) rs ≡ (if test r then suc (count_before test k rs) else count_before test k rs)
-count-next test [] k r at = no_some r at
-count-next test (q ∷ rs) zero r at = passed test 0 q rs (test q) refl ∙ ap (λ (r : Row). if test r then 1 else 0) (same_some q r at)
+count-next test [] k r at = cc
+count-next test (q ∷ rs) zero r at = let same : q ≡ r = cc in passed test 0 q rs (test q) refl ∙ ap (λ (r : Row). if test r then 1 else 0) same
 count-next test (q ∷ rs) (suc k) r at = deeper test q rs k r (test q) refl (count-next test rs k r at)
 
 -- behind the last row nothing more is counted
