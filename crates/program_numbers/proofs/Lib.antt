@@ -2,3 +2,4 @@ pub mod Answering
 pub mod Heads
 pub mod Rows
 pub mod Modulions
+pub mod Counting

@@ -1,5 +1,5 @@
 -- Rows, and what the lists are made of, without where they lie in memory.
-use Rattle.std.specs.Prelude.{◌≡◌, ℕ, List, map, slice_index_or}
+use Rattle.std.specs.Prelude.{◌≡◌, ◌≢◌, ℕ, suc, Bool, true, List, map, Option, Some, slice_index_or}
 use Rattle.checks_model.specs.ProcessRules as model
 use Rattle.elaboration_model.specs.Numbering as numbers
 use Rattle.elaboration_model.specs.Numbering.{is_shared, is_signal, is_modulion, is_region_origin, has_body, is_local_of, count_before, body_of, thing_of}
@@ -39,6 +39,11 @@ pub record AreCounted (rs : List numbers.Row) (d : ℕ) (c : Counts) : Type 0 wh
   pub regions : c.regions ≡ count_before (λ r. is_region_origin r.origin) d rs
   pub bodies : c.bodies ≡ count_before (λ r. has_body r.origin) d rs
   pub locals : (b : ℕ) → slice_index_or c.locals b 0 ≡ count_before (is_local_of rs b) d rs
+
+-- one local more is counted of the body around a definition that may be a local, where there is a body around it
+abbrev pub IsLocalAdded : Bool → Option ℕ → List ℕ → List ℕ → Type 0
+IsLocalAdded true (Some body) old new = (slice_index_or new body 0 ≡ suc (slice_index_or old body 0)) × ((b : ℕ) → b ≢ body → slice_index_or new b 0 ≡ slice_index_or old b 0)
+IsLocalAdded _ _ old new = new ≡ old
 
 -- how many modulions are defined before the definition of a number
 abbrev pub counted_at : Modulions → ℕ → ℕ

@@ -2,7 +2,7 @@
 ghost use Rattle.std.specs.Prelude.{◌≡◌, ◌≢◌, ◌<◌, ℕ, suc, if◌then◌else◌, IfOk, OnOk, Some, length, slice_get, slice_index_or};
 ghost use Rattle.std.specs.Prelude.{List as Listed};
 ghost use Rattle.elaboration_model.specs.Numbering as model;
-ghost use Rattle.program_numbers.specs.Rows.{row_tree, AreCounted};
+ghost use Rattle.program_numbers.specs.Rows.{row_tree, AreCounted, IsLocalAdded};
 ghost use Rattle.program_numbers.specs.Sources.{thing_tree};
 
 use crate::row::{Meeting, Row, one_more};
@@ -112,6 +112,7 @@ impl Counts {
     }
 
     /// One definition more, which stands in a body, or in none.
+    #[tactic(auto, using(crate::proofs::Counting::counting))]
     pub fn add(&mut self, row: &Row<'_>, around: Option<u32>) -> Result<(), Memory>
         ensures { (rs : Listed model.Row) (d : ℕ) → AreCounted rs d self.old → slice_get rs d ≡ Some (row_tree row.now) → around ≡ model.body_around rs row.now.inside → OnOk result (AreCounted rs (suc d) self.new) }
     {
@@ -121,10 +122,17 @@ impl Counts {
         self.signals = counted(self.signals, row.is_signal())?;
         self.regions = counted(self.regions, row.is_region())?;
         self.bodies = counted(self.bodies, row.has_body())?;
-        match around {
-            Some(body) if row.may_be_local() => count_in(&mut self.locals, body as usize),
-            _ => Ok(()),
-        }
+        count_local(&mut self.locals, row, around)
+    }
+}
+
+// One local more of the body around a definition, where that may be a local.
+fn count_local(locals: &mut Numbers, row: &Row<'_>, around: Option<u32>) -> Result<(), Memory>
+    ensures { OnOk result (IsLocalAdded (model.may_be_local (row_tree row.now).origin) around locals.old locals.new) }
+{
+    match around {
+        Some(body) if row.may_be_local() => count_in(locals, body as usize),
+        _ => Ok(()),
     }
 }
 
