@@ -1,5 +1,5 @@
 -- What is counted when a definition more is looked at.
-use Rattle.std.proofs.Common.{◌≡◌, ℕ, suc, List, Bool, true, false, Option, Some, None, refl, ap, sym, ◌∙◌, absurd, true≢false}
+use Rattle.std.proofs.Common.{◌≡◌, ℕ, suc, List, Bool, true, false, Option, Some, None, refl, ap, sym, ◌∙◌, true≢false, eqb-true, eq-eqb}
 use Rattle.std.specs.Prelude.{◌&&◌, ◌==◌, ◌≢◌, slice_get, slice_index_or, if◌then◌else◌}
 use Rattle.checks_model.specs.Told.{holds_of}
 use Rattle.elaboration_model.specs.Numbering.{Row, may_be_local, body_around, is_local_of, count_before}
@@ -9,7 +9,7 @@ use Rattle.program_numbers.proofs.Rows.{count-next}
 by_test : (b body : ℕ) (old new : List ℕ) → (t : Bool) → (body == b) ≡ t → slice_index_or new body 0 ≡ suc (slice_index_or old body 0) → (b ≢ body → slice_index_or new b 0 ≡ slice_index_or old b 0)
     → slice_index_or new b 0 ≡ (if t then suc (slice_index_or old b 0) else slice_index_or old b 0)
 by_test b body old new true is own others = let same : b ≡ body = sym (eqb-true body b is) in ap (λ k. slice_index_or new k 0) same ∙ own ∙ ap (λ k. suc (slice_index_or old k 0)) (sym same)
-by_test b body old new false is own others = others (λ same. true≢false (sym (eqb-same body b (sym same)) ∙ is))
+by_test b body old new false is own others = others (λ same. true≢false (sym (eq-eqb body b (sym same)) ∙ is))
 
 -- the count of one body, or of none, is one more
 locals_by : (m : Bool) (around : Option ℕ) (old new : List ℕ) → IsLocalAdded m around old new → (b : ℕ)

@@ -3,3 +3,4 @@ pub mod Heads
 pub mod Rows
 pub mod Modulions
 pub mod Counting
+pub mod Placing

@@ -1,5 +1,5 @@
 -- Rows by their numbers, and how many there are before a number.
-use Rattle.std.proofs.Common.{◌≡◌, ◌≤◌, ℕ, zero, suc, List, [], ◌∷◌, Bool, true, false, Option, Some, None, length, take, map, refl, ap, sym, ◌∙◌, arith, absurd}
+use Rattle.std.proofs.Common.{◌≡◌, ◌≤◌, ◌+◌, ℕ, zero, suc, List, [], ◌∷◌, ◌++◌, Bool, true, false, Option, Some, None, length, take, map, refl, ap, sym, ◌∙◌, arith, absurd}
 use Rattle.std.specs.Prelude.{slice_get, if◌then◌else◌, cond}
 use Rattle.std.specs.List.{filter}
 use Rattle.names_model.specs.declared.definition.Definition.{Definition}
@@ -61,3 +61,19 @@ count-all test (q ∷ rs) (suc k) few = by (test q) refl
     by : (b : Bool) → test q ≡ b → count_before test (suc k) (q ∷ rs) ≡ length (filter test (q ∷ rs))
     by true is = passed test k q rs true is ∙ ap suc rest ∙ sym (ap (λ b. length (cond b (q ∷ filter test rs) (filter test rs))) is)
     by false is = passed test k q rs false is ∙ rest ∙ sym (ap (λ b. length (cond b (q ∷ filter test rs) (filter test rs))) is)
+
+-- ---- rows, one by one
+
+pub take-more : {A : Type 0} (xs : List A) (k : ℕ) (x : A) → slice_get xs k ≡ Some x → take (k + 1) xs ≡ take k xs ++ x ∷ []
+take-more [] k x at = cc
+take-more (y ∷ xs) zero x at = let same : y ≡ x = cc in ap (λ y. y ∷ []) same
+take-more (y ∷ xs) (suc k) x at = ap (λ rest. y ∷ rest) (take-more xs k x at)
+
+-- where there is none of a number all are before it
+pub take-whole : {A : Type 0} (xs : List A) (k : ℕ) → slice_get xs k ≡ None → take k xs ≡ xs
+take-whole [] zero at = refl
+take-whole [] (suc k) at = refl
+take-whole (y ∷ xs) zero at = cc
+take-whole (y ∷ xs) (suc k) at = ap (λ rest. y ∷ rest) (take-whole xs k at)
+
+pub ruleset row_views = (row-there, take-more, take-whole)

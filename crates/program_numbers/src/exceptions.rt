@@ -112,6 +112,7 @@ impl Exceptions {
     }
 
     // These, and a spelling that has no number yet.
+    #[tactic(auto, using(crate::proofs::Placing::placing))]
     fn with_new(self, text: &[u8]) -> Result<Exceptions, Memory>
         requires { place_among text.now self.spellings ≡ None }
         ensures { IfOk result (λ all. all.spellings ≡ self.spellings ++ text.now ∷ []) }

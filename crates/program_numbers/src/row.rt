@@ -136,6 +136,7 @@ impl<'a> Row<'a> {
 }
 
 // The definition of a number, where it is one of the text.
+#[tactic(auto, using(constant_operators::proofs::Grounds::looked_up, crate::proofs::Rows::row_views))]
 fn row_at<'b>(walk: &Walk<'_, 'b>, number: usize) -> Option<Row<'b>>
     ensures { option_map row_tree result ≡ slice_get (rows_in walk.now) number }
 {
@@ -155,6 +156,7 @@ fn row_at<'b>(walk: &Walk<'_, 'b>, number: usize) -> Option<Row<'b>>
 }
 
 /// The definitions of a text, in its order.
+#[tactic(auto, using(crate::proofs::Rows::row_views))]
 pub fn rows_of<'b>(walk: &Walk<'_, 'b>) -> Result<List<Row<'b>>, Memory>
     ensures { IfOk result (λ rows. row_trees rows ≡ rows_in walk.now) }
 {
