@@ -69,16 +69,16 @@ mutual
 
   of_bracketed : (a : Around) (x : BracketedTree) → at_all (sites_of_bracketed a x) ≡ exceptions_in_bracketed x
   of_bracketed a (if_then at c ss bs o) =
-      both (sites_of_each a ss) (sites_of_branches a bs ++ sites_of_otherwise a o) _ _ (of_each a ss) (both (sites_of_branches a bs) (sites_of_otherwise a o) _ _ (of_branches a bs) (of_otherwise a o))
+      both (sites_of_each a ss ++ sites_of_branches a bs) (sites_of_otherwise a o) _ _ (both (sites_of_each a ss) (sites_of_branches a bs) _ _ (of_each a ss) (of_branches a bs)) (of_otherwise a o)
   of_bracketed a (case_of at e as' o) = both (sites_of_cases a e as') (sites_of_otherwise a o) _ _ (of_cases a e as') (of_otherwise a o)
   of_bracketed a (do_loop at c ss) = of_each a ss
   of_bracketed a (begin_end at ps) = of_parts a ps
   of_bracketed a (delay_case at set p as') =
-      only_behind (some_site at_set set) (some_site at_priority p ++ sites_of_events a [] as') _ (none_of_set set)
-      (only_behind (some_site at_priority p) (sites_of_events a [] as') _ (none_of_priority p) (of_events a [] as'))
+      only_behind (some_site at_set set ++ some_site at_priority p) (sites_of_events a [] as') _
+      (only_behind (some_site at_set set) (some_site at_priority p) [] (none_of_set set) (none_of_priority p)) (of_events a [] as')
   of_bracketed a (receive_case at set as' o) =
-      only_behind (some_site at_set set) (sites_of_receives a [] as' ++ sites_of_otherwise a o) _ (none_of_set set)
-      (both (sites_of_receives a [] as') (sites_of_otherwise a o) _ _ (of_receives a [] as') (of_otherwise a o))
+      both (some_site at_set set ++ sites_of_receives a [] as') (sites_of_otherwise a o) _ _
+      (only_behind (some_site at_set set) (sites_of_receives a [] as') _ (none_of_set set) (of_receives a [] as')) (of_otherwise a o)
 
   of_each : (a : Around) (ss : StatementNodes) → at_all (sites_of_each a ss) ≡ exceptions_in_each ss
   of_each a no_statements = refl
@@ -130,8 +130,8 @@ mutual
   of_item : (i : ItemTree) → exceptions_of_item i ++ at_all (sites_of_item i) ≡ exceptions_in_item i
   of_item (procedure p) =
       ap (λ (l : List Name). some_names p.exceptions ++ l)
-      (only_behind (map (λ q. at_mode q.mode) p.params) _ _ (none_of_map (λ q. at_mode q.mode) (λ x. refl) p.params)
-      (only_behind (sites_of_result p.returns) _ _ (none_of_result p.returns) (of_body (in_procedure p) p.body p.handler)))
+      (only_behind (map (λ q. at_mode q.mode) p.params ++ sites_of_result p.returns) _ _
+      (only_behind (map (λ q. at_mode q.mode) p.params) (sites_of_result p.returns) [] (none_of_map (λ q. at_mode q.mode) (λ x. refl) p.params) (none_of_result p.returns)) (of_body (in_procedure p) p.body p.handler))
   of_item (process p) = only_behind (map (λ q. at_mode q.mode) p.formals) _ _ (none_of_map (λ q. at_mode q.mode) (λ x. refl) p.formals) (of_body in_no_procedure p.body p.handler)
   of_item (modulion n kind items h closing) =
       both (sites_of_items kind items items) (sites_of_handler in_no_procedure (handler_node h)) _ _ (of_items kind items items) (of_handler in_no_procedure (handler_node h))
