@@ -42,7 +42,7 @@ impl<'a, 'b, 'c> Elaboration<'a, 'b, 'c> {
         value: &Expr,
     ) -> Result<Box<Action>, ElaborationRefusal> {
         let names = self.bases_defined(names)?;
-        let value = self.values.received(value, mode)?;
+        let value = self.values.received_by(value, Some(mode))?;
         self.boxed(Action::Declare { names, value })
     }
 

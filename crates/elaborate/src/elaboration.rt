@@ -2,7 +2,6 @@
 use checked_program::{Action, Base, Statement};
 use chill_base::Memory;
 use chill_tree::tree::{Expr, Name};
-use expr_rules::Receiver;
 use modes::Mode;
 use program_numbers::{ElaborationRefusal, Thing};
 use std::alloc::Global;
@@ -57,7 +56,7 @@ impl<'a, 'b, 'c> Elaboration<'a, 'b, 'c> {
 
     /// A condition.
     pub fn condition(&self, own: &Expr) -> Result<Box<checked_program::Expr>, ElaborationRefusal> {
-        self.values.value(own, Receiver::Condition)
+        self.values.expr_alone(own)
     }
 
     /// The number of the exception of a name.

@@ -2,7 +2,6 @@
 use crate::elaboration::{Elaboration, boxed};
 use checked_program::{Control, Expr};
 use chill_tree::tree;
-use expr_rules::Receiver;
 use modes::bounds;
 use program_numbers::ElaborationRefusal;
 
@@ -20,7 +19,7 @@ impl<'a, 'b, 'c> Elaboration<'a, 'b, 'c> {
             } => Control::Members {
                 counter: self.local_defined(counter)?,
                 low: self.first_member(counter)?,
-                set: self.values.value(set, Receiver::Members)?,
+                set: self.values.expr_alone(set)?,
                 condition: self.some_condition(condition)?,
             },
             tree::Control::Steps { .. } => self.steps(own)?,
@@ -45,9 +44,9 @@ impl<'a, 'b, 'c> Elaboration<'a, 'b, 'c> {
         Ok(Control::Steps {
             counter: self.local_defined(counter)?,
             down: *down,
-            start: self.values.value(start, Receiver::Bound)?,
+            start: self.values.expr_alone(start)?,
             step: self.some_step(step)?,
-            end: self.values.value(end, Receiver::Bound)?,
+            end: self.values.expr_alone(end)?,
             condition: self.some_condition(condition)?,
         })
     }
@@ -76,7 +75,7 @@ impl<'a, 'b, 'c> Elaboration<'a, 'b, 'c> {
     ) -> Result<Option<Box<Expr>>, ElaborationRefusal> {
         match step {
             None => Ok(None),
-            Some(step) => Ok(Some(self.values.value(step, Receiver::Nothing)?)),
+            Some(step) => Ok(Some(self.values.expr_alone(step)?)),
         }
     }
 }

@@ -4,7 +4,7 @@ use checked_program::{Action, Expr, Location, Received, Sent};
 use chill_base::{List, Numbers};
 use chill_tree::tree;
 use chill_tree::tree::Simple;
-use expr_rules::Receiver;
+use value_elaboration::Target;
 use program_numbers::{ElaborationRefusal, Thing};
 
 impl<'a, 'b, 'c> Elaboration<'a, 'b, 'c> {
@@ -67,8 +67,8 @@ impl<'a, 'b, 'c> Elaboration<'a, 'b, 'c> {
         args: &Option<List<tree::Expr>>,
     ) -> Result<List<Received>, ElaborationRefusal> {
         match args {
-            None => self.values.message(target, &[]),
-            Some(args) => self.values.message(target, args.as_slice()),
+            None => self.values.parts_sent(target, &[]),
+            Some(args) => self.values.parts_sent(target, args.as_slice()),
         }
     }
 
@@ -81,7 +81,7 @@ impl<'a, 'b, 'c> Elaboration<'a, 'b, 'c> {
         match receiver {
             None => Ok(None),
             Some(receiver) => {
-                Ok(Some(self.values.value(receiver, Receiver::Mode(Some(instance)))?))
+                Ok(Some(self.values.expr_as(receiver, Some(instance))?))
             }
         }
     }
@@ -90,7 +90,7 @@ impl<'a, 'b, 'c> Elaboration<'a, 'b, 'c> {
     pub fn priority(&self, own: &Option<Box<tree::Expr>>) -> Result<u32, ElaborationRefusal> {
         match own {
             None => Ok(0),
-            Some(own) => match u32::try_from(self.values.number(own)?) {
+            Some(own) => match u32::try_from(self.values.constant_number(own)?) {
                 Ok(priority) => Ok(priority),
                 Err(_) => Err(ElaborationRefusal::Unsound),
             },
@@ -143,7 +143,10 @@ impl<'a, 'b, 'c> Elaboration<'a, 'b, 'c> {
     ) -> Result<Option<Box<Location>>, ElaborationRefusal> {
         match set {
             None => Ok(None),
-            Some(set) => Ok(Some(boxed(self.alloc(), self.values.location(set)?)?)),
+            Some(set) => {
+                let Target { location, mode: _ } = self.values.target(set)?;
+                Ok(Some(boxed(self.alloc(), location)?))
+            }
         }
     }
 }

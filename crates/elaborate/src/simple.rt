@@ -3,7 +3,6 @@ use crate::around::Around;
 use crate::elaboration::Elaboration;
 use checked_program::{Action, Received};
 use chill_tree::tree::{Expr, Name, Operator, Simple};
-use expr_rules::Receiver;
 use modes::{Class, bounds};
 use program_numbers::ElaborationRefusal;
 use value_elaboration::{Target, operator_between};
@@ -55,7 +54,7 @@ impl<'a, 'b, 'c> Elaboration<'a, 'b, 'c> {
             location: target,
             mode,
         } = self.values.target(target)?;
-        let value = self.values.received(value, &mode)?;
+        let value = self.values.received_by(value, Some(&mode))?;
         self.boxed(Action::Assign { target, value })
     }
 
@@ -71,7 +70,7 @@ impl<'a, 'b, 'c> Elaboration<'a, 'b, 'c> {
             mode,
         } = self.values.target(target)?;
         let bounds = bounds(&mode);
-        let value = self.values.value(value, Receiver::Nothing)?;
+        let value = self.values.expr_alone(value)?;
         match operator_between(operator, &Class::Value(mode), &value.class) {
             None => Err(ElaborationRefusal::Unsound),
             Some(operator) => self.boxed(Action::Update {
@@ -114,7 +113,7 @@ impl<'a, 'b, 'c> Elaboration<'a, 'b, 'c> {
         around: &Around<'_, '_>,
     ) -> Result<Received, ElaborationRefusal> {
         match around.result {
-            Some(mode) => self.values.received(value, mode),
+            Some(mode) => self.values.received_by(value, Some(mode)),
             None => Err(ElaborationRefusal::Unsound),
         }
     }

@@ -7,7 +7,6 @@ use checked_program::{
 };
 use chill_base::{List, Numbers};
 use chill_tree::tree;
-use expr_rules::Receiver;
 use modes::Bounds;
 use program_numbers::{ElaborationRefusal, Thing};
 
@@ -122,7 +121,7 @@ impl<'a, 'b, 'c> Elaboration<'a, 'b, 'c> {
                 otherwise,
                 ..
             } => {
-                let selector = self.values.value(selector, Receiver::Selector)?;
+                let selector = self.values.expr_alone(selector)?;
                 let alternatives = self.case_alternatives(alternatives.as_slice(), around)?;
                 let otherwise = match otherwise {
                     None => None,
@@ -219,10 +218,10 @@ impl<'a, 'b, 'c> Elaboration<'a, 'b, 'c> {
     fn labels(&self, labels: &[tree::ValueRange]) -> Result<List<Bounds>, ElaborationRefusal> {
         let mut all = List::new(self.alloc());
         for label in labels {
-            let low = self.values.number(&label.first)?;
+            let low = self.values.constant_number(&label.first)?;
             let high = match &label.last {
                 None => low,
-                Some(last) => self.values.number(last)?,
+                Some(last) => self.values.constant_number(last)?,
             };
             all.push(Bounds { low, high })?;
         }

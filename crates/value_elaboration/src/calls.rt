@@ -1,16 +1,18 @@
 // Calls, STARTs and messages (Z.200, chapters on values and on concurrent execution).
-use crate::elaborated::{Elaborated, boxed};
-use crate::locations::Target;
+use crate::folding::{boxed, same_mode};
 use crate::operators::routine_on;
-use crate::values::{Values, fitting};
+use crate::places::Target;
+use crate::values::Values;
 use checked_program::{Argument, Call, Expr, Operation, Received, Routine, Start};
-use chill_base::List;
+use chill_base::{List, Memory};
 use chill_tree::tree::{Expr as Tree, Name, Passing};
-use class_operators::{gives_no_value, is_measuring};
-use expr_rules::{Callee, Formal, Receiver};
-use mode_rules::Predefined;
-use modes::{Class, bounds};
+use class_operators::class_of_routine;
+use constant_rules::routine;
+use definition_origins::{Predefined, Told};
+use expr_rules::{Callee, Formal};
+use modes::{Class, Mode, bounds};
 use program_numbers::{ElaborationRefusal, Thing};
+use std::rc::Rc;
 
 /// A routine of one value, with its argument.
 #[derive(Drop)]
@@ -20,36 +22,50 @@ pub struct Applied {
 }
 
 impl<'a, 'b, 'c> Values<'a, 'b, 'c> {
-    /// The call of the procedure of a name.
-    pub fn call(&self, of: &Name, args: &[Tree]) -> Result<Call, ElaborationRefusal> {
-        match self.walk.callee_named(of) {
-            Callee::Procedure(name) => self.call_of(name, args),
-            Callee::Routine(_) | Callee::Nothing => Err(ElaborationRefusal::Unsound),
+    // Brackets behind an expression, which is handed down whole, since both it and what is in the brackets are parts: a call, a
+    // routine's result, or an element.
+    #[cycle(value)]
+    pub(crate) fn applied(&self, expr: &Tree) -> Result<Box<Expr>, ElaborationRefusal> {
+        let Tree::Apply { of, args, .. } = expr else {
+            return Err(ElaborationRefusal::Unsound);
+        };
+        match self.walk.callee(of) {
+            Callee::Procedure(name) => self.called(name, args.as_slice()),
+            Callee::Routine(own) => self.routine_value(own, args.as_slice()),
+            Callee::Nothing => self.element_of(expr),
         }
     }
 
-    // The call of the procedure of that name.
+    // The number of the body of the procedure or process of that name.
+    fn body_used(&self, name: &Name) -> Result<u32, ElaborationRefusal> {
+        match self.numbering.thing_used(self.walk, name.at) {
+            Thing::Body(body) => Ok(body),
+            Thing::Shared(_)
+            | Thing::Local { .. }
+            | Thing::Event(_)
+            | Thing::Buffer(_)
+            | Thing::Signal(_)
+            | Thing::Region(_)
+            | Thing::Nothing => Err(ElaborationRefusal::Unsound),
+        }
+    }
+
+    /// The call of the procedure of that name.
     #[cycle(value)]
-    fn call_of(&self, name: &Name, args: &[Tree]) -> Result<Call, ElaborationRefusal> {
-        let Thing::Body(body) = self.numbering.thing_used(self.walk, name.at) else {
-            return Err(ElaborationRefusal::Unsound);
-        };
-        let formals = self.walk.formals_of(name)?;
+    pub fn call(&self, name: &Name, args: &[Tree]) -> Result<Call, ElaborationRefusal> {
+        let body = self.body_used(name)?;
+        let formals = self.formals_by(name)?;
         let arguments = self.arguments(args, formals.as_slice())?;
         Ok(Call { body, arguments })
     }
 
     // A call of a procedure that stands as a value.
     #[cycle(value)]
-    pub(crate) fn called(
-        &self,
-        name: &Name,
-        args: &[Tree],
-    ) -> Result<Elaborated, ElaborationRefusal> {
-        let call = self.call_of(name, args)?;
-        let known = self.known_result(name)?;
+    fn called(&self, name: &Name, args: &[Tree]) -> Result<Box<Expr>, ElaborationRefusal> {
+        let call = self.call(name, args)?;
+        let class = self.walk.class_of_result(name)?;
         let call = boxed(self.alloc(), call)?;
-        self.found(known, Operation::Call(call))
+        self.made(class, Operation::Call(call))
     }
 
     // The arguments of a call.
@@ -59,160 +75,165 @@ impl<'a, 'b, 'c> Values<'a, 'b, 'c> {
         args: &[Tree],
         formals: &[Formal<'_>],
     ) -> Result<List<Argument>, ElaborationRefusal> {
+        if args.len() != formals.len() {
+            return Err(ElaborationRefusal::Unsound);
+        }
         let mut all = List::new(self.alloc());
         for (place, arg) in args.iter().enumerate() {
-            let Some(formal) = formals.get(place) else {
-                return Err(ElaborationRefusal::Unsound);
-            };
-            all.push(self.argument(arg, formal)?)?;
+            all.push(self.argument(arg, formals[place])?)?;
         }
-        whole_list(all, formals.len())
+        Ok(all)
     }
 
     // The argument for a parameter.
     #[cycle(value)]
-    fn argument(&self, arg: &Tree, formal: &Formal<'_>) -> Result<Argument, ElaborationRefusal> {
-        let Some(mode) = formal.mode else {
-            return Err(ElaborationRefusal::Unsound);
-        };
-        if formal.passing == Passing::In {
-            return Ok(Argument::In(self.received(arg, mode)?));
+    fn argument(&self, arg: &Tree, formal: Formal<'_>) -> Result<Argument, ElaborationRefusal> {
+        match formal.passing {
+            Passing::In => Ok(Argument::In(self.received_by(arg, formal.mode)?)),
+            Passing::Out => given(self.target(arg)?),
+            Passing::InOut => both(self.target(arg)?, formal.mode),
         }
-        let Target {
-            location: target,
-            mode: own,
-        } = self.target(arg)?;
-        let bounds_of_target = bounds(&own);
-        Ok(match formal.passing {
-            Passing::InOut => Argument::InOut {
-                target,
-                taken: bounds(mode),
-                bounds: bounds_of_target,
-            },
-            Passing::In | Passing::Out => Argument::Out {
-                target,
-                bounds: bounds_of_target,
-            },
-        })
     }
 
-    /// The START of the process of a name.
+    /// The START of the process of that name.
     #[cycle(value)]
-    pub fn start(&self, process: &Name, args: &[Tree]) -> Result<Start, ElaborationRefusal> {
-        let Thing::Body(number) = self.numbering.thing_used(self.walk, process.at) else {
-            return Err(ElaborationRefusal::Unsound);
-        };
-        let formals = self.walk.formals_of(process)?;
-        let arguments = self.all_received(args, formals.as_slice())?;
-        Ok(Start {
-            process: number,
-            arguments,
-        })
-    }
-
-    // A START that stands as a value.
-    #[cycle(value)]
-    pub(crate) fn started(
-        &self,
-        process: &Name,
-        args: &[Tree],
-    ) -> Result<Elaborated, ElaborationRefusal> {
-        let start = self.start(process, args)?;
-        let known = self.known_instance()?;
-        let start = boxed(self.alloc(), start)?;
-        self.found(known, Operation::Start(start))
+    pub fn start(&self, name: &Name, args: &[Tree]) -> Result<Start, ElaborationRefusal> {
+        let process = self.body_used(name)?;
+        let modes = self.modes_by(name)?;
+        let arguments = self.received_each(args, modes.as_slice())?;
+        Ok(Start { process, arguments })
     }
 
     /// The parts of what is sent to a buffer or by a signal.
-    pub fn message(
+    pub fn parts_sent(
         &self,
-        target: &Name,
+        name: &Name,
         args: &[Tree],
     ) -> Result<List<Received>, ElaborationRefusal> {
-        match self.walk.formals_of_message(target)? {
-            None => Err(ElaborationRefusal::Unsound),
-            Some(formals) => self.all_received(args, formals.as_slice()),
-        }
+        let Some(modes) = self.message_parts(name)? else {
+            return Err(ElaborationRefusal::Unsound);
+        };
+        self.received_each(args, modes.as_slice())
     }
 
-    // Values that go to formals.
+    // Values that go to places of modes.
     #[cycle(value)]
-    fn all_received(
+    fn received_each(
         &self,
         args: &[Tree],
-        formals: &[Formal<'_>],
+        modes: &[Option<&Rc<Mode>>],
     ) -> Result<List<Received>, ElaborationRefusal> {
+        if args.len() != modes.len() {
+            return Err(ElaborationRefusal::Unsound);
+        }
         let mut all = List::new(self.alloc());
         for (place, arg) in args.iter().enumerate() {
-            let Some(mode) = formals.get(place).and_then(|formal| formal.mode) else {
-                return Err(ElaborationRefusal::Unsound);
-            };
-            all.push(self.received(arg, mode)?)?;
+            all.push(self.received_by(arg, modes[place])?)?;
         }
-        whole_list(all, formals.len())
+        Ok(all)
     }
 
-    // A call of a routine that stands as a value.
+    /// The only expression in brackets.
     #[cycle(value)]
-    pub(crate) fn routine_value(
+    pub fn only_one(
         &self,
-        own: Predefined,
         args: &[Tree],
-    ) -> Result<Elaborated, ElaborationRefusal> {
+        mode: Option<&Rc<Mode>>,
+    ) -> Result<Box<Expr>, ElaborationRefusal> {
         match args {
-            [] if own == Predefined::GetInt => {
-                self.found(self.known_input()?, Operation::GetInt)
-            }
-            [arg] if is_measuring(own) => self.measured(own, arg),
-            [arg] if !gives_no_value(own) => self.routine_of(own, arg),
+            [arg] => self.expr_as(arg, mode),
             _ => Err(ElaborationRefusal::Unsound),
         }
     }
 
-    // UPPER, LOWER or SIZE, whose argument isn't evaluated.
-    fn measured(&self, own: Predefined, arg: &Tree) -> Result<Elaborated, ElaborationRefusal> {
-        let known = fitting(self.known_measure(own, arg)?)?;
-        Ok(Elaborated::constant(known))
-    }
-
-    // A routine of one value.
+    // A call of a routine that stands as a value and doesn't have the form of a constant.
     #[cycle(value)]
-    fn routine_of(&self, own: Predefined, arg: &Tree) -> Result<Elaborated, ElaborationRefusal> {
-        let argument = self.node(arg, Receiver::Nothing)?;
-        let known = fitting(self.known_routine(own, &argument.known)?)?;
-        if known.is_constant {
-            return Ok(Elaborated::constant(known));
+    fn routine_value(
+        &self,
+        own: Predefined,
+        args: &[Tree],
+    ) -> Result<Box<Expr>, ElaborationRefusal> {
+        if own == Predefined::GetInt {
+            return self.input();
         }
-        let argument = argument.into_expr(self.alloc())?;
-        let routine = routine_for(own, &argument.class)?;
-        self.found(known, Operation::Routine { routine, argument })
+        let argument = self.only_one(args, None)?;
+        self.routine_of(own, argument)
     }
 
-    /// The call of a routine that gives a value.
-    pub fn routine(&self, own: Predefined, args: &[Tree]) -> Result<Box<Expr>, ElaborationRefusal> {
-        self.routine_value(own, args)?.into_expr(self.alloc())
+    // GET_INT.
+    fn input(&self) -> Result<Box<Expr>, ElaborationRefusal> {
+        let mode = same_mode(&self.walk.evaluation.plain.int)?;
+        self.made(Some(Class::Value(mode)), Operation::GetInt)
+    }
+
+    // A routine of what its argument is.
+    fn routine_of(
+        &self,
+        own: Predefined,
+        argument: Box<Expr>,
+    ) -> Result<Box<Expr>, ElaborationRefusal> {
+        let class = class_of_routine(self.alloc(), own, &argument.class)?;
+        let Applied { routine, argument } = applied_of(own, argument)?;
+        self.made(class, Operation::Routine { routine, argument })
+    }
+
+    /// The value of the routine of that name, which is called.
+    pub fn evaluated(
+        &self,
+        name: &Name,
+        own: Predefined,
+        args: &[Tree],
+    ) -> Result<Box<Expr>, ElaborationRefusal> {
+        let mut told = Told::new(self.alloc());
+        let known = routine(self.walk.evaluation, name.at, own, args, &mut told)?;
+        match self.constant_known(known)? {
+            Some(constant) => Ok(constant),
+            None => self.routine_value(own, args),
+        }
     }
 
     /// A routine of one value that stands as an action.
-    pub fn applied(&self, own: Predefined, arg: &Tree) -> Result<Applied, ElaborationRefusal> {
-        let argument = self.value(arg, Receiver::Nothing)?;
-        let routine = routine_for(own, &argument.class)?;
-        Ok(Applied { routine, argument })
+    pub fn routine_applied(
+        &self,
+        own: Predefined,
+        args: &[Tree],
+    ) -> Result<Applied, ElaborationRefusal> {
+        let argument = self.only_one(args, None)?;
+        applied_of(own, argument)
     }
 }
 
-// The routine of an argument that it takes.
-fn routine_for(own: Predefined, argument: &Class) -> Result<Routine, ElaborationRefusal> {
-    match routine_on(own, argument) {
-        Some(routine) => Ok(routine),
+// The routine of an argument that it takes, with that argument.
+fn applied_of(own: Predefined, argument: Box<Expr>) -> Result<Applied, ElaborationRefusal> {
+    match routine_on(own, &argument.class) {
+        Some(routine) => Ok(Applied { routine, argument }),
         None => Err(ElaborationRefusal::Unsound),
     }
 }
 
-// The list, which has to have so many items.
-fn whole_list<T: Drop>(all: List<T>, needed: usize) -> Result<List<T>, ElaborationRefusal> {
-    if all.len() != needed {
+// What a parameter that is passed OUT gives back to.
+fn given(own: Target) -> Result<Argument, ElaborationRefusal> {
+    let Target {
+        location: target,
+        mode,
+    } = own;
+    let bounds = bounds(&mode);
+    Ok(Argument::Out { target, bounds })
+}
+
+// What a parameter of a mode that is passed INOUT takes from and gives back to.
+fn both(own: Target, mode: Option<&Rc<Mode>>) -> Result<Argument, ElaborationRefusal> {
+    let Some(taken) = mode else {
         return Err(ElaborationRefusal::Unsound);
-    }
-    Ok(all)
+    };
+    let Target {
+        location: target,
+        mode,
+    } = own;
+    let own_bounds = bounds(&mode);
+    Ok(Argument::InOut {
+        target,
+        taken: bounds(taken),
+        bounds: own_bounds,
+    })
 }

@@ -1,10 +1,11 @@
 // Operators and routines of the language, and those of the elaborated program, by the classes of their operands (Z.200,
 // chapter on operations).
 use checked_program::{Binary, Prefix, Routine};
+use chill_base::Memory;
 use chill_tree::tree::{Operator, Prefix as WrittenPrefix};
 use class_operators::{form_in, mode_in};
-use mode_rules::Predefined;
-use modes::{Class, Form, Mode, bounds, number_of_values};
+use definition_origins::Predefined;
+use modes::{Bounds, Class, Form, Mode, bounds, number_of_values};
 
 /// The operator between operands of these classes, or none where it takes no such operands.
 pub fn operator_between(operator: Operator, left: &Class, right: &Class) -> Option<Binary> {
@@ -12,26 +13,62 @@ pub fn operator_between(operator: Operator, left: &Class, right: &Class) -> Opti
         Operator::Equal => Some(Binary::Equal),
         Operator::NotEqual => Some(Binary::NotEqual),
         Operator::In => member_of(right),
-        _ => match form_in(left) {
-            Some(Form::Powerset(_)) => between_powersets(operator),
-            _ => between_numbers(operator),
-        },
+        Operator::Or
+        | Operator::OrIf
+        | Operator::Xor
+        | Operator::And
+        | Operator::AndIf
+        | Operator::Less
+        | Operator::LessOrEqual
+        | Operator::Greater
+        | Operator::GreaterOrEqual
+        | Operator::Plus
+        | Operator::Minus
+        | Operator::Times
+        | Operator::Divide
+        | Operator::Mod
+        | Operator::Rem => {
+            if is_of_powerset(left) {
+                between_sets(operator)
+            } else {
+                between_numbers(operator)
+            }
+        }
     }
+}
+
+// Whether the mode of a class is a powerset.
+fn is_of_powerset(class: &Class) -> bool {
+    matches!(form_in(class), Some(Form::Powerset(_)))
 }
 
 // IN a powerset.
 fn member_of(set: &Class) -> Option<Binary> {
+    match member_bounds(set) {
+        None => None,
+        Some(bounds) => Some(Binary::Member(bounds)),
+    }
+}
+
+// The bounds of the members of a powerset.
+fn member_bounds(set: &Class) -> Option<Bounds> {
     match form_in(set) {
-        Some(Form::Powerset(member)) => match bounds(member) {
-            None => None,
-            Some(bounds) => Some(Binary::Member(bounds)),
-        },
-        _ => None,
+        Some(Form::Powerset(member)) => bounds(member),
+        Some(Form::Int)
+        | Some(Form::Bool)
+        | Some(Form::Char)
+        | Some(Form::Instance)
+        | Some(Form::Set { .. })
+        | Some(Form::Chars(_))
+        | Some(Form::Array { .. })
+        | Some(Form::Struct { .. })
+        | Some(Form::Meeting)
+        | None => None,
     }
 }
 
 // An operator between two powersets.
-fn between_powersets(operator: Operator) -> Option<Binary> {
+fn between_sets(operator: Operator) -> Option<Binary> {
     match operator {
         Operator::Or => Some(Binary::Union),
         Operator::And => Some(Binary::Intersection),
@@ -54,7 +91,7 @@ fn between_powersets(operator: Operator) -> Option<Binary> {
     }
 }
 
-// An operator between two values of other modes, which fit it.
+// An operator between two values of other modes.
 fn between_numbers(operator: Operator) -> Option<Binary> {
     match operator {
         Operator::Or => Some(Binary::Or),
@@ -77,51 +114,80 @@ fn between_numbers(operator: Operator) -> Option<Binary> {
 }
 
 /// The operator before an operand of this class.
-pub fn operator_before(operator: WrittenPrefix, operand: &Class) -> Prefix {
-    match (operator, form_in(operand)) {
-        (WrittenPrefix::Minus, _) => Prefix::Minus,
-        (WrittenPrefix::Not, Some(Form::Powerset(member))) => Prefix::Complement {
-            members: number_of_members(member),
-        },
-        (WrittenPrefix::Not, _) => Prefix::Not,
+pub(crate) fn operator_before(operator: WrittenPrefix, operand: &Class) -> Result<Prefix, Memory> {
+    match operator {
+        WrittenPrefix::Minus => Ok(Prefix::Minus),
+        WrittenPrefix::Not => negation(operand),
     }
 }
 
-// How many members a powerset of a mode's values may have.
-fn number_of_members(member: &Mode) -> u32 {
-    u32::try_from(number_of_values(member)).unwrap_or(u32::MAX)
+// NOT of an operand of this class.
+fn negation(operand: &Class) -> Result<Prefix, Memory> {
+    match form_in(operand) {
+        Some(Form::Powerset(member)) => Ok(Prefix::Complement {
+            members: values_in(member)?,
+        }),
+        Some(Form::Int)
+        | Some(Form::Bool)
+        | Some(Form::Char)
+        | Some(Form::Instance)
+        | Some(Form::Set { .. })
+        | Some(Form::Chars(_))
+        | Some(Form::Array { .. })
+        | Some(Form::Struct { .. })
+        | Some(Form::Meeting)
+        | None => Ok(Prefix::Not),
+    }
+}
+
+/// How many values a discrete mode has; want of memory where they are more than any mode of a program can tell apart.
+pub(crate) fn values_in(mode: &Mode) -> Result<u32, Memory> {
+    match u32::try_from(number_of_values(mode)) {
+        Ok(count) => Ok(count),
+        Err(_) => Err(Memory),
+    }
 }
 
 /// The routine of an argument of this class, or none where it isn't one of a value or takes no such argument.
-pub fn routine_on(own: Predefined, argument: &Class) -> Option<Routine> {
+pub(crate) fn routine_on(own: Predefined, argument: &Class) -> Option<Routine> {
     match own {
         Predefined::Num => Some(Routine::Number),
         Predefined::Abs => Some(Routine::Absolute),
         Predefined::Card => Some(Routine::Cardinality),
         Predefined::Succ => {
-            let high = bounds(mode_in(argument)?)?.high;
+            let Bounds { high, .. } = class_bounds(argument)?;
             Some(Routine::Successor { high })
         }
         Predefined::Pred => {
-            let low = bounds(mode_in(argument)?)?.low;
+            let Bounds { low, .. } = class_bounds(argument)?;
             Some(Routine::Predecessor { low })
         }
         Predefined::Min => {
-            let low = low_of_members(argument)?;
+            let Bounds { low, .. } = member_bounds(argument)?;
             Some(Routine::Least { low })
         }
         Predefined::Max => {
-            let low = low_of_members(argument)?;
+            let Bounds { low, .. } = member_bounds(argument)?;
             Some(Routine::Greatest { low })
         }
-        _ => None,
+        Predefined::Int
+        | Predefined::Bool
+        | Predefined::Char
+        | Predefined::Instance
+        | Predefined::True
+        | Predefined::False
+        | Predefined::Null
+        | Predefined::Upper
+        | Predefined::Lower
+        | Predefined::Size
+        | Predefined::PutInt
+        | Predefined::PutText
+        | Predefined::PutLine
+        | Predefined::GetInt => None,
     }
 }
 
-// The number from which the members of a powerset are counted.
-fn low_of_members(set: &Class) -> Option<i64> {
-    match form_in(set)? {
-        Form::Powerset(member) => Some(bounds(member)?.low),
-        _ => None,
-    }
+// The bounds of the mode of a class.
+fn class_bounds(class: &Class) -> Option<Bounds> {
+    bounds(mode_in(class)?)
 }

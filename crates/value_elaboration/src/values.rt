@@ -1,12 +1,12 @@
-// Expressions: one recursion, whose nodes are made from what is known of their parts (Z.200, chapters on values and on
-// operations).
-use crate::elaborated::{Elaborated, boxed};
+// Expressions that go to places: each largest one of constant form is one constant, and every other node is an operation on its
+// parts (Z.200, chapters on values and on operations).
+use crate::folding::boxed;
 use crate::operators::{operator_before, operator_between};
 use checked_program::{Expr, Operation, Received};
-use chill_tree::tree::{Expr as Tree, Name, Prefix};
-use expr_rules::{Receiver, Walk};
-use mode_rules::Known;
-use modes::Mode;
+use chill_tree::tree::{Expr as Tree, Name, Operator, Prefix};
+use class_operators::{class_of_binary, class_of_unary};
+use expr_rules::Walk;
+use modes::{Mode, bounds};
 use program_numbers::{ElaborationRefusal, Numbering, Thing};
 use std::alloc::Global;
 use std::rc::Rc;
@@ -23,102 +23,123 @@ impl<'a, 'b, 'c> Values<'a, 'b, 'c> {
         self.walk.evaluation.alloc
     }
 
-    /// The expression of a tree that something receives. A tuple without a mode's name has the mode of what receives it.
-    pub fn value(
+    /// An expression that goes to a place of a mode, where that has one. A tuple without a mode's name has that mode.
+    #[cycle(value)]
+    pub fn expr_as(
         &self,
         expr: &Tree,
-        receiver: Receiver<'_>,
+        mode: Option<&Rc<Mode>>,
     ) -> Result<Box<Expr>, ElaborationRefusal> {
-        self.node(expr, receiver)?.into_expr(self.alloc())
-    }
-
-    /// The expression of a tree as something of a mode takes its value.
-    #[cycle(value)]
-    pub fn received(&self, expr: &Tree, mode: &Rc<Mode>) -> Result<Received, ElaborationRefusal> {
-        let node = self.node(expr, Receiver::Mode(Some(mode)))?;
-        node.into_received(self.alloc(), mode)
-    }
-
-    /// The number that a constant of one number is: a label of a CASE or a priority.
-    pub fn number(&self, expr: &Tree) -> Result<i64, ElaborationRefusal> {
-        let node = self.node(expr, Receiver::Nothing)?;
-        match node.known.number() {
-            Some(number) if node.known.is_constant => Ok(number),
-            _ => Err(ElaborationRefusal::Unsound),
+        match self.constant(expr)? {
+            Some(constant) => Ok(constant),
+            None => self.by_operation(expr, mode),
         }
     }
 
-    // A node of an expression.
+    /// An expression that nothing receives.
+    pub fn expr_alone(&self, expr: &Tree) -> Result<Box<Expr>, ElaborationRefusal> {
+        self.expr_as(expr, None)
+    }
+
+    /// An expression as something of a mode takes its value.
     #[cycle(value)]
-    pub(crate) fn node(
+    pub fn received_by(
         &self,
         expr: &Tree,
-        receiver: Receiver<'_>,
-    ) -> Result<Elaborated, ElaborationRefusal> {
+        mode: Option<&Rc<Mode>>,
+    ) -> Result<Received, ElaborationRefusal> {
+        let Some(own) = mode else {
+            return Err(ElaborationRefusal::Unsound);
+        };
+        let value = self.expr_as(expr, mode)?;
+        Ok(Received {
+            value,
+            bounds: bounds(own),
+        })
+    }
+
+    // An expression that doesn't have the form of a constant.
+    #[cycle(value)]
+    fn by_operation(
+        &self,
+        expr: &Tree,
+        mode: Option<&Rc<Mode>>,
+    ) -> Result<Box<Expr>, ElaborationRefusal> {
         match expr {
-            Tree::Whole { value, .. } => self.whole(*value, false),
-            Tree::Char { value, .. } => {
-                Ok(Elaborated::constant(self.walk.evaluation.character(*value)?))
+            Tree::Whole { .. } | Tree::Char { .. } | Tree::Text { .. } => {
+                Err(ElaborationRefusal::Unsound)
             }
-            Tree::Text { value, .. } => Ok(Elaborated::constant(self.walk.evaluation.text(value)?)),
-            Tree::This { .. } => self.found(self.known_instance()?, Operation::This),
-            Tree::Paren { inner, .. } => self.node(inner, receiver),
+            Tree::This { .. } => self.own_instance(),
+            Tree::Paren { inner, .. } => self.expr_as(inner, mode),
             Tree::Receive { buffer, .. } => self.received_from(buffer),
             Tree::Start { process, args, .. } => self.started(process, args.as_slice()),
-            Tree::Tuple { mode, parts, .. } => self.tuple(parts.as_slice(), mode, receiver),
-            Tree::Uniform { mode, value, .. } => self.uniform(value, mode, receiver),
-            Tree::Name(_) | Tree::Apply { .. } | Tree::Field { .. } => self.named(expr),
+            Tree::Tuple {
+                mode: name, parts, ..
+            } => self.tuple(parts.as_slice(), name, mode),
+            Tree::Uniform {
+                mode: name, value, ..
+            } => self.uniform(value, name, mode),
+            Tree::Name(name) => self.contents_named(name),
+            Tree::Apply { .. } => self.applied(expr),
+            Tree::Field { of, field, .. } => self.field_of(of, field),
             Tree::Prefixed {
                 operator,
                 operand,
                 ..
-            } => self.prefixed(*operator, operand),
-            Tree::Binary { .. } => self.operands(expr),
+            } => self.prefixed(operand, *operator),
+            Tree::Binary { .. } => self.binary(expr),
         }
     }
 
-    // A whole number, which makes one with the minus before it.
-    fn whole(&self, value: u64, is_negative: bool) -> Result<Elaborated, ElaborationRefusal> {
-        Ok(Elaborated::constant(self.known_whole(value, is_negative)?))
-    }
-
-    /// What is found by an operation.
-    pub(crate) fn found(
-        &self,
-        known: Known,
-        operation: Operation,
-    ) -> Result<Elaborated, ElaborationRefusal> {
-        Ok(Elaborated::found(known, boxed(self.alloc(), operation)?))
+    // THIS.
+    fn own_instance(&self) -> Result<Box<Expr>, ElaborationRefusal> {
+        let class = self.walk.class_of_instance()?;
+        self.made(Some(class), Operation::This)
     }
 
     // RECEIVE of a buffer.
-    fn received_from(&self, name: &Name) -> Result<Elaborated, ElaborationRefusal> {
+    fn received_from(&self, name: &Name) -> Result<Box<Expr>, ElaborationRefusal> {
         let Thing::Buffer(buffer) = self.numbering.thing_used(self.walk, name.at) else {
             return Err(ElaborationRefusal::Unsound);
         };
-        let known = self.known_received(name)?;
-        self.found(known, Operation::Receive { buffer })
+        let class = self.walk.class_of_received(name)?;
+        self.made(class, Operation::Receive { buffer })
+    }
+
+    // A START that stands as a value.
+    #[cycle(value)]
+    fn started(&self, process: &Name, args: &[Tree]) -> Result<Box<Expr>, ElaborationRefusal> {
+        let start = self.start(process, args)?;
+        let class = self.walk.class_of_instance()?;
+        let start = boxed(self.alloc(), start)?;
+        self.made(Some(class), Operation::Start(start))
     }
 
     // An operator before its operand.
     #[cycle(value)]
-    fn prefixed(&self, operator: Prefix, operand: &Tree) -> Result<Elaborated, ElaborationRefusal> {
-        if let (Prefix::Minus, Tree::Whole { value, .. }) = (operator, operand) {
-            return self.whole(*value, true);
-        }
-        let operand = self.node(operand, Receiver::Nothing)?;
-        let known = fitting(self.known_unary(operator, &operand.known)?)?;
-        if known.is_constant {
-            return Ok(Elaborated::constant(known));
-        }
-        let operand = operand.into_expr(self.alloc())?;
-        let operator = operator_before(operator, &operand.class);
-        self.found(known, Operation::Prefixed { operator, operand })
+    fn prefixed(
+        &self,
+        operand: &Tree,
+        operator: Prefix,
+    ) -> Result<Box<Expr>, ElaborationRefusal> {
+        let operand = self.expr_as(operand, None)?;
+        self.prefixed_of(operator, operand)
+    }
+
+    // An operator before what its operand is.
+    fn prefixed_of(
+        &self,
+        operator: Prefix,
+        operand: Box<Expr>,
+    ) -> Result<Box<Expr>, ElaborationRefusal> {
+        let class = class_of_unary(self.alloc(), operator, &operand.class)?;
+        let operator = operator_before(operator, &operand.class)?;
+        self.made(class, Operation::Prefixed { operator, operand })
     }
 
     // Two operands with an operator between them: an expression that is handed down whole, since both are its parts.
     #[cycle(value)]
-    fn operands(&self, expr: &Tree) -> Result<Elaborated, ElaborationRefusal> {
+    fn binary(&self, expr: &Tree) -> Result<Box<Expr>, ElaborationRefusal> {
         let Tree::Binary {
             left,
             operator,
@@ -128,32 +149,29 @@ impl<'a, 'b, 'c> Values<'a, 'b, 'c> {
         else {
             return Err(ElaborationRefusal::Unsound);
         };
-        let left = self.node(left, Receiver::Nothing)?;
-        let right = self.node(right, Receiver::Nothing)?;
-        let known = fitting(self.known_binary(*operator, &left.known, &right.known)?)?;
-        if known.is_constant {
-            return Ok(Elaborated::constant(known));
-        }
-        let left = left.into_expr(self.alloc())?;
-        let right = right.into_expr(self.alloc())?;
-        let Some(operator) = operator_between(*operator, &left.class, &right.class) else {
+        let left = self.expr_as(left, None)?;
+        let right = self.expr_as(right, None)?;
+        self.binary_of(*operator, left, right)
+    }
+
+    // An operator between what its operands are.
+    fn binary_of(
+        &self,
+        operator: Operator,
+        left: Box<Expr>,
+        right: Box<Expr>,
+    ) -> Result<Box<Expr>, ElaborationRefusal> {
+        let class = class_of_binary(self.alloc(), operator, &left.class, &right.class)?;
+        let Some(operator) = operator_between(operator, &left.class, &right.class) else {
             return Err(ElaborationRefusal::Unsound);
         };
-        self.found(
-            known,
+        self.made(
+            class,
             Operation::Binary {
                 operator,
                 left,
                 right,
             },
         )
-    }
-}
-
-/// What is known of the result of an operator or a routine, which operands that fit have.
-pub(crate) fn fitting(found: Option<Known>) -> Result<Known, ElaborationRefusal> {
-    match found {
-        Some(known) => Ok(known),
-        None => Err(ElaborationRefusal::Unsound),
     }
 }

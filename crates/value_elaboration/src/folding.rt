@@ -1,0 +1,142 @@
+// An expression is a constant, or it has a class and is found by an operation.
+use crate::values::Values;
+use checked_program::{Expr, Operation};
+use chill_base::{Memory, Scalars};
+use chill_tree::tree::Expr as Tree;
+use constant_operators::Known;
+use constant_rules::{known, needed};
+use definition_origins::Told;
+use modes::{Class, Form, Mode, form_of, number_of_scalars};
+use program_numbers::ElaborationRefusal;
+use std::alloc::Global;
+use std::rc::Rc;
+
+impl<'a, 'b, 'c> Values<'a, 'b, 'c> {
+    // The constant that an expression is, or none where it doesn't have the form of one. Unsound where something is told in it.
+    pub(crate) fn constant(&self, expr: &Tree) -> Result<Option<Box<Expr>>, ElaborationRefusal> {
+        let mut told = Told::new(self.alloc());
+        let known = known(self.walk.evaluation, expr, &mut told)?;
+        self.constant_known(known)
+    }
+
+    // The constant of which this is known, or none where it has no form of one.
+    pub(crate) fn constant_known(
+        &self,
+        known: Known,
+    ) -> Result<Option<Box<Expr>>, ElaborationRefusal> {
+        if !known.is_constant {
+            return Ok(None);
+        }
+        if !known.is_clean {
+            return Err(ElaborationRefusal::Unsound);
+        }
+        let (class, value) = known.into_parts();
+        let constant = self.constant_of(class, value)?;
+        Ok(Some(constant))
+    }
+
+    // The constant of a class and a value.
+    fn constant_of(
+        &self,
+        class: Option<Class>,
+        value: Option<Scalars>,
+    ) -> Result<Box<Expr>, ElaborationRefusal> {
+        match value {
+            Some(scalars) => self.made(class, Operation::Constant(scalars)),
+            None => Err(ElaborationRefusal::Unsound),
+        }
+    }
+
+    // What is of a class and found by an operation.
+    pub(crate) fn made(
+        &self,
+        class: Option<Class>,
+        operation: Operation,
+    ) -> Result<Box<Expr>, ElaborationRefusal> {
+        let Some(class) = class else {
+            return Err(ElaborationRefusal::Unsound);
+        };
+        let count = count_in(&class)?;
+        let expr = Expr {
+            class,
+            count,
+            operation,
+        };
+        Ok(boxed(self.alloc(), expr)?)
+    }
+
+    /// The number of an expression that has to be constant: a label of a CASE or a priority.
+    pub fn constant_number(&self, expr: &Tree) -> Result<i64, ElaborationRefusal> {
+        let mut told = Told::new(self.alloc());
+        let Some(known) = needed(self.walk.evaluation, expr, &mut told)? else {
+            return Err(ElaborationRefusal::Unsound);
+        };
+        number_known(&known)
+    }
+}
+
+// The number that a constant of which this is known is.
+fn number_known(known: &Known) -> Result<i64, ElaborationRefusal> {
+    let Some(class) = &known.class else {
+        return Err(ElaborationRefusal::Unsound);
+    };
+    if !is_of_numbers(class) {
+        return Err(ElaborationRefusal::Unsound);
+    }
+    match known.number() {
+        Some(number) => Ok(number),
+        None => Err(ElaborationRefusal::Unsound),
+    }
+}
+
+// Whether the values of a class are single numbers: discrete values, instances and NULL.
+fn is_of_numbers(class: &Class) -> bool {
+    match class {
+        Class::Value(mode) | Class::Derived(mode) => is_single(mode),
+        Class::Null => true,
+        Class::Nothing => false,
+    }
+}
+
+// Whether a value of a mode is a single number.
+fn is_single(mode: &Mode) -> bool {
+    match form_of(mode) {
+        Form::Int | Form::Bool | Form::Char | Form::Instance | Form::Set { .. } => true,
+        Form::Powerset(_)
+        | Form::Chars(_)
+        | Form::Array { .. }
+        | Form::Struct { .. }
+        | Form::Meeting => false,
+    }
+}
+
+// The most scalars of which a mode of a program has any number.
+const MOST_SCALARS: u32 = 4096;
+
+/// How many flat scalars a value of a class has. NULL has one, and what gives no value has none.
+fn count_in(class: &Class) -> Result<u32, Memory> {
+    match class {
+        Class::Value(mode) | Class::Derived(mode) => scalars_in(mode),
+        Class::Null => Ok(1),
+        Class::Nothing => Ok(0),
+    }
+}
+
+/// How many flat scalars a value of a mode has; want of memory where they are more than any mode of a program has.
+pub(crate) fn scalars_in(mode: &Mode) -> Result<u32, Memory> {
+    let count = number_of_scalars(mode);
+    if count > MOST_SCALARS {
+        return Err(Memory);
+    }
+    Ok(count)
+}
+
+/// The same mode once more.
+pub(crate) fn same_mode(mode: &Rc<Mode>) -> Result<Rc<Mode>, Memory> {
+    Ok(mode.clone()?)
+}
+
+/// A value in a box.
+pub(crate) fn boxed<T: Drop>(alloc: Global, value: T) -> Result<Box<T>, Memory> {
+    Ok(Box::new(alloc, value)?)
+}

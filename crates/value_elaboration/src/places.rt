@@ -1,0 +1,316 @@
+// Names with their parts: locations, and parts of other values (Z.200, chapter on locations).
+use crate::folding::{boxed, same_mode, scalars_in};
+use crate::values::Values;
+use checked_program::{Base, Expr, Location, Operation, Part};
+use chill_base::{List, Memory};
+use chill_tree::tree::{Expr as Tree, Name};
+use class_operators::field_in;
+use expr_rules::Callee;
+use modes::{Bounds, Class, Field, Form, Mode, bounds, form_of};
+use program_numbers::{ElaborationRefusal, Thing};
+use std::alloc::Global;
+use std::rc::Rc;
+
+/// A location to which a value is assigned, and its mode.
+#[derive(Drop)]
+pub struct Target {
+    pub location: Location,
+    pub mode: Rc<Mode>,
+}
+
+// What the parts of a name are of.
+#[derive(Drop)]
+enum Root {
+    Place(Base),
+    Value(Box<Expr>),
+}
+
+// A name with the parts behind it, as far as they are read, and the mode of the whole.
+struct Path {
+    root: Root,
+    parts: List<Part>,
+    mode: Rc<Mode>,
+}
+
+// Dropped by hand, so that whoever drops one makes one call.
+impl Drop for Path {
+    fn drop(self) {
+        let Path { root, parts, mode } = self;
+        drop(root);
+        drop(parts);
+        drop(mode);
+    }
+}
+
+impl Path {
+    // A part more, and the mode of the whole.
+    fn with_part(self, part: Part, mode: Rc<Mode>) -> Result<Path, Memory> {
+        let Path {
+            root,
+            mut parts,
+            mode: _,
+        } = self;
+        parts.push(part)?;
+        Ok(Path { root, parts, mode })
+    }
+
+    // The field of that name.
+    fn with_field(self, name: &[u8]) -> Result<Path, ElaborationRefusal> {
+        let Some(mode) = field_in(&self.mode, name) else {
+            return Err(ElaborationRefusal::Unsound);
+        };
+        let mode = same_mode(mode)?;
+        let first = first_of_field(&self.mode, name)?;
+        let count = scalars_in(&mode)?;
+        Ok(self.with_part(Part::Field { first, count }, mode)?)
+    }
+
+    // The contents of the location, or the part of the value.
+    fn into_operation(self, alloc: Global) -> Result<Operation, Memory> {
+        let Path { root, parts, mode } = self;
+        match root {
+            Root::Value(of) => Ok(Operation::PartOf { of, parts }),
+            Root::Place(base) => {
+                let count = scalars_in(&mode)?;
+                let location = Location { base, parts, count };
+                Ok(Operation::Contents(boxed(alloc, location)?))
+            }
+        }
+    }
+
+    // The location with its mode, or Unsound where it is none.
+    fn into_target(self) -> Result<Target, ElaborationRefusal> {
+        let Path { root, parts, mode } = self;
+        match root {
+            Root::Value(_) => Err(ElaborationRefusal::Unsound),
+            Root::Place(base) => {
+                let count = scalars_in(&mode)?;
+                let location = Location { base, parts, count };
+                Ok(Target { location, mode })
+            }
+        }
+    }
+}
+
+impl<'a, 'b, 'c> Values<'a, 'b, 'c> {
+    /// A location that gets a value: a target, the argument of a parameter that is copied out, or what SET names.
+    #[cycle(value)]
+    pub fn target(&self, expr: &Tree) -> Result<Target, ElaborationRefusal> {
+        self.path(expr)?.into_target()
+    }
+
+    // The contents of a name alone.
+    pub(crate) fn contents_named(&self, name: &Name) -> Result<Box<Expr>, ElaborationRefusal> {
+        let path = self.location_named(name)?;
+        let operation = path.into_operation(self.alloc())?;
+        let class = self.walk.class_of_name(name)?;
+        self.made(class, operation)
+    }
+
+    // A field of something.
+    #[cycle(value)]
+    pub(crate) fn field_of(
+        &self,
+        of: &Tree,
+        field: &Name,
+    ) -> Result<Box<Expr>, ElaborationRefusal> {
+        let path = self.path(of)?.with_field(field.text.as_slice())?;
+        self.part_of(path)
+    }
+
+    // An element of something: brackets behind an expression, which is handed down whole, since both it and the index are parts.
+    #[cycle(value)]
+    pub(crate) fn element_of(&self, expr: &Tree) -> Result<Box<Expr>, ElaborationRefusal> {
+        let path = self.element(expr)?;
+        self.part_of(path)
+    }
+
+    // What a path with a part leads to.
+    fn part_of(&self, path: Path) -> Result<Box<Expr>, ElaborationRefusal> {
+        let mode = same_mode(&path.mode)?;
+        let operation = path.into_operation(self.alloc())?;
+        self.made(Some(Class::Value(mode)), operation)
+    }
+
+    // A name with the parts behind it.
+    #[cycle(value)]
+    fn path(&self, expr: &Tree) -> Result<Path, ElaborationRefusal> {
+        match expr {
+            Tree::Name(name) => match self.constant(expr)? {
+                Some(value) => self.path_of_value(value),
+                None => self.location_named(name),
+            },
+            Tree::Apply { of, .. } => match self.walk.callee(of) {
+                Callee::Procedure(_) | Callee::Routine(_) => {
+                    let value = self.expr_as(expr, None)?;
+                    self.path_of_value(value)
+                }
+                Callee::Nothing => self.element(expr),
+            },
+            Tree::Field { of, field, .. } => self.path(of)?.with_field(field.text.as_slice()),
+            Tree::Whole { .. }
+            | Tree::Char { .. }
+            | Tree::Text { .. }
+            | Tree::This { .. }
+            | Tree::Paren { .. }
+            | Tree::Receive { .. }
+            | Tree::Start { .. }
+            | Tree::Tuple { .. }
+            | Tree::Uniform { .. }
+            | Tree::Prefixed { .. }
+            | Tree::Binary { .. } => Err(ElaborationRefusal::Unsound),
+        }
+    }
+
+    // The path that begins with a value.
+    fn path_of_value(&self, value: Box<Expr>) -> Result<Path, ElaborationRefusal> {
+        let Some(mode) = mode_of(&value.class)? else {
+            return Err(ElaborationRefusal::Unsound);
+        };
+        Ok(Path {
+            root: Root::Value(value),
+            parts: List::new(self.alloc()),
+            mode,
+        })
+    }
+
+    // The path that begins with a location.
+    fn location_named(&self, name: &Name) -> Result<Path, ElaborationRefusal> {
+        let Some(base) = base_of(self.numbering.thing_used(self.walk, name.at)) else {
+            return Err(ElaborationRefusal::Unsound);
+        };
+        let Some(class) = self.walk.class_of_name(name)? else {
+            return Err(ElaborationRefusal::Unsound);
+        };
+        let Some(mode) = mode_of(&class)? else {
+            return Err(ElaborationRefusal::Unsound);
+        };
+        Ok(Path {
+            root: Root::Place(base),
+            parts: List::new(self.alloc()),
+            mode,
+        })
+    }
+
+    // An element of an array or a text, which is handed down whole, since its index is a part of it too.
+    #[cycle(value)]
+    fn element(&self, expr: &Tree) -> Result<Path, ElaborationRefusal> {
+        let Tree::Apply { of, args, .. } = expr else {
+            return Err(ElaborationRefusal::Unsound);
+        };
+        let path = self.path(of)?;
+        let index = self.only_one(args.as_slice(), index_mode_of(&path.mode))?;
+        self.with_element(path, index)
+    }
+
+    // The element of that index.
+    fn with_element(&self, path: Path, index: Box<Expr>) -> Result<Path, ElaborationRefusal> {
+        let Some(bounds) = index_bounds(&path.mode) else {
+            return Err(ElaborationRefusal::Unsound);
+        };
+        let Some(mode) = self.walk.evaluation.element_in(&path.mode) else {
+            return Err(ElaborationRefusal::Unsound);
+        };
+        let mode = same_mode(mode)?;
+        let count = scalars_in(&mode)?;
+        let part = Part::Element {
+            index,
+            bounds,
+            count,
+        };
+        Ok(path.with_part(part, mode)?)
+    }
+}
+
+/// Where a definition begins that is a location, a parameter, a counter or a received name.
+pub fn base_of(thing: Thing) -> Option<Base> {
+    match thing {
+        Thing::Shared(number) => Some(Base::Shared(number)),
+        Thing::Local { number, .. } => Some(Base::Local(number)),
+        Thing::Body(_)
+        | Thing::Event(_)
+        | Thing::Buffer(_)
+        | Thing::Signal(_)
+        | Thing::Region(_)
+        | Thing::Nothing => None,
+    }
+}
+
+// The mode of a class.
+fn mode_of(class: &Class) -> Result<Option<Rc<Mode>>, Memory> {
+    match class {
+        Class::Value(mode) | Class::Derived(mode) => Ok(Some(same_mode(mode)?)),
+        Class::Null | Class::Nothing => Ok(None),
+    }
+}
+
+// The mode that an index has to go with: that of an array.
+fn index_mode_of(mode: &Mode) -> Option<&Rc<Mode>> {
+    match form_of(mode) {
+        Form::Array { index, .. } => Some(index),
+        Form::Int
+        | Form::Bool
+        | Form::Char
+        | Form::Instance
+        | Form::Set { .. }
+        | Form::Powerset(_)
+        | Form::Chars(_)
+        | Form::Struct { .. }
+        | Form::Meeting => None,
+    }
+}
+
+// The bounds of the indices of an array, or of a text, whose first character has the index 0.
+fn index_bounds(mode: &Mode) -> Option<Bounds> {
+    match form_of(mode) {
+        Form::Array { index, .. } => bounds(index),
+        Form::Chars(length) => Some(Bounds {
+            low: 0,
+            high: i64::from(length) - 1,
+        }),
+        Form::Int
+        | Form::Bool
+        | Form::Char
+        | Form::Instance
+        | Form::Set { .. }
+        | Form::Powerset(_)
+        | Form::Struct { .. }
+        | Form::Meeting => None,
+    }
+}
+
+// The number of the first scalar of the field of that name.
+fn first_of_field(mode: &Mode, name: &[u8]) -> Result<u32, Memory> {
+    match form_of(mode) {
+        Form::Struct { fields, .. } => first_in(fields.as_slice(), name),
+        Form::Int
+        | Form::Bool
+        | Form::Char
+        | Form::Instance
+        | Form::Set { .. }
+        | Form::Powerset(_)
+        | Form::Chars(_)
+        | Form::Array { .. }
+        | Form::Meeting => Ok(0),
+    }
+}
+
+// The scalars of the fields before the first of that name.
+fn first_in(fields: &[Field], name: &[u8]) -> Result<u32, Memory> {
+    let mut first = 0_u32;
+    for field in fields {
+        if field.name.as_slice() == name {
+            return Ok(first);
+        }
+        first = sum(first, scalars_in(&field.mode)?)?;
+    }
+    Ok(first)
+}
+
+// The sum of two numbers of scalars.
+fn sum(first: u32, second: u32) -> Result<u32, Memory> {
+    match first.checked_add(second) {
+        None => Err(Memory),
+        Some(sum) => Ok(sum),
+    }
+}
