@@ -4,15 +4,17 @@
 //! It stands on `expr_rules`, which has the modes of all definitions, and on `text_size`, and makes the lists of `checked_program`. The crates
 //! that elaborate values and statements stand on it, and ask it for the number of each name that they meet. It speaks of
 //! programs that break no rule.
-#![tactic(auto)]
+#![tactic(auto, using(crate::proofs::Answering::handed_on))]
 
 mod bodies;
 mod definitions;
 mod exception_walk;
 mod exceptions;
 mod granted;
+mod laws;
 mod locals;
 mod locations;
+mod lookups;
 mod modulions;
 mod numbering;
 mod refusal;
@@ -20,6 +22,7 @@ mod source;
 mod thing;
 mod things;
 
+pub use laws::heads_law;
 pub use numbering::Numbering;
 pub use refusal::ElaborationRefusal;
 pub use thing::Thing;

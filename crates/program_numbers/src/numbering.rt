@@ -1,11 +1,22 @@
 // The numbers of a program's definitions and exceptions, and its lists.
+ghost use Rattle.std.specs.Prelude.{◌≡◌, IfOk, option_map};
+ghost use Rattle.chill_tree.specs.ItemTree.{program_tree};
+ghost use Rattle.program_trees.specs.ProgramTree.{checked_tree};
+ghost use Rattle.elaboration_model.specs.Numbering as model;
+ghost use Rattle.elaboration_model.specs.Exceptions.{exception_number};
+ghost use Rattle.elaboration_model.specs.Elaborated.{source_of};
+ghost use Rattle.expr_rules.specs.Grounds.{ground_in};
+ghost use Rattle.program_numbers.specs.Answers.{Elaborates};
+ghost use Rattle.program_numbers.specs.Sources.{thing_tree, thing_at, source_in, HasNumbers, IsWalkOf};
+ghost use Rattle.program_numbers.specs.Heads.{headed, headed_by};
+
 use crate::exceptions::Exceptions;
 use crate::refusal::ElaborationRefusal;
 use crate::source::Source;
 use crate::thing::Thing;
 use crate::things::{Things, things_of};
 use checked_program::Checked;
-use chill_base::{List, Memory, Pos};
+use chill_base::{List, Memory};
 use chill_tree::tree::{Name, Tree};
 use expr_rules::Walk;
 use std::alloc::Global;
@@ -71,9 +82,15 @@ fn lists_of(
 }
 
 impl Numbering {
-    /// Numbers a program that breaks no rule. Unsound comes where a location, parameter, counter, received name or part of a
-    /// signal has no mode.
-    pub fn of(walk: &Walk<'_, '_>, tree: &Tree) -> Result<Numbering, ElaborationRefusal> {
+    /// Numbers a program that breaks no rule on names. `Unsound` comes where its lists, or the heads of its bodies, aren't all
+    /// there, which no program that breaks no rule has. `Memory` comes also where a number has no room: of more than
+    /// 4,294,967,294 definitions or exceptions, of a size of 4,294,967,295 or more, of a local with more than 4,096 scalars, or
+    /// of a body whose locals have more than 4,294,967,295.
+    pub fn of(walk: &Walk<'_, '_>, tree: &Tree) -> Result<Numbering, ElaborationRefusal>
+        ensures numbers { IsWalkOf (program_tree tree.now) walk.now → IfOk result (λ n. HasNumbers walk.now n) }
+        ensures source { IsWalkOf (program_tree tree.now) walk.now → IfOk result (λ n. source_in walk.now n ≡ source_of (ground_in walk.now) (program_tree tree.now)) }
+        ensures headed { IsWalkOf (program_tree tree.now) walk.now → Elaborates (headed (source_of (ground_in walk.now) (program_tree tree.now)) (program_tree tree.now)) headed_by result }
+    {
         let things = things_of(walk)?;
         let exceptions = Exceptions::of(walk.evaluation.alloc, tree)?;
         let source = Source {
@@ -88,39 +105,47 @@ impl Numbering {
         })
     }
 
-    /// What a definition is, by its number: nothing also where there is none of that number.
-    pub fn thing(&self, definition: u32) -> Thing {
+    // What a definition is, by its number.
+    fn thing(&self, definition: u32) -> Thing
+        ensures { thing_tree result ≡ thing_at self.now.things definition }
+    {
         match self.things.as_slice().get(definition as usize) {
             None => Thing::Nothing,
             Some(thing) => *thing,
         }
     }
 
-    /// What the name used at a place stands for.
-    pub fn thing_used(&self, walk: &Walk<'_, '_>, at: Pos) -> Thing {
-        match walk.evaluation.used_at(at) {
-            None => Thing::Nothing,
-            Some(definition) => self.thing(definition),
-        }
+    /// What the name used at its place is, where it stands for something.
+    pub fn thing_used(&self, walk: &Walk<'_, '_>, name: &Name) -> Option<Thing>
+        ensures { HasNumbers walk.now self.now → option_map thing_tree result ≡ model.thing_used (source_in walk.now self.now) name.now }
+    {
+        let definition = walk.evaluation.used_at(name.at)?;
+        Some(self.thing(definition))
     }
 
-    /// What the name defined at a place is.
-    pub fn thing_defined(&self, walk: &Walk<'_, '_>, at: Pos) -> Thing {
-        match walk.evaluation.defined_at(at) {
-            None => Thing::Nothing,
-            Some(definition) => self.thing(definition),
-        }
+    /// What the name defined at its place is.
+    pub fn thing_defined(&self, walk: &Walk<'_, '_>, name: &Name) -> Option<Thing>
+        ensures { HasNumbers walk.now self.now → option_map thing_tree result ≡ model.thing_defined (source_in walk.now self.now) name.now }
+    {
+        let definition = walk.evaluation.defined_at(name.at)?;
+        Some(self.thing(definition))
     }
 
     /// The number of an exception: 0 to 6 for those of the language, OVERFLOW, RANGEFAIL, EMPTY, ASSERTFAIL, DELAYFAIL,
     /// SPACEFAIL and EXTINCT in upper or lower case, and from 7 on the user's in the order in which they first stand in the
-    /// text. None for a name that the text has nowhere as an exception.
-    pub fn exception(&self, name: &Name) -> Option<u32> {
-        self.exceptions.number(name)
+    /// text. `Unsound` comes of a name that the text has nowhere as an exception.
+    pub fn exception_number(&self, name: &Name) -> Result<u32, ElaborationRefusal>
+        ensures { Elaborates (exception_number self.now.exceptions.spellings name.now) (λ k. k) result }
+    {
+        self.exceptions
+            .number(name)
+            .ok_or(ElaborationRefusal::Unsound)
     }
 
     /// The lists of the elaborated program, in which no body has statements or a handler yet.
-    pub fn into_rows(self) -> Box<Checked> {
+    pub fn into_rows(self) -> Box<Checked>
+        ensures { checked_tree result.value ≡ headed_by self }
+    {
         let Numbering {
             things,
             exceptions,
