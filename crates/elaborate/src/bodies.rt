@@ -7,8 +7,8 @@ use chill_base::List;
 use chill_tree::tree;
 use chill_tree::tree::{BodyPart, Item, Modulion, Tree};
 use modes::Mode;
-use program_numbers::ElaborationRefusal;
 use std::rc::Rc;
+use value_elaboration::ElaborationRefusal;
 
 /// What a body does.
 #[derive(Drop)]

@@ -4,12 +4,9 @@ use checked_program::Action;
 use chill_tree::tree;
 use class_operators::is_measuring;
 use expr_rules::Callee;
-use mode_rules::Predefined;
-use program_numbers::ElaborationRefusal;
-use value_elaboration::Applied;
+use value_elaboration::{Applied, ElaborationRefusal, Predefined};
 
 impl<'a, 'b, 'c> Elaboration<'a, 'b, 'c> {
-    /// The call of a procedure or routine.
     pub fn call_action(
         &self,
         name: &tree::Name,

@@ -4,8 +4,8 @@ use checked_program::{Action, Base, Statement};
 use chill_base::{List, Numbers, Scalars};
 use chill_tree::tree::{Declaration, Expr, Local, Name};
 use modes::{Mode, add_lowest};
-use program_numbers::{ElaborationRefusal, Thing};
 use std::rc::Rc;
+use value_elaboration::{ElaborationRefusal, Thing};
 
 impl<'a, 'b, 'c> Elaboration<'a, 'b, 'c> {
     /// Adds the declarations of a definition statement. Those of synonyms and modes do nothing.

@@ -8,10 +8,8 @@ use crate::program::Program;
 use checked_program::Checked;
 use chill_tree::tree::Tree;
 use expr_rules::Walk;
-use mode_rules::Evaluation;
-use program_numbers::{ElaborationRefusal, Numbering};
 use program_ranges::are_in_range;
-use value_elaboration::Values;
+use value_elaboration::{ElaborationRefusal, Evaluation, Numbering, Values};
 
 /// The elaborated program of a text that breaks no rule, of its tree and its evaluated definitions, counters and received
 /// names among them: all its numbers are in range. `Unsound` comes of no such text.

@@ -3,10 +3,9 @@ use checked_program::{Action, Base, Statement};
 use chill_base::Memory;
 use chill_tree::tree::{Expr, Name};
 use modes::Mode;
-use program_numbers::{ElaborationRefusal, Thing};
 use std::alloc::Global;
 use std::rc::Rc;
-use value_elaboration::Values;
+use value_elaboration::{ElaborationRefusal, Thing, Values};
 
 /// The elaboration of the statements of a program.
 #[derive(Clone, Copy)]

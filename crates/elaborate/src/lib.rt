@@ -22,3 +22,4 @@ mod statements;
 
 pub use elaborating::elaborate;
 pub use program::Program;
+pub use value_elaboration::{ElaborationRefusal, Evaluation};

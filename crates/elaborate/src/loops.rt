@@ -3,7 +3,7 @@ use crate::elaboration::{Elaboration, boxed};
 use checked_program::{Control, Expr};
 use chill_tree::tree;
 use modes::bounds;
-use program_numbers::ElaborationRefusal;
+use value_elaboration::ElaborationRefusal;
 
 impl<'a, 'b, 'c> Elaboration<'a, 'b, 'c> {
     /// What controls a loop.

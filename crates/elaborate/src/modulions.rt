@@ -4,7 +4,7 @@ use crate::elaboration::Elaboration;
 use checked_program::{Action, Statement};
 use chill_base::List;
 use chill_tree::tree::{Item, Local, Modulion, ModulionKind};
-use program_numbers::{ElaborationRefusal, Thing};
+use value_elaboration::{ElaborationRefusal, Thing};
 
 impl<'a, 'b, 'c> Elaboration<'a, 'b, 'c> {
     /// The statements of some modulions.

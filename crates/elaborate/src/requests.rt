@@ -4,8 +4,7 @@ use checked_program::{Action, Expr, Location, Received, Sent};
 use chill_base::{List, Numbers};
 use chill_tree::tree;
 use chill_tree::tree::Simple;
-use value_elaboration::Target;
-use program_numbers::{ElaborationRefusal, Thing};
+use value_elaboration::{ElaborationRefusal, Target, Thing};
 
 impl<'a, 'b, 'c> Elaboration<'a, 'b, 'c> {
     /// START, DELAY, CONTINUE or SEND.

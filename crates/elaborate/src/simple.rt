@@ -4,8 +4,7 @@ use crate::elaboration::Elaboration;
 use checked_program::{Action, Received};
 use chill_tree::tree::{Expr, Name, Operator, Simple};
 use modes::{Class, bounds};
-use program_numbers::ElaborationRefusal;
-use value_elaboration::{Target, operator_between};
+use value_elaboration::{ElaborationRefusal, Target, operator_between};
 
 impl<'a, 'b, 'c> Elaboration<'a, 'b, 'c> {
     /// An action that holds no others.

@@ -8,7 +8,7 @@ use checked_program::{
 use chill_base::{List, Numbers};
 use chill_tree::tree;
 use modes::Bounds;
-use program_numbers::{ElaborationRefusal, Thing};
+use value_elaboration::{ElaborationRefusal, Thing};
 
 impl<'a, 'b, 'c> Elaboration<'a, 'b, 'c> {
     /// The statements of a body or a block.

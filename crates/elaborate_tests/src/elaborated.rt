@@ -2,9 +2,8 @@
 use chill_lexer::lex;
 use chill_parser::parse;
 use elaborate::{Program, elaborate};
-use mode_rules::evaluate;
 use process_checks::check_processes;
-use static_checks::check_statements;
+use static_checks::{check_statements, evaluate};
 use std::alloc::Global;
 use visibility::resolve;
 

@@ -69,12 +69,12 @@ discrete_language : (m : ModeTree) (b : Bounds) → parts_fit m ≡ true → bou
 discrete_language m b fits is = record { parts = fits; size = (let one = one_leaf m b is in omega (arith, one)) }
 
 -- a mode that has values within limits is discrete
-pub by_values : (k : Option Bounds) → is_from_to 1 4096 (count_within k) ≡ true → (b : Bounds) × (k ≡ Some b)
-by_values None fits = absurd (true≢false (sym fits))
-by_values (Some b) fits = (b, refl)
+pub by_values : (k : Option Bounds) (last : ℕ) → is_from_to 1 last (count_within k) ≡ true → (b : Bounds) × (k ≡ Some b)
+by_values None last fits = absurd (true≢false (sym fits))
+by_values (Some b) last fits = (b, refl)
 
-counted_language : (m : ModeTree) → parts_fit m ≡ true → is_from_to 1 4096 (values_of m) ≡ true → IsOfLanguage m
-counted_language m fits values = let there = by_values (bounds_of m) values in discrete_language m there.0 fits there.1
+counted_language : (m : ModeTree) (last : ℕ) → parts_fit m ≡ true → is_from_to 1 last (values_of m) ≡ true → IsOfLanguage m
+counted_language m last fits values = let there = by_values (bounds_of m) last values in discrete_language m there.0 fits there.1
 
 least_one : (n : ℕ) → is_from_to 1 4096 n ≡ true → 1 ≤ n
 least_one n fits = leb-true 1 n (both_left (nat_le 1 n) (nat_le n 4096) fits)
@@ -141,7 +141,7 @@ array_form : (i e : ModeTree) → (parts_fit i && (is_from_to 1 4096 (values_of 
 array_form i e fits few =
     let inner = both_right (parts_fit i) (is_from_to 1 4096 (values_of i) && parts_fit e) fits in
     let values = both_left (is_from_to 1 4096 (values_of i)) (parts_fit e) inner in (
-      counted_language i (both_left (parts_fit i) (is_from_to 1 4096 (values_of i) && parts_fit e) fits) values,
+      counted_language i 4096 (both_left (parts_fit i) (is_from_to 1 4096 (values_of i) && parts_fit e) fits) values,
       record { parts = both_right (is_from_to 1 4096 (values_of i)) (parts_fit e) inner; size = no_more (values_of i) (leaves_of e) (least_one (values_of i) values) few },
     )
 
@@ -152,7 +152,7 @@ form_is char fits = tt
 form_is instance fits = tt
 form_is (set_of d n) fits = tt
 form_is (range p l h) fits = let there = parent_of (bounds_of p) l h (both_right (parts_fit p) (lie_in l h (bounds_of p)) fits.parts) in discrete_form p there.0 there.1
-form_is (powerset m) fits = counted_language m (both_left (parts_fit m) (is_from_to 1 4096 (values_of m)) fits.parts) (both_right (parts_fit m) (is_from_to 1 4096 (values_of m)) fits.parts)
+form_is (powerset m) fits = counted_language m 32 (both_left (parts_fit m) (is_from_to 1 32 (values_of m)) fits.parts) (both_right (parts_fit m) (is_from_to 1 32 (values_of m)) fits.parts)
 form_is (chars n) fits = tt
 form_is (array i e how) fits = array_form i e fits.parts fits.size
 form_is (structure fs p) fits =

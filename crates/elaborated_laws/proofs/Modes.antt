@@ -260,8 +260,8 @@ discrete_fits g whole (written.set_of at ns) m names is_written is = fits_for wh
 large_told : (k : Option ModeTree) (e : ModeTree) (at : Pos) → k ≡ Some e → told_if (holds_of is_large_powerset k) (tell_at rules.M5 at) ≡ [] → is_large_powerset e ≡ false
 large_told k e at is none = ap (holds_of is_large_powerset) (sym is) ∙ not_broken (holds_of is_large_powerset k) (tell_at rules.M5 at) none
 
-few_members : (v : ℕ) → 1 ≤ v → v ≤ 32 → is_from_to 1 4096 v ≡ true
-few_members v first last = of_both (nat_le 1 v) (nat_le v 4096) (le-leb 1 v first) (le-leb v 4096 (omega (arith, last)))
+few_members : (v : ℕ) → 1 ≤ v → v ≤ 32 → is_from_to 1 32 v ≡ true
+few_members v first last = of_both (nat_le 1 v) (nat_le v 32) (le-leb 1 v first) (le-leb v 32 last)
 
 few_numbers : (v : ℕ) → v ≤ 32 → numbers_of v ≤ 4096
 few_numbers v last = omega (arith, last)
@@ -278,7 +278,7 @@ powerset_fits g at d m names is_written none is =
     let few = not_above 32 (values_of e) (not_second (is_discrete (form_of e)) (nat_lt 32 (values_of e)) discrete (large_told (mode_of_discrete g false d) e at there.1 (none_later not_discrete large later))) in
     subst IsOfLanguage there.2
     (record {
-      parts = of_both (parts_fit e) (is_from_to 1 4096 (values_of e)) member.parts (few_members (values_of e) (values_positive e member.parts discrete) few);
+      parts = of_both (parts_fit e) (is_from_to 1 32 (values_of e)) member.parts (few_members (values_of e) (values_positive e member.parts discrete) few);
       size = few_numbers (values_of e) few;
     })
 

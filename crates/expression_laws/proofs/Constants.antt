@@ -15,6 +15,7 @@ use Rattle.checks_model.specs.Constants.{has_form, constant_of}
 use Rattle.checks_model.specs.ConstantRules.{told_of_constants, told_needed}
 use Rattle.checks_model.specs.Told.{tell_at, told_if, then_told, holds_of, holds_of_both}
 use Rattle.checks_model.specs.ValueRules.{nothing_asked, is_too_large, told_received, own_told, told_value, told_in, bare, clean_class}
+use Rattle.checks_model.specs.WrittenModes.{number_in, unless_told, needed_number}
 use Rattle.checks_model.specs.ActionRules.{clean, label_misfits, told_label_end, told_label}
 use Rattle.checks_model.specs.ProcessRules.{is_priority, told_priority}
 use Rattle.checks_model.specs.Phases.{told_met, told_of_priority, exprs_of_labels}
@@ -29,11 +30,11 @@ use Rattle.there_laws.proofs.Needs.{expr_needs}
 use Rattle.written_laws.specs.Written.{Each}
 use Rattle.elaboration_model.specs.Numbering.{Source}
 use Rattle.elaboration_model.specs.Parts.{made_each}
-use Rattle.elaboration_model.specs.Statements.{number_in, constant_number, natural_in, priority, range_bounds, label}
+use Rattle.elaboration_model.specs.Statements.{constant_number, natural_in, priority, range_bounds, label}
 use Rattle.expression_laws.specs.Names.{IsWellNamed, AllNamesKnown}
 use Rattle.expression_laws.proofs.Values.{equivalent_similar}
 use Rattle.expression_laws.proofs.Known.{all_there}
-use Rattle.expression_laws.proofs.Parts.{made_there, all_known}
+use Rattle.expression_laws.proofs.Parts.{made_there, untold_there, all_known}
 
 -- ---- constants that are needed
 
@@ -58,8 +59,8 @@ constant_known s e known named none =
     let c = value_in (class_of g e) both.class in
     record { value = v.0; is = v.1; class = c.0; has = c.1; shape = constant_shape g None e c.0 v.0 needs.1 c.1 v.1 }
 
-number_there : (s : Source) (e : ExprTree) (v : ValueTree) → constant_of s.known e ≡ Some v → is_number v ≡ true → IsSome (constant_number s e)
-number_there s e v is holds = subst (λ x. IsSome (option_and_then number_in x)) (sym is) (by v holds)
+number_there : (s : Source) (e : ExprTree) (v : ValueTree) → told_needed s.known e ≡ [] → constant_of s.known e ≡ Some v → is_number v ≡ true → IsSome (constant_number s e)
+number_there s e v none is holds = untold_there (told_needed s.known e) (option_and_then number_in (constant_of s.known e)) none (subst (λ x. IsSome (option_and_then number_in x)) (sym is) (by v holds))
   where
     by : (v : ValueTree) → is_number v ≡ true → IsSome (number_in v)
     by (number n) holds = refl
@@ -78,6 +79,9 @@ natural_there (number (pos k)) holds fits = refl
 natural_there (number (negsuc k)) holds fits = absurd (true≢false (sym fits))
 natural_there v holds fits = absurd (true≢false (sym holds))
 
+priority_made : (g : Ground) (e : ExprTree) → told_needed g e ≡ [] → IsSome (option_and_then natural_in (option_and_then number_in (constant_of g e))) → IsSome (option_and_then natural_in (needed_number g e))
+priority_made g e none there = subst (λ l. IsSome (option_and_then natural_in (unless_told l (option_and_then number_in (constant_of g e))))) (sym none) there
+
 pub priority_there : (s : Source) (e : ExprTree) → AllNamesKnown s → IsWellNamed s.known e → told_needed s.known e ≡ [] → told_of_priority s.known e ≡ [] → IsSome (priority s (Some e))
 priority_there s e known named needed none =
     let g = s.known in
@@ -87,7 +91,7 @@ priority_there s e known named needed none =
     let fits = not_broken (apart || outside) (tell_at rules.P6 (place_of e)) (none_then (told_met g e) (told_priority g (constant_of g) e) none) in
     let goes = not_true (goes_with k.class int) (ap (holds_of (λ c. not (goes_with c int))) (sym k.has) ∙ neither_left apart outside fits) in
     let within = not_true (is_priority k.value) (ap (holds_of (λ v. not (is_priority v))) (sym k.is) ∙ neither_right apart outside fits) in
-    subst (λ x. IsSome (option_and_then natural_in (option_and_then number_in x))) (sym k.is) (natural_there k.value (int_number k.class k.value goes k.shape) within)
+    priority_made g e needed (subst (λ x. IsSome (option_and_then natural_in (option_and_then number_in x))) (sym k.is) (natural_there k.value (int_number k.class k.value goes k.shape) within))
 
 pub some_priority_there : (s : Source) (p : Option ExprTree) → AllNamesKnown s → ((e : ExprTree) → p ≡ Some e → IsSome (priority s (Some e))) → IsSome (priority s p)
 some_priority_there s None known each = refl
@@ -123,7 +127,7 @@ end_there s k e known named is needed none =
     let class : clean g e ≡ Some c.class = ap (λ l. clean_class l (class_of g e)) untold ∙ c.has in
     let fits = ap (holds_of_both label_misfits (Some k)) (sym class) ∙ not_broken (holds_of_both label_misfits (Some k) (clean g e)) (tell_at rules.S7 (place_of e)) (none_then (told_value g nothing_asked e) misfits none) in
     let alike = not_true (are_compatible c.class k) (not_second (class_is is_discrete k) (not (are_compatible c.class k)) is fits) in
-    number_there s e c.value c.is (label_number c.class k c.value is alike c.shape)
+    number_there s e c.value needed c.is (label_number c.class k c.value is alike c.shape)
 
 pub labels_there : (s : Source) (k : ClassTree) (ls : List RangeTree) → AllNamesKnown s → class_is is_discrete k ≡ true → Each (IsWellNamed s.known) (exprs_of_labels ls) → flat_map (told_needed s.known) (exprs_of_labels ls) ≡ [] → flat_map (told_label s.known (Some k)) ls ≡ []
     → IsSome (made_each (label s) ls)

@@ -18,6 +18,7 @@ use Rattle.checks_model.specs.Constants.{has_form, have_form, constant_as, value
 use Rattle.checks_model.specs.ConstantRules.{by_itself, told_as, told_of_constants, told_in_ranges, told_in_range}
 use Rattle.checks_model.specs.Told.{tell_at, told_if, then_told, holds_of, holds_of_both}
 use Rattle.checks_model.specs.ValueRules.{Receiver, of_mode, received_mode, does_not_go, is_too_large, told_received, own_told, value_told, told_in, bare}
+use Rattle.checks_model.specs.WrittenModes.{unless_told}
 use Rattle.class_laws.specs.Known.{is_unknown_place}
 use Rattle.class_laws.proofs.Clean.{clean_there}
 use Rattle.table_laws.specs.Names.{names_in}
@@ -66,12 +67,17 @@ place_there m e first second = made_there (λ m e. made.received e (bounds_of m)
 constant_made : (c : Option ClassTree) (v : Option ValueTree) → IsSome c → IsSome v → IsSome (constant_expr c v)
 constant_made c v first second = made_there (λ c v. made.expr (count_in c) (made.root_bounds c) (made.constant (scalars_in v))) c v first second
 
-pub folded_there : (s : Source) (m : Option ModeTree) (e : ExprTree) (o : Option made.OperationTree) → IsSome (class_as s.known m e) → (has_form s.known false e ≡ true → IsSome (constant_as s.known m e)) → (has_form s.known false e ≡ false → IsSome o) → IsSome (folded s m e o)
-folded_there s m e o class constant operation = by (has_form s.known false e) constant operation
+-- what is there where nothing is told is there
+pub untold_there : {A : Type 0} (told : List Diagnostic) (x : Option A) → told ≡ [] → IsSome x → IsSome (unless_told told x)
+untold_there told x none there = subst (λ l. IsSome (unless_told l x)) (sym none) there
+
+pub folded_there : (s : Source) (m : Option ModeTree) (e : ExprTree) (o : Option made.OperationTree) → told_of_constants s.known e ≡ [] → IsSome (class_as s.known m e) → (has_form s.known false e ≡ true → IsSome (constant_as s.known m e))
+    → (has_form s.known false e ≡ false → IsSome o) → IsSome (folded s m e o)
+folded_there s m e o none class constant operation = by (has_form s.known false e) constant operation
   where
     by : (b : Bool) → (b ≡ true → IsSome (constant_as s.known m e)) → (b ≡ false → IsSome o)
-        → IsSome (if b then constant_expr (class_as s.known m e) (constant_as s.known m e) else made_of (λ c o. made.expr (count_in c) (made.root_bounds c) o) (class_as s.known m e) o)
-    by true constant operation = constant_made (class_as s.known m e) (constant_as s.known m e) class (constant refl)
+        → IsSome (if b then unless_told (told_of_constants s.known e) (constant_expr (class_as s.known m e) (constant_as s.known m e)) else made_of (λ c o. made.expr (count_in c) (made.root_bounds c) o) (class_as s.known m e) o)
+    by true constant operation = untold_there (told_of_constants s.known e) (constant_expr (class_as s.known m e) (constant_as s.known m e)) none (constant_made (class_as s.known m e) (constant_as s.known m e) class (constant refl))
     by false constant operation = made_there (λ c o. made.expr (count_in c) (made.root_bounds c) o) (class_as s.known m e) o class (operation refl)
 
 -- what is told of constants in an expression that stands by itself is told whatever receives it
@@ -110,7 +116,7 @@ constant_part s r e known clean form =
 
 -- an expression is a constant or an operation
 pub shown : (s : Source) (r : Receiver) (e : ExprTree) (c : ClassTree) (o : Option made.OperationTree) → AllNamesKnown s → IsClean s.known r e → class_as s.known (received_mode r) e ≡ Some c → (has_form s.known false e ≡ false → IsSome o) → IsSome (folded s (received_mode r) e o)
-shown s r e c o known clean class operation = folded_there s (received_mode r) e o (is_there (class_as s.known (received_mode r) e) c class) (constant_part s r e known clean) operation
+shown s r e c o known clean class operation = folded_there s (received_mode r) e o clean.constants (is_there (class_as s.known (received_mode r) e) c class) (constant_part s r e known clean) operation
 
 -- ---- modes of classes
 

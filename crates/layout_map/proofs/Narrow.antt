@@ -133,7 +133,7 @@ mutual
   leaf-least instance f = omega arith
   leaf-least (set_of d n) f = omega arith
   leaf-least (range p l h) f = omega arith
-  leaf-least (powerset m) f = let g : (1 ≤ values_of m) × (values_of m ≤ 4096) = number-from 1 4096 (values_of m) (both _ _ f).1 in omega (arith, g.0)
+  leaf-least (powerset m) f = let g : (1 ≤ values_of m) × (values_of m ≤ 32) = number-from 1 32 (values_of m) (both _ _ f).1 in omega (arith, g.0)
   leaf-least (chars n) f = omega arith
   leaf-least (array i e how) f =
       product-least (values_of i) (leaves_of e) (number-from 1 4096 (values_of i) (both _ _ (both _ _ f).1).0).0 (leaf-least e (both _ _ (both _ _ f).1).1)
@@ -149,6 +149,9 @@ mutual
 
 pub values-from : (m : ModeTree) → IsTrue (is_from_to 1 4096 (values_of m)) → (1 ≤ values_of m) × (values_of m ≤ 4096)
 values-from m h = number-from 1 4096 (values_of m) h
+
+pub members-from : (m : ModeTree) → IsTrue (is_from_to 1 32 (values_of m)) → (1 ≤ values_of m) × (values_of m ≤ 32)
+members-from m h = number-from 1 32 (values_of m) h
 
 -- a number is below 2 to the number of its digits
 pub digits_enough : (x : ℕ) → x < 2 ^ 64 → x < 2 ^ digits_of x

@@ -21,8 +21,8 @@ is_filled (more_fields name m at fs) = true
 
 abbrev mutual
   -- Bounds are in order and in their parent, members and indices are discrete, no event or buffer is in it, a structure
-  -- has a field, and the numbers are within their limits: 1 to 4,096 elements of a SET, members of a powerset and
-  -- elements of an array, at most 256 characters.
+  -- has a field, and the numbers are within their limits: 1 to 4,096 elements of a SET and of an array, 1 to 32
+  -- members of a powerset, at most 256 characters.
   pub parts_fit : ModeTree → Bool
   parts_fit int = true
   parts_fit boolean = true
@@ -30,7 +30,7 @@ abbrev mutual
   parts_fit instance = true
   parts_fit (set_of d n) = is_from_to 1 4096 n
   parts_fit (range p l h) = parts_fit p && lie_in l h (bounds_of p)
-  parts_fit (powerset m) = parts_fit m && is_from_to 1 4096 (values_of m)
+  parts_fit (powerset m) = parts_fit m && is_from_to 1 32 (values_of m)
   parts_fit (chars n) = nat_le n 256
   parts_fit (array i e how) = parts_fit i && (is_from_to 1 4096 (values_of i) && parts_fit e)
   parts_fit (structure fs p) = is_filled fs && fields_fit fs

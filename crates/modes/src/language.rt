@@ -8,8 +8,8 @@ use crate::{Field, Mode, bounds, number_of_leaves, number_of_values};
 
 /// Whether a text can give the mode to a location: bounds are in order and in their parent, members and indices are
 /// discrete, no event or buffer is in it, a structure has a field, and the numbers are within their limits: 1 to 4,096
-/// elements of a SET, members of a powerset and elements of an array, at most 256 characters, and at most 4,096 scalars,
-/// a text of no characters counting one.
+/// elements of a SET and of an array, 1 to 32 members of a powerset, at most 256 characters, and at most 4,096 scalars, a
+/// text of no characters counting one.
 pub fn is_of_language(mode: &Mode) -> bool
     ensures { IsTrue result ↔ IsOfLanguage (mode_tree mode.now) }
 {
@@ -26,7 +26,7 @@ fn parts_fit(mode: &Mode) -> bool
         Mode::Int | Mode::Bool | Mode::Char | Mode::Instance => true,
         Mode::Set { count, .. } => *count >= 1 && *count <= 4096,
         Mode::Range { parent, low, high } => { parts_fit(parent) && lie_in(*low, *high, parent) }
-        Mode::Powerset { member } => parts_fit(member) && has_few_values(member),
+        Mode::Powerset { member } => parts_fit(member) && has_few_members(member),
         Mode::Chars { length } => *length <= 256,
         Mode::Array { index, element, .. } => {
             parts_fit(index) && (has_few_values(index) && parts_fit(element))
@@ -45,6 +45,14 @@ fn has_few_values(mode: &Mode) -> bool
 {
     let values = number_of_values(mode);
     values >= 1 && values <= 4096
+}
+
+// Whether the mode is discrete and has 1 to 32 values.
+fn has_few_members(mode: &Mode) -> bool
+    ensures { result ≡ is_from_to 1 32 (values_of (mode_tree mode.now)) }
+{
+    let values = number_of_values(mode);
+    values >= 1 && values <= 32
 }
 
 // Whether the bounds are in order and in those of their parent.

@@ -1,12 +1,15 @@
 -- An elaborated expression has as many scalars as a value of its class, and the bounds of its root.
-use Rattle.std.proofs.Common.{◌≡◌, Bool, true, false, Option, Some, None, refl, sym}
+use Rattle.std.proofs.Common.{◌≡◌, Bool, true, false, List, [], ◌∷◌, Option, Some, None, refl, sym}
 use Rattle.std.specs.Prelude.{if◌then◌else◌}
 use Rattle.chill_tree.specs.ExprTree.{ExprTree, whole, character, text, this_instance, paren, receive, start, tuple, uniform, name, apply, field, prefixed, binary}
 use Rattle.modes.specs.ModeTree.{ModeTree, ClassTree}
 use Rattle.program_trees.specs.ExprTree as made
+use Rattle.diagnostics.specs.declared.diagnostic.Diagnostic.{Diagnostic}
 use Rattle.checks_model.specs.ValueTrees.{ValueTree, scalars_in}
 use Rattle.checks_model.specs.Classes.{class_as}
 use Rattle.checks_model.specs.Constants.{has_form, constant_as}
+use Rattle.checks_model.specs.ConstantRules.{told_of_constants}
+use Rattle.checks_model.specs.WrittenModes.{unless_told}
 use Rattle.elaborated_laws.proofs.Told.{no_some, same_some}
 use Rattle.elaboration_model.specs.Numbering.{Source}
 use Rattle.elaboration_model.specs.Parts.{made_of}
@@ -25,11 +28,16 @@ of_operation s m e (Some c) None x class is = no_some x is
 of_operation s m e None (Some o) x class is = no_some x is
 of_operation s m e None None x class is = no_some x is
 
+-- what is there is the same where what is told is left out
+is_untold : {A : Type 0} (told : List Diagnostic) (x : Option A) (y : A) → unless_told told x ≡ Some y → x ≡ Some y
+is_untold [] x y is = is
+is_untold (d ∷ ds) x y is = no_some y is
+
 of_folded : (s : Source) (m : Option ModeTree) (e : ExprTree) (o : Option made.OperationTree) (x : made.ExprTree) → folded s m e o ≡ Some x → IsOfClass s m e x
 of_folded s m e o x is = by (has_form s.known false e) is
   where
-    by : (b : Bool) → (if b then constant_expr (class_as s.known m e) (constant_as s.known m e) else made_of (λ c o. made.expr (count_in c) (made.root_bounds c) o) (class_as s.known m e) o) ≡ Some x → IsOfClass s m e x
-    by true is = of_constant s m e (class_as s.known m e) (constant_as s.known m e) x refl is
+    by : (b : Bool) → (if b then unless_told (told_of_constants s.known e) (constant_expr (class_as s.known m e) (constant_as s.known m e)) else made_of (λ c o. made.expr (count_in c) (made.root_bounds c) o) (class_as s.known m e) o) ≡ Some x → IsOfClass s m e x
+    by true is = of_constant s m e (class_as s.known m e) (constant_as s.known m e) x refl (is_untold (told_of_constants s.known e) (constant_expr (class_as s.known m e) (constant_as s.known m e)) x is)
     by false is = of_operation s m e (class_as s.known m e) o x refl is
 
 pub counts_are : CountsLaw

@@ -23,6 +23,7 @@ mod thing;
 mod things;
 
 pub use laws::heads_law;
+pub use mode_rules::{Computed, Evaluation, Known, Measured, Predefined, TupleValue};
 pub use numbering::Numbering;
 pub use refusal::ElaborationRefusal;
 pub use thing::Thing;

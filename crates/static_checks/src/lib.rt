@@ -7,3 +7,4 @@
 mod checking;
 
 pub use checking::{check_modes, check_own_statements, check_statements};
+pub use mode_rules::{Evaluation, evaluate};

@@ -14,7 +14,7 @@ use Rattle.modes.specs.Form.{FormTree, of_int, of_boolean, of_char, of_instance,
 use Rattle.modes.specs.Similar.{Shape, like_powerset, part, shape_of, Similar}
 use Rattle.modes.specs.Language.{parts_fit, lie_in, IsOfLanguage}
 use Rattle.modes.proofs.SimilarLemmas.{shape_in, shape-form, both}
-use Rattle.layout_map.proofs.Narrow.{bounds-small, Small, values-from}
+use Rattle.layout_map.proofs.Narrow.{bounds-small, Small, members-from}
 use Rattle.scalar_operators.specs.Numbers.{is_int, where_true, truth_number, int_result, magnitude, truth_of}
 use Rattle.scalar_operators.specs.Powersets.{union, intersection, symmetric_difference, difference, first_of_list, last_of_list}
 use Rattle.scalar_operators.specs.Members.{by_pairs, complement_of, offsets_of}
@@ -272,8 +272,8 @@ set_domains (buffer l m) e p f = absurd (let no : ⊥ = cc in no)
 set_domains (read m) e p f = set_domains m e p f
 set_domains (named d n m) e p f = set_domains m e p f
 
--- the members of a powerset are 1 to 4,096
-pub set_members : (m e : ModeTree) → IsTrue (parts_fit m) → form_of m ≡ of_powerset e → (1 ≤ values_of e) × (values_of e ≤ 4096) × IsTrue (parts_fit e)
+-- the members of a powerset are 1 to 32
+pub set_members : (m e : ModeTree) → IsTrue (parts_fit m) → form_of m ≡ of_powerset e → (1 ≤ values_of e) × (values_of e ≤ 32) × IsTrue (parts_fit e)
 set_members int e p f = absurd (let no : ⊥ = cc in no)
 set_members boolean e p f = absurd (let no : ⊥ = cc in no)
 set_members char e p f = absurd (let no : ⊥ = cc in no)
@@ -282,8 +282,8 @@ set_members (set_of d n) e p f = absurd (let no : ⊥ = cc in no)
 set_members (range q l h) e p f = absurd (no_range (bounds_of q) l h (set_boundless q (subst IsSetForm (sym f) tt)) (both _ _ p).1)
 set_members (powerset m) e p f =
     let is : m ≡ e = cc in
-    let v = values-from m (both _ _ p).1 in
-    subst (λ (x : ModeTree). (1 ≤ values_of x) × (values_of x ≤ 4096) × IsTrue (parts_fit x)) is (v.0, v.1, (both _ _ p).0)
+    let v = members-from m (both _ _ p).1 in
+    subst (λ (x : ModeTree). (1 ≤ values_of x) × (values_of x ≤ 32) × IsTrue (parts_fit x)) is (v.0, v.1, (both _ _ p).0)
 set_members (chars n) e p f = absurd (let no : ⊥ = cc in no)
 set_members (array i m how) e p f = absurd (let no : ⊥ = cc in no)
 set_members (structure fs q) e p f = absurd (let no : ⊥ = cc in no)

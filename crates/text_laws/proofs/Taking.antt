@@ -12,7 +12,7 @@ use Rattle.modes.specs.Form.{FormTree, of_int, of_boolean, of_char, of_instance,
 use Rattle.modes.specs.Similar.{Shape, like_int, like_boolean, like_char, like_instance, like_set, like_powerset, like_chars, like_array, like_structure, like_none, part, no_more, next_field, shape_of, shape_of_fields}
 use Rattle.modes.specs.Language.{parts_fit, fields_fit, lie_in}
 use Rattle.modes.proofs.SimilarLemmas.{both}
-use Rattle.layout_map.proofs.Narrow.{values-from}
+use Rattle.layout_map.proofs.Narrow.{values-from, members-from}
 use Rattle.layout_map.proofs.Steps.{le-from}
 use Rattle.scalar_operators.specs.Numbers.{is_between}
 use Rattle.source_meaning.specs.Operators.{sole_number}
@@ -216,7 +216,7 @@ field_part (more_fields name own at fs) from first m (inr there) =
 -- ---- what a form says of a mode that a text can give
 
 abbrev pub FormFits : FormTree → Type 0
-FormFits (of_powerset e) = IsTrue (parts_fit e) × (1 ≤ values_of e) × (values_of e ≤ 4096)
+FormFits (of_powerset e) = IsTrue (parts_fit e) × (1 ≤ values_of e) × (values_of e ≤ 32)
 FormFits (of_array i e how) = IsTrue (parts_fit e) × (1 ≤ values_of i) × (values_of i ≤ 4096)
 FormFits (of_structure fs p) = IsTrue (fields_fit fs)
 FormFits (of_chars n) = n ≤ 256
@@ -308,7 +308,7 @@ form_fits char p = tt
 form_fits instance p = tt
 form_fits (set_of d n) p = tt
 form_fits (range q l h) p = fits_in_form (form_of q) (discrete_form q (ranged (bounds_of q) l h (both _ _ p).1).0)
-form_fits (powerset m) p = let v = values-from m (both _ _ p).1 in ((both _ _ p).0, v.0, v.1)
+form_fits (powerset m) p = let v = members-from m (both _ _ p).1 in ((both _ _ p).0, v.0, v.1)
 form_fits (chars n) p = le-from n 256 p
 form_fits (array i e how) p = let v = values-from i (both _ _ (both _ _ p).1).0 in ((both _ _ (both _ _ p).1).1, v.0, v.1)
 form_fits (structure fs q) p = (both _ _ p).1

@@ -41,8 +41,8 @@ discrete_bounds (named d n m) b is = discrete_bounds m b is
 is_there : {A : Type 0} (x : Option A) (y : A) → x ≡ Some y → IsSome x
 is_there x y is = ap is_some is
 
-values_bounds : (m : ModeTree) → is_from_to 1 4096 (values_of m) ≡ true → IsSome (bounds_of m)
-values_bounds m fits = let there = by_values (bounds_of m) fits in is_there (bounds_of m) there.0 there.1
+values_bounds : (m : ModeTree) (last : ℕ) → is_from_to 1 last (values_of m) ≡ true → IsSome (bounds_of m)
+values_bounds m last fits = let there = by_values (bounds_of m) last fits in is_there (bounds_of m) there.0 there.1
 
 pub has_bounds : (m : ModeTree) → IsDeclarable m → HasBounds (form_of m)
 has_bounds int fits = tt
@@ -51,9 +51,9 @@ has_bounds char fits = tt
 has_bounds instance fits = tt
 has_bounds (set_of d n) fits = tt
 has_bounds (range p l h) fits = let there = parent_of (bounds_of p) l h (both_right (parts_fit p) (lie_in l h (bounds_of p)) fits.parts) in discrete_bounds p there.0 there.1
-has_bounds (powerset m) fits = values_bounds m (both_right (parts_fit m) (is_from_to 1 4096 (values_of m)) fits.parts)
+has_bounds (powerset m) fits = values_bounds m 32 (both_right (parts_fit m) (is_from_to 1 32 (values_of m)) fits.parts)
 has_bounds (chars n) fits = tt
-has_bounds (array i e how) fits = values_bounds i (both_left (is_from_to 1 4096 (values_of i)) (parts_fit e) (both_right (parts_fit i) (is_from_to 1 4096 (values_of i) && parts_fit e) fits.parts))
+has_bounds (array i e how) fits = values_bounds i 4096 (both_left (is_from_to 1 4096 (values_of i)) (parts_fit e) (both_right (parts_fit i) (is_from_to 1 4096 (values_of i) && parts_fit e) fits.parts))
 has_bounds (structure fs p) fits = tt
 has_bounds (event l) fits = tt
 has_bounds (buffer l e) fits = tt

@@ -11,7 +11,7 @@ use constant_rules::routine;
 use definition_origins::{Predefined, Told};
 use expr_rules::{Callee, Formal};
 use modes::{Class, Mode, bounds};
-use program_numbers::{ElaborationRefusal, Thing};
+use program_numbers::ElaborationRefusal;
 use std::rc::Rc;
 
 /// A routine of one value, with its argument.
@@ -36,24 +36,10 @@ impl<'a, 'b, 'c> Values<'a, 'b, 'c> {
         }
     }
 
-    // The number of the body of the procedure or process of that name.
-    fn body_used(&self, name: &Name) -> Result<u32, ElaborationRefusal> {
-        match self.numbering.thing_used(self.walk, name.at) {
-            Thing::Body(body) => Ok(body),
-            Thing::Shared(_)
-            | Thing::Local { .. }
-            | Thing::Event(_)
-            | Thing::Buffer(_)
-            | Thing::Signal(_)
-            | Thing::Region(_)
-            | Thing::Nothing => Err(ElaborationRefusal::Unsound),
-        }
-    }
-
     /// The call of the procedure of that name.
     #[cycle(value)]
     pub fn call(&self, name: &Name, args: &[Tree]) -> Result<Call, ElaborationRefusal> {
-        let body = self.body_used(name)?;
+        let body = self.numbering.body_used(self.walk, name)?;
         let formals = self.formals_by(name)?;
         let arguments = self.arguments(args, formals.as_slice())?;
         Ok(Call { body, arguments })
@@ -98,7 +84,7 @@ impl<'a, 'b, 'c> Values<'a, 'b, 'c> {
     /// The START of the process of that name.
     #[cycle(value)]
     pub fn start(&self, name: &Name, args: &[Tree]) -> Result<Start, ElaborationRefusal> {
-        let process = self.body_used(name)?;
+        let process = self.numbering.body_used(self.walk, name)?;
         let modes = self.modes_by(name)?;
         let arguments = self.received_each(args, modes.as_slice())?;
         Ok(Start { process, arguments })

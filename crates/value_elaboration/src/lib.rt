@@ -15,5 +15,6 @@ mod values;
 
 pub use calls::Applied;
 pub use operators::operator_between;
-pub use places::{Target, base_of};
+pub use places::Target;
+pub use program_numbers::{ElaborationRefusal, Evaluation, Numbering, Predefined, Thing};
 pub use values::Values;

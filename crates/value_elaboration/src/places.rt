@@ -7,7 +7,7 @@ use chill_tree::tree::{Expr as Tree, Name};
 use class_operators::field_in;
 use expr_rules::Callee;
 use modes::{Bounds, Class, Field, Form, Mode, bounds, form_of};
-use program_numbers::{ElaborationRefusal, Thing};
+use program_numbers::ElaborationRefusal;
 use std::alloc::Global;
 use std::rc::Rc;
 
@@ -176,9 +176,7 @@ impl<'a, 'b, 'c> Values<'a, 'b, 'c> {
 
     // The path that begins with a location.
     fn location_named(&self, name: &Name) -> Result<Path, ElaborationRefusal> {
-        let Some(base) = base_of(self.numbering.thing_used(self.walk, name.at)) else {
-            return Err(ElaborationRefusal::Unsound);
-        };
+        let base = self.numbering.base_used(self.walk, name)?;
         let Some(class) = self.walk.class_of_name(name)? else {
             return Err(ElaborationRefusal::Unsound);
         };
@@ -219,20 +217,6 @@ impl<'a, 'b, 'c> Values<'a, 'b, 'c> {
             count,
         };
         Ok(path.with_part(part, mode)?)
-    }
-}
-
-/// Where a definition begins that is a location, a parameter, a counter or a received name.
-pub fn base_of(thing: Thing) -> Option<Base> {
-    match thing {
-        Thing::Shared(number) => Some(Base::Shared(number)),
-        Thing::Local { number, .. } => Some(Base::Local(number)),
-        Thing::Body(_)
-        | Thing::Event(_)
-        | Thing::Buffer(_)
-        | Thing::Signal(_)
-        | Thing::Region(_)
-        | Thing::Nothing => None,
     }
 }
 

@@ -7,7 +7,7 @@ use chill_tree::tree::{Expr as Tree, Name, Operator, Prefix};
 use class_operators::{class_of_binary, class_of_unary};
 use expr_rules::Walk;
 use modes::{Mode, bounds};
-use program_numbers::{ElaborationRefusal, Numbering, Thing};
+use program_numbers::{ElaborationRefusal, Numbering};
 use std::alloc::Global;
 use std::rc::Rc;
 
@@ -99,9 +99,7 @@ impl<'a, 'b, 'c> Values<'a, 'b, 'c> {
 
     // RECEIVE of a buffer.
     fn received_from(&self, name: &Name) -> Result<Box<Expr>, ElaborationRefusal> {
-        let Thing::Buffer(buffer) = self.numbering.thing_used(self.walk, name.at) else {
-            return Err(ElaborationRefusal::Unsound);
-        };
+        let buffer = self.numbering.buffer_used(self.walk, name)?;
         let class = self.walk.class_of_received(name)?;
         self.made(class, Operation::Receive { buffer })
     }
