@@ -1,0 +1,5 @@
+pub mod MadeViews
+pub mod Folding
+pub mod Nodes
+pub mod Ways
+pub mod Lists
