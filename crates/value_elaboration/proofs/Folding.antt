@@ -19,12 +19,9 @@ use Rattle.checks_model.specs.ConstantRules.{told_of_constants}
 use Rattle.elaboration_model.specs.Parts.{made_of, made_if}
 use Rattle.elaboration_model.specs.Numbering.{Source}
 use Rattle.elaboration_model.specs.Expressions.{constant_expr, folded, expr_as, tuple_operation, uniform_operation, received_as, ranges_as, parts_as}
-use Rattle.value_elaboration.specs.Shown.{shown, constant_if}
+use Rattle.value_elaboration.specs.Shown.{shown, constant_if, constant_alone, constant_in}
 
 -- ---- constants
-
-abbrev pub constant_alone : Source → ExprTree → Option made.ExprTree
-constant_alone s e = unless_told (told_of_constants s.known e) (constant_expr (class_of s.known e) (constant_of s.known e))
 
 is_folded : (s : Source) (m : Option ModeTree) (e : ExprTree) (o : Option made.OperationTree) → has_form s.known false e ≡ true
     → folded s m e o ≡ unless_told (told_of_constants s.known e) (constant_expr (class_as s.known m e) (constant_as s.known m e))
@@ -68,9 +65,6 @@ constant_there s m (prefixed at o e) form = is_folded s m (prefixed at o e) _ fo
 constant_there s m (binary at l o p r) form = is_folded s m (binary at l o p r) _ form
 
 -- ---- the answer of whether it is a constant
-
-abbrev pub constant_in : Source → ExprTree → Option (Option made.ExprTree)
-constant_in s e = constant_if (has_form s.known false e) (told_of_constants s.known e) (class_of s.known e) (constant_of s.known e)
 
 none_inside : {A : Type 0} (x : Option A) → option_map Some x ≡ None → x ≡ None
 none_inside None e = refl

@@ -3,3 +3,4 @@ pub mod Folding
 pub mod Nodes
 pub mod Ways
 pub mod Lists
+pub mod Telling

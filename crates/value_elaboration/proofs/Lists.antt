@@ -11,6 +11,7 @@ use Rattle.program_trees.specs.ExprTree as made
 use Rattle.checks_model.specs.Classes.{mode_of_part}
 use Rattle.elaboration_model.specs.Parts.{made_of}
 use Rattle.elaboration_model.specs.Numbering.{Source}
+use Rattle.value_elaboration.specs.Steps.{argument_of}
 use Rattle.elaboration_model.specs.Expressions.{Formal, arguments, argument_for, received_each, received_as, received_by, expr_as, path, target_of, target, ranges_as, range_as, parts_as, part_as, rest_of, head_formal, head_mode}
 
 -- ---- behind what is made so far
@@ -72,10 +73,6 @@ received_turn s ms es i m x few first less is =
 
 abbrev pub arguments_in : Source → List Formal → List Expr → Option made.ArgumentNodes
 arguments_in s fs es = arguments s fs (expr_nodes (expr_trees es))
-
--- what an expression is as the argument for a parameter
-abbrev pub argument_of : Source → Formal → ExprTree → Option made.ArgumentTree
-argument_of s f e = argument_for f (received_by s f.1 e) (target s e)
 
 pub arguments_turn : (s : Source) (fs : List Formal) (es : List Expr) (i : ℕ) (f : Formal) (x : Expr) → i < length fs → f ≡ get_or fs i f → i < length es → x ≡ get_or es i x
     → arguments_in s (drop i fs) (drop i es) ≡ made_of made.with_argument (argument_of s f (expr_tree x)) (arguments_in s (drop (i + 1) fs) (drop (i + 1) es))

@@ -20,7 +20,7 @@ use Rattle.elaboration_model.specs.Expressions.{Path, folded, expr_as, path, arg
 use Rattle.value_elaboration.specs.Shown.{shown}
 use Rattle.value_elaboration.specs.Steps.{class_between, operation_between, element_in, element_class, tuple_in, uniform_in}
 use Rattle.value_elaboration.proofs.Folding.{unfolded, no_operation}
-use Rattle.value_elaboration.proofs.Applied.{named}
+use Rattle.expr_rules.proofs.Applied.{named}
 
 pub prefixed_as : (s : Source) (m : Option ModeTree) (at : Pos) (o : Prefix) (e : ExprTree) → has_form s.known false (prefixed at o e) ≡ false
     → expr_as s m (prefixed at o e) ≡ shown (option_and_then (class_of_unary o) (class_of s.known e)) (made_of (λ c e. made.prefixed (operator_before o c) e) (class_of s.known e) (expr_as s None e))
@@ -169,16 +169,16 @@ uniform_class s own v x is = ap (λ (b : Bool). when b (value own)) (uniform_the
 -- ---- two operands
 
 pub between_refused : (s : Source) (at : Pos) (l : ExprTree) (o : Operator) (p : Pos) (r : ExprTree) → expr_as s None l ≡ None → operation_between s (binary at l o p r) ≡ None
-between_refused s at l o p r none = ap (λ (x : Option made.ExprTree). made_of_three made.binary (made_if (operator_between o) (class_of s.known l) (class_of s.known r)) x (expr_as s None r)) none ∙ by (made_if (operator_between o) (class_of s.known l) (class_of s.known r)) (expr_as s None r)
+between_refused s at l o p r none = ap (λ (x : Option made.ExprTree). made_of_three made.binary (made_if (operator_between o) (class_of s.known l) (class_of s.known r)) x (expr_as s None r)) none ∙ by made.binary (made_if (operator_between o) (class_of s.known l) (class_of s.known r)) (expr_as s None r)
   where
-    by : {A : Type 0} (a : Option A) (c : Option made.ExprTree) {f : A → made.ExprTree → made.ExprTree → made.OperationTree} → made_of_three f a None c ≡ None
-    by None c = refl
-    by (Some a) c = refl
+    by : {A : Type 0} (f : A → made.ExprTree → made.ExprTree → made.OperationTree) (a : Option A) (c : Option made.ExprTree) → made_of_three f a None c ≡ None
+    by f None c = refl
+    by f (Some a) c = refl
 
 pub between_refused_later : (s : Source) (at : Pos) (l : ExprTree) (o : Operator) (p : Pos) (r : ExprTree) → expr_as s None r ≡ None → operation_between s (binary at l o p r) ≡ None
-between_refused_later s at l o p r none = ap (λ (x : Option made.ExprTree). made_of_three made.binary (made_if (operator_between o) (class_of s.known l) (class_of s.known r)) (expr_as s None l) x) none ∙ by (made_if (operator_between o) (class_of s.known l) (class_of s.known r)) (expr_as s None l)
+between_refused_later s at l o p r none = ap (λ (x : Option made.ExprTree). made_of_three made.binary (made_if (operator_between o) (class_of s.known l) (class_of s.known r)) (expr_as s None l) x) none ∙ by made.binary (made_if (operator_between o) (class_of s.known l) (class_of s.known r)) (expr_as s None l)
   where
-    by : {A : Type 0} (a : Option A) (c : Option made.ExprTree) {f : A → made.ExprTree → made.ExprTree → made.OperationTree} → made_of_three f a c None ≡ None
-    by None c = refl
-    by (Some a) None = refl
-    by (Some a) (Some c) = refl
+    by : {A : Type 0} (f : A → made.ExprTree → made.ExprTree → made.OperationTree) (a : Option A) (c : Option made.ExprTree) → made_of_three f a c None ≡ None
+    by f None c = refl
+    by f (Some a) None = refl
+    by f (Some a) (Some c) = refl

@@ -19,8 +19,9 @@ use Rattle.checks_model.specs.Constants.{has_form}
 use Rattle.elaboration_model.specs.Parts.{made_of, made_if}
 use Rattle.elaboration_model.specs.Numbering.{Source, thing_used}
 use Rattle.elaboration_model.specs.Expressions.{Root, Path, base_of, folded, expr_as, path, path_at, path_of_name, path_of_value, location_named, with_part, field_path, element_path, index_bounds, index_mode_of, first_of_field, only_one, applied_path, applied_operation, arguments, formals_called, class_first, mode_in_brackets}
-use Rattle.value_elaboration.specs.Steps.{element_in, element_class}
-use Rattle.value_elaboration.proofs.Folding.{constant_in, folded_refused, folded_given, refused_form, given_form, no_form}
+use Rattle.value_elaboration.specs.Shown.{constant_in}
+use Rattle.value_elaboration.specs.Steps.{index_of_path, element_in, element_class}
+use Rattle.value_elaboration.proofs.Folding.{folded_refused, folded_given, refused_form, given_form, no_form}
 
 -- ---- the mode of a path is that of its class
 
@@ -84,40 +85,35 @@ index_class i c p q mode is = part_there element_of_form c p.mode q.mode mode (e
 behind_value : (c : Option ClassTree) (m : ModeTree) → c ≡ Some (value m) → option_and_then mode_in c ≡ Some m
 behind_value c m is = ap (option_and_then mode_in) is
 
-mutual
-  pub path_mode : (s : Source) (e : ExprTree) (p : Path) → path s e ≡ Some p → option_and_then mode_in (class_of s.known e) ≡ Some p.mode
-  path_mode s (name n) p is = name_mode s n p is
-  path_mode s (field at e n) p is =
-      let before = field_before n.text (path s e) p is in
-      behind_value (class_of s.known (field at e n)) p.mode (field_class n.text (class_of s.known e) before.0 p (path_mode s e before.0 before.1.0) before.1.1)
-  path_mode s (apply at e es) p is = brackets_mode s at e es (callee_of s.known e) refl p is
-  path_mode s (whole at n) p is = cc
-  path_mode s (character at n) p is = cc
-  path_mode s (text at n) p is = cc
-  path_mode s (this_instance at) p is = cc
-  path_mode s (paren at e) p is = cc
-  path_mode s (receive at n) p is = cc
-  path_mode s (start at n es) p is = cc
-  path_mode s (tuple at n b rs) p is = cc
-  path_mode s (uniform at n b e) p is = cc
-  path_mode s (prefixed at o e) p is = cc
-  path_mode s (binary at l o q r) p is = cc
+brackets_mode : (s : Source) (at : Pos) (e : ExprTree) (es : ExprNodes) → ((q : Path) → path s e ≡ Some q → option_and_then mode_in (class_of s.known e) ≡ Some q.mode) → (c : Callee) → c ≡ callee_of s.known e → (p : Path)
+    → applied_path c (folded s None (apply at e es) (applied_operation s (callee_of s.known e) (arguments s (formals_called s (callee_of s.known e)) es) (class_first s es) (only_one s None es) None)) (class_of s.known (apply at e es)) (made_if element_path (only_one s (mode_in_brackets s (callee_of s.known e) e) es) (path s e)) ≡ Some p
+    → option_and_then mode_in (class_of s.known (apply at e es)) ≡ Some p.mode
+brackets_mode s at e es before (calls n) same p is = value_mode (folded s None (apply at e es) (applied_operation s (callee_of s.known e) (arguments s (formals_called s (callee_of s.known e)) es) (class_first s es) (only_one s None es) None)) (class_of s.known (apply at e es)) p is
+brackets_mode s at e es before (routine k) same p is = value_mode (folded s None (apply at e es) (applied_operation s (callee_of s.known e) (arguments s (formals_called s (callee_of s.known e)) es) (class_first s es) (only_one s None es) None)) (class_of s.known (apply at e es)) p is
+brackets_mode s at e es before no_callee same p is =
+    let parts = element_before (only_one s (mode_in_brackets s (callee_of s.known e) e) es) (path s e) p is in
+    let class : class_of s.known (apply at e es) ≡ option_map (part_of_class element_of_form) (class_of s.known e) = ap (λ (c : Callee). class_behind c (result_class s.known e) (class_of s.known e) (measured_first s.known es) (class_of_first s.known es)) (sym same) in
+    behind_value (class_of s.known (apply at e es)) p.mode (class ∙ index_class parts.0 (class_of s.known e) parts.1.0 p (before parts.1.0 parts.1.1.0) parts.1.1.1)
 
-  brackets_mode : (s : Source) (at : Pos) (e : ExprTree) (es : ExprNodes) (c : Callee) → c ≡ callee_of s.known e → (p : Path)
-      → applied_path c (folded s None (apply at e es) (applied_operation s (callee_of s.known e) (arguments s (formals_called s (callee_of s.known e)) es) (class_first s es) (only_one s None es) None)) (class_of s.known (apply at e es)) (made_if element_path (only_one s (mode_in_brackets s (callee_of s.known e) e) es) (path s e)) ≡ Some p
-      → option_and_then mode_in (class_of s.known (apply at e es)) ≡ Some p.mode
-  brackets_mode s at e es (calls n) same p is = value_mode (folded s None (apply at e es) (applied_operation s (callee_of s.known e) (arguments s (formals_called s (callee_of s.known e)) es) (class_first s es) (only_one s None es) None)) (class_of s.known (apply at e es)) p is
-  brackets_mode s at e es (routine k) same p is = value_mode (folded s None (apply at e es) (applied_operation s (callee_of s.known e) (arguments s (formals_called s (callee_of s.known e)) es) (class_first s es) (only_one s None es) None)) (class_of s.known (apply at e es)) p is
-  brackets_mode s at e es no_callee same p is =
-      let before = element_before (only_one s (mode_in_brackets s (callee_of s.known e) e) es) (path s e) p is in
-      let class : class_of s.known (apply at e es) ≡ option_map (part_of_class element_of_form) (class_of s.known e) = ap (λ (c : Callee). class_behind c (result_class s.known e) (class_of s.known e) (measured_first s.known es) (class_of_first s.known es)) (sym same) in
-      behind_value (class_of s.known (apply at e es)) p.mode (class ∙ index_class before.0 (class_of s.known e) before.1.0 p (path_mode s e before.1.0 before.1.1.0) before.1.1.1)
+pub path_mode : (s : Source) (e : ExprTree) (p : Path) → path s e ≡ Some p → option_and_then mode_in (class_of s.known e) ≡ Some p.mode
+path_mode s (name n) p is = name_mode s n p is
+path_mode s (field at e n) p is =
+    let parts = field_before n.text (path s e) p is in
+    behind_value (class_of s.known (field at e n)) p.mode (field_class n.text (class_of s.known e) parts.0 p (path_mode s e parts.0 parts.1.0) parts.1.1)
+path_mode s (apply at e es) p is = brackets_mode s at e es (λ q is. path_mode s e q is) (callee_of s.known e) refl p is
+path_mode s (whole at n) p is = cc
+path_mode s (character at n) p is = cc
+path_mode s (text at n) p is = cc
+path_mode s (this_instance at) p is = cc
+path_mode s (paren at e) p is = cc
+path_mode s (receive at n) p is = cc
+path_mode s (start at n es) p is = cc
+path_mode s (tuple at n b rs) p is = cc
+path_mode s (uniform at n b e) p is = cc
+path_mode s (prefixed at o e) p is = cc
+path_mode s (binary at l o q r) p is = cc
 
 -- ---- the mode that an index goes with
-
-abbrev pub index_of_path : FormTree → Option ModeTree
-index_of_path (of_array i e how) = Some i
-index_of_path _ = None
 
 value_index : (m : ModeTree) → index_mode_of (Some (value m)) ≡ index_of_path (form_of m)
 value_index int = refl
