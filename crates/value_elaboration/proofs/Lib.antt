@@ -4,3 +4,4 @@ pub mod Nodes
 pub mod Ways
 pub mod Lists
 pub mod Telling
+pub mod Numbers

@@ -1,7 +1,7 @@
 -- Lists of arguments, of members and of parts: what is made so far, with what is made of the rest, is what is made of all.
-use Rattle.std.proofs.Common.{◌≡◌, ℕ, suc, ◌+◌, ◌<◌, List, [], ◌∷◌, ◌++◌, map, length, get_or, drop, Option, Some, None, refl, sym, ap, ◌∙◌, subst}
+use Rattle.std.proofs.Common.{◌≡◌, ℕ, suc, ◌+◌, ◌<◌, ◌≤◌, arith, List, [], ◌∷◌, ◌++◌, map, length, get_or, drop, Option, Some, None, refl, sym, ap, ◌∙◌, subst}
 use Rattle.std.specs.Prelude.{Bool, true, option_map, option_and_then}
-use Rattle.std.proofs.lemmas.List.{at_drop_more}
+use Rattle.std.proofs.lemmas.List.{at_drop_more, at_drop_all, length-map}
 use Rattle.chill_tree.specs.declared.tree.expr.Expr.{Expr}
 use Rattle.chill_tree.specs.declared.tree.expr.ValueRange.{ValueRange}
 use Rattle.chill_tree.specs.ExprTree.{ExprTree, ExprNodes, RangeNodes, expr_tree, expr_trees, expr_nodes, range_tree, range_trees, range_nodes, no_exprs, more_exprs}
@@ -113,3 +113,29 @@ onto_ranges (r ∷ rs) = ap (made.with_range r) (onto_ranges rs)
 pub onto_arguments : (as' : List made.ArgumentTree) → onto made.with_argument as' made.no_arguments ≡ made.argument_nodes as'
 onto_arguments [] = refl
 onto_arguments (a ∷ as') = ap (made.with_argument a) (onto_arguments as')
+
+-- ---- ends
+
+module _ {T N : Type 0} (put : T → N → N) (end : N) (ts : List T) (nodes : N) (is : onto put ts end ≡ nodes) where
+  pub end_given : (whole rest : Option N) → whole ≡ option_map (onto put ts) rest → rest ≡ Some end → whole ≡ Some nodes
+  end_given whole rest h none = h ∙ ap (option_map (onto put ts)) none ∙ ap (λ (n : N). Some n) is
+
+pub ranges_end : (s : Source) (own : ModeTree) (rs : List ValueRange) (i : ℕ) (done : List made.RangeTree) → length rs ≤ i
+    → ranges_in s own rs ≡ option_map (onto made.with_range done) (ranges_in s own (drop i rs)) → ranges_in s own rs ≡ Some (made.range_nodes done)
+ranges_end s own rs i done le h = end_given made.with_range made.no_ranges done (made.range_nodes done) (onto_ranges done) (ranges_in s own rs) (ranges_in s own (drop i rs)) h (at_drop_all (ranges_in s own) rs i le)
+
+pub parts_end : (s : Source) (fits : FormTree → Bool) (m : Option ModeTree) (rs : List ValueRange) (i k : ℕ) (done : List made.ReceivedTree) → length rs ≤ i
+    → parts_in s fits 0 m rs ≡ option_map (onto made.more_received done) (parts_in s fits k m (drop i rs)) → parts_in s fits 0 m rs ≡ Some (made.received_nodes done)
+parts_end s fits m rs i k done le h = end_given made.more_received made.no_received done (made.received_nodes done) (onto_received done) (parts_in s fits 0 m rs) (parts_in s fits k m (drop i rs)) h (at_drop_all (parts_in s fits k m) rs i le)
+
+pub received_end : (s : Source) (ms : List (Option ModeTree)) (es : List Expr) (i : ℕ) (done : List made.ReceivedTree) → length ms ≤ i → length es ≤ i
+    → received_in s ms es ≡ option_map (onto made.more_received done) (received_in s (drop i ms) (drop i es)) → received_in s ms es ≡ Some (made.received_nodes done)
+received_end s ms es i done few le h =
+    end_given made.more_received made.no_received done (made.received_nodes done) (onto_received done) (received_in s ms es) (received_in s (drop i ms) (drop i es)) h
+    (at_drop_all (λ (ks : List (Option ModeTree)). received_in s ks (drop i es)) ms i few ∙ at_drop_all (received_in s []) es i le)
+
+pub arguments_end : (s : Source) (fs : List Formal) (es : List Expr) (i : ℕ) (done : List made.ArgumentTree) → length fs ≤ i → length es ≤ i
+    → arguments_in s fs es ≡ option_map (onto made.with_argument done) (arguments_in s (drop i fs) (drop i es)) → arguments_in s fs es ≡ Some (made.argument_nodes done)
+arguments_end s fs es i done few le h =
+    end_given made.with_argument made.no_arguments done (made.argument_nodes done) (onto_arguments done) (arguments_in s fs es) (arguments_in s (drop i fs) (drop i es)) h
+    (at_drop_all (λ (ks : List Formal). arguments_in s ks (drop i es)) fs i few ∙ at_drop_all (arguments_in s []) es i le)

@@ -20,7 +20,7 @@ use Rattle.elaboration_model.specs.Expressions.{Path, folded, expr_as, path, arg
 use Rattle.value_elaboration.specs.Shown.{shown}
 use Rattle.value_elaboration.specs.Steps.{class_between, operation_between, element_in, element_class, tuple_in, uniform_in}
 use Rattle.value_elaboration.proofs.Folding.{unfolded, no_operation}
-use Rattle.expr_rules.proofs.Applied.{named}
+use Rattle.expr_rules.proofs.Applied.{class-calls}
 
 pub prefixed_as : (s : Source) (m : Option ModeTree) (at : Pos) (o : Prefix) (e : ExprTree) → has_form s.known false (prefixed at o e) ≡ false
     → expr_as s m (prefixed at o e) ≡ shown (option_and_then (class_of_unary o) (class_of s.known e)) (made_of (λ c e. made.prefixed (operator_before o c) e) (class_of s.known e) (expr_as s None e))
@@ -47,7 +47,9 @@ module _ (s : Source) (m : Option ModeTree) (at : Pos) (e : ExprTree) (es : Expr
 
   pub calls_as : (n : Name) → callee_of s.known e ≡ calls n
       → expr_as s m (apply at e es) ≡ shown (option_map value (mode_of_entry (entry_of s.known n))) (call_operation s n (arguments s (formals_by s (origin_of s.known n)) es))
-  calls_as n is = applied_as (calls n) is ∙ ap (λ (c : Option ClassTree). shown c (operation_by (calls n))) (ap (result_class s.known) (named s.known e n is))
+  calls_as n is =
+      unfolded s m (apply at e es) _ form ∙ ap (λ (c : Callee). shown (class_of s.known (apply at e es)) (operation_by c)) is
+      ∙ ap (λ (c : Option ClassTree). shown c (operation_by (calls n))) (class-calls s.known at e es n is)
 
   pub routine_as : (p : Predefined) → callee_of s.known e ≡ routine p
       → expr_as s m (apply at e es) ≡ shown (class_of_call p (measured_first s.known es) (class_of_first s.known es)) (routine_operation p (class_first s es) (only_one s None es))

@@ -46,6 +46,7 @@ impl<'a, 'b, 'c> Values<'a, 'b, 'c> {
     }
 
     // Adds the parameters of a procedure.
+    #[tactic(auto, using(expr_rules::proofs::FormalLists::formals))]
     fn add_params(&self, params: &[Param], found: &mut Vec<Formal<'b>>) -> Result<(), Memory>
         ensures { HasSource self.now → OnOk result (map formal_tree found.new.items ≡ map formal_tree found.old.items ++ flat_map (formals_of_param (source_of self.now)) (map param_tree params.now)) }
     {
@@ -56,6 +57,7 @@ impl<'a, 'b, 'c> Values<'a, 'b, 'c> {
     }
 
     // Adds the parameters of some names, which are passed in one way.
+    #[tactic(auto, using(expr_rules::proofs::FormalLists::formals))]
     fn add_formals(
         &self,
         names: &[Name],
@@ -98,6 +100,7 @@ impl<'a, 'b, 'c> Values<'a, 'b, 'c> {
     }
 
     // Adds the modes of the parameters of a process.
+    #[tactic(auto, using(expr_rules::proofs::FormalLists::formals))]
     fn add_written(&self, formals: &[Written], found: &mut Modes<'b>) -> Result<(), Memory>
         ensures { HasSource self.now → OnOk result (some_modes found.new.items ≡ some_modes found.old.items ++ flat_map (modes_of_formal (source_of self.now)) (map written_formal formals.now)) }
     {
@@ -108,6 +111,7 @@ impl<'a, 'b, 'c> Values<'a, 'b, 'c> {
     }
 
     // Adds the modes of some names.
+    #[tactic(auto, using(expr_rules::proofs::FormalLists::formals))]
     fn add_modes(&self, names: &[Name], found: &mut Modes<'b>) -> Result<(), Memory>
         ensures { HasSource self.now → OnOk result (some_modes found.new.items ≡ some_modes found.old.items ++ map (mode_defined (source_of self.now)) names.now) }
     {
@@ -118,6 +122,7 @@ impl<'a, 'b, 'c> Values<'a, 'b, 'c> {
     }
 
     // The modes of the parts of a message that is sent to a buffer or by a signal, or none where the name is neither.
+    #[tactic(auto, using(statement_laws::proofs::Arguments::messages))]
     pub(crate) fn message_parts(&self, name: &Name) -> Result<Option<Modes<'b>>, Memory>
         ensures { HasSource self.now → IfOk result (λ found. option_map (λ ms. some_modes ms.items) found ≡ message_parts (source_of self.now).known name.now) }
     {
@@ -135,6 +140,7 @@ impl<'a, 'b, 'c> Values<'a, 'b, 'c> {
     }
 
     // The modes of a signal's parts.
+    #[tactic(auto, using(expr_rules::proofs::FormalLists::formals))]
     fn modes_of(&self, parts: &'b [Option<Rc<Mode>>]) -> Result<Modes<'b>, Memory>
         ensures { IfOk result (λ found. some_modes found.items ≡ part_modes parts.now) }
     {

@@ -3,7 +3,7 @@
 //!
 //! It meets the definition of `elaboration_model`, function by function. It stands on `expr_rules` and `constant_rules`, of which
 //! it asks classes and constants, and on the numbers of `program_numbers`; the elaborated statements stand on it.
-#![tactic(auto)]
+#![tactic(auto, using(program_numbers::proofs::Answering::handed_on))]
 
 mod calls;
 mod folding;

@@ -1,8 +1,10 @@
 // Names with their parts: locations, and parts of other values (Z.200, chapter on locations).
 ghost use Rattle.std.specs.Prelude.{◌≡◌, ◌+◌, Some, IfOk, option_map, option_and_then};
+ghost use Rattle.std.specs.Str.{bytes_eq};
 ghost use Rattle.chill_tree.specs.ExprTree.{expr_tree};
-ghost use Rattle.modes.specs.ModeTree.{value, mode_tree, class_tree, field_trees, field_nodes};
+ghost use Rattle.modes.specs.ModeTree.{value, mode_tree, class_tree, field_tree, field_trees, field_nodes};
 ghost use Rattle.modes.specs.Form.{form_of};
+ghost use Rattle.modes.specs.Scalars.{scalars_of};
 ghost use Rattle.program_trees.specs.ExprTree.{boxed_expr, operation_tree, part_tree};
 ghost use Rattle.checks_model.specs.Alike.{mode_in};
 ghost use Rattle.checks_model.specs.Operations.{part_of_class, field_of_form};
@@ -336,12 +338,28 @@ fn first_in(fields: &[Field], name: &[u8]) -> Result<u32, Memory>
 {
     let mut first = 0_u32;
     for field in fields {
-        if field.name.as_slice() == name {
+        if has_name(field, name) {
             return Ok(first);
         }
-        first = sum(first, scalars_in(&field.mode)?)?;
+        first = sum(first, scalars_of_field(field)?)?;
     }
     Ok(first)
+}
+
+// Whether a field has a name.
+#[tactic(auto, using(modes::proofs::ModeViews::mode_built))]
+fn has_name(field: &Field, name: &[u8]) -> bool
+    ensures { result ≡ bytes_eq (field_tree field.now).name name.now }
+{
+    field.name.as_slice() == name
+}
+
+// How many scalars a field has.
+#[tactic(auto, using(modes::proofs::ModeViews::mode_built))]
+fn scalars_of_field(field: &Field) -> Result<u32, Memory>
+    ensures { IfOk result (λ n. n ≡ scalars_of (field_tree field.now).mode) }
+{
+    scalars_in(&field.mode)
 }
 
 // The sum of two numbers of scalars.
