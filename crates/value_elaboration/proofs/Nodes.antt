@@ -60,9 +60,6 @@ module _ (s : Source) (m : Option ModeTree) (at : Pos) (e : ExprTree) (es : Expr
 
 -- ---- routines
 
-class_none : (c : Option ClassTree) (e : Option made.ExprTree) → shown c (made_of made.routine None e) ≡ None
-class_none c e = no_operation c
-
 -- a routine of one value that the program evaluates; of others there is no operation
 pub routine_of_one : (p : Predefined) (m : Measured) (c : ClassTree) (e : made.ExprTree) → (p ≡ get_int → ⊥)
     → shown (class_of_call p m (Some c)) (routine_operation p (Some c) (Some e)) ≡ shown (class_of_routine p c) (made_of made.routine (routine_on p c) (Some e))
@@ -88,18 +85,9 @@ made_of_none : {A B C : Type 0} (f : A → B → C) (a : Option A) → made_of f
 made_of_none f None = refl
 made_of_none f (Some a) = refl
 
-pub routine_of_none : (p : Predefined) (m : Measured) (c d : Option ClassTree) (e : Option made.ExprTree) → e ≡ None → (p ≡ get_int → ⊥) → shown (class_of_call p m d) (routine_operation p c e) ≡ None
-routine_of_none get_int m c d e none apart = absurd (apart refl)
-routine_of_none p m c d e none apart =
-    ap (λ (o : Option made.OperationTree). shown (class_of_call p m d) o) (by p c e none apart) ∙ no_operation (class_of_call p m d)
-  where
-    by : (p : Predefined) (c : Option ClassTree) (e : Option made.ExprTree) → e ≡ None → (p ≡ get_int → ⊥) → routine_operation p c e ≡ None
-    by get_int c e none apart = absurd (apart refl)
-    by p c e none apart = ap (λ (x : Option made.ExprTree). made_of made.routine (option_and_then (routine_on p) c) x) none ∙ made_of_none made.routine (option_and_then (routine_on p) c)
-
--- the class of the first argument is that of the only one
-pub one_class : (s : Source) (m : Option ModeTree) (e : ExprTree) → class_first s (more_exprs e no_exprs) ≡ class_of s.known e
-one_class s m e = refl
+pub routine_without : (p : Predefined) (c : Option ClassTree) (e : Option made.ExprTree) → e ≡ None → (p ≡ get_int → ⊥) → routine_operation p c e ≡ None
+routine_without get_int c e none apart = absurd (apart refl)
+routine_without p c e none apart = ap (λ (x : Option made.ExprTree). made_of made.routine (option_and_then (routine_on p) c) x) none ∙ made_of_none made.routine (option_and_then (routine_on p) c)
 
 -- ---- tuples
 

@@ -191,6 +191,7 @@ impl<'a, 'b, 'c> Values<'a, 'b, 'c> {
     }
 
     // GET_INT.
+    #[tactic(auto, using(crate::proofs::MadeViews::made_views))]
     fn input(&self) -> Result<Box<Expr>, ElaborationRefusal>
         ensures { HasSource self.now → IsMade (Some (value int)) (Some get_int) result }
     {
@@ -199,6 +200,7 @@ impl<'a, 'b, 'c> Values<'a, 'b, 'c> {
     }
 
     // A routine of what its argument is.
+    #[tactic(auto, using(crate::proofs::MadeViews::made_views))]
     fn routine_of(
         &self,
         own: Predefined,
@@ -252,6 +254,7 @@ fn applied_of(own: Predefined, argument: Box<Expr>) -> Result<Applied, Elaborati
 }
 
 // What a parameter that is passed OUT gives back to.
+#[tactic(auto, using(crate::proofs::MadeViews::made_views))]
 fn given(own: Target) -> Argument
     ensures { argument_tree result ≡ given (location_tree own.location) (bounds_of (mode_tree own.mode.value)) }
 {
@@ -264,6 +267,7 @@ fn given(own: Target) -> Argument
 }
 
 // What a parameter of a mode that is passed INOUT takes from and gives back to.
+#[tactic(auto, using(crate::proofs::MadeViews::made_views))]
 fn both(own: Target, mode: Option<&Rc<Mode>>) -> Result<Argument, ElaborationRefusal>
     ensures { Elaborates (option_map (λ m. both (location_tree own.location) (bounds_of m) (bounds_of (mode_tree own.mode.value))) (some_mode mode.entry)) argument_tree result }
 {

@@ -1,11 +1,11 @@
 // An expression is a constant, or it has a class and is found by an operation.
 ghost use Rattle.std.specs.Prelude.{◌≡◌, Bool, List, Option, Some, IfOk, option_map, option_and_then};
 ghost use Rattle.diagnostics.specs.declared.diagnostic.Diagnostic.{Diagnostic};
-ghost use Rattle.chill_tree.specs.ExprTree.{expr_tree};
+ghost use Rattle.chill_tree.specs.ExprTree.{expr_tree as written_tree};
 ghost use Rattle.modes.specs.ModeTree.{ClassTree, mode_tree, class_tree};
 ghost use Rattle.modes.specs.Form.{form_of};
 ghost use Rattle.modes.specs.Scalars.{scalars_of};
-ghost use Rattle.program_trees.specs.ExprTree.{operation_tree, boxed_expr};
+ghost use Rattle.program_trees.specs.ExprTree.{expr_tree, operation_tree, boxed_expr};
 ghost use Rattle.program_trees.specs.ExprTree as made;
 ghost use Rattle.checks_model.specs.ValueTrees.{ValueTree};
 ghost use Rattle.checks_model.specs.WrittenModes.{number_in, needed_number};
@@ -17,7 +17,7 @@ ghost use Rattle.elaboration_model.specs.Expressions.{count_in};
 ghost use Rattle.expr_rules.specs.Views.{own_class};
 ghost use Rattle.program_numbers.specs.Answers.{Elaborates};
 ghost use Rattle.value_elaboration.specs.Shown.{constant_if, constant_in, is_of_numbers};
-ghost use Rattle.value_elaboration.specs.Views.{source_of, HasSource};
+ghost use Rattle.value_elaboration.specs.Views.{source_of, HasSource, class_in};
 ghost use Rattle.value_elaboration.specs.Made.{IsMade, IsSomeOfClass};
 
 use crate::values::Values;
@@ -35,8 +35,8 @@ use std::rc::Rc;
 impl<'a, 'b, 'c> Values<'a, 'b, 'c> {
     // The constant that an expression is, or none where it doesn't have the form of one. Unsound where something is told in it.
     pub(crate) fn constant(&self, expr: &Tree) -> Result<Option<Box<Expr>>, ElaborationRefusal>
-        ensures exact { HasSource self.now → Elaborates (constant_in (source_of self.now) (expr_tree expr.now)) (option_map boxed_expr) result }
-        ensures class { HasSource self.now → IfOk result (IsSomeOfClass (class_of (source_of self.now).known (expr_tree expr.now))) }
+        ensures exact { HasSource self.now → Elaborates (constant_in (source_of self.now) (written_tree expr.now)) (option_map boxed_expr) result }
+        ensures class { HasSource self.now → IfOk result (IsSomeOfClass (class_of (source_of self.now).known (written_tree expr.now))) }
     {
         let mut told = Told::new(self.alloc());
         let known = known(self.walk.evaluation, expr, &mut told)?;
@@ -63,6 +63,7 @@ impl<'a, 'b, 'c> Values<'a, 'b, 'c> {
     }
 
     // The constant of a class and a value.
+    #[tactic(auto, using(crate::proofs::MadeViews::made_views))]
     fn constant_of(
         &self,
         class: Option<Class>,
@@ -88,17 +89,12 @@ impl<'a, 'b, 'c> Values<'a, 'b, 'c> {
             return Err(ElaborationRefusal::Unsound);
         };
         let count = count_in(&class)?;
-        let expr = Expr {
-            class,
-            count,
-            operation,
-        };
-        Ok(boxed(self.alloc(), expr)?)
+        Ok(boxed(self.alloc(), expr_of(class, count, operation))?)
     }
 
     /// The number of an expression that has to be constant: a label of a CASE or a priority.
     pub fn constant_number(&self, expr: &Tree) -> Result<i64, ElaborationRefusal>
-        ensures { HasSource self.now → Elaborates (needed_number (source_of self.now).known (expr_tree expr.now)) (λ n. n) result }
+        ensures { HasSource self.now → Elaborates (needed_number (source_of self.now).known (written_tree expr.now)) (λ n. n) result }
     {
         let mut told = Told::new(self.alloc());
         let Some(known) = needed(self.walk.evaluation, expr, &mut told)? else {
@@ -108,7 +104,21 @@ impl<'a, 'b, 'c> Values<'a, 'b, 'c> {
     }
 }
 
+// An expression of a class, of so many scalars.
+#[tactic(auto, using(crate::proofs::MadeViews::made_views))]
+fn expr_of(class: Class, count: u32, operation: Operation) -> Expr
+    ensures tree { expr_tree result ≡ made.expr count (made.root_bounds (class_tree class)) (operation_tree operation) }
+    ensures class { class_in result ≡ class_tree class }
+{
+    Expr {
+        class,
+        count,
+        operation,
+    }
+}
+
 // The number that a constant of which this is known is.
+#[tactic(auto, using(crate::proofs::Numbers::unclassed_number, crate::proofs::Numbers::other_number, crate::proofs::Numbers::first_number))]
 fn number_known(known: &Known) -> Result<i64, ElaborationRefusal>
     ensures { (c : Option ClassTree) (v : Option ValueTree) → IsKnown c v known.now → Elaborates (option_and_then number_in v) (λ n. n) result }
 {

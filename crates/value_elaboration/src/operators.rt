@@ -17,6 +17,7 @@ use definition_origins::Predefined;
 use modes::{Bounds, Class, Form, Mode, bounds, number_of_values};
 
 /// The operator between operands of these classes, or none where it takes no such operands.
+#[tactic(auto, using(crate::proofs::Operators::forms))]
 pub fn operator_between(operator: Operator, left: &Class, right: &Class) -> Option<Binary>
     ensures { result ≡ operator_between operator (class_tree left.now) (class_tree right.now) }
 {

@@ -74,6 +74,7 @@ impl Path {
     }
 
     // The field of that name.
+    #[tactic(auto, using(crate::proofs::MadeViews::made_views))]
     fn with_field(self, name: &[u8]) -> Result<Path, ElaborationRefusal>
         ensures { Elaborates (model.field_path name.now (path_tree self)) path_tree result }
     {
@@ -87,6 +88,7 @@ impl Path {
     }
 
     // The contents of the location, or the part of the value.
+    #[tactic(auto, using(crate::proofs::MadeViews::made_views))]
     fn into_operation(self, alloc: Global) -> Result<Operation, Memory>
         ensures { IfOk result (λ o. operation_tree o ≡ model.operation_at (path_tree self)) }
     {
@@ -102,6 +104,7 @@ impl Path {
     }
 
     // The location with its mode, or Unsound where it is none.
+    #[tactic(auto, using(crate::proofs::MadeViews::made_views))]
     fn into_target(self) -> Result<Target, ElaborationRefusal>
         ensures { Elaborates (model.target_of (path_tree self)) target_tree result }
     {
@@ -245,6 +248,7 @@ impl<'a, 'b, 'c> Values<'a, 'b, 'c> {
     }
 
     // The element of that index.
+    #[tactic(auto, using(crate::proofs::MadeViews::made_views))]
     fn with_element(&self, path: Path, index: Box<Expr>) -> Result<Path, ElaborationRefusal>
         ensures { HasSource self.now → Elaborates (model.element_path (boxed_expr index) (path_tree path)) path_tree result }
     {

@@ -119,6 +119,7 @@ impl<'a, 'b, 'c> Values<'a, 'b, 'c> {
     }
 
     // THIS.
+    #[tactic(auto, using(crate::proofs::MadeViews::made_views))]
     fn own_instance(&self) -> Result<Box<Expr>, ElaborationRefusal>
         ensures { HasSource self.now → IsMade (Some (derived instance)) (Some own_instance) result }
     {
@@ -127,6 +128,7 @@ impl<'a, 'b, 'c> Values<'a, 'b, 'c> {
     }
 
     // RECEIVE of a buffer.
+    #[tactic(auto, using(crate::proofs::MadeViews::made_views))]
     fn received_from(&self, name: &Name) -> Result<Box<Expr>, ElaborationRefusal>
         ensures { HasSource self.now → IsMade (option_map value (buffer_element (source_of self.now).known name.now)) (option_map receive (buffer_used (source_of self.now) name.now)) result }
     {
@@ -160,6 +162,7 @@ impl<'a, 'b, 'c> Values<'a, 'b, 'c> {
     }
 
     // An operator before what its operand is.
+    #[tactic(auto, using(crate::proofs::MadeViews::made_views))]
     fn prefixed_of(
         &self,
         operator: Prefix,
@@ -192,6 +195,7 @@ impl<'a, 'b, 'c> Values<'a, 'b, 'c> {
     }
 
     // An operator between what its operands are.
+    #[tactic(auto, using(crate::proofs::MadeViews::made_views))]
     fn binary_of(
         &self,
         operator: Operator,
