@@ -5,5 +5,4 @@ pub mod Ways
 pub mod Lists
 pub mod Telling
 pub mod Numbers
-pub mod Operators
 pub mod Ends

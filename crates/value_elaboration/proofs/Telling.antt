@@ -1,6 +1,6 @@
 -- What calls tell of an expression, by what they tell of its parts.
 use Rattle.std.proofs.Common.{◌≡◌, Bool, true, false, List, Option, Some, None, refl, sym, ap, ◌∙◌, subst}
-use Rattle.std.specs.Prelude.{Result, Ok, Err, IfOk, option_map, option_and_then}
+use Rattle.std.specs.Prelude.{Result, Ok, Err, IfOk, IsErrAnd, option_map, option_and_then}
 use Rattle.std.specs.declared.alloc.Global.{Global}
 use Rattle.std.specs.declared.boxed.Box.{Box}
 use Rattle.chill_tree.specs.ExprTree.{ExprTree}
@@ -39,6 +39,38 @@ made_unclassed c o none = record { made = ap (λ (c : Option ClassTree). shown c
 pub made_memory : (c : Option ClassTree) (o : Option made.OperationTree) → IsMade c o (Err Memory)
 made_memory c o = record { made = tt; class = tt }
 
+pub constant_refused : (s : Source) (m : Option ModeTree) (e : ExprTree) (r : ElaborationRefusal) → Elaborates (constant_in s e) (option_map made.boxed_expr) (Err r) → IsElaborated s m e (Err r)
+constant_refused s m e Unsound told = record { exact = refused s m e told; class = tt }
+constant_refused s m e Memory told = record { exact = tt; class = tt }
+
+-- ---- refusals that are handed on by `?`
+
+pub handed : {A B C D : Type 0} (part : Option B) (view : A → B) (whole : Option D) (seen : C → D) (r : Result C ElaborationRefusal) (e : ElaborationRefusal) → IsErrAnd r (λ x. x ≡ e) → (part ≡ None → whole ≡ None) → Elaborates part view (Err e) → Elaborates whole seen r
+handed part view whole seen (Ok x) e same without told = absurd same
+handed part view whole seen (Err x) e same without told = subst (λ (y : ElaborationRefusal). Elaborates whole seen (Err y)) (sym same) (by e told)
+  where
+    by : (e : ElaborationRefusal) → Elaborates part view (Err e) → Elaborates whole seen (Err e)
+    by Unsound told = without told
+    by Memory told = tt
+
+pub memory_handed : {C D : Type 0} (whole : Option D) (seen : C → D) (r : Result C ElaborationRefusal) → IsErrAnd r (λ x. x ≡ Memory) → Elaborates whole seen r
+memory_handed whole seen (Ok x) same = absurd same
+memory_handed whole seen (Err x) same = subst (λ (y : ElaborationRefusal). Elaborates whole seen (Err y)) (sym same) tt
+
+pub made_handed : {A B : Type 0} (part : Option B) (view : A → B) (c : Option ClassTree) (o : Option made.OperationTree) (r : Answer) (e : ElaborationRefusal) → IsErrAnd r (λ x. x ≡ e) → (part ≡ None → o ≡ None) → Elaborates part view (Err e) → IsMade c o r
+made_handed part view c o (Ok x) e same without told = absurd same
+made_handed part view c o (Err x) e same without told = subst (λ (y : ElaborationRefusal). IsMade c o (Err y)) (sym same) (made_refused part view c o e without told)
+
+pub made_memory_handed : (c : Option ClassTree) (o : Option made.OperationTree) (r : Answer) → IsErrAnd r (λ x. x ≡ Memory) → IsMade c o r
+made_memory_handed c o (Ok x) same = absurd same
+made_memory_handed c o (Err x) same = subst (λ (y : ElaborationRefusal). IsMade c o (Err y)) (sym same) (made_memory c o)
+
+pub elaborated_handed : (s : Source) (m : Option ModeTree) (e : ExprTree) (r : Answer) (f : ElaborationRefusal) → IsErrAnd r (λ x. x ≡ f) → Elaborates (constant_in s e) (option_map made.boxed_expr) (Err f) → IsElaborated s m e r
+elaborated_handed s m e (Ok x) f same told = absurd same
+elaborated_handed s m e (Err x) f same told = subst (λ (y : ElaborationRefusal). IsElaborated s m e (Err y)) (sym same) (constant_refused s m e f told)
+
+pub ruleset handing = (memory_handed, made_memory_handed)
+
 -- ---- the same by other words
 
 pub same_made : (c d : Option ClassTree) (o p : Option made.OperationTree) (r : Answer) → c ≡ d → o ≡ p → IsMade c o r → IsMade d p r
@@ -73,10 +105,6 @@ pub not_chained : {A B : Type 0} (f : A → Option B) (a : Option A) → a ≡ N
 not_chained f a none = ap (option_and_then f) none
 
 -- ---- constants
-
-pub constant_refused : (s : Source) (m : Option ModeTree) (e : ExprTree) (r : ElaborationRefusal) → Elaborates (constant_in s e) (option_map made.boxed_expr) (Err r) → IsElaborated s m e (Err r)
-constant_refused s m e Unsound told = record { exact = refused s m e told; class = tt }
-constant_refused s m e Memory told = record { exact = tt; class = tt }
 
 pub constant_given : (s : Source) (m : Option ModeTree) (e : ExprTree) (x : Box Expr Global) → constant_in s e ≡ Some (Some (made.boxed_expr x)) → class_of s.known e ≡ Some (class_in x.value) → IsElaborated s m e (Ok x)
 constant_given s m e x is class = record { exact = given s m e (made.boxed_expr x) is; class = class_alone s.known m e (given_form s e (made.boxed_expr x) is) ∙ class }

@@ -20,7 +20,8 @@ use Rattle.elaboration_model.specs.Parts.{made_of, made_if}
 use Rattle.elaboration_model.specs.Numbering.{Source, thing_used}
 use Rattle.elaboration_model.specs.Expressions.{Root, Path, base_of, folded, expr_as, path, path_at, path_of_name, path_of_value, location_named, with_part, field_path, element_path, index_bounds, index_mode_of, first_of_field, only_one, applied_path, applied_operation, arguments, formals_called, class_first, mode_in_brackets}
 use Rattle.value_elaboration.specs.Shown.{constant_in}
-use Rattle.value_elaboration.specs.Steps.{index_of_path, element_in, element_class}
+use Rattle.elaborated_operators.specs.Forms.{index_of_path}
+use Rattle.value_elaboration.specs.Steps.{element_in, element_class}
 use Rattle.value_elaboration.proofs.Folding.{folded_refused, folded_given, refused_form, given_form, no_form}
 
 -- ---- the mode of a path is that of its class

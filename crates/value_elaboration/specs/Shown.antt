@@ -2,7 +2,7 @@
 use Rattle.std.specs.Prelude.{Bool, true, false, List, Option, Some, None, option_map, if◌then◌else◌}
 use Rattle.diagnostics.specs.declared.diagnostic.Diagnostic.{Diagnostic}
 use Rattle.modes.specs.ModeTree.{ClassTree, value, derived, null, nothing}
-use Rattle.modes.specs.Form.{FormTree, form_of, of_powerset}
+use Rattle.modes.specs.Form.{form_of}
 use Rattle.chill_tree.specs.ExprTree.{ExprTree}
 use Rattle.program_trees.specs.ExprTree as made
 use Rattle.checks_model.specs.Classes.{class_of}
@@ -37,7 +37,3 @@ is_of_numbers (value m) = takes_number (form_of m)
 is_of_numbers (derived m) = takes_number (form_of m)
 is_of_numbers null = true
 is_of_numbers nothing = false
-
-abbrev pub is_of_set : Option FormTree → Bool
-is_of_set (Some (of_powerset m)) = true
-is_of_set _ = false

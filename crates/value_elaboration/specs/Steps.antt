@@ -33,11 +33,6 @@ class_of_one s m _ = None
 abbrev pub argument_of : Source → Formal → ExprTree → Option made.ArgumentTree
 argument_of s f e = argument_for f (received_by s f.1 e) (target s e)
 
--- the mode that an index goes with, by the form of what has elements
-abbrev pub index_of_path : FormTree → Option ModeTree
-index_of_path (of_array i e how) = Some i
-index_of_path _ = None
-
 abbrev pub element_in : Source → ExprTree → Option Path
 element_in s (apply at e es) = made_if element_path (only_one s (index_mode_of (class_of s.known e)) es) (path s e)
 element_in s _ = None

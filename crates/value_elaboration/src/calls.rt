@@ -22,8 +22,7 @@ ghost use Rattle.value_elaboration.specs.Steps.{argument_of, class_of_one};
 ghost use Rattle.value_elaboration.specs.Views.{source_of, HasSource, class_in, applied_tree, formal_tree, some_modes, arguments_tree};
 ghost use Rattle.value_elaboration.specs.Made.{IsOfClass, IsMade, IsElaborated};
 
-use crate::folding::{boxed, same_mode};
-use crate::operators::routine_on;
+use crate::folding::boxed;
 use crate::places::Target;
 use crate::values::Values;
 use checked_program::{Argument, Call, Expr, Operation, Received, Routine, Start};
@@ -32,6 +31,7 @@ use chill_tree::tree::{Expr as Tree, Name, Passing};
 use class_operators::class_of_routine;
 use constant_rules::routine;
 use definition_origins::{Predefined, Told};
+use elaborated_operators::{routine_on, same_mode};
 use expr_rules::{Callee, Formal};
 use modes::{Class, Mode, bounds};
 use program_numbers::ElaborationRefusal;

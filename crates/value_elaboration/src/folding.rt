@@ -4,7 +4,6 @@ ghost use Rattle.diagnostics.specs.declared.diagnostic.Diagnostic.{Diagnostic};
 ghost use Rattle.chill_tree.specs.ExprTree.{expr_tree as written_tree};
 ghost use Rattle.modes.specs.ModeTree.{ClassTree, mode_tree, class_tree};
 ghost use Rattle.modes.specs.Form.{form_of};
-ghost use Rattle.modes.specs.Scalars.{scalars_of};
 ghost use Rattle.program_trees.specs.ExprTree.{expr_tree, operation_tree, boxed_expr};
 ghost use Rattle.program_trees.specs.ExprTree as made;
 ghost use Rattle.checks_model.specs.ValueTrees.{ValueTree};
@@ -13,7 +12,6 @@ ghost use Rattle.checks_model.specs.Classes.{class_of};
 ghost use Rattle.constant_values.specs.Fits.{takes_number};
 ghost use Rattle.constant_operators.specs.Known.{IsKnown};
 ghost use Rattle.constant_rules.specs.Found.{IsFound};
-ghost use Rattle.elaboration_model.specs.Expressions.{count_in};
 ghost use Rattle.expr_rules.specs.Views.{own_class};
 ghost use Rattle.program_numbers.specs.Answers.{Elaborates};
 ghost use Rattle.value_elaboration.specs.Shown.{constant_if, constant_in, is_of_numbers};
@@ -27,10 +25,10 @@ use chill_tree::tree::Expr as Tree;
 use constant_operators::Known;
 use constant_rules::{known, needed};
 use definition_origins::Told;
-use modes::{Class, Form, Mode, form_of, number_of_scalars};
+use elaborated_operators::count_in;
+use modes::{Class, Form, Mode, form_of};
 use program_numbers::ElaborationRefusal;
 use std::alloc::Global;
-use std::rc::Rc;
 
 impl<'a, 'b, 'c> Values<'a, 'b, 'c> {
     // The constant that an expression is, or none where it doesn't have the form of one. Unsound where something is told in it.
@@ -157,38 +155,6 @@ fn is_single(mode: &Mode) -> bool
         | Form::Struct { .. }
         | Form::Meeting => false,
     }
-}
-
-// The most scalars of which a mode of a program has any number.
-const MOST_SCALARS: u32 = 4096;
-
-/// How many flat scalars a value of a class has. NULL has one, and what gives no value has none.
-fn count_in(class: &Class) -> Result<u32, Memory>
-    ensures { IfOk result (λ n. n ≡ count_in (class_tree class.now)) }
-{
-    match class {
-        Class::Value(mode) | Class::Derived(mode) => scalars_in(mode),
-        Class::Null => Ok(1),
-        Class::Nothing => Ok(0),
-    }
-}
-
-/// How many flat scalars a value of a mode has; want of memory where they are more than any mode of a program has.
-pub(crate) fn scalars_in(mode: &Mode) -> Result<u32, Memory>
-    ensures { IfOk result (λ n. n ≡ scalars_of (mode_tree mode.now)) }
-{
-    let count = number_of_scalars(mode);
-    if count > MOST_SCALARS {
-        return Err(Memory);
-    }
-    Ok(count)
-}
-
-/// The same mode once more.
-pub(crate) fn same_mode(mode: &Rc<Mode>) -> Result<Rc<Mode>, Memory>
-    ensures { IfOk result (λ m. mode_tree m.value ≡ mode_tree mode.now.value) }
-{
-    Ok(mode.clone()?)
 }
 
 /// A value in a box.

@@ -3,18 +3,17 @@
 //!
 //! It meets the definition of `elaboration_model`, function by function. It stands on `expr_rules` and `constant_rules`, of which
 //! it asks classes and constants, and on the numbers of `program_numbers`; the elaborated statements stand on it.
-#![tactic(auto, using(program_numbers::proofs::Answering::handed_on))]
+#![tactic(auto, using(crate::proofs::Telling::handing))]
 
 mod calls;
 mod folding;
 mod formals;
-mod operators;
 mod places;
 mod tuples;
 mod values;
 
 pub use calls::Applied;
-pub use operators::operator_between;
+pub use elaborated_operators::operator_between;
 pub use places::Target;
 pub use program_numbers::{ElaborationRefusal, Evaluation, Numbering, Predefined, Thing};
 pub use values::Values;

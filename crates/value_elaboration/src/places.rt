@@ -1,29 +1,27 @@
 // Names with their parts: locations, and parts of other values (Z.200, chapter on locations).
-ghost use Rattle.std.specs.Prelude.{◌≡◌, ◌+◌, Some, IfOk, option_map, option_and_then};
-ghost use Rattle.std.specs.Str.{bytes_eq};
+ghost use Rattle.std.specs.Prelude.{◌≡◌, Some, IfOk, option_map, option_and_then};
 ghost use Rattle.chill_tree.specs.ExprTree.{expr_tree};
-ghost use Rattle.modes.specs.ModeTree.{value, mode_tree, class_tree, field_tree, field_trees, field_nodes};
-ghost use Rattle.modes.specs.Form.{form_of};
-ghost use Rattle.modes.specs.Scalars.{scalars_of};
+ghost use Rattle.modes.specs.ModeTree.{value, mode_tree};
 ghost use Rattle.program_trees.specs.ExprTree.{boxed_expr, operation_tree, part_tree};
-ghost use Rattle.checks_model.specs.Alike.{mode_in};
 ghost use Rattle.checks_model.specs.Operations.{part_of_class, field_of_form};
 ghost use Rattle.checks_model.specs.Classes.{class_of, class_of_name};
 ghost use Rattle.elaboration_model.specs.Expressions as model;
-ghost use Rattle.expr_rules.specs.Views.{some_mode, own_mode};
 ghost use Rattle.program_numbers.specs.Answers.{Elaborates};
-ghost use Rattle.value_elaboration.specs.Steps.{index_of_path, element_in, element_class};
+ghost use Rattle.value_elaboration.specs.Steps.{element_in, element_class};
 ghost use Rattle.value_elaboration.specs.Views.{source_of, HasSource, class_in, path_tree, target_tree};
 ghost use Rattle.value_elaboration.specs.Made.{IsMade};
 
-use crate::folding::{boxed, same_mode, scalars_in};
+use crate::folding::boxed;
 use crate::values::Values;
 use checked_program::{Base, Expr, Location, Operation, Part};
 use chill_base::{List, Memory};
 use chill_tree::tree::{Expr as Tree, Name};
 use class_operators::field_in;
+use elaborated_operators::{
+    first_of_field, index_bounds, index_mode_of, mode_of, same_mode, scalars_in,
+};
 use expr_rules::Callee;
-use modes::{Bounds, Class, Field, Form, Mode, bounds, form_of};
+use modes::{Class, Mode};
 use program_numbers::ElaborationRefusal;
 use std::alloc::Global;
 use std::rc::Rc;
@@ -266,112 +264,5 @@ impl<'a, 'b, 'c> Values<'a, 'b, 'c> {
             count,
         };
         Ok(path.with_part(part, mode)?)
-    }
-}
-
-// The mode of a class.
-fn mode_of(class: &Class) -> Result<Option<Rc<Mode>>, Memory>
-    ensures { IfOk result (λ m. own_mode m ≡ mode_in (class_tree class.now)) }
-{
-    match class {
-        Class::Value(mode) | Class::Derived(mode) => Ok(Some(same_mode(mode)?)),
-        Class::Null | Class::Nothing => Ok(None),
-    }
-}
-
-// The mode that an index has to go with: that of an array.
-fn index_mode_of(mode: &Mode) -> Option<&Rc<Mode>>
-    ensures { some_mode result ≡ index_of_path (form_of (mode_tree mode.now)) }
-{
-    match form_of(mode) {
-        Form::Array { index, .. } => Some(index),
-        Form::Int
-        | Form::Bool
-        | Form::Char
-        | Form::Instance
-        | Form::Set { .. }
-        | Form::Powerset(_)
-        | Form::Chars(_)
-        | Form::Struct { .. }
-        | Form::Meeting => None,
-    }
-}
-
-// The bounds of the indices of an array, or of a text, whose first character has the index 0.
-fn index_bounds(mode: &Mode) -> Option<Bounds>
-    ensures { result ≡ model.index_bounds (form_of (mode_tree mode.now)) }
-{
-    match form_of(mode) {
-        Form::Array { index, .. } => bounds(index),
-        Form::Chars(length) => Some(Bounds {
-            low: 0,
-            high: i64::from(length) - 1,
-        }),
-        Form::Int
-        | Form::Bool
-        | Form::Char
-        | Form::Instance
-        | Form::Set { .. }
-        | Form::Powerset(_)
-        | Form::Struct { .. }
-        | Form::Meeting => None,
-    }
-}
-
-// The number of the first scalar of the field of that name.
-fn first_of_field(mode: &Mode, name: &[u8]) -> Result<u32, Memory>
-    ensures { IfOk result (λ n. n ≡ model.first_of_field name.now (form_of (mode_tree mode.now))) }
-{
-    match form_of(mode) {
-        Form::Struct { fields, .. } => first_in(fields.as_slice(), name),
-        Form::Int
-        | Form::Bool
-        | Form::Char
-        | Form::Instance
-        | Form::Set { .. }
-        | Form::Powerset(_)
-        | Form::Chars(_)
-        | Form::Array { .. }
-        | Form::Meeting => Ok(0),
-    }
-}
-
-// The scalars of the fields before the first of that name.
-fn first_in(fields: &[Field], name: &[u8]) -> Result<u32, Memory>
-    ensures { IfOk result (λ n. n ≡ model.first_in name.now (field_nodes (field_trees fields.now))) }
-{
-    let mut first = 0_u32;
-    for field in fields {
-        if has_name(field, name) {
-            return Ok(first);
-        }
-        first = sum(first, scalars_of_field(field)?)?;
-    }
-    Ok(first)
-}
-
-// Whether a field has a name.
-#[tactic(auto, using(modes::proofs::ModeViews::mode_built))]
-fn has_name(field: &Field, name: &[u8]) -> bool
-    ensures { result ≡ bytes_eq (field_tree field.now).name name.now }
-{
-    field.name.as_slice() == name
-}
-
-// How many scalars a field has.
-#[tactic(auto, using(modes::proofs::ModeViews::mode_built))]
-fn scalars_of_field(field: &Field) -> Result<u32, Memory>
-    ensures { IfOk result (λ n. n ≡ scalars_of (field_tree field.now).mode) }
-{
-    scalars_in(&field.mode)
-}
-
-// The sum of two numbers of scalars.
-fn sum(first: u32, second: u32) -> Result<u32, Memory>
-    ensures { IfOk result (λ n. n ≡ first + second) }
-{
-    match first.checked_add(second) {
-        None => Err(Memory),
-        Some(sum) => Ok(sum),
     }
 }

@@ -16,12 +16,12 @@ ghost use Rattle.value_elaboration.specs.Steps.{tuple_in, uniform_in, uniform_ma
 ghost use Rattle.value_elaboration.specs.Views.{source_of, HasSource, members_tree};
 ghost use Rattle.value_elaboration.specs.Made.{IsMade};
 
-use crate::operators::values_in;
 use crate::values::Values;
 use checked_program::{Expr, Operation, Range, Received};
 use chill_base::{List, Memory};
 use chill_tree::tree::{Expr as Tree, Name, ValueRange};
 use constant_operators::shared;
+use elaborated_operators::values_in;
 use expr_rules::{Receiver, Shape, shape_of};
 use modes::{Class, Form, Mode, bounds, form_of};
 use program_numbers::ElaborationRefusal;

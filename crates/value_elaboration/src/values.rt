@@ -18,10 +18,10 @@ ghost use Rattle.value_elaboration.specs.Views.{source_of, HasSource, class_in};
 ghost use Rattle.value_elaboration.specs.Made.{IsOfClass, IsMade, IsElaborated};
 
 use crate::folding::boxed;
-use crate::operators::{operator_before, operator_between};
 use checked_program::{Expr, Operation, Received};
 use chill_tree::tree::{Expr as Tree, Name, Operator, Prefix};
 use class_operators::{class_of_binary, class_of_unary};
+use elaborated_operators::{operator_before, operator_between};
 use expr_rules::Walk;
 use modes::{Mode, bounds};
 use program_numbers::{ElaborationRefusal, Numbering};

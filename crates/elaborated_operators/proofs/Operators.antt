@@ -4,7 +4,7 @@ use Rattle.std.proofs.lemmas.Bool.{false≢true}
 use Rattle.chill_tree.specs.declared.tree.expr.Operator.{Operator}
 use Rattle.modes.specs.Form.{FormTree, of_int, of_boolean, of_char, of_instance, of_set, of_powerset, of_chars, of_array, of_structure, of_meeting}
 use Rattle.elaboration_model.specs.Expressions.{by_form, between_sets, between_numbers}
-use Rattle.value_elaboration.specs.Shown.{is_of_set}
+use Rattle.elaborated_operators.specs.Forms.{is_of_set}
 
 pub set_form : (o : Operator) (f : Option FormTree) → is_of_set f ≡ true → by_form o f ≡ between_sets o
 set_form o (Some (of_powerset m)) is = refl

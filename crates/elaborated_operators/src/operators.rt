@@ -1,20 +1,19 @@
 // Operators and routines of the language, and those of the elaborated program, by the classes of their operands (Z.200,
 // chapter on operations).
 ghost use Rattle.std.specs.Prelude.{◌≡◌, IfOk, option_map};
-ghost use Rattle.modes.specs.ModeTree.{mode_tree, class_tree};
-ghost use Rattle.modes.specs.Bounds.{values_of};
+ghost use Rattle.modes.specs.ModeTree.{class_tree};
 ghost use Rattle.checked_program.specs.declared.expr.Binary.TheVariants as binaries;
 ghost use Rattle.checks_model.specs.Operations.{form_in};
 ghost use Rattle.class_operators.specs.Predefined.{predefined_tree};
 ghost use Rattle.elaboration_model.specs.Expressions.{operator_between, member_bounds, between_sets, between_numbers, operator_before, negation_by, routine_on, class_bounds};
-ghost use Rattle.value_elaboration.specs.Shown.{is_of_set};
+ghost use Rattle.elaborated_operators.specs.Forms.{is_of_set};
 
+use crate::counts::values_in;
 use checked_program::{Binary, Prefix, Routine};
 use chill_base::Memory;
 use chill_tree::tree::{Operator, Prefix as WrittenPrefix};
-use class_operators::{form_in, mode_in};
-use definition_origins::Predefined;
-use modes::{Bounds, Class, Form, Mode, bounds, number_of_values};
+use class_operators::{Predefined, form_in, mode_in};
+use modes::{Bounds, Class, Form, bounds};
 
 /// The operator between operands of these classes, or none where it takes no such operands.
 #[tactic(auto, using(crate::proofs::Operators::forms))]
@@ -136,7 +135,7 @@ fn between_numbers(operator: Operator) -> Option<Binary>
 }
 
 /// The operator before an operand of this class.
-pub(crate) fn operator_before(operator: WrittenPrefix, operand: &Class) -> Result<Prefix, Memory>
+pub fn operator_before(operator: WrittenPrefix, operand: &Class) -> Result<Prefix, Memory>
     ensures { IfOk result (λ p. p ≡ operator_before operator (class_tree operand.now)) }
 {
     match operator {
@@ -166,18 +165,8 @@ fn negation(operand: &Class) -> Result<Prefix, Memory>
     }
 }
 
-/// How many values a discrete mode has; want of memory where they are more than any mode of a program can tell apart.
-pub(crate) fn values_in(mode: &Mode) -> Result<u32, Memory>
-    ensures { IfOk result (λ n. n ≡ values_of (mode_tree mode.now)) }
-{
-    match u32::try_from(number_of_values(mode)) {
-        Ok(count) => Ok(count),
-        Err(_) => Err(Memory),
-    }
-}
-
 /// The routine of an argument of this class, or none where it isn't one of a value or takes no such argument.
-pub(crate) fn routine_on(own: Predefined, argument: &Class) -> Option<Routine>
+pub fn routine_on(own: Predefined, argument: &Class) -> Option<Routine>
     ensures { result ≡ routine_on (predefined_tree own) (class_tree argument.now) }
 {
     match own {
