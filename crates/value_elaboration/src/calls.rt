@@ -26,7 +26,7 @@ use crate::folding::boxed;
 use crate::places::Target;
 use crate::values::Values;
 use checked_program::{Argument, Call, Expr, Operation, Received, Routine, Start};
-use chill_base::{List, Memory};
+use chill_base::List;
 use chill_tree::tree::{Expr as Tree, Name, Passing};
 use class_operators::class_of_routine;
 use constant_rules::routine;
