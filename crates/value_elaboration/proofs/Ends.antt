@@ -45,7 +45,7 @@ prefixed_whole s o e x r tree class h =
     same_made _ _ _ _ r (sym (ap (option_and_then (class_of_unary o)) class))
     (sym (both_there (λ (c : ClassTree) (e : made.ExprTree). made.prefixed (operator_before o c) e) (class_of s.known e) (expr_as s None e) (class_in x.value) (made.boxed_expr x) class tree)) h
 
-prefixed_without : (s : Source) (o : Prefix) (e : ExprTree) → expr_as s None e ≡ None → made_of (λ c e. made.prefixed (operator_before o c) e) (class_of s.known e) (expr_as s None e) ≡ None
+pub prefixed_without : (s : Source) (o : Prefix) (e : ExprTree) → expr_as s None e ≡ None → made_of (λ c e. made.prefixed (operator_before o c) e) (class_of s.known e) (expr_as s None e) ≡ None
 prefixed_without s o e none = ap (made_of (λ (c : ClassTree) (e : made.ExprTree). made.prefixed (operator_before o c) e) (class_of s.known e)) none ∙ by (class_of s.known e)
   where
     by : (c : Option ClassTree) → made_of (λ (c : ClassTree) (e : made.ExprTree). made.prefixed (operator_before o c) e) c None ≡ None
@@ -182,47 +182,47 @@ evaluated_in s n p es is = sym (ap by is)
 
 module _ (s : Source) (m : Option ModeTree) (at : Pos) (r : Answer) where
   pub this_node : IsMade (Some (derived instance)) (Some made.own_instance) r → IsElaborated s m (this_instance at) r
-  this_node h = made_elaborated s m (this_instance at) _ _ r refl refl h
+  this_node h = made_elaborated s m (this_instance at) _ _ r h refl refl
 
   pub receive_node : (n : Name) → IsMade (option_map value (buffer_element s.known n)) (option_map made.receive (buffer_used s n)) r → IsElaborated s m (receive at n) r
-  receive_node n h = made_elaborated s m (receive at n) _ _ r refl refl h
+  receive_node n h = made_elaborated s m (receive at n) _ _ r h refl refl
 
   pub start_node : (n : Name) (es : ExprNodes) → IsMade (Some (derived instance)) (made_of (λ b rs. made.start (made.started b rs)) (body_used s n) (received_each s (modes_by s (origin_of s.known n)) es)) r → IsElaborated s m (start at n es) r
-  start_node n es h = made_elaborated s m (start at n es) _ _ r refl refl h
+  start_node n es h = made_elaborated s m (start at n es) _ _ r h refl refl
 
   pub field_node : (e : ExprTree) (n : Name) → IsMade (option_map (part_of_class (field_of_form n.text)) (class_of s.known e)) (option_map operation_at (option_and_then (field_path n.text) (path s e))) r → IsElaborated s m (field at e n) r
-  field_node e n h = made_elaborated s m (field at e n) _ _ r refl refl h
+  field_node e n h = made_elaborated s m (field at e n) _ _ r h refl refl
 
   pub prefixed_node : (o : Prefix) (e : ExprTree) → has_form s.known false (prefixed at o e) ≡ false
       → IsMade (option_and_then (class_of_unary o) (class_of s.known e)) (made_of (λ c e. made.prefixed (operator_before o c) e) (class_of s.known e) (expr_as s None e)) r → IsElaborated s m (prefixed at o e) r
-  prefixed_node o e form h = made_elaborated s m (prefixed at o e) _ _ r (prefixed_as s m at o e form) refl h
+  prefixed_node o e form h = made_elaborated s m (prefixed at o e) _ _ r h (prefixed_as s m at o e form) refl
 
   pub tuple_node : (n : Option Name) (b : Pos) (rs : RangeNodes) → has_form s.known false (tuple at n b rs) ≡ false
       → IsMade (option_and_then (value_if (shape_fits rs)) (tuple_mode s.known n m)) (option_and_then (λ own. tuple_operation (form_of own) (ranges_as s own rs) (parts_as s (shape_fits rs) 0 (Some own) rs)) (tuple_mode s.known n m)) r → IsElaborated s m (tuple at n b rs) r
-  tuple_node n b rs form h = made_elaborated s m (tuple at n b rs) _ _ r (tuple_as s m at n b rs form) refl h
+  tuple_node n b rs form h = made_elaborated s m (tuple at n b rs) _ _ r h (tuple_as s m at n b rs form) refl
 
   pub uniform_node : (n : Option Name) (b : Pos) (e : ExprTree) → has_form s.known false (uniform at n b e) ≡ false
       → IsMade (option_and_then (value_if uniform_fits) (tuple_mode s.known n m)) (uniform_made s (tuple_mode s.known n m) e) r → IsElaborated s m (uniform at n b e) r
-  uniform_node n b e form h = made_elaborated s m (uniform at n b e) _ _ r (uniform_as s m at n b e form) refl h
+  uniform_node n b e form h = made_elaborated s m (uniform at n b e) _ _ r h (uniform_as s m at n b e form) refl
 
 pub name_node : (s : Source) (m : Option ModeTree) (r : Answer) (n : Name) → has_form s.known false (name n) ≡ false → IsMade (class_of_name s.known n) (option_map operation_at (location_named s n)) r → IsElaborated s m (name n) r
-name_node s m r n form h = made_elaborated s m (name n) _ _ r (name_as s m n form) refl h
+name_node s m r n form h = made_elaborated s m (name n) _ _ r h (name_as s m n form) refl
 
 -- handed down whole
 pub binary_node : (s : Source) (m : Option ModeTree) (r : Answer) (x : ExprTree) (at : Pos) (l : ExprTree) (o : Operator) (p : Pos) (e : ExprTree) → x ≡ binary at l o p e → has_form s.known false x ≡ false → IsMade (class_between s x) (operation_between s x) r → IsElaborated s m x r
 binary_node s m r x at l o p e is =
     subst (λ (x : ExprTree). has_form s.known false x ≡ false → IsMade (class_between s x) (operation_between s x) r → IsElaborated s m x r) (sym is)
-    (λ form h. made_elaborated s m (binary at l o p e) _ _ r (binary_as s m at l o p e form) refl h)
+    (λ form h. made_elaborated s m (binary at l o p e) _ _ r h (binary_as s m at l o p e form) refl)
 
 module _ (s : Source) (m : Option ModeTree) (r : Answer) (x : ExprTree) (at : Pos) (e : ExprTree) (es : ExprNodes) (is : x ≡ apply at e es) where
   whole : (has_form s.known false (apply at e es) ≡ false → IsElaborated s m (apply at e es) r) → has_form s.known false x ≡ false → IsElaborated s m x r
   whole = subst (λ (x : ExprTree). (has_form s.known false (apply at e es) ≡ false → IsElaborated s m (apply at e es) r) → has_form s.known false x ≡ false → IsElaborated s m x r) (sym is) (λ told form. told form)
 
   pub calls_node : (n : Name) → callee_of s.known e ≡ calls n → IsMade (option_map value (mode_of_entry (entry_of s.known n))) (call_operation s n (arguments s (formals_by s (origin_of s.known n)) es)) r → has_form s.known false x ≡ false → IsElaborated s m x r
-  calls_node n callee h = whole (λ form. made_elaborated s m (apply at e es) _ _ r (calls_as s m at e es form n callee) (class-calls s.known at e es n callee) h)
+  calls_node n callee h = whole (λ form. made_elaborated s m (apply at e es) _ _ r h (calls_as s m at e es form n callee) (class-calls s.known at e es n callee))
 
   pub routine_node : (p : Predefined) → callee_of s.known e ≡ routine p → IsMade (class_of_call p (measured_first s.known es) (class_of_first s.known es)) (routine_operation p (class_first s es) (only_one s None es)) r → has_form s.known false x ≡ false → IsElaborated s m x r
-  routine_node p callee h = whole (λ form. made_elaborated s m (apply at e es) _ _ r (routine_as s m at e es form p callee) (class-routine s.known at e es p callee) h)
+  routine_node p callee h = whole (λ form. made_elaborated s m (apply at e es) _ _ r h (routine_as s m at e es form p callee) (class-routine s.known at e es p callee))
 
   pub element_node : callee_of s.known e ≡ no_callee → IsMade (element_class s x) (option_map operation_at (element_in s x)) r → has_form s.known false x ≡ false → IsElaborated s m x r
-  element_node callee h = whole (λ form. made_elaborated s m (apply at e es) _ _ r (element_as s m at e es form callee) (class-index s.known at e es callee) (subst (λ (x : ExprTree). IsMade (element_class s x) (option_map operation_at (element_in s x)) r) is h))
+  element_node callee h = whole (λ form. made_elaborated s m (apply at e es) _ _ r (subst (λ (x : ExprTree). IsMade (element_class s x) (option_map operation_at (element_in s x)) r) is h) (element_as s m at e es form callee) (class-index s.known at e es callee))

@@ -83,8 +83,8 @@ same_class : (c d : Option ClassTree) (r : Answer) → c ≡ d → IsOfClass c r
 same_class c d r same h = subst (λ (d : Option ClassTree). IsOfClass d r) same h
 
 -- an expression that is an operation of a class
-pub made_elaborated : (s : Source) (m : Option ModeTree) (e : ExprTree) (c : Option ClassTree) (o : Option made.OperationTree) (r : Answer) → expr_as s m e ≡ shown c o → class_as s.known m e ≡ c → IsMade c o r → IsElaborated s m e r
-made_elaborated s m e c o r shows class h = record { exact = same_shown (shown c o) (expr_as s m e) r (sym shows) h.made; class = same_class c (class_as s.known m e) r (sym class) h.class }
+pub made_elaborated : (s : Source) (m : Option ModeTree) (e : ExprTree) (c : Option ClassTree) (o : Option made.OperationTree) (r : Answer) → IsMade c o r → expr_as s m e ≡ shown c o → class_as s.known m e ≡ c → IsElaborated s m e r
+made_elaborated s m e c o r h shows class = record { exact = same_shown (shown c o) (expr_as s m e) r (sym shows) h.made; class = same_class c (class_as s.known m e) r (sym class) h.class }
 
 -- ---- parts
 
