@@ -1,2 +1,2 @@
-pub mod Operators
+pub mod ByForm
 pub mod Fields

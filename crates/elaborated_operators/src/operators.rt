@@ -16,7 +16,7 @@ use class_operators::{Predefined, form_in, mode_in};
 use modes::{Bounds, Class, Form, bounds};
 
 /// The operator between operands of these classes, or none where it takes no such operands.
-#[tactic(auto, using(crate::proofs::Operators::forms))]
+#[tactic(auto, using(crate::proofs::ByForm::forms))]
 pub fn operator_between(operator: Operator, left: &Class, right: &Class) -> Option<Binary>
     ensures { result ≡ operator_between operator (class_tree left.now) (class_tree right.now) }
 {

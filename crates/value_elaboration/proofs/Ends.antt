@@ -32,7 +32,7 @@ use Rattle.value_elaboration.specs.Shown.{shown, constant_if, constant_in}
 use Rattle.value_elaboration.specs.Steps.{class_between, operation_between, class_of_one, element_in, element_class, tuple_in, uniform_in, uniform_made}
 use Rattle.value_elaboration.specs.Views.{class_in}
 use Rattle.value_elaboration.specs.Made.{IsOfClass, IsMade, IsElaborated}
-use Rattle.value_elaboration.proofs.Folding.{no_operation}
+use Rattle.value_elaboration.proofs.Constants.{no_operation}
 use Rattle.value_elaboration.proofs.Nodes.{prefixed_as, binary_as, name_as, calls_as, routine_as, element_as, tuple_as, uniform_as, routine_of_one, routine_without, between_refused, between_refused_later, fitting_refused, fitting_given, fitting_class, uniform_shown, uniform_class}
 use Rattle.value_elaboration.proofs.Telling.{Answer, same_made, made_refused, made_elaborated, both_there}
 

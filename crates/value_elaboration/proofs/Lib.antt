@@ -1,5 +1,5 @@
 pub mod MadeViews
-pub mod Folding
+pub mod Constants
 pub mod Nodes
 pub mod Ways
 pub mod Lists

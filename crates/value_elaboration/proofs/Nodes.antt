@@ -19,7 +19,7 @@ use Rattle.elaboration_model.specs.Numbering.{Source}
 use Rattle.elaboration_model.specs.Expressions.{Path, folded, expr_as, path, arguments, only_one, ranges_as, parts_as, received_as, received_by, location_named, operation_at, field_path, element_path, index_mode_of, mode_in_brackets, formals_called, formals_by, class_first, call_operation, routine_operation, routine_on, applied_operation, operator_before, operator_between, tuple_operation, uniform_operation}
 use Rattle.value_elaboration.specs.Shown.{shown}
 use Rattle.value_elaboration.specs.Steps.{class_between, operation_between, element_in, element_class, tuple_in, uniform_in}
-use Rattle.value_elaboration.proofs.Folding.{unfolded, no_operation}
+use Rattle.value_elaboration.proofs.Constants.{unfolded, no_operation}
 use Rattle.expr_rules.proofs.Applied.{class-calls}
 
 pub prefixed_as : (s : Source) (m : Option ModeTree) (at : Pos) (o : Prefix) (e : ExprTree) → has_form s.known false (prefixed at o e) ≡ false

@@ -18,7 +18,7 @@ use Rattle.program_numbers.specs.Answers.{Elaborates}
 use Rattle.value_elaboration.specs.Shown.{shown, constant_in}
 use Rattle.value_elaboration.specs.Views.{class_in}
 use Rattle.value_elaboration.specs.Made.{IsOfClass, IsSomeOfClass, IsMade, IsElaborated}
-use Rattle.value_elaboration.proofs.Folding.{refused, given, given_form, class_alone, no_operation}
+use Rattle.value_elaboration.proofs.Constants.{refused, given, given_form, class_alone, no_operation}
 
 abbrev pub Answer : Type 0
 Answer = Result (Box Expr Global) ElaborationRefusal

@@ -22,7 +22,7 @@ use Rattle.elaboration_model.specs.Expressions.{Root, Path, base_of, folded, exp
 use Rattle.value_elaboration.specs.Shown.{constant_in}
 use Rattle.elaborated_operators.specs.Forms.{index_of_path}
 use Rattle.value_elaboration.specs.Steps.{element_in, element_class}
-use Rattle.value_elaboration.proofs.Folding.{folded_refused, folded_given, refused_form, given_form, no_form}
+use Rattle.value_elaboration.proofs.Constants.{folded_refused, folded_given, refused_form, given_form, no_form}
 
 -- ---- the mode of a path is that of its class
 
