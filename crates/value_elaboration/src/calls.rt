@@ -47,6 +47,7 @@ pub struct Applied {
 impl<'a, 'b, 'c> Values<'a, 'b, 'c> {
     // Brackets behind an expression, which is handed down whole, since both it and what is in the brackets are parts: a call, a
     // routine's result, or an element.
+    #[tactic(auto, using(chill_tree::proofs::ExprViews::expr_built, crate::proofs::Ends::calls_node, crate::proofs::Ends::routine_node, crate::proofs::Ends::element_node))]
     #[cycle(value)]
     pub(crate) fn applied(&self, expr: &Tree) -> Result<Box<Expr>, ElaborationRefusal>
         ensures { HasSource self.now → has_form (source_of self.now).known false (expr_tree expr.now) ≡ false → is_apply (expr_tree expr.now) ≡ true → (m : Option ModeTree) → IsElaborated (source_of self.now) m (expr_tree expr.now) result }
@@ -62,6 +63,7 @@ impl<'a, 'b, 'c> Values<'a, 'b, 'c> {
     }
 
     /// The call of the procedure of that name.
+    #[tactic(auto, using(crate::proofs::Telling::handed, crate::proofs::Telling::first_missing, crate::proofs::Telling::second_missing, crate::proofs::Telling::both_there, crate::proofs::MadeViews::made_views))]
     #[cycle(value)]
     pub fn call(&self, name: &Name, args: &[Tree]) -> Result<Call, ElaborationRefusal>
         ensures { HasSource self.now → Elaborates (made_of called (body_used (source_of self.now) name.now) (model.arguments (source_of self.now) (model.formals_by (source_of self.now) (origin_of (source_of self.now).known name.now)) (expr_nodes (expr_trees args.now)))) call_tree result }
@@ -73,6 +75,7 @@ impl<'a, 'b, 'c> Values<'a, 'b, 'c> {
     }
 
     // A call of a procedure that stands as a value.
+    #[tactic(auto, using(crate::proofs::Telling::made_handed, crate::proofs::Ends::through_missing, crate::proofs::Ends::called_whole, crate::proofs::MadeViews::made_views))]
     #[cycle(value)]
     fn called(&self, name: &Name, args: &[Tree]) -> Result<Box<Expr>, ElaborationRefusal>
         ensures { HasSource self.now → IsMade (option_map value (mode_of_entry (entry_of (source_of self.now).known name.now))) (model.call_operation (source_of self.now) name.now (model.arguments (source_of self.now) (model.formals_by (source_of self.now) (origin_of (source_of self.now).known name.now)) (expr_nodes (expr_trees args.now)))) result }
@@ -84,6 +87,7 @@ impl<'a, 'b, 'c> Values<'a, 'b, 'c> {
     }
 
     // The arguments of a call.
+    #[tactic(auto, using(crate::proofs::Telling::handed, crate::proofs::Lists::arguments_apart, crate::proofs::Lists::arguments_end))]
     #[cycle(value)]
     fn arguments(
         &self,
@@ -103,6 +107,7 @@ impl<'a, 'b, 'c> Values<'a, 'b, 'c> {
     }
 
     // The argument for a parameter.
+    #[tactic(auto, using(crate::proofs::Telling::handed, crate::proofs::Telling::not_mapped, crate::proofs::MadeViews::made_views))]
     #[cycle(value)]
     fn argument(&self, arg: &Tree, formal: Formal<'_>) -> Result<Argument, ElaborationRefusal>
         ensures { HasSource self.now → Elaborates (argument_of (source_of self.now) (formal_tree formal.entry) (expr_tree arg.now)) argument_tree result }
@@ -115,6 +120,7 @@ impl<'a, 'b, 'c> Values<'a, 'b, 'c> {
     }
 
     /// The START of the process of that name.
+    #[tactic(auto, using(crate::proofs::Telling::handed, crate::proofs::Telling::first_missing, crate::proofs::Telling::second_missing, crate::proofs::Telling::both_there, crate::proofs::MadeViews::made_views))]
     #[cycle(value)]
     pub fn start(&self, name: &Name, args: &[Tree]) -> Result<Start, ElaborationRefusal>
         ensures { HasSource self.now → Elaborates (made_of started (body_used (source_of self.now) name.now) (model.received_each (source_of self.now) (model.modes_by (source_of self.now) (origin_of (source_of self.now).known name.now)) (expr_nodes (expr_trees args.now)))) start_tree result }
@@ -126,6 +132,7 @@ impl<'a, 'b, 'c> Values<'a, 'b, 'c> {
     }
 
     /// The parts of what is sent to a buffer or by a signal.
+    #[tactic(auto, using(crate::proofs::Telling::handed))]
     pub fn parts_sent(
         &self,
         name: &Name,
@@ -140,6 +147,7 @@ impl<'a, 'b, 'c> Values<'a, 'b, 'c> {
     }
 
     // Values that go to places of modes.
+    #[tactic(auto, using(crate::proofs::Telling::handed, crate::proofs::Lists::received_apart, crate::proofs::Lists::received_end))]
     #[cycle(value)]
     fn received_each(
         &self,
@@ -159,6 +167,7 @@ impl<'a, 'b, 'c> Values<'a, 'b, 'c> {
     }
 
     /// The only expression in brackets.
+    #[tactic(auto, using(crate::proofs::Telling::handed))]
     #[cycle(value)]
     pub fn only_one(
         &self,
@@ -175,6 +184,7 @@ impl<'a, 'b, 'c> Values<'a, 'b, 'c> {
     }
 
     // A call of a routine that stands as a value and doesn't have the form of a constant.
+    #[tactic(auto, using(crate::proofs::Telling::made_handed, crate::proofs::Nodes::routine_without, crate::proofs::Ends::routine_input, crate::proofs::Ends::routine_whole))]
     #[cycle(value)]
     fn routine_value(
         &self,
@@ -200,7 +210,7 @@ impl<'a, 'b, 'c> Values<'a, 'b, 'c> {
     }
 
     // A routine of what its argument is.
-    #[tactic(auto, using(crate::proofs::MadeViews::made_views))]
+    #[tactic(auto, using(crate::proofs::MadeViews::made_views, crate::proofs::Telling::made_handed, crate::proofs::Telling::made_unsound))]
     fn routine_of(
         &self,
         own: Predefined,
@@ -231,6 +241,7 @@ impl<'a, 'b, 'c> Values<'a, 'b, 'c> {
     }
 
     /// A routine of one value that stands as an action.
+    #[tactic(auto, using(crate::proofs::Telling::handed, crate::proofs::Telling::second_missing))]
     pub fn routine_applied(
         &self,
         own: Predefined,

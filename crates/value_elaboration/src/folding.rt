@@ -32,6 +32,7 @@ use std::alloc::Global;
 
 impl<'a, 'b, 'c> Values<'a, 'b, 'c> {
     // The constant that an expression is, or none where it doesn't have the form of one. Unsound where something is told in it.
+    #[tactic(auto, using(crate::proofs::Telling::handed))]
     pub(crate) fn constant(&self, expr: &Tree) -> Result<Option<Box<Expr>>, ElaborationRefusal>
         ensures exact { HasSource self.now → Elaborates (constant_in (source_of self.now) (written_tree expr.now)) (option_map boxed_expr) result }
         ensures class { HasSource self.now → IfOk result (IsSomeOfClass (class_of (source_of self.now).known (written_tree expr.now))) }
@@ -42,6 +43,7 @@ impl<'a, 'b, 'c> Values<'a, 'b, 'c> {
     }
 
     // The constant of which this is known, or none where it has no form of one.
+    #[tactic(auto, using(crate::proofs::Numbers::varying, crate::proofs::Numbers::told_refused, crate::proofs::Numbers::told_none, crate::proofs::Numbers::constant_known))]
     pub(crate) fn constant_known(
         &self,
         known: Known,
@@ -61,7 +63,7 @@ impl<'a, 'b, 'c> Values<'a, 'b, 'c> {
     }
 
     // The constant of a class and a value.
-    #[tactic(auto, using(crate::proofs::MadeViews::made_views))]
+    #[tactic(auto, using(crate::proofs::MadeViews::made_views, crate::proofs::Telling::made_unsound))]
     fn constant_of(
         &self,
         class: Option<Class>,
@@ -76,6 +78,7 @@ impl<'a, 'b, 'c> Values<'a, 'b, 'c> {
     }
 
     // What is of a class and found by an operation.
+    #[tactic(auto, using(crate::proofs::Telling::made_unclassed))]
     pub(crate) fn made(
         &self,
         class: Option<Class>,

@@ -120,6 +120,7 @@ impl Path {
 
 impl<'a, 'b, 'c> Values<'a, 'b, 'c> {
     /// A location that gets a value: a target, the argument of a parameter that is copied out, or what SET names.
+    #[tactic(auto, using(crate::proofs::Telling::handed, crate::proofs::Telling::not_chained))]
     #[cycle(value)]
     pub fn target(&self, expr: &Tree) -> Result<Target, ElaborationRefusal>
         ensures { HasSource self.now → Elaborates (model.target (source_of self.now) (expr_tree expr.now)) target_tree result }
@@ -128,6 +129,7 @@ impl<'a, 'b, 'c> Values<'a, 'b, 'c> {
     }
 
     // The contents of a name alone.
+    #[tactic(auto, using(crate::proofs::Telling::made_handed, crate::proofs::Telling::not_mapped, crate::proofs::Telling::same_made))]
     pub(crate) fn contents_named(&self, name: &Name) -> Result<Box<Expr>, ElaborationRefusal>
         ensures { HasSource self.now → IsMade (class_of_name (source_of self.now).known name.now) (option_map model.operation_at (model.location_named (source_of self.now) name.now)) result }
     {
@@ -138,6 +140,7 @@ impl<'a, 'b, 'c> Values<'a, 'b, 'c> {
     }
 
     // A field of something.
+    #[tactic(auto, using(crate::proofs::Telling::made_handed, crate::proofs::Telling::same_made, crate::proofs::Ways::field_class, crate::proofs::Ways::path_mode))]
     #[cycle(value)]
     pub(crate) fn field_of(
         &self,
@@ -151,6 +154,7 @@ impl<'a, 'b, 'c> Values<'a, 'b, 'c> {
     }
 
     // An element of something: brackets behind an expression, which is handed down whole, since both it and the index are parts.
+    #[tactic(auto, using(crate::proofs::Telling::made_handed, crate::proofs::Telling::same_made, crate::proofs::Ways::index_class, crate::proofs::Ways::path_mode))]
     #[cycle(value)]
     pub(crate) fn element_of(&self, expr: &Tree) -> Result<Box<Expr>, ElaborationRefusal>
         ensures { HasSource self.now → IsMade (element_class (source_of self.now) (expr_tree expr.now)) (option_map model.operation_at (element_in (source_of self.now) (expr_tree expr.now))) result }
@@ -169,6 +173,7 @@ impl<'a, 'b, 'c> Values<'a, 'b, 'c> {
     }
 
     // A name with the parts behind it.
+    #[tactic(auto, using(chill_tree::proofs::ExprViews::expr_built, crate::proofs::Telling::handed, crate::proofs::Ways::name_refused, crate::proofs::Ways::name_given, crate::proofs::Ways::name_plain, crate::proofs::Ways::called_path, crate::proofs::Ways::routine_path, crate::proofs::Ways::element_path_there))]
     #[cycle(value)]
     fn path(&self, expr: &Tree) -> Result<Path, ElaborationRefusal>
         ensures { HasSource self.now → Elaborates (model.path (source_of self.now) (expr_tree expr.now)) path_tree result }
@@ -215,6 +220,7 @@ impl<'a, 'b, 'c> Values<'a, 'b, 'c> {
     }
 
     // The path that begins with a location.
+    #[tactic(auto, using(crate::proofs::Telling::handed, crate::proofs::Telling::first_missing, crate::proofs::Telling::second_missing, crate::proofs::Telling::both_there))]
     fn location_named(&self, name: &Name) -> Result<Path, ElaborationRefusal>
         ensures { HasSource self.now → Elaborates (model.location_named (source_of self.now) name.now) path_tree result }
     {
@@ -233,6 +239,7 @@ impl<'a, 'b, 'c> Values<'a, 'b, 'c> {
     }
 
     // An element of an array or a text, which is handed down whole, since its index is a part of it too.
+    #[tactic(auto, using(chill_tree::proofs::ExprViews::expr_built, crate::proofs::Telling::handed, crate::proofs::Ways::index_mode_there))]
     #[cycle(value)]
     fn element(&self, expr: &Tree) -> Result<Path, ElaborationRefusal>
         ensures { HasSource self.now → Elaborates (element_in (source_of self.now) (expr_tree expr.now)) path_tree result }

@@ -29,6 +29,7 @@ use std::rc::Rc;
 
 impl<'a, 'b, 'c> Values<'a, 'b, 'c> {
     // A tuple of parts.
+    #[tactic(auto, using(crate::proofs::Telling::made_handed, crate::proofs::Nodes::fitting_refused, crate::proofs::Nodes::fitting_given, crate::proofs::Nodes::fitting_class))]
     #[cycle(value)]
     pub(crate) fn tuple(
         &self,
@@ -46,6 +47,7 @@ impl<'a, 'b, 'c> Values<'a, 'b, 'c> {
     }
 
     // A tuple of one value for all elements of an array.
+    #[tactic(auto, using(crate::proofs::Telling::made_handed, crate::proofs::Nodes::uniform_shown, crate::proofs::Nodes::uniform_class))]
     #[cycle(value)]
     pub(crate) fn uniform(
         &self,
@@ -77,6 +79,7 @@ impl<'a, 'b, 'c> Values<'a, 'b, 'c> {
     }
 
     // What finds a tuple of a mode, which has the form of that mode.
+    #[tactic(auto, using(crate::proofs::Telling::handed, crate::proofs::MadeViews::made_views))]
     #[cycle(value)]
     fn tuple_operation(
         &self,
@@ -104,6 +107,7 @@ impl<'a, 'b, 'c> Values<'a, 'b, 'c> {
     }
 
     // A powerset of members of a mode.
+    #[tactic(auto, using(crate::proofs::Telling::handed, crate::proofs::Telling::second_missing, crate::proofs::Telling::both_there, crate::proofs::MadeViews::made_views))]
     #[cycle(value)]
     fn powerset(
         &self,
@@ -120,6 +124,7 @@ impl<'a, 'b, 'c> Values<'a, 'b, 'c> {
     }
 
     // The members of a powerset.
+    #[tactic(auto, using(crate::proofs::Telling::handed, crate::proofs::Lists::ranges_end))]
     #[cycle(value)]
     fn ranges_as(
         &self,
@@ -136,6 +141,7 @@ impl<'a, 'b, 'c> Values<'a, 'b, 'c> {
     }
 
     // A member of a powerset, or the members from one to another.
+    #[tactic(auto, using(crate::proofs::Telling::handed, crate::proofs::MadeViews::made_views))]
     #[cycle(value)]
     fn range_as(
         &self,
@@ -153,6 +159,7 @@ impl<'a, 'b, 'c> Values<'a, 'b, 'c> {
     }
 
     // The elements of an array or the fields of a structure.
+    #[tactic(auto, using(crate::proofs::Telling::handed, crate::proofs::Lists::parts_end))]
     #[cycle(value)]
     fn parts_as(
         &self,
@@ -184,6 +191,7 @@ impl<'a, 'b, 'c> Values<'a, 'b, 'c> {
     }
 
     // What finds a tuple of one value for all elements of a mode, which is an array.
+    #[tactic(auto, using(crate::proofs::Telling::handed, crate::proofs::Telling::not_mapped, crate::proofs::MadeViews::made_views))]
     #[cycle(value)]
     fn uniform_operation(
         &self,

@@ -41,6 +41,7 @@ impl<'a, 'b, 'c> Values<'a, 'b, 'c> {
     }
 
     /// An expression that goes to a place of a mode, where that has one. A tuple without a mode's name has that mode.
+    #[tactic(auto, using(crate::proofs::Telling::handed, crate::proofs::Constants::refused, crate::proofs::Constants::given, crate::proofs::Constants::given_form, crate::proofs::Constants::no_form, crate::proofs::Constants::class_alone))]
     #[cycle(value)]
     pub fn expr_as(
         &self,
@@ -65,6 +66,7 @@ impl<'a, 'b, 'c> Values<'a, 'b, 'c> {
     }
 
     /// An expression as something of a mode takes its value.
+    #[tactic(auto, using(crate::proofs::Telling::handed, crate::proofs::Telling::second_missing, crate::proofs::Telling::both_there, crate::proofs::MadeViews::made_views))]
     #[cycle(value)]
     pub fn received_by(
         &self,
@@ -84,6 +86,7 @@ impl<'a, 'b, 'c> Values<'a, 'b, 'c> {
     }
 
     // An expression that doesn't have the form of a constant.
+    #[tactic(auto, using(chill_tree::proofs::ExprViews::expr_built, crate::proofs::Ends::this_node, crate::proofs::Ends::receive_node, crate::proofs::Ends::start_node, crate::proofs::Ends::field_node, crate::proofs::Ends::prefixed_node, crate::proofs::Ends::tuple_node, crate::proofs::Ends::uniform_node, crate::proofs::Ends::name_node))]
     #[cycle(value)]
     fn by_operation(
         &self,
@@ -128,7 +131,7 @@ impl<'a, 'b, 'c> Values<'a, 'b, 'c> {
     }
 
     // RECEIVE of a buffer.
-    #[tactic(auto, using(crate::proofs::MadeViews::made_views))]
+    #[tactic(auto, using(crate::proofs::MadeViews::made_views, crate::proofs::Telling::made_handed, crate::proofs::Telling::not_mapped))]
     fn received_from(&self, name: &Name) -> Result<Box<Expr>, ElaborationRefusal>
         ensures { HasSource self.now → IsMade (option_map value (buffer_element (source_of self.now).known name.now)) (option_map receive (buffer_used (source_of self.now) name.now)) result }
     {
@@ -138,6 +141,7 @@ impl<'a, 'b, 'c> Values<'a, 'b, 'c> {
     }
 
     // A START that stands as a value.
+    #[tactic(auto, using(crate::proofs::Telling::made_handed, crate::proofs::Ends::through_missing, crate::proofs::Ends::started_whole, crate::proofs::MadeViews::made_views))]
     #[cycle(value)]
     fn started(&self, process: &Name, args: &[Tree]) -> Result<Box<Expr>, ElaborationRefusal>
         ensures { HasSource self.now → IsMade (Some (derived instance)) (made_of (λ b rs. start (started b rs)) (body_used (source_of self.now) process.now) (received_each (source_of self.now) (modes_by (source_of self.now) (origin_of (source_of self.now).known process.now)) (expr_nodes (expr_trees args.now)))) result }
@@ -149,6 +153,7 @@ impl<'a, 'b, 'c> Values<'a, 'b, 'c> {
     }
 
     // An operator before its operand.
+    #[tactic(auto, using(crate::proofs::Telling::made_handed, crate::proofs::Ends::prefixed_without, crate::proofs::Ends::prefixed_whole))]
     #[cycle(value)]
     fn prefixed(
         &self,
@@ -176,6 +181,7 @@ impl<'a, 'b, 'c> Values<'a, 'b, 'c> {
     }
 
     // Two operands with an operator between them: an expression that is handed down whole, since both are its parts.
+    #[tactic(auto, using(chill_tree::proofs::ExprViews::expr_built, crate::proofs::Ends::binary_refused, crate::proofs::Ends::binary_refused_later, crate::proofs::Ends::binary_whole))]
     #[cycle(value)]
     fn binary(&self, expr: &Tree) -> Result<Box<Expr>, ElaborationRefusal>
         ensures { HasSource self.now → IsMade (class_between (source_of self.now) (expr_tree expr.now)) (operation_between (source_of self.now) (expr_tree expr.now)) result }
