@@ -1,0 +1,26 @@
+-- What bodies do, without where it lies in memory, and what it is elaborated by.
+use Rattle.std.specs.Prelude.{List, ◌++◌, [], ◌∷◌, Option, Some, option_map}
+use Rattle.program_trees.specs.StatementTree.{statements_of, handler_of}
+use Rattle.checks_model.specs.Ground.{Origin, a_procedure, a_process}
+use Rattle.elaboration_model.specs.Numbering.{Source}
+use Rattle.program_numbers.specs.Heads as heads
+use Rattle.program_numbers.specs.Heads.{inside_as}
+use Rattle.action_elaboration.specs.Sources.{source_at, IsNumbered}
+use Rattle.elaborate.specs.declared.bodies.Bodies.{Bodies}
+use Rattle.elaborate.specs.declared.program.Inside.{Inside}
+
+abbrev pub source_of_bodies : Bodies → Source
+source_of_bodies b = source_at b.statements.actions
+
+-- the numbering has what the walk's definitions are
+abbrev pub AreNumbered : Bodies → Type 0
+AreNumbered b = IsNumbered b.statements.actions
+
+abbrev pub inside_tree : Inside → heads.Inside
+inside_tree i = (statements_of i.statements, handler_of i.handler)
+
+-- what the body of a definition does, where it has one, behind what others do
+abbrev pub inside_if : Source → List heads.Inside → Origin → Option (List heads.Inside)
+inside_if s before (a_process p) = option_map (λ i. before ++ i ∷ []) (inside_as s (a_process p))
+inside_if s before (a_procedure p) = option_map (λ i. before ++ i ∷ []) (inside_as s (a_procedure p))
+inside_if s before _ = Some before
