@@ -1,4 +1,25 @@
 // An expression is a constant, or it has a class and is found by an operation.
+ghost use Rattle.std.specs.Prelude.{◌≡◌, Bool, List, Option, Some, IfOk, option_map, option_and_then};
+ghost use Rattle.diagnostics.specs.declared.diagnostic.Diagnostic.{Diagnostic};
+ghost use Rattle.chill_tree.specs.ExprTree.{expr_tree};
+ghost use Rattle.modes.specs.ModeTree.{ClassTree, mode_tree, class_tree};
+ghost use Rattle.modes.specs.Form.{form_of};
+ghost use Rattle.modes.specs.Scalars.{scalars_of};
+ghost use Rattle.program_trees.specs.ExprTree.{operation_tree, boxed_expr};
+ghost use Rattle.program_trees.specs.ExprTree as made;
+ghost use Rattle.checks_model.specs.ValueTrees.{ValueTree};
+ghost use Rattle.checks_model.specs.WrittenModes.{number_in, needed_number};
+ghost use Rattle.checks_model.specs.Classes.{class_of};
+ghost use Rattle.constant_values.specs.Fits.{takes_number};
+ghost use Rattle.constant_operators.specs.Known.{IsKnown};
+ghost use Rattle.constant_rules.specs.Found.{IsFound};
+ghost use Rattle.elaboration_model.specs.Expressions.{count_in};
+ghost use Rattle.expr_rules.specs.Views.{own_class};
+ghost use Rattle.program_numbers.specs.Answers.{Elaborates};
+ghost use Rattle.value_elaboration.specs.Shown.{constant_if, constant_in, is_of_numbers};
+ghost use Rattle.value_elaboration.specs.Views.{source_of, HasSource};
+ghost use Rattle.value_elaboration.specs.Made.{IsMade, IsSomeOfClass};
+
 use crate::values::Values;
 use checked_program::{Expr, Operation};
 use chill_base::{Memory, Scalars};
@@ -13,7 +34,10 @@ use std::rc::Rc;
 
 impl<'a, 'b, 'c> Values<'a, 'b, 'c> {
     // The constant that an expression is, or none where it doesn't have the form of one. Unsound where something is told in it.
-    pub(crate) fn constant(&self, expr: &Tree) -> Result<Option<Box<Expr>>, ElaborationRefusal> {
+    pub(crate) fn constant(&self, expr: &Tree) -> Result<Option<Box<Expr>>, ElaborationRefusal>
+        ensures exact { HasSource self.now → Elaborates (constant_in (source_of self.now) (expr_tree expr.now)) (option_map boxed_expr) result }
+        ensures class { HasSource self.now → IfOk result (IsSomeOfClass (class_of (source_of self.now).known (expr_tree expr.now))) }
+    {
         let mut told = Told::new(self.alloc());
         let known = known(self.walk.evaluation, expr, &mut told)?;
         self.constant_known(known)
@@ -23,7 +47,10 @@ impl<'a, 'b, 'c> Values<'a, 'b, 'c> {
     pub(crate) fn constant_known(
         &self,
         known: Known,
-    ) -> Result<Option<Box<Expr>>, ElaborationRefusal> {
+    ) -> Result<Option<Box<Expr>>, ElaborationRefusal>
+        ensures exact { (form : Bool) (told : List Diagnostic) (c : Option ClassTree) (v : Option ValueTree) → IsFound form told c v known → Elaborates (constant_if form told c v) (option_map boxed_expr) result }
+        ensures class { (form : Bool) (told : List Diagnostic) (c : Option ClassTree) (v : Option ValueTree) → IsFound form told c v known → IfOk result (IsSomeOfClass c) }
+    {
         if !known.is_constant {
             return Ok(None);
         }
@@ -40,7 +67,9 @@ impl<'a, 'b, 'c> Values<'a, 'b, 'c> {
         &self,
         class: Option<Class>,
         value: Option<Scalars>,
-    ) -> Result<Box<Expr>, ElaborationRefusal> {
+    ) -> Result<Box<Expr>, ElaborationRefusal>
+        ensures { IsMade (own_class class) (option_map made.constant value) result }
+    {
         match value {
             Some(scalars) => self.made(class, Operation::Constant(scalars)),
             None => Err(ElaborationRefusal::Unsound),
@@ -52,7 +81,9 @@ impl<'a, 'b, 'c> Values<'a, 'b, 'c> {
         &self,
         class: Option<Class>,
         operation: Operation,
-    ) -> Result<Box<Expr>, ElaborationRefusal> {
+    ) -> Result<Box<Expr>, ElaborationRefusal>
+        ensures { IsMade (own_class class) (Some (operation_tree operation)) result }
+    {
         let Some(class) = class else {
             return Err(ElaborationRefusal::Unsound);
         };
@@ -66,7 +97,9 @@ impl<'a, 'b, 'c> Values<'a, 'b, 'c> {
     }
 
     /// The number of an expression that has to be constant: a label of a CASE or a priority.
-    pub fn constant_number(&self, expr: &Tree) -> Result<i64, ElaborationRefusal> {
+    pub fn constant_number(&self, expr: &Tree) -> Result<i64, ElaborationRefusal>
+        ensures { HasSource self.now → Elaborates (needed_number (source_of self.now).known (expr_tree expr.now)) (λ n. n) result }
+    {
         let mut told = Told::new(self.alloc());
         let Some(known) = needed(self.walk.evaluation, expr, &mut told)? else {
             return Err(ElaborationRefusal::Unsound);
@@ -76,7 +109,9 @@ impl<'a, 'b, 'c> Values<'a, 'b, 'c> {
 }
 
 // The number that a constant of which this is known is.
-fn number_known(known: &Known) -> Result<i64, ElaborationRefusal> {
+fn number_known(known: &Known) -> Result<i64, ElaborationRefusal>
+    ensures { (c : Option ClassTree) (v : Option ValueTree) → IsKnown c v known.now → Elaborates (option_and_then number_in v) (λ n. n) result }
+{
     let Some(class) = &known.class else {
         return Err(ElaborationRefusal::Unsound);
     };
@@ -90,7 +125,9 @@ fn number_known(known: &Known) -> Result<i64, ElaborationRefusal> {
 }
 
 // Whether the values of a class are single numbers: discrete values, instances and NULL.
-fn is_of_numbers(class: &Class) -> bool {
+fn is_of_numbers(class: &Class) -> bool
+    ensures { result ≡ is_of_numbers (class_tree class.now) }
+{
     match class {
         Class::Value(mode) | Class::Derived(mode) => is_single(mode),
         Class::Null => true,
@@ -99,7 +136,9 @@ fn is_of_numbers(class: &Class) -> bool {
 }
 
 // Whether a value of a mode is a single number.
-fn is_single(mode: &Mode) -> bool {
+fn is_single(mode: &Mode) -> bool
+    ensures { result ≡ takes_number (form_of (mode_tree mode.now)) }
+{
     match form_of(mode) {
         Form::Int | Form::Bool | Form::Char | Form::Instance | Form::Set { .. } => true,
         Form::Powerset(_)
@@ -114,7 +153,9 @@ fn is_single(mode: &Mode) -> bool {
 const MOST_SCALARS: u32 = 4096;
 
 /// How many flat scalars a value of a class has. NULL has one, and what gives no value has none.
-fn count_in(class: &Class) -> Result<u32, Memory> {
+fn count_in(class: &Class) -> Result<u32, Memory>
+    ensures { IfOk result (λ n. n ≡ count_in (class_tree class.now)) }
+{
     match class {
         Class::Value(mode) | Class::Derived(mode) => scalars_in(mode),
         Class::Null => Ok(1),
@@ -123,7 +164,9 @@ fn count_in(class: &Class) -> Result<u32, Memory> {
 }
 
 /// How many flat scalars a value of a mode has; want of memory where they are more than any mode of a program has.
-pub(crate) fn scalars_in(mode: &Mode) -> Result<u32, Memory> {
+pub(crate) fn scalars_in(mode: &Mode) -> Result<u32, Memory>
+    ensures { IfOk result (λ n. n ≡ scalars_of (mode_tree mode.now)) }
+{
     let count = number_of_scalars(mode);
     if count > MOST_SCALARS {
         return Err(Memory);
@@ -132,11 +175,15 @@ pub(crate) fn scalars_in(mode: &Mode) -> Result<u32, Memory> {
 }
 
 /// The same mode once more.
-pub(crate) fn same_mode(mode: &Rc<Mode>) -> Result<Rc<Mode>, Memory> {
+pub(crate) fn same_mode(mode: &Rc<Mode>) -> Result<Rc<Mode>, Memory>
+    ensures { IfOk result (λ m. mode_tree m.value ≡ mode_tree mode.now.value) }
+{
     Ok(mode.clone()?)
 }
 
 /// A value in a box.
-pub(crate) fn boxed<T: Drop>(alloc: Global, value: T) -> Result<Box<T>, Memory> {
+pub(crate) fn boxed<T: Drop>(alloc: Global, value: T) -> Result<Box<T>, Memory>
+    ensures { IfOk result (λ b. b.value ≡ value) }
+{
     Ok(Box::new(alloc, value)?)
 }

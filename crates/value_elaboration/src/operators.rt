@@ -1,5 +1,14 @@
 // Operators and routines of the language, and those of the elaborated program, by the classes of their operands (Z.200,
 // chapter on operations).
+ghost use Rattle.std.specs.Prelude.{◌≡◌, IfOk, option_map};
+ghost use Rattle.modes.specs.ModeTree.{mode_tree, class_tree};
+ghost use Rattle.modes.specs.Bounds.{values_of};
+ghost use Rattle.checked_program.specs.declared.expr.Binary.TheVariants as binaries;
+ghost use Rattle.checks_model.specs.Operations.{form_in};
+ghost use Rattle.class_operators.specs.Predefined.{predefined_tree};
+ghost use Rattle.elaboration_model.specs.Expressions.{operator_between, member_bounds, between_sets, between_numbers, operator_before, negation_by, routine_on, class_bounds};
+ghost use Rattle.value_elaboration.specs.Shown.{is_of_set};
+
 use checked_program::{Binary, Prefix, Routine};
 use chill_base::Memory;
 use chill_tree::tree::{Operator, Prefix as WrittenPrefix};
@@ -8,7 +17,9 @@ use definition_origins::Predefined;
 use modes::{Bounds, Class, Form, Mode, bounds, number_of_values};
 
 /// The operator between operands of these classes, or none where it takes no such operands.
-pub fn operator_between(operator: Operator, left: &Class, right: &Class) -> Option<Binary> {
+pub fn operator_between(operator: Operator, left: &Class, right: &Class) -> Option<Binary>
+    ensures { result ≡ operator_between operator (class_tree left.now) (class_tree right.now) }
+{
     match operator {
         Operator::Equal => Some(Binary::Equal),
         Operator::NotEqual => Some(Binary::NotEqual),
@@ -38,12 +49,16 @@ pub fn operator_between(operator: Operator, left: &Class, right: &Class) -> Opti
 }
 
 // Whether the mode of a class is a powerset.
-fn is_of_powerset(class: &Class) -> bool {
+fn is_of_powerset(class: &Class) -> bool
+    ensures { result ≡ is_of_set (form_in (class_tree class.now)) }
+{
     matches!(form_in(class), Some(Form::Powerset(_)))
 }
 
 // IN a powerset.
-fn member_of(set: &Class) -> Option<Binary> {
+fn member_of(set: &Class) -> Option<Binary>
+    ensures { result ≡ option_map binaries.Member (member_bounds (form_in (class_tree set.now))) }
+{
     match member_bounds(set) {
         None => None,
         Some(bounds) => Some(Binary::Member(bounds)),
@@ -51,7 +66,9 @@ fn member_of(set: &Class) -> Option<Binary> {
 }
 
 // The bounds of the members of a powerset.
-fn member_bounds(set: &Class) -> Option<Bounds> {
+fn member_bounds(set: &Class) -> Option<Bounds>
+    ensures { result ≡ member_bounds (form_in (class_tree set.now)) }
+{
     match form_in(set) {
         Some(Form::Powerset(member)) => bounds(member),
         Some(Form::Int)
@@ -68,7 +85,9 @@ fn member_bounds(set: &Class) -> Option<Bounds> {
 }
 
 // An operator between two powersets.
-fn between_sets(operator: Operator) -> Option<Binary> {
+fn between_sets(operator: Operator) -> Option<Binary>
+    ensures { result ≡ between_sets operator }
+{
     match operator {
         Operator::Or => Some(Binary::Union),
         Operator::And => Some(Binary::Intersection),
@@ -92,7 +111,9 @@ fn between_sets(operator: Operator) -> Option<Binary> {
 }
 
 // An operator between two values of other modes.
-fn between_numbers(operator: Operator) -> Option<Binary> {
+fn between_numbers(operator: Operator) -> Option<Binary>
+    ensures { result ≡ between_numbers operator }
+{
     match operator {
         Operator::Or => Some(Binary::Or),
         Operator::Xor => Some(Binary::Xor),
@@ -114,7 +135,9 @@ fn between_numbers(operator: Operator) -> Option<Binary> {
 }
 
 /// The operator before an operand of this class.
-pub(crate) fn operator_before(operator: WrittenPrefix, operand: &Class) -> Result<Prefix, Memory> {
+pub(crate) fn operator_before(operator: WrittenPrefix, operand: &Class) -> Result<Prefix, Memory>
+    ensures { IfOk result (λ p. p ≡ operator_before operator (class_tree operand.now)) }
+{
     match operator {
         WrittenPrefix::Minus => Ok(Prefix::Minus),
         WrittenPrefix::Not => negation(operand),
@@ -122,7 +145,9 @@ pub(crate) fn operator_before(operator: WrittenPrefix, operand: &Class) -> Resul
 }
 
 // NOT of an operand of this class.
-fn negation(operand: &Class) -> Result<Prefix, Memory> {
+fn negation(operand: &Class) -> Result<Prefix, Memory>
+    ensures { IfOk result (λ p. p ≡ negation_by (form_in (class_tree operand.now))) }
+{
     match form_in(operand) {
         Some(Form::Powerset(member)) => Ok(Prefix::Complement {
             members: values_in(member)?,
@@ -141,7 +166,9 @@ fn negation(operand: &Class) -> Result<Prefix, Memory> {
 }
 
 /// How many values a discrete mode has; want of memory where they are more than any mode of a program can tell apart.
-pub(crate) fn values_in(mode: &Mode) -> Result<u32, Memory> {
+pub(crate) fn values_in(mode: &Mode) -> Result<u32, Memory>
+    ensures { IfOk result (λ n. n ≡ values_of (mode_tree mode.now)) }
+{
     match u32::try_from(number_of_values(mode)) {
         Ok(count) => Ok(count),
         Err(_) => Err(Memory),
@@ -149,7 +176,9 @@ pub(crate) fn values_in(mode: &Mode) -> Result<u32, Memory> {
 }
 
 /// The routine of an argument of this class, or none where it isn't one of a value or takes no such argument.
-pub(crate) fn routine_on(own: Predefined, argument: &Class) -> Option<Routine> {
+pub(crate) fn routine_on(own: Predefined, argument: &Class) -> Option<Routine>
+    ensures { result ≡ routine_on (predefined_tree own) (class_tree argument.now) }
+{
     match own {
         Predefined::Num => Some(Routine::Number),
         Predefined::Abs => Some(Routine::Absolute),
@@ -188,6 +217,8 @@ pub(crate) fn routine_on(own: Predefined, argument: &Class) -> Option<Routine> {
 }
 
 // The bounds of the mode of a class.
-fn class_bounds(class: &Class) -> Option<Bounds> {
+fn class_bounds(class: &Class) -> Option<Bounds>
+    ensures { result ≡ class_bounds (class_tree class.now) }
+{
     bounds(mode_in(class)?)
 }

@@ -1,4 +1,19 @@
 // Names with their parts: locations, and parts of other values (Z.200, chapter on locations).
+ghost use Rattle.std.specs.Prelude.{◌≡◌, ◌+◌, Some, IfOk, option_map, option_and_then};
+ghost use Rattle.chill_tree.specs.ExprTree.{expr_tree};
+ghost use Rattle.modes.specs.ModeTree.{value, mode_tree, class_tree, field_trees, field_nodes};
+ghost use Rattle.modes.specs.Form.{form_of};
+ghost use Rattle.program_trees.specs.ExprTree.{boxed_expr, operation_tree, part_tree};
+ghost use Rattle.checks_model.specs.Alike.{mode_in};
+ghost use Rattle.checks_model.specs.Operations.{part_of_class, field_of_form};
+ghost use Rattle.checks_model.specs.Classes.{class_of, class_of_name};
+ghost use Rattle.elaboration_model.specs.Expressions as model;
+ghost use Rattle.expr_rules.specs.Views.{some_mode, own_mode};
+ghost use Rattle.program_numbers.specs.Answers.{Elaborates};
+ghost use Rattle.value_elaboration.specs.Steps.{index_of_path, element_in, element_class};
+ghost use Rattle.value_elaboration.specs.Views.{source_of, HasSource, class_in, path_tree, target_tree};
+ghost use Rattle.value_elaboration.specs.Made.{IsMade};
+
 use crate::folding::{boxed, same_mode, scalars_in};
 use crate::values::Values;
 use checked_program::{Base, Expr, Location, Operation, Part};
@@ -44,7 +59,9 @@ impl Drop for Path {
 
 impl Path {
     // A part more, and the mode of the whole.
-    fn with_part(self, part: Part, mode: Rc<Mode>) -> Result<Path, Memory> {
+    fn with_part(self, part: Part, mode: Rc<Mode>) -> Result<Path, Memory>
+        ensures { IfOk result (λ p. path_tree p ≡ model.with_part (part_tree part) (mode_tree mode.value) (path_tree self)) }
+    {
         let Path {
             root,
             mut parts,
@@ -55,7 +72,9 @@ impl Path {
     }
 
     // The field of that name.
-    fn with_field(self, name: &[u8]) -> Result<Path, ElaborationRefusal> {
+    fn with_field(self, name: &[u8]) -> Result<Path, ElaborationRefusal>
+        ensures { Elaborates (model.field_path name.now (path_tree self)) path_tree result }
+    {
         let Some(mode) = field_in(&self.mode, name) else {
             return Err(ElaborationRefusal::Unsound);
         };
@@ -66,7 +85,9 @@ impl Path {
     }
 
     // The contents of the location, or the part of the value.
-    fn into_operation(self, alloc: Global) -> Result<Operation, Memory> {
+    fn into_operation(self, alloc: Global) -> Result<Operation, Memory>
+        ensures { IfOk result (λ o. operation_tree o ≡ model.operation_at (path_tree self)) }
+    {
         let Path { root, parts, mode } = self;
         match root {
             Root::Value(of) => Ok(Operation::PartOf { of, parts }),
@@ -79,7 +100,9 @@ impl Path {
     }
 
     // The location with its mode, or Unsound where it is none.
-    fn into_target(self) -> Result<Target, ElaborationRefusal> {
+    fn into_target(self) -> Result<Target, ElaborationRefusal>
+        ensures { Elaborates (model.target_of (path_tree self)) target_tree result }
+    {
         let Path { root, parts, mode } = self;
         match root {
             Root::Value(_) => Err(ElaborationRefusal::Unsound),
@@ -95,12 +118,16 @@ impl Path {
 impl<'a, 'b, 'c> Values<'a, 'b, 'c> {
     /// A location that gets a value: a target, the argument of a parameter that is copied out, or what SET names.
     #[cycle(value)]
-    pub fn target(&self, expr: &Tree) -> Result<Target, ElaborationRefusal> {
+    pub fn target(&self, expr: &Tree) -> Result<Target, ElaborationRefusal>
+        ensures { HasSource self.now → Elaborates (model.target (source_of self.now) (expr_tree expr.now)) target_tree result }
+    {
         self.path(expr)?.into_target()
     }
 
     // The contents of a name alone.
-    pub(crate) fn contents_named(&self, name: &Name) -> Result<Box<Expr>, ElaborationRefusal> {
+    pub(crate) fn contents_named(&self, name: &Name) -> Result<Box<Expr>, ElaborationRefusal>
+        ensures { HasSource self.now → IsMade (class_of_name (source_of self.now).known name.now) (option_map model.operation_at (model.location_named (source_of self.now) name.now)) result }
+    {
         let path = self.location_named(name)?;
         let operation = path.into_operation(self.alloc())?;
         let class = self.walk.class_of_name(name)?;
@@ -113,20 +140,26 @@ impl<'a, 'b, 'c> Values<'a, 'b, 'c> {
         &self,
         of: &Tree,
         field: &Name,
-    ) -> Result<Box<Expr>, ElaborationRefusal> {
+    ) -> Result<Box<Expr>, ElaborationRefusal>
+        ensures { HasSource self.now → IsMade (option_map (part_of_class (field_of_form field.now.text)) (class_of (source_of self.now).known (expr_tree of.now))) (option_map model.operation_at (option_and_then (model.field_path field.now.text) (model.path (source_of self.now) (expr_tree of.now)))) result }
+    {
         let path = self.path(of)?.with_field(field.text.as_slice())?;
         self.part_of(path)
     }
 
     // An element of something: brackets behind an expression, which is handed down whole, since both it and the index are parts.
     #[cycle(value)]
-    pub(crate) fn element_of(&self, expr: &Tree) -> Result<Box<Expr>, ElaborationRefusal> {
+    pub(crate) fn element_of(&self, expr: &Tree) -> Result<Box<Expr>, ElaborationRefusal>
+        ensures { HasSource self.now → IsMade (element_class (source_of self.now) (expr_tree expr.now)) (option_map model.operation_at (element_in (source_of self.now) (expr_tree expr.now))) result }
+    {
         let path = self.element(expr)?;
         self.part_of(path)
     }
 
     // What a path with a part leads to.
-    fn part_of(&self, path: Path) -> Result<Box<Expr>, ElaborationRefusal> {
+    fn part_of(&self, path: Path) -> Result<Box<Expr>, ElaborationRefusal>
+        ensures { IsMade (Some (value (path_tree path).mode)) (Some (model.operation_at (path_tree path))) result }
+    {
         let mode = same_mode(&path.mode)?;
         let operation = path.into_operation(self.alloc())?;
         self.made(Some(Class::Value(mode)), operation)
@@ -134,7 +167,9 @@ impl<'a, 'b, 'c> Values<'a, 'b, 'c> {
 
     // A name with the parts behind it.
     #[cycle(value)]
-    fn path(&self, expr: &Tree) -> Result<Path, ElaborationRefusal> {
+    fn path(&self, expr: &Tree) -> Result<Path, ElaborationRefusal>
+        ensures { HasSource self.now → Elaborates (model.path (source_of self.now) (expr_tree expr.now)) path_tree result }
+    {
         match expr {
             Tree::Name(name) => match self.constant(expr)? {
                 Some(value) => self.path_of_value(value),
@@ -163,7 +198,9 @@ impl<'a, 'b, 'c> Values<'a, 'b, 'c> {
     }
 
     // The path that begins with a value.
-    fn path_of_value(&self, value: Box<Expr>) -> Result<Path, ElaborationRefusal> {
+    fn path_of_value(&self, value: Box<Expr>) -> Result<Path, ElaborationRefusal>
+        ensures { Elaborates (model.path_of_value (Some (boxed_expr value)) (Some (class_in value.value))) path_tree result }
+    {
         let Some(mode) = mode_of(&value.class)? else {
             return Err(ElaborationRefusal::Unsound);
         };
@@ -175,7 +212,9 @@ impl<'a, 'b, 'c> Values<'a, 'b, 'c> {
     }
 
     // The path that begins with a location.
-    fn location_named(&self, name: &Name) -> Result<Path, ElaborationRefusal> {
+    fn location_named(&self, name: &Name) -> Result<Path, ElaborationRefusal>
+        ensures { HasSource self.now → Elaborates (model.location_named (source_of self.now) name.now) path_tree result }
+    {
         let base = self.numbering.base_used(self.walk, name)?;
         let Some(class) = self.walk.class_of_name(name)? else {
             return Err(ElaborationRefusal::Unsound);
@@ -192,7 +231,9 @@ impl<'a, 'b, 'c> Values<'a, 'b, 'c> {
 
     // An element of an array or a text, which is handed down whole, since its index is a part of it too.
     #[cycle(value)]
-    fn element(&self, expr: &Tree) -> Result<Path, ElaborationRefusal> {
+    fn element(&self, expr: &Tree) -> Result<Path, ElaborationRefusal>
+        ensures { HasSource self.now → Elaborates (element_in (source_of self.now) (expr_tree expr.now)) path_tree result }
+    {
         let Tree::Apply { of, args, .. } = expr else {
             return Err(ElaborationRefusal::Unsound);
         };
@@ -202,7 +243,9 @@ impl<'a, 'b, 'c> Values<'a, 'b, 'c> {
     }
 
     // The element of that index.
-    fn with_element(&self, path: Path, index: Box<Expr>) -> Result<Path, ElaborationRefusal> {
+    fn with_element(&self, path: Path, index: Box<Expr>) -> Result<Path, ElaborationRefusal>
+        ensures { HasSource self.now → Elaborates (model.element_path (boxed_expr index) (path_tree path)) path_tree result }
+    {
         let Some(bounds) = index_bounds(&path.mode) else {
             return Err(ElaborationRefusal::Unsound);
         };
@@ -221,7 +264,9 @@ impl<'a, 'b, 'c> Values<'a, 'b, 'c> {
 }
 
 // The mode of a class.
-fn mode_of(class: &Class) -> Result<Option<Rc<Mode>>, Memory> {
+fn mode_of(class: &Class) -> Result<Option<Rc<Mode>>, Memory>
+    ensures { IfOk result (λ m. own_mode m ≡ mode_in (class_tree class.now)) }
+{
     match class {
         Class::Value(mode) | Class::Derived(mode) => Ok(Some(same_mode(mode)?)),
         Class::Null | Class::Nothing => Ok(None),
@@ -229,7 +274,9 @@ fn mode_of(class: &Class) -> Result<Option<Rc<Mode>>, Memory> {
 }
 
 // The mode that an index has to go with: that of an array.
-fn index_mode_of(mode: &Mode) -> Option<&Rc<Mode>> {
+fn index_mode_of(mode: &Mode) -> Option<&Rc<Mode>>
+    ensures { some_mode result ≡ index_of_path (form_of (mode_tree mode.now)) }
+{
     match form_of(mode) {
         Form::Array { index, .. } => Some(index),
         Form::Int
@@ -245,7 +292,9 @@ fn index_mode_of(mode: &Mode) -> Option<&Rc<Mode>> {
 }
 
 // The bounds of the indices of an array, or of a text, whose first character has the index 0.
-fn index_bounds(mode: &Mode) -> Option<Bounds> {
+fn index_bounds(mode: &Mode) -> Option<Bounds>
+    ensures { result ≡ model.index_bounds (form_of (mode_tree mode.now)) }
+{
     match form_of(mode) {
         Form::Array { index, .. } => bounds(index),
         Form::Chars(length) => Some(Bounds {
@@ -264,7 +313,9 @@ fn index_bounds(mode: &Mode) -> Option<Bounds> {
 }
 
 // The number of the first scalar of the field of that name.
-fn first_of_field(mode: &Mode, name: &[u8]) -> Result<u32, Memory> {
+fn first_of_field(mode: &Mode, name: &[u8]) -> Result<u32, Memory>
+    ensures { IfOk result (λ n. n ≡ model.first_of_field name.now (form_of (mode_tree mode.now))) }
+{
     match form_of(mode) {
         Form::Struct { fields, .. } => first_in(fields.as_slice(), name),
         Form::Int
@@ -280,7 +331,9 @@ fn first_of_field(mode: &Mode, name: &[u8]) -> Result<u32, Memory> {
 }
 
 // The scalars of the fields before the first of that name.
-fn first_in(fields: &[Field], name: &[u8]) -> Result<u32, Memory> {
+fn first_in(fields: &[Field], name: &[u8]) -> Result<u32, Memory>
+    ensures { IfOk result (λ n. n ≡ model.first_in name.now (field_nodes (field_trees fields.now))) }
+{
     let mut first = 0_u32;
     for field in fields {
         if field.name.as_slice() == name {
@@ -292,7 +345,9 @@ fn first_in(fields: &[Field], name: &[u8]) -> Result<u32, Memory> {
 }
 
 // The sum of two numbers of scalars.
-fn sum(first: u32, second: u32) -> Result<u32, Memory> {
+fn sum(first: u32, second: u32) -> Result<u32, Memory>
+    ensures { IfOk result (λ n. n ≡ first + second) }
+{
     match first.checked_add(second) {
         None => Err(Memory),
         Some(sum) => Ok(sum),

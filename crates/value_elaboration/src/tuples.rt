@@ -1,4 +1,21 @@
 // Tuples, with a mode's name or of the mode of what receives them (Z.200, chapter on values).
+ghost use Rattle.std.specs.Prelude.{◌≡◌, ℕ, Bool, true, Option, Some, IfOk, option_and_then};
+ghost use Rattle.chill_tree.specs.ExprTree.{expr_tree, range_trees, range_nodes};
+ghost use Rattle.chill_tree.specs.ExprTree.{range_tree as written_range};
+ghost use Rattle.modes.specs.ModeTree.{ModeTree, mode_tree};
+ghost use Rattle.modes.specs.Form.{FormTree, form_of};
+ghost use Rattle.modes.specs.Bounds.{bounds_of};
+ghost use Rattle.program_trees.specs.ExprTree.{operation_tree, range_tree, received_tree, received_of, powerset};
+ghost use Rattle.checks_model.specs.Classes.{tuple_mode, shape_fits, uniform_fits, value_if, mode_of_part};
+ghost use Rattle.checks_model.specs.ValueRules.{received_mode};
+ghost use Rattle.elaboration_model.specs.Parts.{made_of};
+ghost use Rattle.elaboration_model.specs.Expressions.{tuple_operation, ranges_as, range_as, parts_as, part_as};
+ghost use Rattle.expr_rules.specs.Views.{some_mode, own_mode, receiver_tree, part_of_shape};
+ghost use Rattle.program_numbers.specs.Answers.{Elaborates};
+ghost use Rattle.value_elaboration.specs.Steps.{tuple_in, uniform_in, uniform_made};
+ghost use Rattle.value_elaboration.specs.Views.{source_of, HasSource, members_tree};
+ghost use Rattle.value_elaboration.specs.Made.{IsMade};
+
 use crate::operators::values_in;
 use crate::values::Values;
 use checked_program::{Expr, Operation, Range, Received};
@@ -18,7 +35,9 @@ impl<'a, 'b, 'c> Values<'a, 'b, 'c> {
         parts: &[ValueRange],
         name: &Option<Name>,
         mode: Option<&Rc<Mode>>,
-    ) -> Result<Box<Expr>, ElaborationRefusal> {
+    ) -> Result<Box<Expr>, ElaborationRefusal>
+        ensures { HasSource self.now → IsMade (option_and_then (value_if (shape_fits (range_nodes (range_trees parts.now)))) (tuple_mode (source_of self.now).known name.now (some_mode mode.entry))) (option_and_then (λ own. tuple_operation (form_of own) (ranges_as (source_of self.now) own (range_nodes (range_trees parts.now))) (parts_as (source_of self.now) (shape_fits (range_nodes (range_trees parts.now))) 0 (Some own) (range_nodes (range_trees parts.now)))) (tuple_mode (source_of self.now).known name.now (some_mode mode.entry))) result }
+    {
         let Some(own) = self.tuple_mode(name, mode)? else {
             return Err(ElaborationRefusal::Unsound);
         };
@@ -33,7 +52,9 @@ impl<'a, 'b, 'c> Values<'a, 'b, 'c> {
         value: &Tree,
         name: &Option<Name>,
         mode: Option<&Rc<Mode>>,
-    ) -> Result<Box<Expr>, ElaborationRefusal> {
+    ) -> Result<Box<Expr>, ElaborationRefusal>
+        ensures { HasSource self.now → IsMade (option_and_then (value_if uniform_fits) (tuple_mode (source_of self.now).known name.now (some_mode mode.entry))) (uniform_made (source_of self.now) (tuple_mode (source_of self.now).known name.now (some_mode mode.entry)) (expr_tree value.now)) result }
+    {
         let Some(own) = self.tuple_mode(name, mode)? else {
             return Err(ElaborationRefusal::Unsound);
         };
@@ -46,7 +67,9 @@ impl<'a, 'b, 'c> Values<'a, 'b, 'c> {
         &self,
         name: &Option<Name>,
         mode: Option<&Rc<Mode>>,
-    ) -> Result<Option<Rc<Mode>>, Memory> {
+    ) -> Result<Option<Rc<Mode>>, Memory>
+        ensures { HasSource self.now → IfOk result (λ m. own_mode m ≡ tuple_mode (source_of self.now).known name.now (some_mode mode.entry)) }
+    {
         match name {
             Some(name) => self.walk.evaluation.mode_of_name(name),
             None => shared(mode),
@@ -59,7 +82,9 @@ impl<'a, 'b, 'c> Values<'a, 'b, 'c> {
         &self,
         parts: &[ValueRange],
         own: &Rc<Mode>,
-    ) -> Result<Operation, ElaborationRefusal> {
+    ) -> Result<Operation, ElaborationRefusal>
+        ensures { HasSource self.now → Elaborates (tuple_in (source_of self.now) (mode_tree own.now.value) (range_nodes (range_trees parts.now))) operation_tree result }
+    {
         match form_of(own) {
             Form::Powerset(member) => self.powerset(parts, member),
             Form::Array { .. } | Form::Struct { .. } => {
@@ -84,7 +109,9 @@ impl<'a, 'b, 'c> Values<'a, 'b, 'c> {
         &self,
         parts: &[ValueRange],
         member: &Rc<Mode>,
-    ) -> Result<Operation, ElaborationRefusal> {
+    ) -> Result<Operation, ElaborationRefusal>
+        ensures { HasSource self.now → (own : ModeTree) → mode_of_part (λ f. true) 0 (Some own) ≡ Some (mode_tree member.now.value) → Elaborates (made_of powerset (bounds_of (mode_tree member.now.value)) (ranges_as (source_of self.now) own (range_nodes (range_trees parts.now)))) operation_tree result }
+    {
         let Some(bounds) = bounds(member) else {
             return Err(ElaborationRefusal::Unsound);
         };
@@ -98,7 +125,9 @@ impl<'a, 'b, 'c> Values<'a, 'b, 'c> {
         &self,
         parts: &[ValueRange],
         member: &Rc<Mode>,
-    ) -> Result<List<Range>, ElaborationRefusal> {
+    ) -> Result<List<Range>, ElaborationRefusal>
+        ensures { HasSource self.now → (own : ModeTree) → mode_of_part (λ f. true) 0 (Some own) ≡ Some (mode_tree member.now.value) → Elaborates (ranges_as (source_of self.now) own (range_nodes (range_trees parts.now))) members_tree result }
+    {
         let mut members = List::new(self.alloc());
         for part in parts {
             members.push(self.range_as(part, member)?)?;
@@ -112,7 +141,9 @@ impl<'a, 'b, 'c> Values<'a, 'b, 'c> {
         &self,
         part: &ValueRange,
         member: &Rc<Mode>,
-    ) -> Result<Range, ElaborationRefusal> {
+    ) -> Result<Range, ElaborationRefusal>
+        ensures { HasSource self.now → Elaborates (range_as (source_of self.now) (Some (mode_tree member.now.value)) (written_range part.now)) range_tree result }
+    {
         let first = self.expr_as(&part.first, Some(member))?;
         let last = match &part.last {
             None => None,
@@ -127,7 +158,9 @@ impl<'a, 'b, 'c> Values<'a, 'b, 'c> {
         &self,
         parts: &[ValueRange],
         shape: Shape<'_>,
-    ) -> Result<List<Received>, ElaborationRefusal> {
+    ) -> Result<List<Received>, ElaborationRefusal>
+        ensures { HasSource self.now → (fits : FormTree → Bool) (m : Option ModeTree) → ((k : ℕ) → part_of_shape shape.entry k ≡ mode_of_part fits k m) → Elaborates (parts_as (source_of self.now) fits 0 m (range_nodes (range_trees parts.now))) received_of result }
+    {
         let mut all = List::new(self.alloc());
         for (place, part) in parts.iter().enumerate() {
             all.push(self.part_as(part, mode_received(shape.receiver(place)))?)?;
@@ -141,7 +174,9 @@ impl<'a, 'b, 'c> Values<'a, 'b, 'c> {
         &self,
         part: &ValueRange,
         mode: Option<&Rc<Mode>>,
-    ) -> Result<Received, ElaborationRefusal> {
+    ) -> Result<Received, ElaborationRefusal>
+        ensures { HasSource self.now → Elaborates (part_as (source_of self.now) (some_mode mode.entry) (written_range part.now)) received_tree result }
+    {
         match &part.last {
             None => self.received_by(&part.first, mode),
             Some(_) => Err(ElaborationRefusal::Unsound),
@@ -154,7 +189,9 @@ impl<'a, 'b, 'c> Values<'a, 'b, 'c> {
         &self,
         value: &Tree,
         own: &Rc<Mode>,
-    ) -> Result<Operation, ElaborationRefusal> {
+    ) -> Result<Operation, ElaborationRefusal>
+        ensures { HasSource self.now → Elaborates (uniform_in (source_of self.now) (form_of (mode_tree own.now.value)) (expr_tree value.now)) operation_tree result }
+    {
         match form_of(own) {
             Form::Array { index, element, .. } => {
                 let elements = values_in(index)?;
@@ -175,7 +212,9 @@ impl<'a, 'b, 'c> Values<'a, 'b, 'c> {
 }
 
 // The mode of what receives a value.
-fn mode_received<'r>(receiver: Receiver<'r>) -> Option<&'r Rc<Mode>> {
+fn mode_received<'r>(receiver: Receiver<'r>) -> Option<&'r Rc<Mode>>
+    ensures { some_mode result ≡ received_mode (receiver_tree receiver.entry) }
+{
     match receiver {
         Receiver::Mode(mode) => mode,
         Receiver::Nothing

@@ -1,5 +1,22 @@
 // Expressions that go to places: each largest one of constant form is one constant, and every other node is an operation on its
 // parts (Z.200, chapters on values and on operations).
+ghost use Rattle.std.specs.Prelude.{◌≡◌, false, Some, None, option_map, option_and_then};
+ghost use Rattle.chill_tree.specs.ExprTree.{expr_tree, expr_trees, expr_nodes};
+ghost use Rattle.modes.specs.ModeTree.{value, derived, instance};
+ghost use Rattle.program_trees.specs.ExprTree.{boxed_expr, received_tree, own_instance, receive, start, started, prefixed, binary};
+ghost use Rattle.checks_model.specs.Ground.{origin_of, buffer_element};
+ghost use Rattle.checks_model.specs.Operations.{class_of_unary, class_of_binary};
+ghost use Rattle.checks_model.specs.Classes.{class_as, class_of};
+ghost use Rattle.checks_model.specs.Constants.{has_form};
+ghost use Rattle.elaboration_model.specs.Parts.{made_of};
+ghost use Rattle.elaboration_model.specs.Numbering.{buffer_used, body_used};
+ghost use Rattle.elaboration_model.specs.Expressions.{expr_as, expr_alone, received_by, received_each, modes_by, operator_before, operator_between};
+ghost use Rattle.expr_rules.specs.Views.{some_mode};
+ghost use Rattle.program_numbers.specs.Answers.{Elaborates};
+ghost use Rattle.value_elaboration.specs.Steps.{class_between, operation_between};
+ghost use Rattle.value_elaboration.specs.Views.{source_of, HasSource, class_in};
+ghost use Rattle.value_elaboration.specs.Made.{IsOfClass, IsMade, IsElaborated};
+
 use crate::folding::boxed;
 use crate::operators::{operator_before, operator_between};
 use checked_program::{Expr, Operation, Received};
@@ -29,7 +46,10 @@ impl<'a, 'b, 'c> Values<'a, 'b, 'c> {
         &self,
         expr: &Tree,
         mode: Option<&Rc<Mode>>,
-    ) -> Result<Box<Expr>, ElaborationRefusal> {
+    ) -> Result<Box<Expr>, ElaborationRefusal>
+        ensures exact { HasSource self.now → Elaborates (expr_as (source_of self.now) (some_mode mode.entry) (expr_tree expr.now)) boxed_expr result }
+        ensures class { HasSource self.now → IsOfClass (class_as (source_of self.now).known (some_mode mode.entry) (expr_tree expr.now)) result }
+    {
         match self.constant(expr)? {
             Some(constant) => Ok(constant),
             None => self.by_operation(expr, mode),
@@ -37,7 +57,10 @@ impl<'a, 'b, 'c> Values<'a, 'b, 'c> {
     }
 
     /// An expression that nothing receives.
-    pub fn expr_alone(&self, expr: &Tree) -> Result<Box<Expr>, ElaborationRefusal> {
+    pub fn expr_alone(&self, expr: &Tree) -> Result<Box<Expr>, ElaborationRefusal>
+        ensures exact { HasSource self.now → Elaborates (expr_alone (source_of self.now) (expr_tree expr.now)) boxed_expr result }
+        ensures class { HasSource self.now → IsOfClass (class_of (source_of self.now).known (expr_tree expr.now)) result }
+    {
         self.expr_as(expr, None)
     }
 
@@ -47,7 +70,9 @@ impl<'a, 'b, 'c> Values<'a, 'b, 'c> {
         &self,
         expr: &Tree,
         mode: Option<&Rc<Mode>>,
-    ) -> Result<Received, ElaborationRefusal> {
+    ) -> Result<Received, ElaborationRefusal>
+        ensures { HasSource self.now → Elaborates (received_by (source_of self.now) (some_mode mode.entry) (expr_tree expr.now)) received_tree result }
+    {
         let Some(own) = mode else {
             return Err(ElaborationRefusal::Unsound);
         };
@@ -64,7 +89,9 @@ impl<'a, 'b, 'c> Values<'a, 'b, 'c> {
         &self,
         expr: &Tree,
         mode: Option<&Rc<Mode>>,
-    ) -> Result<Box<Expr>, ElaborationRefusal> {
+    ) -> Result<Box<Expr>, ElaborationRefusal>
+        ensures { HasSource self.now → has_form (source_of self.now).known false (expr_tree expr.now) ≡ false → IsElaborated (source_of self.now) (some_mode mode.entry) (expr_tree expr.now) result }
+    {
         match expr {
             Tree::Whole { .. } | Tree::Char { .. } | Tree::Text { .. } => {
                 Err(ElaborationRefusal::Unsound)
@@ -92,13 +119,17 @@ impl<'a, 'b, 'c> Values<'a, 'b, 'c> {
     }
 
     // THIS.
-    fn own_instance(&self) -> Result<Box<Expr>, ElaborationRefusal> {
+    fn own_instance(&self) -> Result<Box<Expr>, ElaborationRefusal>
+        ensures { HasSource self.now → IsMade (Some (derived instance)) (Some own_instance) result }
+    {
         let class = self.walk.class_of_instance()?;
         self.made(Some(class), Operation::This)
     }
 
     // RECEIVE of a buffer.
-    fn received_from(&self, name: &Name) -> Result<Box<Expr>, ElaborationRefusal> {
+    fn received_from(&self, name: &Name) -> Result<Box<Expr>, ElaborationRefusal>
+        ensures { HasSource self.now → IsMade (option_map value (buffer_element (source_of self.now).known name.now)) (option_map receive (buffer_used (source_of self.now) name.now)) result }
+    {
         let buffer = self.numbering.buffer_used(self.walk, name)?;
         let class = self.walk.class_of_received(name)?;
         self.made(class, Operation::Receive { buffer })
@@ -106,7 +137,9 @@ impl<'a, 'b, 'c> Values<'a, 'b, 'c> {
 
     // A START that stands as a value.
     #[cycle(value)]
-    fn started(&self, process: &Name, args: &[Tree]) -> Result<Box<Expr>, ElaborationRefusal> {
+    fn started(&self, process: &Name, args: &[Tree]) -> Result<Box<Expr>, ElaborationRefusal>
+        ensures { HasSource self.now → IsMade (Some (derived instance)) (made_of (λ b rs. start (started b rs)) (body_used (source_of self.now) process.now) (received_each (source_of self.now) (modes_by (source_of self.now) (origin_of (source_of self.now).known process.now)) (expr_nodes (expr_trees args.now)))) result }
+    {
         let start = self.start(process, args)?;
         let class = self.walk.class_of_instance()?;
         let start = boxed(self.alloc(), start)?;
@@ -119,7 +152,9 @@ impl<'a, 'b, 'c> Values<'a, 'b, 'c> {
         &self,
         operand: &Tree,
         operator: Prefix,
-    ) -> Result<Box<Expr>, ElaborationRefusal> {
+    ) -> Result<Box<Expr>, ElaborationRefusal>
+        ensures { HasSource self.now → IsMade (option_and_then (class_of_unary operator) (class_of (source_of self.now).known (expr_tree operand.now))) (made_of (λ c e. prefixed (operator_before operator c) e) (class_of (source_of self.now).known (expr_tree operand.now)) (expr_as (source_of self.now) None (expr_tree operand.now))) result }
+    {
         let operand = self.expr_as(operand, None)?;
         self.prefixed_of(operator, operand)
     }
@@ -129,7 +164,9 @@ impl<'a, 'b, 'c> Values<'a, 'b, 'c> {
         &self,
         operator: Prefix,
         operand: Box<Expr>,
-    ) -> Result<Box<Expr>, ElaborationRefusal> {
+    ) -> Result<Box<Expr>, ElaborationRefusal>
+        ensures { IsMade (class_of_unary operator (class_in operand.value)) (Some (prefixed (operator_before operator (class_in operand.value)) (boxed_expr operand))) result }
+    {
         let class = class_of_unary(self.alloc(), operator, &operand.class)?;
         let operator = operator_before(operator, &operand.class)?;
         self.made(class, Operation::Prefixed { operator, operand })
@@ -137,7 +174,9 @@ impl<'a, 'b, 'c> Values<'a, 'b, 'c> {
 
     // Two operands with an operator between them: an expression that is handed down whole, since both are its parts.
     #[cycle(value)]
-    fn binary(&self, expr: &Tree) -> Result<Box<Expr>, ElaborationRefusal> {
+    fn binary(&self, expr: &Tree) -> Result<Box<Expr>, ElaborationRefusal>
+        ensures { HasSource self.now → IsMade (class_between (source_of self.now) (expr_tree expr.now)) (operation_between (source_of self.now) (expr_tree expr.now)) result }
+    {
         let Tree::Binary {
             left,
             operator,
@@ -158,7 +197,9 @@ impl<'a, 'b, 'c> Values<'a, 'b, 'c> {
         operator: Operator,
         left: Box<Expr>,
         right: Box<Expr>,
-    ) -> Result<Box<Expr>, ElaborationRefusal> {
+    ) -> Result<Box<Expr>, ElaborationRefusal>
+        ensures { IsMade (class_of_binary operator (class_in left.value) (class_in right.value)) (option_map (λ o. binary o (boxed_expr left) (boxed_expr right)) (operator_between operator (class_in left.value) (class_in right.value))) result }
+    {
         let class = class_of_binary(self.alloc(), operator, &left.class, &right.class)?;
         let Some(operator) = operator_between(operator, &left.class, &right.class) else {
             return Err(ElaborationRefusal::Unsound);
