@@ -1,21 +1,16 @@
 -- What stands around a statement, and what is elaborated, without where it lies in memory.
-use Rattle.std.specs.Prelude.{List, ◌∷◌, map, Option, Some, None, option_map}
+use Rattle.std.specs.Prelude.{List, ◌∷◌, map, Option, Some, None}
 use Rattle.std.specs.Borrow.{Bor}
 use Rattle.std.specs.declared.alloc.Global.{Global}
 use Rattle.std.specs.declared.boxed.Box.{Box}
-use Rattle.std.specs.declared.rc.Rc.{Rc}
 use Rattle.chill_tree.specs.declared.tree.name.Name.{Name}
-use Rattle.modes.specs.declared.mode.Mode.{Mode}
-use Rattle.modes.specs.ModeTree.{ModeTree, mode_tree}
 use Rattle.checked_program.specs.declared.statement.Action.{Action}
 use Rattle.checked_program.specs.declared.statement.Control.{Control}
 use Rattle.checked_program.specs.declared.statement.Statement.{Statement}
 use Rattle.program_trees.specs.StatementTree as done
 use Rattle.elaboration_model.specs.Statements as model
+use Rattle.expr_rules.specs.Views.{some_mode}
 use Rattle.action_elaboration.specs.declared.around.Around.{Around}
-
-abbrev pub some_mode : Option (Bor (Rc Mode Global)) → Option ModeTree
-some_mode m = option_map (λ m. mode_tree m.now.value) m
 
 abbrev pub names_in : List (Bor Name) → List Name
 names_in ns = map (λ n. n.now) ns

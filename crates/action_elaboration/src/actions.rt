@@ -4,8 +4,9 @@ ghost use Rattle.program_trees.specs.StatementTree as done;
 ghost use Rattle.elaboration_model.specs.Expressions.{mode_defined};
 ghost use Rattle.elaboration_model.specs.Numbering.{local_defined};
 ghost use Rattle.elaboration_model.specs.Statements as model;
+ghost use Rattle.expr_rules.specs.Views.{some_mode};
 ghost use Rattle.action_elaboration.specs.Sources.{source_at, IsNumbered};
-ghost use Rattle.action_elaboration.specs.Views.{boxed_action, some_mode};
+ghost use Rattle.action_elaboration.specs.Views.{boxed_action};
 
 use checked_program::{Action, Statement};
 use chill_tree::tree::Name;

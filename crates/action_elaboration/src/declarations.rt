@@ -7,9 +7,10 @@ ghost use Rattle.elaboration_model.specs.Numbering.{local_defined};
 ghost use Rattle.elaboration_model.specs.Parts.{made_each};
 ghost use Rattle.elaboration_model.specs.Statements as model;
 ghost use Rattle.program_numbers.specs.Answers.{Elaborates};
+ghost use Rattle.expr_rules.specs.Views.{some_mode};
 ghost use Rattle.action_elaboration.specs.Lists.{behind};
 ghost use Rattle.action_elaboration.specs.Sources.{source_at, IsNumbered};
-ghost use Rattle.action_elaboration.specs.Views.{boxed_action, some_mode, itself, trees_of};
+ghost use Rattle.action_elaboration.specs.Views.{boxed_action, itself, trees_of};
 
 use crate::actions::{Actions, plain};
 use crate::boxes::boxed;

@@ -1,2 +1,4 @@
 pub mod Views
 pub mod Listed
+pub mod Bodies
+pub mod Firsts
