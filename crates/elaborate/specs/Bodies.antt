@@ -1,8 +1,11 @@
 -- What bodies do, without where it lies in memory, and what it is elaborated by.
-use Rattle.std.specs.Prelude.{List, ◌++◌, [], ◌∷◌, Option, Some, option_map}
+use Rattle.std.specs.Prelude.{◌≡◌, List, ◌++◌, [], ◌∷◌, Option, Some, option_map}
+use Rattle.chill_tree.specs.ItemTree.{ProgramTree}
 use Rattle.program_trees.specs.StatementTree.{statements_of, handler_of}
 use Rattle.checks_model.specs.Ground.{Origin, a_procedure, a_process}
+use Rattle.checks_model.specs.Table.{IsStatementGroundOf}
 use Rattle.elaboration_model.specs.Numbering.{Source}
+use Rattle.elaboration_model.specs.Elaborated.{source_of}
 use Rattle.program_numbers.specs.Heads as heads
 use Rattle.program_numbers.specs.Heads.{inside_as}
 use Rattle.action_elaboration.specs.Sources.{source_at, IsNumbered}
@@ -15,6 +18,12 @@ source_of_bodies b = source_at b.statements.actions
 -- the numbering has what the walk's definitions are
 abbrev pub AreNumbered : Bodies → Type 0
 AreNumbered b = IsNumbered b.statements.actions
+
+-- they are elaborated by the source of a tree and the ground of its statements
+pub record AreOf (t : ProgramTree) (b : Bodies) : Type 0 where
+  pub numbered : AreNumbered b
+  pub ground : IsStatementGroundOf t (source_of_bodies b).known
+  pub source : source_of_bodies b ≡ source_of (source_of_bodies b).known t
 
 abbrev pub inside_tree : Inside → heads.Inside
 inside_tree i = (statements_of i.statements, handler_of i.handler)

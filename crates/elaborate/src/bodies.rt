@@ -9,7 +9,7 @@ ghost use Rattle.expr_rules.specs.Views.{some_mode};
 ghost use Rattle.definition_origins.specs.OriginTrees.{origin_tree};
 ghost use Rattle.program_numbers.specs.Answers.{Elaborates};
 ghost use Rattle.program_numbers.specs.Heads.{insides, with_inside, with_insides};
-ghost use Rattle.elaborate.specs.Bodies.{source_of_bodies, AreNumbered, inside_tree, inside_if};
+ghost use Rattle.elaborate.specs.Bodies.{source_of_bodies, AreNumbered, AreOf, inside_tree, inside_if};
 
 use crate::program::Inside;
 use checked_program::Body;
@@ -38,7 +38,7 @@ impl<'a, 'b, 'c> Bodies<'a, 'b, 'c> {
 
     /// What the bodies of a program do.
     pub fn insides(&self, tree: &Tree) -> Result<List<Inside>, ElaborationRefusal>
-        ensures { AreNumbered self.now → Elaborates (insides (source_of_bodies self.now) (program_tree tree.now)) (map inside_tree) result }
+        ensures { AreOf (program_tree tree.now) self.now → Elaborates (insides (source_of_bodies self.now) (program_tree tree.now)) (map inside_tree) result }
     {
         let outermost = Inside {
             statements: self.modulions_done(tree.modulions.as_slice())?,

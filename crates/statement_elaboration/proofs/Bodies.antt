@@ -17,7 +17,7 @@ use Rattle.statement_elaboration.specs.Items.{part_made}
 
 -- ---- statements before others
 
-before-nothing : (ss : List done.StatementTree) → before ss done.no_statements ≡ done.statement_nodes ss
+pub before-nothing : (ss : List done.StatementTree) → before ss done.no_statements ≡ done.statement_nodes ss
 before-nothing [] = refl
 before-nothing (s ∷ ss) = ap (done.more_statements s) (before-nothing ss)
 
@@ -25,23 +25,23 @@ before-append : (ss xs : List done.StatementTree) (rest : done.StatementNodes) �
 before-append [] xs rest = refl
 before-append (s ∷ ss) xs rest = ap (done.more_statements s) (before-append ss xs rest)
 
-nothing-before : (o : Option done.StatementNodes) → o ≡ preceded [] o
+pub nothing-before : (o : Option done.StatementNodes) → o ≡ preceded [] o
 nothing-before None = refl
 nothing-before (Some rest) = refl
 
 -- the rest behind statements that may not be there
-abbrev some_before : Option (List done.StatementTree) → Option done.StatementNodes → Option done.StatementNodes
+abbrev pub some_before : Option (List done.StatementTree) → Option done.StatementNodes → Option done.StatementNodes
 some_before None rest = None
 some_before (Some ss) rest = preceded ss rest
 
-joined : (ss : List done.StatementTree) (o : Option (List done.StatementTree)) (rest : Option done.StatementNodes) → preceded ss (made_of before o rest) ≡ some_before (behind ss o) rest
+pub joined : (ss : List done.StatementTree) (o : Option (List done.StatementTree)) (rest : Option done.StatementNodes) → preceded ss (made_of before o rest) ≡ some_before (behind ss o) rest
 joined ss None rest = refl
 joined ss (Some xs) None = refl
 joined ss (Some xs) (Some ns) = ap Some (sym (before-append ss xs ns))
 
 -- ---- parts
 
-action_first : (o : Option done.StatementTree) (rest : Option done.StatementNodes) → made_of done.more_statements o rest ≡ made_of before (option_map (λ y. y ∷ []) o) rest
+pub action_first : (o : Option done.StatementTree) (rest : Option done.StatementNodes) → made_of done.more_statements o rest ≡ made_of before (option_map (λ y. y ∷ []) o) rest
 action_first None rest = refl
 action_first (Some x) None = refl
 action_first (Some x) (Some ns) = refl

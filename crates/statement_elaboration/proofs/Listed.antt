@@ -15,7 +15,7 @@ use Rattle.statement_elaboration.specs.Items.{choice_made, case_made, delay_made
 
 -- ---- one more, in its nodes and in a list
 
-statement_more : (p : Option done.StatementTree) (r : Option (List done.StatementTree)) → made_of done.more_statements p (option_map done.statement_nodes r) ≡ option_map done.statement_nodes (made_of (λ x xs. x ∷ xs) p r)
+pub statement_more : (p : Option done.StatementTree) (r : Option (List done.StatementTree)) → made_of done.more_statements p (option_map done.statement_nodes r) ≡ option_map done.statement_nodes (made_of (λ x xs. x ∷ xs) p r)
 statement_more None r = refl
 statement_more (Some x) None = refl
 statement_more (Some x) (Some xs) = refl
