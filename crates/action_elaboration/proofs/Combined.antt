@@ -1,9 +1,7 @@
 -- What is made of parts, where these are there, and what an answer to the whole is where one to a part refuses it.
 use Rattle.std.proofs.Common.{◌≡◌, Option, Some, None, refl, ap, ◌∙◌}
-use Rattle.std.specs.Prelude.{option_map, option_and_then, Result, Err}
+use Rattle.std.specs.Prelude.{option_map}
 use Rattle.elaboration_model.specs.Parts.{made_of, made_of_three}
-use Rattle.program_numbers.specs.Answers.{Elaborates}
-use Rattle.program_numbers.specs.declared.refusal.ElaborationRefusal.{ElaborationRefusal}
 use Rattle.program_numbers.proofs.Answering.{handed_on}
 
 -- ---- all parts are there

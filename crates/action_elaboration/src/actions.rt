@@ -39,10 +39,7 @@ impl<'a, 'b, 'c> Actions<'a, 'b, 'c> {
     pub fn local_if_defined(&self, name: &Name) -> Option<u32>
         ensures { IsNumbered self.now → result ≡ local_defined (source_at self.now) name.now }
     {
-        let thing = self
-            .values
-            .numbering
-            .thing_defined(self.values.walk, name)?;
+        let thing = self.values.numbering.thing_defined(self.values.walk, name)?;
         thing.local()
     }
 }

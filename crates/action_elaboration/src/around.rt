@@ -1,6 +1,7 @@
 // What stands around a statement in its body: the labels that enclose it, and the mode of the result.
-ghost use Rattle.std.specs.Prelude.{◌≡◌, IfOk, option_map};
+ghost use Rattle.std.specs.Prelude.{◌≡◌, IfOk};
 ghost use Rattle.elaboration_model.specs.Statements as model;
+ghost use Rattle.expr_rules.specs.Views.{some_mode};
 ghost use Rattle.action_elaboration.specs.Views.{around_tree, names_in, names_within};
 
 use chill_base::Memory;
@@ -20,10 +21,12 @@ pub struct Around<'t, 'l> {
 
 impl<'t, 'l> Around<'t, 'l> {
     /// What stands around the statements of a body that are in no other.
-    pub fn in_body(result: Option<&'l Rc<Mode>>) -> Around<'t, 'l> {
+    pub fn in_body(returned: Option<&'l Rc<Mode>>) -> Around<'t, 'l>
+        ensures { around_tree result ≡ model.in_body (some_mode returned.entry) }
+    {
         Around {
             labels: &[],
-            result,
+            result: returned,
         }
     }
 

@@ -20,11 +20,7 @@ use value_elaboration::{Applied, ElaborationRefusal, Predefined};
 
 impl<'a, 'b, 'c> Actions<'a, 'b, 'c> {
     /// The call of a procedure or routine.
-    pub fn call_action(
-        &self,
-        name: &Name,
-        args: &[Expr],
-    ) -> Result<Box<Action>, ElaborationRefusal>
+    pub fn call_action(&self, name: &Name, args: &[Expr]) -> Result<Box<Action>, ElaborationRefusal>
         ensures { IsNumbered self.now → Elaborates (model.call_action (source_at self.now) (callee_named (source_at self.now).known name.now) name.now (expr_trees args.now)) boxed_action result }
     {
         match self.values.walk.callee_named(name) {

@@ -1,6 +1,5 @@
 // Declarations, each a statement at its place (Z.200, chapters on locations and on program structure).
 ghost use Rattle.std.specs.Prelude.{◌≡◌, IfOk, None, map, option_map};
-ghost use Rattle.chill_tree.specs.ExprTree.{boxed_expr};
 ghost use Rattle.chill_tree.specs.LocalTree.{declaration_tree, local_tree, initial_tree};
 ghost use Rattle.program_trees.specs.StatementTree as done;
 ghost use Rattle.elaboration_model.specs.Numbering.{local_defined};

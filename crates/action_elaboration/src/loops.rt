@@ -1,5 +1,5 @@
 // What controls a loop (Z.200, chapter on actions).
-ghost use Rattle.std.specs.Prelude.{◌≡◌, option_map};
+ghost use Rattle.std.specs.Prelude.{option_map};
 ghost use Rattle.chill_tree.specs.SimpleTree.{control_tree};
 ghost use Rattle.chill_tree.specs.ExprTree.{boxed_expr, expr_tree};
 ghost use Rattle.program_trees.specs.StatementTree as done;
@@ -49,7 +49,10 @@ impl<'a, 'b, 'c> Actions<'a, 'b, 'c> {
                 condition,
                 ..
             } => Ok(Control::Steps {
-                counter: self.values.numbering.local_defined(self.values.walk, counter)?,
+                counter: self
+                    .values
+                    .numbering
+                    .local_defined(self.values.walk, counter)?,
                 start: self.values.expr_alone(start)?,
                 step: self.some_alone(step)?,
                 end: self.values.expr_alone(end)?,
@@ -69,7 +72,10 @@ impl<'a, 'b, 'c> Actions<'a, 'b, 'c> {
         ensures { IsNumbered self.now → Elaborates (members_of (source_at self.now) counter.now (expr_tree set.now) (option_map boxed_expr condition.now)) done.control_tree result }
     {
         Ok(Control::Members {
-            counter: self.values.numbering.local_defined(self.values.walk, counter)?,
+            counter: self
+                .values
+                .numbering
+                .local_defined(self.values.walk, counter)?,
             low: self.low_of(counter)?,
             set: self.values.expr_alone(set)?,
             condition: self.some_alone(condition)?,

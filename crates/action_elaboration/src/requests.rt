@@ -1,5 +1,5 @@
 // What processes ask of each other (Z.200, chapter on concurrent execution).
-ghost use Rattle.std.specs.Prelude.{◌≡◌, map, option_map};
+ghost use Rattle.std.specs.Prelude.{option_map};
 ghost use Rattle.chill_tree.specs.ExprTree.{boxed_expr, expr_trees};
 ghost use Rattle.program_trees.specs.ExprTree as made;
 ghost use Rattle.program_trees.specs.StatementTree as done;

@@ -1,5 +1,5 @@
 // Actions that hold no others (Z.200, chapter on actions).
-ghost use Rattle.std.specs.Prelude.{◌≡◌, option_map};
+ghost use Rattle.std.specs.Prelude.{option_map};
 ghost use Rattle.chill_tree.specs.ExprTree.{boxed_expr, expr_tree};
 ghost use Rattle.chill_tree.specs.SimpleTree.{simple_tree};
 ghost use Rattle.elaboration_model.specs.Statements as model;
@@ -97,11 +97,7 @@ impl<'a, 'b, 'c> Actions<'a, 'b, 'c> {
     }
 
     // EXIT.
-    fn left(
-        &self,
-        label: &Name,
-        around: Around<'_, '_>,
-    ) -> Result<Box<Action>, ElaborationRefusal>
+    fn left(&self, label: &Name, around: Around<'_, '_>) -> Result<Box<Action>, ElaborationRefusal>
         ensures { IsNumbered self.now → Elaborates (left (around_tree around.entry) label.now) boxed_action result }
     {
         let Some(outwards) = around.outwards(label) else {

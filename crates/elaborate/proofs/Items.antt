@@ -1,15 +1,14 @@
 -- What the items of modulions do, as far as a loop has come.
-use Rattle.std.proofs.Common.{◌≡◌, ℕ, ◌+◌, ◌<◌, ◌≤◌, List, [], ◌∷◌, ◌++◌, Option, Some, None, map, length, get_or, drop, refl, sym, ap, ◌∙◌}
+use Rattle.std.proofs.Common.{◌≡◌, ℕ, ◌+◌, ◌<◌, ◌≤◌, List, [], ◌∷◌, Option, Some, None, map, length, get_or, drop, refl, sym, ap, ◌∙◌}
 use Rattle.std.proofs.lemmas.List.{drop_more, drop_all}
-use Rattle.std.specs.Prelude.{option_map, false}
+use Rattle.std.specs.Prelude.{option_map}
 use Rattle.chill_tree.specs.declared.tree.item.Item.{Item}
-use Rattle.chill_tree.specs.StatementTree.{handler_node}
 use Rattle.chill_tree.specs.ItemTree.{ItemTree, seize, grant, local_item, signals, procedure, process, modulion, action, item_nodes, item_tree, item_trees, ModulionTree, modulion_item}
 use Rattle.checked_program.specs.declared.statement.Statement.{Statement}
 use Rattle.program_trees.specs.StatementTree as done
 use Rattle.elaboration_model.specs.Parts.{made_of, made_each}
 use Rattle.elaboration_model.specs.Numbering.{Source}
-use Rattle.elaboration_model.specs.Statements.{in_body, statement, handled, before}
+use Rattle.elaboration_model.specs.Statements.{in_body, statement, before}
 use Rattle.elaboration_model.specs.Modulions.{item_before, items_done, modulions_done}
 use Rattle.action_elaboration.specs.Lists.{behind}
 use Rattle.action_elaboration.specs.Views.{trees_of}

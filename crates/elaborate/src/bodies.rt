@@ -1,6 +1,6 @@
 // What the bodies of a program do: that of the outermost process, then those of processes and procedures in the order of the
 // text.
-ghost use Rattle.std.specs.Prelude.{◌≡◌, ◌++◌, IfOk, map, option_map};
+ghost use Rattle.std.specs.Prelude.{◌≡◌, IfOk, map, option_map};
 ghost use Rattle.chill_tree.specs.ItemTree.{procedure_tree, program_tree};
 ghost use Rattle.chill_tree.specs.StatementTree as tree;
 ghost use Rattle.program_trees.specs.ProgramTree.{body_row_tree};

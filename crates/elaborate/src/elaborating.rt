@@ -44,10 +44,7 @@ fn in_range(program: Box<Checked>) -> Result<Program, ElaborationRefusal>
 }
 
 // The elaborated program of evaluated definitions.
-fn elaborated(
-    evaluation: &Evaluation<'_>,
-    tree: &Tree,
-) -> Result<Box<Checked>, ElaborationRefusal>
+fn elaborated(evaluation: &Evaluation<'_>, tree: &Tree) -> Result<Box<Checked>, ElaborationRefusal>
     ensures { IsWalkOf (program_tree tree.now) (walk_of evaluation) → Elaborates (elaborated (ground_of evaluation.now) (program_tree tree.now)) boxed_program result }
 {
     let walk = Walk { evaluation };

@@ -10,15 +10,18 @@ ghost use Rattle.elaborate.specs.Bodies.{source_of_bodies, AreNumbered};
 ghost use Rattle.elaborate.specs.Items.{item_made, modulion_made, has_values, modulion_done};
 
 use crate::bodies::Bodies;
-use statement_elaboration::{Around, boxed};
 use checked_program::{Action, Statement};
 use chill_base::List;
 use chill_tree::tree::{Item, Local, Modulion, ModulionKind};
+use statement_elaboration::{Around, boxed};
 use value_elaboration::ElaborationRefusal;
 
 impl<'a, 'b, 'c> Bodies<'a, 'b, 'c> {
     /// What the modulions of a program do.
-    pub fn modulions_done(&self, modulions: &[Modulion]) -> Result<List<Statement>, ElaborationRefusal>
+    pub fn modulions_done(
+        &self,
+        modulions: &[Modulion],
+    ) -> Result<List<Statement>, ElaborationRefusal>
         ensures { AreNumbered self.now → Elaborates (model.modulions_done (source_of_bodies self.now) (map modulion_item (map modulion_tree modulions.now))) done.statements_of result }
     {
         let mut statements = List::new(self.alloc());

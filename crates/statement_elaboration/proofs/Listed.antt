@@ -1,5 +1,5 @@
 -- What is made of lists of statements and alternatives is made of each of them.
-use Rattle.std.proofs.Common.{◌≡◌, ℕ, List, [], ◌∷◌, ◌++◌, Option, Some, None, map, refl, sym, ap, ◌∙◌}
+use Rattle.std.proofs.Common.{◌≡◌, ℕ, List, [], ◌∷◌, Option, Some, None, map, refl, ap, ◌∙◌}
 use Rattle.std.specs.Prelude.{option_map}
 use Rattle.chill_tree.specs.StatementTree as tree
 use Rattle.program_trees.specs.ExprTree as made

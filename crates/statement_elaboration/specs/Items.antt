@@ -1,5 +1,5 @@
 -- The alternatives of actions and handlers, each for itself.
-use Rattle.std.specs.Prelude.{ℕ, List, ◌∷◌, [], Option, option_map}
+use Rattle.std.specs.Prelude.{List, ◌∷◌, [], Option, option_map}
 use Rattle.chill_tree.specs.StatementTree.{ElsIfTree, CaseTree, NamedTree, ReceiveTree, BodyTree, local_part, action_part, statement_nodes}
 use Rattle.program_trees.specs.StatementTree as done
 use Rattle.elaboration_model.specs.Parts.{made_of, made_of_three, made_each}

@@ -1,5 +1,5 @@
 // The alternatives of actions that hold others, and of handlers: each with its actions.
-ghost use Rattle.std.specs.Prelude.{◌≡◌, map, option_map};
+ghost use Rattle.std.specs.Prelude.{map};
 ghost use Rattle.chill_tree.specs.StatementTree as tree;
 ghost use Rattle.elaboration_model.specs.Statements as model;
 ghost use Rattle.program_numbers.specs.Answers.{Elaborates};

@@ -67,10 +67,10 @@ impl<'a, 'b, 'c> Statements<'a, 'b, 'c> {
         }
     }
 
-    // The condition of an IF and its actions.
+    /// A condition of an IF and its actions.
     #[tactic(auto, using(crate::proofs::Views::choice_views))]
     #[cycle(statement)]
-    fn first_choice<'t>(
+    pub fn first_choice<'t>(
         &self,
         condition: &'t tree::Expr,
         actions: &'t [tree::Statement],

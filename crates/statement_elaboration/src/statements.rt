@@ -1,13 +1,12 @@
 // Statements, bodies and handlers. With actions that hold others, and their alternatives, they make one recursion.
-ghost use Rattle.std.specs.Prelude.{◌≡◌, Some, map, option_map};
+ghost use Rattle.std.specs.Prelude.{Some, option_map};
 ghost use Rattle.chill_tree.specs.StatementTree as tree;
 ghost use Rattle.program_trees.specs.StatementTree as done;
-ghost use Rattle.elaboration_model.specs.Parts.{made_of};
 ghost use Rattle.elaboration_model.specs.Statements as model;
 ghost use Rattle.program_numbers.specs.Answers.{Elaborates};
 ghost use Rattle.action_elaboration.specs.Lists.{behind};
 ghost use Rattle.action_elaboration.specs.Sources.{source_at, IsNumbered};
-ghost use Rattle.action_elaboration.specs.Trees.{else_of, handled_of};
+ghost use Rattle.action_elaboration.specs.Trees.{else_of};
 ghost use Rattle.action_elaboration.specs.Views.{around_tree, trees_of};
 ghost use Rattle.statement_elaboration.specs.Items.{part_made};
 

@@ -1,10 +1,8 @@
-use Rattle.std.proofs.Common.{◌∙◌}
 use Rattle.elaboration_model.specs.Exceptions.{exception_number}
-use Rattle.elaboration_model.specs.Parts.{made_each}
 use Rattle.program_numbers.proofs.Answering.{handed_on}
 use Rattle.action_elaboration.specs.Sources.{source_at}
 use Rattle.action_elaboration.specs.Views.{itself}
-use Rattle.action_elaboration.proofs.Loops.{each_start, each_more, each_refused, each_end, each_mapped}
+use Rattle.action_elaboration.proofs.Loops.{each_start, each_more, each_refused, each_end}
 use Rattle.action_elaboration.proofs.actions.Actions.exceptions.Goals as goal
 
 pub loop-name-init : goal.loop-name-init

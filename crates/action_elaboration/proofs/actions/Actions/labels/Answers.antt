@@ -1,7 +1,6 @@
 use Rattle.std.proofs.Common.{◌∙◌}
 use Rattle.chill_tree.specs.ExprTree.{range_tree}
 use Rattle.elaboration_model.specs.Statements.{label}
-use Rattle.elaboration_model.specs.Parts.{made_each}
 use Rattle.program_numbers.proofs.Answering.{handed_on}
 use Rattle.action_elaboration.specs.Sources.{source_at}
 use Rattle.action_elaboration.specs.Views.{itself}

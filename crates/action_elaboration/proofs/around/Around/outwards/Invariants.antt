@@ -1,4 +1,4 @@
-use Rattle.std.proofs.Common.{◌≡◌, ◌+◌, ◌≤◌, length, drop}
+use Rattle.std.proofs.Common.{◌≡◌, ◌+◌, drop}
 use Rattle.std.specs.Prelude.{option_map}
 use Rattle.elaboration_model.specs.Statements.{outwards}
 use Rattle.action_elaboration.specs.Views.{names_in}

@@ -1,4 +1,4 @@
-use Rattle.std.proofs.Common.{◌≡◌, List, [], ◌∷◌, drop, map}
+use Rattle.std.proofs.Common.{◌≡◌, [], ◌∷◌, drop, map}
 use Rattle.chill_tree.specs.StatementTree as tree
 use Rattle.program_trees.specs.StatementTree as done
 use Rattle.elaboration_model.specs.Parts.{made_each}
