@@ -1,9 +1,8 @@
 -- The walk over definition statements, statements and bodies.
-use Rattle.std.proofs.Common.{◌≡◌, ℕ, zero, suc, ◌+◌, Bool, true, false, List, [], ◌∷◌, ◌++◌, Option, Some, None, length, inl, inr, refl, sym, ap, ◌∙◌, subst}
+use Rattle.std.proofs.Common.{ℕ, suc, ◌+◌, Bool, true, false, List, [], ◌∷◌, ◌++◌, Option, Some, None, length, inl, inr, refl}
 use Rattle.std.specs.Prelude.{map, flat_map, replicate, if◌then◌else◌}
-use Rattle.std.proofs.lemmas.Bool.{cases_eq}
 use Rattle.chill_tree.specs.declared.tree.name.Name.{Name}
-use Rattle.chill_tree.specs.ExprTree.{ExprTree, RangeTree, name, apply, alone, between, expr_nodes, range_nodes}
+use Rattle.chill_tree.specs.ExprTree.{ExprTree, RangeTree, alone, between, expr_nodes, range_nodes}
 use Rattle.chill_tree.specs.ModeTree as written
 use Rattle.chill_tree.specs.LocalTree.{SynonymTree, ModeDefinitionTree, InitialTree, DeclarationTree, LocalTree, synonyms, syn_modes, new_modes, locations}
 use Rattle.chill_tree.specs.SimpleTree.{SimpleTree, assign, update, call_of, exit, return_with, result_of, assert_that, cause, stop, start_of, delay, continue_event, send, ControlTree, while_holds, for_ever, for_members, for_steps}
@@ -12,22 +11,21 @@ use Rattle.chill_tree.specs.ItemTree.{ProgramTree}
 use Rattle.names_model.specs.declared.kind.Kind.TheVariants as kinds
 use Rattle.names_model.specs.declared.kind.Need.TheVariants as needs
 use Rattle.names_model.specs.declared.definition.Inside.{Inside}
-use Rattle.names_model.specs.declared.definition.Definition.{Definition}
 use Rattle.names_model.specs.declared.part.Mention.{Mention}
 use Rattle.names_model.specs.Identifiers.{identifier}
 use Rattle.names_model.specs.Parts.{PartTree, define, stray, part_nodes}
-use Rattle.names_model.specs.Sizes.{size_of, sizes_of, elements_in, block_of}
+use Rattle.names_model.specs.Sizes.{sizes_of, block_of}
 use Rattle.names_model.specs.Definitions.{text_definitions, numbers_on}
 use Rattle.names_model.specs.Seeing.{Reach}
 use Rattle.names_model.specs.ExprMentions.{used, mentions_in_each, mentions_of, mentions_of_some, mentions_of_args, mentions_of_ranges, mentions_in_ranges}
 use Rattle.names_model.specs.ModeMentions.{mentions_of_mode, mentions_of_some_mode}
-use Rattle.names_model.specs.StatementParts.{clause, mentioned, encloses, synonym_part, mode_part, initial_parts, declaration_parts, local_parts, exit_parts, mentions_of_some_args, simple_parts, control_parts, counter_part, turn_parts, labelled, received_parts, statement_parts, bracketed_parts, action_parts, branch_parts, case_parts, event_parts, receive_parts, otherwise_parts, handler_parts, exception_parts, body_parts}
+use Rattle.names_model.specs.StatementParts.{clause, mentioned, encloses, synonym_part, mode_part, initial_parts, declaration_parts, local_parts, mentions_of_some_args, simple_parts, control_parts, counter_part, turn_parts, labelled, received_parts, statement_parts, bracketed_parts, action_parts, branch_parts, case_parts, event_parts, receive_parts, otherwise_parts, handler_parts, exception_parts, body_parts}
 use Rattle.names_model.specs.ItemParts.{whole_body}
 use Rattle.names_model.specs.Resolving.{level_of}
-use Rattle.checks_model.specs.Ground.{Origin, a_synonym, a_mode, an_element, a_location, a_counter, a_received}
+use Rattle.checks_model.specs.Ground.{Origin, a_synonym, an_element, a_location, a_counter, a_received}
 use Rattle.checks_model.specs.Origins.{sets_in, elements, elements_of, elements_of_some, origins_of_names, origins_of_synonym, owner_of, origins_of_mode, origins_of_declaration, origins_of_local, counters_in, received_in, origins_in, origins_in_bracketed, origins_in_each, origins_in_branches, origins_in_cases, origins_in_named, origins_in_receives, origins_in_otherwise, origins_in_handler, origins_in_parts, origins_of_body}
-use Rattle.checks_model.specs.Sites.{Site, Around, at_synonym, at_mode_definition, at_declaration, at_simple, at_condition, at_selector, at_labels, at_set, at_control, at_priority, at_event, at_source, at_received, at_exceptions, some_site, events_listed, counter_in, sites_of_local, sites_of, sites_of_bracketed, sites_of_each, sites_of_branches, sites_of_cases, sites_of_events, sites_of_receives, sites_of_otherwise, sites_of_handler, sites_of_exceptions, sites_of_parts, sites_of_body}
-use Rattle.checks_model.specs.Phases.{some_expr, some_exprs, exprs_of_simple, priority_of, exprs_of_control, exprs_of_label, exprs_of_labels, initial_expr}
+use Rattle.checks_model.specs.Sites.{Site, Around, at_synonym, at_mode_definition, at_declaration, at_simple, at_condition, at_selector, at_labels, at_set, at_control, at_priority, at_source, at_received, at_exceptions, some_site, events_listed, sites_of_local, sites_of, sites_of_bracketed, sites_of_each, sites_of_branches, sites_of_cases, sites_of_events, sites_of_receives, sites_of_otherwise, sites_of_handler, sites_of_exceptions, sites_of_parts, sites_of_body}
+use Rattle.checks_model.specs.Phases.{some_expr, some_exprs, exprs_of_simple, priority_of, exprs_of_labels, initial_expr}
 use Rattle.table_laws.specs.Names.{names_in}
 use Rattle.written_laws.specs.Written.{Each}
 use Rattle.written_laws.proofs.Shown.{each_append, each_any, each_flat, each_map, each_same}

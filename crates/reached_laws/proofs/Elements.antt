@@ -1,8 +1,7 @@
 -- What goes along with a mode are elements.
-use Rattle.std.proofs.Common.{◌≡◌, ℕ, zero, suc, ◌+◌, ◌<◌, ◌≤◌, Bool, true, false, List, [], ◌∷◌, ◌++◌, Option, Some, None, length, append_assoc, ◌⊎◌, inl, inr, refl, sym, ap, ◌∙◌, subst, arith, Contains}
+use Rattle.std.proofs.Common.{◌≡◌, ℕ, zero, suc, ◌+◌, ◌<◌, List, [], ◌∷◌, ◌++◌, Some, length, inl, inr, refl, sym, ap, ◌∙◌, subst, arith}
 use Rattle.std.specs.Prelude.{map, slice_get}
 use Rattle.names_model.specs.declared.identifier.Identifier.{Identifier}
-use Rattle.names_model.specs.declared.kind.Kind.{Kind}
 use Rattle.names_model.specs.declared.kind.Kind.TheVariants as kinds
 use Rattle.names_model.specs.declared.definition.Inside.{Inside}
 use Rattle.names_model.specs.declared.definition.Inside.TheVariants.{Modulion, Body}

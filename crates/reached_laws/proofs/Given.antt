@@ -1,52 +1,46 @@
 -- What modulions give may be named outside all regions.
-use Rattle.std.proofs.Common.{◌≡◌, ℕ, zero, suc, ◌+◌, ◌-◌, ◌<◌, ◌≤◌, Bool, true, false, ◌&&◌, List, [], ◌∷◌, ◌++◌, Option, Some, None, length, inl, inr, refl, sym, ap, ◌∙◌, subst, true≢false, arith, Contains, IsTrue}
-use Rattle.std.specs.Prelude.{is_some, map, slice_get, if◌then◌else◌}
+use Rattle.std.proofs.Common.{◌≡◌, ℕ, zero, suc, ◌-◌, Bool, true, false, ◌&&◌, List, [], ◌∷◌, ◌++◌, Option, Some, None, inl, inr, refl, sym, ap, ◌∙◌, subst, true≢false, arith, Contains, IsTrue}
+use Rattle.std.specs.Prelude.{is_some, slice_get}
 use Rattle.std.specs.List.{list_any}
 use Rattle.std.proofs.lemmas.List.Elements.{Contains-append_cases}
-use Rattle.std.proofs.lemmas.Option.{slice_get_within}
 use Rattle.chill_base.specs.declared.pos.Pos.{Pos}
 use Rattle.chill_tree.specs.declared.tree.name.Name.{Name}
-use Rattle.chill_tree.specs.declared.tree.item.ModulionKind.{ModulionKind}
 use Rattle.chill_tree.specs.declared.tree.item.ModulionKind.TheVariants as modulions
-use Rattle.chill_tree.specs.StatementTree.{HandlerTree, HandlerNode, handler_node}
-use Rattle.chill_tree.specs.ItemTree.{SignalTree, ProcedureTree, ItemTree, ItemNodes, local_item, signals, procedure, process, action, no_items, more_items, items_in, ProgramTree}
-use Rattle.chill_tree.specs.ItemTree.{seize as seize_item, grant as grant_item, modulion as modulion_of}
+use Rattle.chill_tree.specs.StatementTree.{HandlerNode}
+use Rattle.chill_tree.specs.ItemTree.{ProcedureTree, ItemNodes, items_in, ProgramTree}
 use Rattle.names_model.specs.declared.identifier.Identifier.{Identifier}
 use Rattle.names_model.specs.declared.kind.Kind.TheVariants as kinds
 use Rattle.names_model.specs.declared.definition.Inside.{Inside}
-use Rattle.names_model.specs.declared.definition.Inside.TheVariants.{Outermost, Modulion}
+use Rattle.names_model.specs.declared.definition.Inside.TheVariants.{Modulion}
 use Rattle.names_model.specs.declared.definition.Definition.{Definition}
 use Rattle.names_model.specs.Identifiers.{identifier}
 use Rattle.names_model.specs.Kinds as kind_tests
 use Rattle.names_model.specs.Parts.{PartTree, PartNodes, grant, grant_all, parts_in, part_nodes}
-use Rattle.names_model.specs.Sizes.{size_of, sizes_of}
-use Rattle.names_model.specs.Definitions.{numbers_on, text_definitions, with_predefined, predefined, definitions_of, definitions_in, spelling_at, spelling_of, elements_at, elements_of, is_kind_at, is_of, kind_of}
+use Rattle.names_model.specs.Definitions.{numbers_on, text_definitions, with_predefined, predefined, definitions_in, spelling_at, spelling_of, elements_at, elements_of, is_kind_at, is_of, kind_of}
 use Rattle.names_model.specs.Entries.{own_numbers}
-use Rattle.names_model.specs.ItemParts.{seized, granted, item_parts, each_item}
+use Rattle.names_model.specs.ItemParts.{each_item}
 use Rattle.names_model.specs.StatementParts.{handler_parts}
 use Rattle.names_model.specs.Resolving.{level_of}
-use Rattle.names_laws.specs.Visible.{HasModulion, Up}
-use Rattle.names_laws.proofs.Members.{none_in}
+use Rattle.names_laws.specs.Visible.{Up}
 use Rattle.names_laws.proofs.Seen.{numbers_in}
 use Rattle.ground_laws.specs.Defining.{Defines}
-use Rattle.checks_model.specs.Ground.{Ground, Origin, a_location, a_procedure, a_modulion}
+use Rattle.checks_model.specs.Ground.{Origin, a_location, a_procedure}
 use Rattle.checks_model.specs.Told.{holds_of}
-use Rattle.checks_model.specs.Sites.{in_no_procedure}
-use Rattle.checks_model.specs.ProcessRules.{declares, told_granted_name, told_item}
-use Rattle.elaborated_laws.proofs.Told.{no_some, same_some, not_broken}
+use Rattle.checks_model.specs.ProcessRules.{declares}
+use Rattle.elaborated_laws.proofs.Told.{no_some, not_broken}
 use Rattle.written_laws.specs.Written.{Each}
 use Rattle.written_laws.proofs.Shown.{each_append}
-use Rattle.written_laws.proofs.Rows.{IsSized, AreSized}
+use Rattle.written_laws.proofs.Rows.{AreSized}
 use Rattle.elaboration_model.specs.Numbering.{Source, Row, is_location, no_thing, thing_by, thing_of}
 use Rattle.elaboration_model.specs.Elaborated.{region_in, region_around, modulion_around, grants, grants_in, is_critical}
-use Rattle.reached_laws.specs.Reached.{IsPassed, IsOpenTo}
+use Rattle.reached_laws.specs.Reached.{IsPassed}
 use Rattle.reached_laws.proofs.Upward.{up_between}
-use Rattle.reached_laws.proofs.Standing.{ArePlain, Stand, stand_next, stand_first, stand_rest, stand_both, stand_left, owns_inside, plain_both, there, parts_long}
+use Rattle.reached_laws.proofs.Standing.{ArePlain, Stand, owns_inside, there, parts_long}
 use Rattle.reached_laws.proofs.Elements.{GoElements, goes_element}
 use Rattle.reached_laws.proofs.Reaches.{AreGiven, ups_good, all_given}
-use Rattle.reached_laws.proofs.Owned.{sized_first, sized_later, parts_back, Modulions, modulion_so, modulions_both, NoModulion, no_modulions, GrantsNothing, plain_modulions, plain_grants, nothing_granted, no_all_granted, owns_named, DefinesSo}
-use Rattle.reached_laws.proofs.Grants.{is_grant, IsQuiet, AreQuiet, items_grant, items_grant_all, AreClean, GrantedName, items_granted_name, Declared, no_element, items_declared}
-use Rattle.reached_laws.proofs.Places.{IsModulionRow, module_alone, Open, open_more, open_directly, open_outermost, open_passed}
+use Rattle.reached_laws.proofs.Owned.{parts_back, Modulions, modulion_so, NoModulion, no_modulions, GrantsNothing, plain_modulions, plain_grants, nothing_granted, no_all_granted, owns_named, DefinesSo}
+use Rattle.reached_laws.proofs.Grants.{AreQuiet, items_grant, items_grant_all, AreClean, items_granted_name, Declared, no_element, items_declared}
+use Rattle.reached_laws.proofs.Places.{IsModulionRow, module_alone, Open, open_directly, open_passed}
 
 module _ (s : Source) (t : ProgramTree)
     (inside : (d : ℕ) (r : Row) (x : Definition) → slice_get s.rows d ≡ Some r → slice_get (text_definitions (level_of t)) d ≡ Some x → r.inside ≡ x.inside)

@@ -1,6 +1,6 @@
 -- What a modulion grants, by its items: what its parts grant one of its items does, and no location that a region declares is granted by name.
 use Rattle.std.proofs.Common.{◌≡◌, ℕ, Bool, true, false, ◌||◌, List, [], ◌∷◌, ◌++◌, Option, Some, None, inl, inr, refl, sym, ap, ◌∙◌, subst, true≢false, Contains}
-use Rattle.std.specs.Prelude.{map, flat_map, if◌then◌else◌}
+use Rattle.std.specs.Prelude.{map, flat_map}
 use Rattle.std.specs.List.{list_any}
 use Rattle.std.specs.Str.{bytes_eq}
 use Rattle.std.proofs.lemmas.List.Elements.{Contains-append_cases}
@@ -8,9 +8,8 @@ use Rattle.std.proofs.lemmas.Slice.Eq.{bytes_eq-Decides}
 use Rattle.chill_base.specs.declared.pos.Pos.{Pos}
 use Rattle.chill_tree.specs.declared.tree.name.Name.{Name}
 use Rattle.chill_tree.specs.declared.tree.item.ModulionKind.TheVariants as modulions
-use Rattle.chill_tree.specs.declared.tree.item.Passed.{Passed}
 use Rattle.chill_tree.specs.declared.tree.item.Passed.TheVariants.{Names, All}
-use Rattle.chill_tree.specs.LocalTree.{DeclarationTree, LocalTree, synonyms, syn_modes, new_modes, locations, SynonymTree, ModeDefinitionTree, InitialTree}
+use Rattle.chill_tree.specs.LocalTree.{DeclarationTree, synonyms, syn_modes, new_modes, locations, SynonymTree, ModeDefinitionTree, InitialTree}
 use Rattle.chill_tree.specs.ItemTree.{SignalTree, ItemTree, ItemNodes, local_item, signals, procedure, process, action, no_items, more_items, items_in}
 use Rattle.chill_tree.specs.ItemTree.{seize as seize_item, grant as grant_item, modulion as modulion_of}
 use Rattle.names_model.specs.declared.identifier.Identifier.{Identifier}
@@ -20,17 +19,16 @@ use Rattle.names_model.specs.declared.definition.Definition.{Definition}
 use Rattle.names_model.specs.declared.part.Mention.{Mention}
 use Rattle.names_model.specs.Kinds.{is_location}
 use Rattle.names_model.specs.Identifiers.{identifier, identifiers}
-use Rattle.names_model.specs.Parts.{PartTree, grant, grant_all, part_nodes}
+use Rattle.names_model.specs.Parts.{PartTree, grant, grant_all}
 use Rattle.names_model.specs.ExprMentions.{mentions_of}
-use Rattle.names_model.specs.StatementParts.{mentioned, synonym_part, mode_part, initial_parts, declaration_parts, local_parts}
-use Rattle.names_model.specs.ItemParts.{seized, granted, receiver_parts, signal_parts, item_parts, each_item}
+use Rattle.names_model.specs.StatementParts.{mentioned, synonym_part, mode_part, initial_parts, declaration_parts}
+use Rattle.names_model.specs.ItemParts.{receiver_parts, signal_parts, item_parts, each_item}
 use Rattle.names_laws.proofs.Members.{none_in, in_cases, any_at, here_in, later_in}
-use Rattle.elaborated_laws.proofs.Told.{none_first, none_later, not_broken}
+use Rattle.elaborated_laws.proofs.Told.{none_first, none_later}
 use Rattle.written_laws.specs.Written.{Each}
 use Rattle.written_laws.proofs.Shown.{each_append}
-use Rattle.checks_model.specs.Sites.{in_no_procedure}
-use Rattle.checks_model.specs.ProcessRules.{declares, told_granted_name, told_granted, told_item}
-use Rattle.elaboration_model.specs.Elaborated.{is_granted_by, grants}
+use Rattle.checks_model.specs.ProcessRules.{declares, told_granted_name, told_item}
+use Rattle.elaboration_model.specs.Elaborated.{grants}
 use Rattle.reached_laws.proofs.Owned.{GrantsNothing, nothing_granted, no_all_granted, DefinesSo}
 
 either_left : (a b : Bool) → a ≡ true → (a || b) ≡ true

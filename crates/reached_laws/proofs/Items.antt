@@ -1,5 +1,5 @@
 -- The walk over the items of a program: its names lead to what may be named there.
-use Rattle.std.proofs.Common.{◌≡◌, ℕ, zero, suc, ◌+◌, Bool, true, false, List, [], ◌∷◌, ◌++◌, Option, Some, None, length, length-append, inl, inr, refl, sym, ap, ◌∙◌, subst, true≢false, arith, Contains, append-nil}
+use Rattle.std.proofs.Common.{◌≡◌, ℕ, zero, suc, ◌+◌, Bool, true, false, List, [], ◌∷◌, ◌++◌, Option, Some, None, length, length-append, inl, refl, sym, ap, ◌∙◌, subst, true≢false, arith}
 use Rattle.std.specs.Prelude.{map, flat_map, slice_get}
 use Rattle.std.proofs.lemmas.List.{length-map}
 use Rattle.chill_tree.specs.declared.tree.name.Name.{Name}
@@ -19,10 +19,10 @@ use Rattle.names_model.specs.declared.part.Clause.{Clause}
 use Rattle.names_model.specs.declared.part.Mention.{Mention}
 use Rattle.names_model.specs.Identifiers.{identifier}
 use Rattle.names_model.specs.Parts.{PartTree, routine, modulion, part_nodes}
-use Rattle.names_model.specs.Sizes.{elements_in, clauses_size, head_size, size_of, sizes_of}
-use Rattle.names_model.specs.Definitions.{text_definitions, with_predefined, predefined, defined, elements_defined, params_defined, definitions_of, definitions_in}
+use Rattle.names_model.specs.Sizes.{elements_in, head_size, sizes_of}
+use Rattle.names_model.specs.Definitions.{text_definitions, with_predefined, predefined, defined, elements_defined, params_defined, definitions_in}
 use Rattle.names_model.specs.Entries.{param_names}
-use Rattle.names_model.specs.Seeing.{Reach, outermost, in_modulion, in_block}
+use Rattle.names_model.specs.Seeing.{Reach, outermost, in_modulion}
 use Rattle.names_model.specs.NameRules.{body_reach}
 use Rattle.names_model.specs.ModeMentions.{mentions_of_some_mode}
 use Rattle.names_model.specs.StatementParts.{handler_parts}
@@ -30,7 +30,6 @@ use Rattle.names_model.specs.ItemParts.{is_region, seized, granted, receiver_par
 use Rattle.names_model.specs.Resolving.{level_of}
 use Rattle.names_laws.specs.Visible.{Up}
 use Rattle.ground_laws.specs.Defining.{Defines, AllDefine}
-use Rattle.ground_laws.specs.Rows.{uses_of}
 use Rattle.ground_laws.proofs.Defining.{origins_define}
 use Rattle.checks_model.specs.Ground.{Ground, Origin, a_modulion, number_at}
 use Rattle.checks_model.specs.Origins.{origins_of}
@@ -38,25 +37,25 @@ use Rattle.checks_model.specs.Phases.{processes_told_at}
 use Rattle.checks_model.specs.ProcessRules.{told_item}
 use Rattle.checks_model.specs.Table.{numbered, ground_with}
 use Rattle.checks_model.specs.Diagnoses.{HasNames}
-use Rattle.checks_model.specs.Sites.{Site, Around, in_procedure, in_no_procedure, at_item, at_mode, at_body, at_program, outermost_locals, shared_in, sites_of_local, sites_of, sites_of_handler, sites_of_result, sites_of_body, sites_of_procedure, sites_of_process, sites_of_item, sites_of_items, items_of, sites}
+use Rattle.checks_model.specs.Sites.{Site, Around, in_procedure, in_no_procedure, at_item, sites_of_local, sites_of, sites_of_handler, sites_of_body, sites_of_item, sites_of_items, items_of, sites}
 use Rattle.elaborated_laws.proofs.Told.{no_some, same_some}
 use Rattle.table_laws.specs.Names.{names_in}
 use Rattle.written_laws.specs.Written.{Each, exprs_at}
 use Rattle.written_laws.proofs.Shown.{each_append}
-use Rattle.written_laws.proofs.Rows.{IsSized, AreSized}
+use Rattle.written_laws.proofs.Rows.{AreSized}
 use Rattle.written_laws.proofs.Defining.{program_sized}
 use Rattle.elaboration_model.specs.Numbering.{Source, Row, body_of, thing_of}
 use Rattle.elaboration_model.specs.Elaborated.{region_in, region_around, source_of}
-use Rattle.reached_laws.specs.Reached.{other_names, defined_names, IsOpenTo, IsUsedWithin, IsDefinedWithin, IsSiteWithin, RoutineAt, ItemWithin, ItemsWithin, ModulionsKnown, EachModulionKnown, ReachedLaw}
+use Rattle.reached_laws.specs.Reached.{other_names, defined_names, IsUsedWithin, IsDefinedWithin, IsSiteWithin, ItemWithin, ItemsWithin, ModulionsKnown, EachModulionKnown, ReachedLaw}
 use Rattle.reached_laws.proofs.Standing.{GoesAlong, ArePlain, plain_both, params_long, Stand, stand_left, stand_right, stand_next, stand_both, heads_inside}
 use Rattle.reached_laws.proofs.Elements.{IsFit, AreFit, fit_both, plain_fit, GoElements, parts_go}
-use Rattle.reached_laws.proofs.Reaches.{Fact, IsGood, Fits, block_good, modulion_good, outermost_good, plain_ups}
+use Rattle.reached_laws.proofs.Reaches.{Fact, IsGood, block_good, modulion_good, outermost_good, plain_ups}
 use Rattle.reached_laws.proofs.Uses.{AreSeen, program_seen}
 use Rattle.reached_laws.proofs.Walked as walk
 use Rattle.reached_laws.proofs.Walked.{seen_both}
 use Rattle.reached_laws.proofs.Bodies.{local_walked, statement_walked, handler_walked, whole_walked}
 use Rattle.reached_laws.proofs.Owned.{sized_first, sized_later, Modulions, modulions_both, NoModulion, no_modulions, GrantsNothing, plain_modulions, plain_grants}
-use Rattle.reached_laws.proofs.Grants.{is_grant, IsQuiet, AreQuiet, AreClean}
+use Rattle.reached_laws.proofs.Grants.{IsQuiet, AreQuiet, AreClean}
 use Rattle.reached_laws.proofs.Places.{defined_at, row_is, IsModulionRow, outermost_body, module_alone, Open, open_more, open_directly, open_outermost, fits_body, fits_modulion}
 use Rattle.reached_laws.proofs.Given.{RegionKnown, region_ups, stands_directly, region_gives, GivesOut, ups_out, module_gives}
 

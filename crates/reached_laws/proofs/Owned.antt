@@ -1,5 +1,5 @@
 -- What is defined directly in parts, by its name and its kind; the modulions among parts; parts that grant nothing.
-use Rattle.std.proofs.Common.{◌≡◌, ℕ, zero, suc, ◌+◌, Bool, true, false, List, [], ◌∷◌, ◌++◌, Option, Some, None, length, length-append, inl, inr, refl, sym, ap, ◌∙◌, subst, arith, Contains}
+use Rattle.std.proofs.Common.{◌≡◌, ℕ, zero, suc, ◌+◌, Bool, List, [], ◌∷◌, ◌++◌, Some, length, length-append, inl, inr, refl, sym, ap, ◌∙◌, subst, arith, Contains}
 use Rattle.std.specs.Prelude.{map, slice_get}
 use Rattle.std.proofs.lemmas.List.Elements.{Contains-append_cases}
 use Rattle.chill_base.specs.declared.pos.Pos.{Pos}
@@ -7,7 +7,7 @@ use Rattle.names_model.specs.declared.identifier.Identifier.{Identifier}
 use Rattle.names_model.specs.declared.kind.Kind.{Kind}
 use Rattle.names_model.specs.declared.kind.Kind.TheVariants as kinds
 use Rattle.names_model.specs.declared.definition.Inside.{Inside}
-use Rattle.names_model.specs.declared.definition.Inside.TheVariants.{Modulion, Body}
+use Rattle.names_model.specs.declared.definition.Inside.TheVariants.{Body}
 use Rattle.names_model.specs.declared.definition.Definition.{Definition}
 use Rattle.names_model.specs.declared.part.Clause.{Clause}
 use Rattle.names_model.specs.Parts.{PartTree, PartNodes, define, mention, seize, seize_all, grant, grant_all, stray, modulion, routine, block, no_parts, more_parts, parts_in, part_nodes}
@@ -18,7 +18,7 @@ use Rattle.names_laws.specs.Visible.{HasModulion, first, later}
 use Rattle.names_laws.proofs.Members.{none_in, in_cases, numbers_cases}
 use Rattle.elaborated_laws.proofs.Told.{same_some}
 use Rattle.written_laws.specs.Written.{Each}
-use Rattle.written_laws.proofs.Rows.{IsSized, AreSized}
+use Rattle.written_laws.proofs.Rows.{AreSized}
 use Rattle.reached_laws.proofs.Standing.{named_so, names_long, params_long, IsPlain, ArePlain, Stand, stand_left, stand_right, stand_next, stand_first, stand_rest}
 
 -- ---- lists of parts

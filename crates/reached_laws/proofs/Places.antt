@@ -1,32 +1,26 @@
 -- What may be named from where a definition stands, by the rows of a text.
-use Rattle.std.proofs.Common.{◌≡◌, ℕ, zero, suc, ◌+◌, ◌==◌, Bool, true, false, ◌&&◌, List, [], ◌∷◌, Option, Some, None, inl, inr, refl, sym, ap, ◌∙◌, subst, true≢false, arith, Contains}
-use Rattle.std.specs.Prelude.{is_some, slice_get, if◌then◌else◌, option_map}
-use Rattle.chill_tree.specs.declared.tree.name.Name.{Name}
+use Rattle.std.proofs.Common.{◌≡◌, ℕ, zero, suc, ◌+◌, Bool, true, false, List, [], ◌∷◌, Option, Some, None, inl, inr, refl, sym, ap, ◌∙◌, subst, arith, Contains}
+use Rattle.std.specs.Prelude.{slice_get, if◌then◌else◌}
 use Rattle.chill_tree.specs.declared.tree.item.ModulionKind.{ModulionKind}
 use Rattle.chill_tree.specs.declared.tree.item.ModulionKind.TheVariants as modulions
-use Rattle.chill_tree.specs.ItemTree.{ProcedureTree, ItemNodes, ProgramTree}
-use Rattle.names_model.specs.declared.definition.Inside.{Inside}
-use Rattle.names_model.specs.declared.definition.Inside.TheVariants.{Outermost, Modulion, Body, Block}
+use Rattle.chill_tree.specs.ItemTree.{ItemNodes, ProgramTree}
+use Rattle.names_model.specs.declared.definition.Inside.TheVariants.{Outermost, Modulion, Body}
 use Rattle.names_model.specs.declared.definition.Definition.{Definition}
 use Rattle.names_model.specs.declared.names.Resolved.{Resolved}
-use Rattle.names_model.specs.ItemParts.{is_region}
-use Rattle.names_model.specs.Definitions.{text_definitions, with_predefined}
+use Rattle.names_model.specs.Definitions.{text_definitions}
 use Rattle.names_model.specs.Resolving.{level_of}
 use Rattle.names_laws.specs.Rising.{Rise, use_places, definition_places}
 use Rattle.names_laws.proofs.Members.{here_in, later_in}
 use Rattle.names_laws.proofs.RisingTokens.{rising_tokens}
 use Rattle.names_laws.proofs.RisingDefinitions.{rising_definitions}
 use Rattle.ground_laws.proofs.Rows.{row_found}
-use Rattle.checks_model.specs.Ground.{Ground, Origin, Entry, a_modulion, number_at}
-use Rattle.checks_model.specs.Told.{holds_of}
-use Rattle.checks_model.specs.ProcessRules.{meets_nothing, meets_event, meets_buffer}
+use Rattle.checks_model.specs.Ground.{Origin, Entry, a_modulion, number_at}
 use Rattle.checks_model.specs.Table.{numbered}
 use Rattle.checks_model.specs.Diagnoses.{HasNames}
 use Rattle.elaborated_laws.proofs.Told.{no_some, same_some}
-use Rattle.elaboration_model.specs.Numbering.{Source, Row, rows, is_location, may_be_local, has_body, is_signal, is_region_origin, is_shared, is_local_of, body_around, body_of, body_by, body_number, count_before, Thing, a_local, a_region, a_body, no_thing, thing_directly, local_in, thing_by, thing_of}
-use Rattle.elaboration_model.specs.Elaborated.{region_in, region_around, modulion_around, source_of}
+use Rattle.elaboration_model.specs.Numbering.{Source, Row, rows, has_body, is_local_of, body_around, body_of, body_by, body_number, count_before, a_local, no_thing, thing_directly, local_in, thing_by}
+use Rattle.elaboration_model.specs.Elaborated.{region_in, region_around}
 use Rattle.reached_laws.specs.Reached.{IsPassed, IsOpenTo}
-use Rattle.reached_laws.proofs.Standing.{StandsIn}
 use Rattle.reached_laws.proofs.Reaches.{Fact, Fits}
 
 -- ---- definitions by their places

@@ -1,5 +1,5 @@
 -- What is so of all that a reach sees: where it is so around, and of what stands in it.
-use Rattle.std.proofs.Common.{◌≡◌, ℕ, zero, suc, ◌+◌, ◌<◌, ◌≤◌, Bool, true, false, List, [], ◌∷◌, ◌++◌, Option, Some, None, length, ◌⊎◌, inl, inr, refl, sym, ap, ◌∙◌, subst, arith, Contains, IsTrue}
+use Rattle.std.proofs.Common.{◌≡◌, ℕ, suc, Bool, List, [], Some, arith, Contains, IsTrue}
 use Rattle.std.specs.Prelude.{slice_get}
 use Rattle.std.proofs.lemmas.Option.{slice_get_within}
 use Rattle.chill_base.specs.declared.pos.Pos.{Pos}
@@ -8,15 +8,14 @@ use Rattle.names_model.specs.declared.definition.Inside.{Inside}
 use Rattle.names_model.specs.declared.definition.Definition.{Definition}
 use Rattle.names_model.specs.declared.entry.Entry.{Entry}
 use Rattle.names_model.specs.Kinds.{is_location}
-use Rattle.names_model.specs.Parts.{PartTree, PartNodes, grant, grant_all, parts_in}
-use Rattle.names_model.specs.Sizes.{sizes_of}
-use Rattle.names_model.specs.Definitions.{within, definitions_in, with_predefined, spelling_at, elements_at, is_kind_at}
+use Rattle.names_model.specs.Parts.{PartNodes, grant, grant_all, parts_in}
+use Rattle.names_model.specs.Definitions.{definitions_in, with_predefined, spelling_at, elements_at, is_kind_at}
 use Rattle.names_model.specs.Entries.{numbers_of, own_numbers}
 use Rattle.names_model.specs.Seeing.{Reach, outermost, in_modulion, in_block}
 use Rattle.names_laws.specs.Visible.{HasModulion, Up, own, granted, granted_along, granted_all, Seized, seized, seized_along, Entered, by_head, by_parts, by_name, Had, at_once, failing, IsPredefined, Inherited, from_around, from_language, NoneAround, Sees}
 use Rattle.names_laws.proofs.Members.{none_in}
 use Rattle.written_laws.proofs.Rows.{AreSized}
-use Rattle.reached_laws.proofs.Upward.{IsBetween, up_between}
+use Rattle.reached_laws.proofs.Upward.{up_between}
 use Rattle.reached_laws.proofs.Standing.{ArePlain, StandsIn, plain_parts, parts_long, Stand, found}
 
 module _ (text : List Definition) where

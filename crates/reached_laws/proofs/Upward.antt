@@ -1,16 +1,15 @@
 -- What parts have from themselves stands among their definitions.
-use Rattle.std.proofs.Common.{◌≡◌, ℕ, suc, Bool, ◌+◌, ◌<◌, ◌≤◌, List, [], ◌∷◌, ◌++◌, length, inl, inr, refl, arith, Contains}
+use Rattle.std.proofs.Common.{ℕ, suc, Bool, ◌+◌, ◌<◌, ◌≤◌, List, [], ◌∷◌, ◌++◌, length, inl, inr, arith, Contains}
 use Rattle.std.proofs.lemmas.List.Elements.{Contains-append_cases}
 use Rattle.names_model.specs.declared.identifier.Identifier.{Identifier}
 use Rattle.names_model.specs.declared.definition.Definition.{Definition}
-use Rattle.names_model.specs.declared.entry.Entry.{Entry}
 use Rattle.names_model.specs.declared.part.Clause.{Clause}
 use Rattle.names_model.specs.Parts.{PartTree, PartNodes, define, mention, seize, seize_all, grant, grant_all, stray, modulion, routine, block, no_parts, more_parts}
 use Rattle.names_model.specs.Sizes.{elements_in, clause_size, clauses_size, head_size, size_of, sizes_of}
-use Rattle.names_model.specs.Entries.{entry, numbers_of, named_entries, param_elements, own_entries, own_numbers}
+use Rattle.names_model.specs.Entries.{numbers_of, named_entries, param_elements, own_entries, own_numbers}
 use Rattle.names_laws.specs.Visible.{HasModulion, first, later, Up, own, granted, granted_along, granted_all}
-use Rattle.names_laws.proofs.Members.{none_in, in_cases, numbers_cases, one_in}
-use Rattle.written_laws.proofs.Rows.{IsSized, AreSized}
+use Rattle.names_laws.proofs.Members.{none_in, in_cases, numbers_cases}
+use Rattle.written_laws.proofs.Rows.{AreSized}
 
 -- from a number on, and before another
 pub record IsBetween (low high d : ℕ) : Type 0 where

@@ -9,7 +9,7 @@ use Rattle.names_model.specs.declared.identifier.Identifier.{Identifier}
 use Rattle.names_model.specs.declared.kind.Need.{Need}
 use Rattle.names_model.specs.declared.kind.Need.TheVariants as needs
 use Rattle.names_model.specs.declared.part.Mention.{Mention}
-use Rattle.names_model.specs.declared.part.Mention.TheVariants.{Use, Argument, Element}
+use Rattle.names_model.specs.declared.part.Mention.TheVariants.{Use, Argument}
 use Rattle.names_model.specs.Identifiers.{identifier}
 use Rattle.names_model.specs.Parts as parts
 use Rattle.names_model.specs.Parts.{PartTree, PartNodes, define, mention, seize, seize_all, grant, grant_all, stray, modulion, routine, block, part_nodes}

@@ -1,10 +1,9 @@
 -- A walk over parts beside the nodes of their trees: in parts that stand somewhere, at a reach of which something is so, the names at their
 -- nodes lead to what it is so of.
-use Rattle.std.proofs.Common.{◌≡◌, ℕ, zero, suc, ◌+◌, Bool, true, false, List, [], ◌∷◌, ◌++◌, Option, Some, None, length, inl, inr, refl, sym, ap, ◌∙◌, subst, arith, append-nil, append_assoc}
+use Rattle.std.proofs.Common.{◌≡◌, ℕ, suc, ◌+◌, false, List, [], ◌∷◌, ◌++◌, Some, inl, refl, sym, ◌∙◌, subst, arith}
 use Rattle.std.specs.Prelude.{map, slice_get}
 use Rattle.chill_tree.specs.declared.tree.name.Name.{Name}
 use Rattle.chill_tree.specs.ItemTree.{ProgramTree}
-use Rattle.names_model.specs.declared.identifier.Identifier.{Identifier}
 use Rattle.names_model.specs.declared.definition.Inside.{Inside}
 use Rattle.names_model.specs.declared.definition.Definition.{Definition}
 use Rattle.names_model.specs.declared.kind.Kind.{Kind}
@@ -28,7 +27,7 @@ use Rattle.written_laws.specs.Written.{Each, exprs_at}
 use Rattle.written_laws.proofs.Shown.{each_append}
 use Rattle.written_laws.proofs.Rows.{AreSized, sized_both}
 use Rattle.reached_laws.specs.Reached.{other_names, defined_names}
-use Rattle.reached_laws.proofs.Standing.{named_so, names_long, GoesAlong, ArePlain, plain_both, StandsIn, stands_within, Stand, stand_left, stand_next, stand_both, sizes_both}
+use Rattle.reached_laws.proofs.Standing.{named_so, GoesAlong, ArePlain, plain_both, stands_within, Stand, stand_left, stand_next, stand_both}
 use Rattle.reached_laws.proofs.Reaches.{Fact, IsGood, Fits, block_good, plain_ups}
 use Rattle.reached_laws.proofs.Uses.{IsSeen, MentionsSeen, AreSeen, mentioned_seen}
 

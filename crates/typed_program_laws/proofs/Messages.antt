@@ -1,10 +1,10 @@
 -- What a name leads to that is sent to and received from: a buffer or a signal, and the modes of what it brings.
-use Rattle.std.proofs.Common.{◌≡◌, ℕ, zero, suc, ◌+◌, ◌==◌, Bool, true, false, ◌&&◌, List, [], ◌∷◌, ◌++◌, length, Option, Some, None, ◌⊎◌, inl, inr, refl, sym, ap, ◌∙◌, subst, true≢false, arith}
-use Rattle.std.specs.Prelude.{map, slice_get, option_map, option_and_then, if◌then◌else◌, not}
+use Rattle.std.proofs.Common.{◌≡◌, ℕ, Bool, true, false, List, [], ◌∷◌, length, Option, Some, None, ◌⊎◌, inl, inr, refl, sym, ap, ◌∙◌, subst, true≢false}
+use Rattle.std.specs.Prelude.{map, slice_get, option_map, option_and_then, if◌then◌else◌}
 use Rattle.std.specs.List.{list_any}
 use Rattle.chill_tree.specs.declared.tree.name.Name.{Name}
 use Rattle.chill_tree.specs.ItemTree.{SignalTree, ProgramTree}
-use Rattle.modes.specs.ModeTree.{ModeTree, event, buffer, read, named}
+use Rattle.modes.specs.ModeTree.{ModeTree, buffer, read, named}
 use Rattle.diagnostics.specs.declared.rule.Rule.TheVariants as rules
 use Rattle.names_model.specs.NameRules.{tell}
 use Rattle.names_model.specs.Definitions.{text_definitions}
@@ -17,11 +17,10 @@ use Rattle.checks_model.specs.Diagnoses.{BreaksNoRule}
 use Rattle.elaborated_laws.specs.Rows.{LeadsTo}
 use Rattle.elaborated_laws.proofs.Rows.{leads}
 use Rattle.elaborated_laws.proofs.Told.{no_some, same_some, there_mapped, there_chained, not_broken, neither_left, neither_right}
-use Rattle.elaboration_model.specs.Numbering.{Source, Row, is_location, is_signal, is_shared, same_meeting, is_local_of, body_around, count_before, Thing, a_local, a_shared, an_event, a_buffer, a_message, a_region, a_body, no_thing, thing_directly, local_in, thing_by, thing_of, thing_used, source_number, buffer_number, buffer_used}
-use Rattle.elaboration_model.specs.Parts.{made_of_some}
+use Rattle.elaboration_model.specs.Numbering.{Source, Row, is_signal, is_shared, is_local_of, body_around, count_before, Thing, a_local, a_shared, an_event, a_buffer, a_message, a_region, a_body, no_thing, thing_directly, local_in, thing_by, thing_of, thing_used, source_number}
 use Rattle.elaboration_model.specs.Elaborated.{source_of, buffer_as, signal_as, elaborated}
 use Rattle.elaboration_model.specs.Statements.{is_buffer, source_used}
-use Rattle.expression_laws.specs.Names.{stands_for_message, takes_parts, MessageKnown}
+use Rattle.expression_laws.specs.Names.{stands_for_message, takes_parts}
 use Rattle.expression_laws.proofs.Outside.{row_parts}
 use Rattle.program_laws.proofs.Grounds.{all_names_known}
 use Rattle.reached_laws.specs.Reached.{IsUsedWithin}
@@ -149,7 +148,7 @@ module _ (text : List ℕ) (t : ProgramTree) (h : Ground) (p : CheckedTree) (has
       let mode = entry_row n u.number lead.0 u.is lead.2 ∙ m.1 in
       let element = ap (option_and_then element_of) mode ∙ both.0 in
       let none : (sg : SignalTree) → origin_of h n ≡ Some (a_signal sg) → ⊥ = λ sg origin.
-          true≢false (sym (ap is_buffer_thing u.thing) ∙ signal_thing s.rows u.number lead.0 sg (same_some lead.0.origin (a_signal sg) (sym (origin_row n u.number lead.0 u.is lead.2) ∙ origin)) lead.2) in
+      true≢false (sym (ap is_buffer_thing u.thing) ∙ signal_thing s.rows u.number lead.0 sg (same_some lead.0.origin (a_signal sg) (sym (origin_row n u.number lead.0 u.is lead.2) ∙ origin)) lead.2) in
       record {
         row = lead.1;
         at = lead.3;

@@ -1,44 +1,37 @@
 -- What a name of a body stands for in the elaborated program: a row of its mode, a procedure that is reached, a process.
-use Rattle.std.proofs.Common.{◌≡◌, ℕ, zero, suc, ◌+◌, Bool, true, false, ◌&&◌, List, [], ◌∷◌, ◌++◌, Option, Some, None, ◌⊎◌, inl, inr, refl, sym, ap, ◌∙◌, subst, true≢false, arith}
-use Rattle.std.specs.Prelude.{is_some, IsSome, map, flat_map, slice_get, option_map, option_and_then, if◌then◌else◌}
+use Rattle.std.proofs.Common.{◌≡◌, ℕ, suc, ◌+◌, Bool, true, false, ◌&&◌, List, [], ◌∷◌, ◌++◌, Option, Some, None, ◌⊎◌, inl, inr, refl, sym, ap, ◌∙◌, subst, true≢false, arith}
+use Rattle.std.specs.Prelude.{is_some, map, flat_map, slice_get, option_map, option_and_then, if◌then◌else◌}
 use Rattle.std.proofs.lemmas.List.{map-append}
 use Rattle.chill_tree.specs.declared.tree.name.Name.{Name}
 use Rattle.chill_tree.specs.ModeTree as written
 use Rattle.chill_tree.specs.ItemTree.{ProcedureTree, ProcessTree, ParamTree, FormalTree, ProgramTree}
 use Rattle.modes.specs.ModeTree.{ModeTree}
 use Rattle.modes.specs.Scalars.{scalars_of}
-use Rattle.names_model.specs.declared.definition.Definition.{Definition}
-use Rattle.names_model.specs.Identifiers.{identifier}
-use Rattle.names_model.specs.Definitions.{text_definitions, with_predefined, predefined}
+use Rattle.names_model.specs.Definitions.{text_definitions}
 use Rattle.names_model.specs.Resolving.{level_of}
 use Rattle.checked_program.specs.declared.expr.Base.{Base}
 use Rattle.checked_program.specs.declared.expr.Base.TheVariants as bases
 use Rattle.checked_program.specs.declared.program.Parameter.{Parameter}
 use Rattle.checked_program.specs.declared.program.Passing.TheVariants as ways
-use Rattle.checked_program.specs.declared.program.Sort.TheVariants as sorts
-use Rattle.program_trees.specs.StatementTree as done
 use Rattle.program_trees.specs.ProgramTree.{CheckedTree, LocationRowTree, LocalRowTree, BodyRowTree}
 use Rattle.ground_laws.specs.Defining.{Defines}
-use Rattle.ground_laws.proofs.Defining.{origins_define}
-use Rattle.checks_model.specs.Ground.{Ground, Origin, a_procedure, a_process, number_at, origin_of, entry_of, entry_defined, mode_of_entry, buffer_element}
-use Rattle.checks_model.specs.Origins.{origins_of}
+use Rattle.checks_model.specs.Ground.{Ground, Origin, a_procedure, a_process, number_at, origin_of, entry_of, mode_of_entry}
 use Rattle.checks_model.specs.ProcessRules.{meets_event, meets_buffer, meets_nothing}
-use Rattle.checks_model.specs.Table.{entry_with_counters}
 use Rattle.checks_model.specs.WrittenModes.{some_mode_of}
 use Rattle.checks_model.specs.Diagnoses.{BreaksNoRule}
 use Rattle.expression_laws.proofs.Outside.{row_parts}
 use Rattle.elaborated_laws.specs.Rows.{LeadsTo}
 use Rattle.elaborated_laws.proofs.Rows.{leads}
 use Rattle.elaborated_laws.proofs.Told.{no_some, same_some, there_mapped, there_chained, both_left}
-use Rattle.elaboration_model.specs.Numbering.{Source, Row, is_direct, is_location, is_signal, is_region_origin, has_body, is_shared, is_local_of, body_around, body_number, count_before, Thing, a_local, a_shared, an_event, a_buffer, a_message, a_region, a_body, no_thing, thing_directly, local_in, thing_by, thing_of, thing_used, body_in, buffer_used, body_used}
+use Rattle.elaboration_model.specs.Numbering.{Source, Row, is_direct, is_location, is_signal, is_region_origin, has_body, is_shared, is_local_of, body_around, body_number, count_before, Thing, a_local, a_shared, an_event, a_buffer, a_message, a_region, a_body, no_thing, thing_directly, local_in, thing_by, thing_of, thing_used, body_in, body_used}
 use Rattle.elaboration_model.specs.Elaborated.{source_of, region_around, locals_of, is_critical, way_of, parameters_of, passed_in, result_of, listed_by, inside_of, process_body, procedure_body, procedure_made, body_as, elaborated}
 use Rattle.elaboration_model.specs.Expressions.{Formal, base_of, passing_of, mode_defined, formals_of_param, formals_by, modes_of_formal, modes_by}
 use Rattle.head_laws.specs.Parameters.{BeginWith}
 use Rattle.head_laws.proofs.Formals.{formals_are, started_are}
 use Rattle.head_laws.proofs.Rows.{made_parts, three_parts}
 use Rattle.program_laws.proofs.Defined.{entry_at}
-use Rattle.reached_laws.specs.Reached.{IsPassed, IsOpenTo, IsUsedWithin}
-use Rattle.reached_laws.proofs.Places.{defined_at, row_is}
+use Rattle.reached_laws.specs.Reached.{IsOpenTo, IsUsedWithin}
+use Rattle.reached_laws.proofs.Places.{row_is}
 use Rattle.reached_laws.proofs.Items.{number_is, defines_is}
 use Rattle.source_meaning.specs.TypedValues.{Context, IsReached, BaseHas, IsReachedFrom}
 use Rattle.lead_laws.specs.Leads.{IsWithin, IsNameWithin, IsInBody, NameLeads}
@@ -167,10 +160,10 @@ module _ (text : List ℕ) (t : ProgramTree) (h : Ground) (p : CheckedTree) (has
       rest false false false false false i j k l m = tt
 
       by : (b : Bool) → is_shared meets_nothing r ≡ b → IsWithin s ctx body d (if b then a_shared (count_before (is_shared meets_nothing) d s.rows)
-        else (if is_shared meets_event r then an_event (count_before (is_shared meets_event) d s.rows)
-        else (if is_shared meets_buffer r then a_buffer (count_before (is_shared meets_buffer) d s.rows)
-        else (if is_signal r.origin then a_message (count_before (λ r. is_signal r.origin) d s.rows)
-        else (if is_region_origin r.origin then a_region (count_before (λ r. is_region_origin r.origin) d s.rows) else (if has_body r.origin then a_body (body_number s.rows d) else no_thing))))))
+          else (if is_shared meets_event r then an_event (count_before (is_shared meets_event) d s.rows)
+          else (if is_shared meets_buffer r then a_buffer (count_before (is_shared meets_buffer) d s.rows)
+          else (if is_signal r.origin then a_message (count_before (λ r. is_signal r.origin) d s.rows)
+          else (if is_region_origin r.origin then a_region (count_before (λ r. is_region_origin r.origin) d s.rows) else (if has_body r.origin then a_body (body_number s.rows d) else no_thing))))))
       by true is = kept_in is
       by false is = rest (is_shared meets_event r) (is_shared meets_buffer r) (is_signal r.origin) (is_region_origin r.origin) (has_body r.origin) _ _ _ _ _
 

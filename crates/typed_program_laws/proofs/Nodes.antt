@@ -1,5 +1,5 @@
 -- The names at a node stand for what they have to.
-use Rattle.std.proofs.Common.{◌≡◌, ℕ, zero, suc, ◌+◌, ◌==◌, Bool, true, false, List, [], ◌∷◌, ◌++◌, length, Option, Some, None, refl, sym, ap, ◌∙◌, subst, true≢false, arith}
+use Rattle.std.proofs.Common.{◌≡◌, ℕ, zero, suc, ◌+◌, ◌==◌, true, List, [], ◌∷◌, length, Option, Some, None, refl, sym, ap, ◌∙◌, subst, arith}
 use Rattle.std.specs.Prelude.{map, slice_get, option_map, option_and_then, if◌then◌else◌, not}
 use Rattle.std.proofs.lemmas.Bool.{eqb-true, eq-eqb}
 use Rattle.chill_tree.specs.declared.tree.name.Name.{Name}
@@ -12,25 +12,25 @@ use Rattle.diagnostics.specs.declared.rule.Rule.TheVariants as rules
 use Rattle.checked_program.specs.declared.expr.Base.{Base}
 use Rattle.checked_program.specs.declared.expr.Base.TheVariants as bases
 use Rattle.program_trees.specs.ProgramTree.{CheckedTree}
-use Rattle.checks_model.specs.Ground.{Ground, Origin, a_location, a_counter, a_received, entry_defined, mode_of_entry, number_at, message_parts}
+use Rattle.checks_model.specs.Ground.{Ground, Origin, a_location, a_counter, a_received, entry_defined, mode_of_entry, message_parts}
 use Rattle.checks_model.specs.Told.{tell_at, holds_of}
-use Rattle.checks_model.specs.ActionRules.{counter_mode, count_received, told_received_names}
+use Rattle.checks_model.specs.ActionRules.{count_received, told_received_names}
 use Rattle.checks_model.specs.ProcessRules.{for_messages, told_misfit, told_listed}
 use Rattle.checks_model.specs.Table.{received_mode, entry_with_counters}
 use Rattle.checks_model.specs.Origins.{text_origins}
 use Rattle.checks_model.specs.Diagnoses.{BreaksNoRule}
-use Rattle.checks_model.specs.Sites.{Site, Around, at_item, at_synonym, at_mode_definition, at_declaration, at_mode, at_simple, at_condition, at_selector, at_labels, at_control, at_set, at_priority, at_event, at_source, at_received, at_exceptions, at_body, at_program, counter_in}
+use Rattle.checks_model.specs.Sites.{Site, Around, at_declaration, at_simple, at_control, at_event, at_source, at_received, at_program, counter_in}
 use Rattle.table_laws.specs.Names.{names_in}
 use Rattle.written_laws.specs.Written.{Each, exprs_at}
-use Rattle.elaborated_laws.proofs.Told.{no_some, same_some, there_mapped, there_chained, none_first, none_later, not_broken, not_true}
-use Rattle.elaboration_model.specs.Numbering.{Source, Row, Thing, a_local, thing_of, thing_used, thing_defined, event_used, local_number, local_defined}
+use Rattle.elaborated_laws.proofs.Told.{no_some, same_some, none_first, none_later, not_broken, not_true}
+use Rattle.elaboration_model.specs.Numbering.{Source, Thing, a_local, thing_of, thing_defined, event_used, local_number, local_defined}
 use Rattle.elaboration_model.specs.Parts.{made_each}
 use Rattle.elaboration_model.specs.Elaborated.{source_of, elaborated}
-use Rattle.elaboration_model.specs.Expressions.{base_of, mode_defined}
+use Rattle.elaboration_model.specs.Expressions.{base_of}
 use Rattle.elaboration_model.specs.Statements.{some_names, base_defined, first_mode, source_used}
 use Rattle.expression_laws.specs.Statements.{IsNodeClean}
 use Rattle.constant_laws.specs.Constants.{HasBytes, IsNameFit}
-use Rattle.program_laws.proofs.Rows.{IsDefinedAs, AreDefinedAs, AreReceivedAs, SiteSo}
+use Rattle.program_laws.proofs.Rows.{AreDefinedAs, AreReceivedAs, SiteSo}
 use Rattle.program_laws.proofs.Defined.{DefinedIn, names_list, defined_in, entry_at}
 use Rattle.head_laws.proofs.Rows.{made_parts}
 use Rattle.reached_laws.specs.Reached.{IsUsedWithin, IsDefinedWithin, IsSiteWithin}
@@ -42,7 +42,7 @@ use Rattle.action_laws.specs.Actions.{IsSound, is_updating, ActionTyped}
 use Rattle.action_laws.specs.Controls.{ControlTyped}
 use Rattle.body_laws.specs.Statements.{ReceivedTyped, NodeTyped, IsNodeSound}
 use Rattle.typed_program_laws.proofs.Names.{base_at, name_leads, name_typed}
-use Rattle.typed_program_laws.proofs.Messages.{IsSource, are_alike, message_typed, SourceIs, source_is}
+use Rattle.typed_program_laws.proofs.Messages.{IsSource, are_alike, message_typed, source_is}
 
 -- an operator that stands with `:=`
 abbrev pub UpdateSo : Site → Type 0

@@ -1,25 +1,23 @@
 -- The elaborated program of a text that breaks no rule is typed.
-use Rattle.std.proofs.Common.{◌≡◌, ◌<◌, ℕ, zero, suc, ◌+◌, Bool, true, false, List, [], ◌∷◌, ◌++◌, length, Option, Some, None, Contains, inl, inr, refl, sym, ap, ◌∙◌, subst, true≢false, arith}
-use Rattle.std.specs.Prelude.{All, is_some, IsSome, map, flat_map, slice_get, option_map, option_and_then, if◌then◌else◌}
+use Rattle.std.proofs.Common.{◌≡◌, ◌<◌, ℕ, zero, suc, Bool, true, false, List, [], ◌∷◌, Option, Some, None, Contains, refl, sym, ap, ◌∙◌, subst, true≢false}
+use Rattle.std.specs.Prelude.{All, is_some, flat_map, slice_get, option_map, option_and_then, if◌then◌else◌}
 use Rattle.std.specs.List.{list_any}
 use Rattle.chill_tree.specs.declared.tree.name.Name.{Name}
 use Rattle.chill_tree.specs.declared.tree.item.ModulionKind.{ModulionKind}
 use Rattle.chill_tree.specs.declared.tree.item.ModulionKind.TheVariants as modulions
-use Rattle.chill_tree.specs.LocalTree.{SynonymTree}
-use Rattle.chill_tree.specs.StatementTree.{StatementTree, HandlerTree, handler_node, body_nodes}
+use Rattle.chill_tree.specs.StatementTree.{HandlerTree, handler_node, body_nodes}
 use Rattle.chill_tree.specs.ItemTree.{ProcedureTree, ProcessTree, ItemTree, ItemNodes, seize, grant, local_item, signals, procedure, process, modulion, action, no_items, more_items, items_in, ProgramTree}
 use Rattle.modes.specs.ModeTree.{ModeTree}
 use Rattle.layout_map.specs.Spots.{spots_of}
 use Rattle.layout_map.specs.Outcome.{outcome_of, spots}
-use Rattle.names_model.specs.declared.definition.Inside.TheVariants as insides
 use Rattle.names_model.specs.Definitions.{text_definitions}
 use Rattle.names_model.specs.ItemParts.{is_region}
 use Rattle.names_model.specs.Resolving.{level_of}
 use Rattle.checked_program.specs.declared.program.Sort.TheVariants as sorts
 use Rattle.program_trees.specs.StatementTree as done
-use Rattle.program_trees.specs.ProgramTree.{CheckedTree, LocationRowTree, LocalRowTree, BodyRowTree}
-use Rattle.checks_model.specs.Ground.{Ground, Origin, a_synonym, a_procedure, a_process, a_signal, a_modulion, number_at, entry_defined, mode_of_entry}
-use Rattle.checks_model.specs.ActionRules.{Returning, no_procedure, no_value, a_value}
+use Rattle.program_trees.specs.ProgramTree.{CheckedTree, LocalRowTree, BodyRowTree}
+use Rattle.checks_model.specs.Ground.{Ground, Origin, a_synonym, a_procedure, a_process, a_modulion, number_at}
+use Rattle.checks_model.specs.ActionRules.{Returning, no_value, a_value}
 use Rattle.checks_model.specs.Phases.{returning_of}
 use Rattle.checks_model.specs.ProcessRules.{for_messages, told_misfit, told_listed, told_item}
 use Rattle.checks_model.specs.Origins.{text_origins, origins_of}
@@ -29,7 +27,7 @@ use Rattle.checks_model.specs.Sites.{Site, in_procedure, in_no_procedure, at_ite
 use Rattle.byte_laws.specs.Bytes as bytes_of
 use Rattle.byte_laws.specs.Bytes.{IsByte}
 use Rattle.byte_laws.proofs.Items.{tree_bytes}
-use Rattle.written_laws.specs.Written.{Each, exprs_at}
+use Rattle.written_laws.specs.Written.{Each}
 use Rattle.written_laws.proofs.Sets.{each_more}
 use Rattle.written_laws.proofs.WrittenSo.{each_there}
 use Rattle.elaborated_laws.specs.Rows.{LeadsTo}
@@ -37,37 +35,36 @@ use Rattle.elaborated_laws.proofs.Rows.{leads}
 use Rattle.elaborated_laws.proofs.Told.{no_some, same_some, there_mapped, there_chained, none_first}
 use Rattle.elaboration_model.specs.Numbering.{Source, Row, has_body, body_of, body_by, body_number, count_before, Thing, a_region, thing_of, thing_defined, region_number}
 use Rattle.elaboration_model.specs.Parts.{made_of}
-use Rattle.elaboration_model.specs.Elaborated.{region_in, region_around, locals_of, result_of, listed_by, inside_of, outermost_body, process_body, procedure_body, procedure_made, body_as, outermost, rows_made, source_of, elaborated}
+use Rattle.elaboration_model.specs.Elaborated.{region_in, locals_of, result_of, listed_by, inside_of, outermost_body, process_body, procedure_body, procedure_made, body_as, outermost, rows_made, source_of, elaborated}
 use Rattle.elaboration_model.specs.Expressions.{mode_defined}
-use Rattle.elaboration_model.specs.Statements.{Around, in_body, statement, handled, declarations, before}
+use Rattle.elaboration_model.specs.Statements.{in_body, statement, handled, declarations, before}
 use Rattle.elaboration_model.specs.Modulions.{has_value, region_action, modulion_action, item_before, items_done, modulions_done}
-use Rattle.expression_laws.specs.Names.{IsPlace, AllNamesKnown}
+use Rattle.expression_laws.specs.Names.{IsPlace}
 use Rattle.expression_laws.specs.Statements.{IsNodeClean, IsAround}
 use Rattle.expression_laws.proofs.Text.{of_member}
 use Rattle.expression_laws.proofs.Exits.{exits_there}
 use Rattle.expression_laws.proofs.Nodes.{nodes_there}
-use Rattle.constant_laws.specs.Constants.{HasBytes, IsNameFit}
+use Rattle.constant_laws.specs.Constants.{IsNameFit}
 use Rattle.constant_laws.specs.Text.{SynonymsHaveBytes}
 use Rattle.constant_laws.proofs.Names.{text_names_fit}
 use Rattle.program_laws.proofs.Rows.{IsDefinedAs, SiteSo, ModulionSo, EachModulionSo}
-use Rattle.program_laws.proofs.Defined.{DefinedIn, names_list, defined_in, sites_so, modulions_so, origin_so, result_place, defined_place}
+use Rattle.program_laws.proofs.Defined.{names_list, defined_in, sites_so, modulions_so, result_place, defined_place}
 use Rattle.program_laws.proofs.Counters.{processes_clean}
 use Rattle.program_laws.proofs.Grounds.{all_names_known}
 use Rattle.program_laws.proofs.Nodes.{all_clean}
-use Rattle.head_laws.specs.Heads.{HasTypedHead, HasTypedHeads}
 use Rattle.head_laws.proofs.Rows.{MadeOf, made_parts, three_parts, each_row}
-use Rattle.head_laws.proofs.Heads.{FiveParts, five_parts, heads_are}
+use Rattle.head_laws.proofs.Heads.{five_parts, heads_are}
 use Rattle.source_meaning.specs.TypedValues.{Context}
 use Rattle.source_meaning.specs.TypedStatements as typed
 use Rattle.source_meaning.specs.TypedStatements.{AreTyped, IsTypedStatement, IsTypedHandler, IsTypedAction}
-use Rattle.source_meaning.specs.Typed.{around_body, IsTypedBody, IsTyped}
+use Rattle.source_meaning.specs.Typed.{IsTyped}
 use Rattle.lead_laws.specs.Leads.{IsInBody}
 use Rattle.action_laws.specs.Actions.{StandsAround}
 use Rattle.body_laws.specs.Statements.{IsNodeSound}
 use Rattle.body_laws.specs.Rows.{IsTypedInside}
 use Rattle.body_laws.proofs.Statements.{declarations_typed, before_typed, statement_typed_law, handler_typed_law}
 use Rattle.body_laws.proofs.Rows.{procedure_typed, process_typed}
-use Rattle.reached_laws.specs.Reached.{IsSiteWithin, RoutineAt, ItemWithin, ItemsWithin, ModulionsKnown, EachModulionKnown}
+use Rattle.reached_laws.specs.Reached.{IsSiteWithin, ItemWithin, ItemsWithin, ModulionsKnown, EachModulionKnown}
 use Rattle.reached_laws.proofs.Places.{row_is, IsModulionRow, module_alone}
 use Rattle.reached_laws.proofs.Items.{number_is, defines_is, reached}
 use Rattle.ground_laws.specs.Defining.{Defines}

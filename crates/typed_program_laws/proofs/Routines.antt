@@ -1,10 +1,9 @@
 -- What is reached by items is so of the routines among what defines something.
-use Rattle.std.proofs.Common.{◌≡◌, ℕ, Bool, true, false, List, [], ◌∷◌, ◌++◌, Option, Some, None, refl, sym, true≢false}
+use Rattle.std.proofs.Common.{◌≡◌, ℕ, true, List, [], ◌∷◌, ◌++◌, Option, Some, None, refl, true≢false}
 use Rattle.std.specs.Prelude.{map, flat_map, slice_get}
-use Rattle.chill_tree.specs.declared.tree.name.Name.{Name}
 use Rattle.chill_tree.specs.ModeTree as written
 use Rattle.chill_tree.specs.StatementTree.{handler_node}
-use Rattle.chill_tree.specs.ItemTree.{SignalTree, ParamTree, FormalTree, ProcedureTree, ProcessTree, ItemTree, ItemNodes, seize, grant, local_item, signals, procedure, process, modulion, action, no_items, more_items, ModulionTree, modulion_item, ProgramTree}
+use Rattle.chill_tree.specs.ItemTree.{SignalTree, ParamTree, FormalTree, ItemTree, ItemNodes, seize, grant, local_item, signals, procedure, process, modulion, action, no_items, more_items, ModulionTree, modulion_item, ProgramTree}
 use Rattle.names_model.specs.Definitions.{text_definitions}
 use Rattle.names_model.specs.Resolving.{level_of}
 use Rattle.checks_model.specs.Ground.{Origin, a_parameter, a_procedure, a_process}
@@ -14,7 +13,7 @@ use Rattle.written_laws.specs.Written.{Each}
 use Rattle.written_laws.proofs.Shown.{each_append, each_any, each_flat}
 use Rattle.written_laws.proofs.Sets.{each_more}
 use Rattle.written_laws.proofs.WrittenSo.{each_predefined, each_there}
-use Rattle.elaboration_model.specs.Numbering.{Source, has_body}
+use Rattle.elaboration_model.specs.Numbering.{Source}
 use Rattle.reached_laws.specs.Reached.{ItemWithin, ItemsWithin}
 use Rattle.reached_laws.proofs.Reaches.{Fact}
 use Rattle.reached_laws.proofs.Walked.{NotRoutine}

@@ -8,7 +8,7 @@ use Rattle.chill_tree.specs.declared.tree.item.ModulionKind.{ModulionKind}
 use Rattle.chill_tree.specs.ExprTree.{ExprTree}
 use Rattle.chill_tree.specs.ModeTree as written
 use Rattle.chill_tree.specs.LocalTree.{LocalTree, synonyms, syn_modes, new_modes, locations}
-use Rattle.chill_tree.specs.SimpleTree.{SimpleTree, update}
+use Rattle.chill_tree.specs.SimpleTree.{SimpleTree}
 use Rattle.chill_tree.specs.StatementTree.{StatementTree, BracketedTree, ElsIfTree, CaseTree, NamedTree, ReceiveTree, HandlerTree, BodyTree, local_part, action_part, statement_nodes, branch_nodes, case_nodes, named_nodes, receive_nodes, otherwise_node, handler_node, body_nodes}
 use Rattle.chill_tree.specs.ItemTree.{SignalTree, ParamTree, FormalTree, ProcedureTree, ProcessTree, ItemTree, ItemNodes, item_nodes, ModulionTree, modulion_item, ProgramTree}
 use Rattle.rules_model.specs.Marks.{Toks, may_update}
@@ -16,7 +16,7 @@ use Rattle.rules_model.specs.SimpleGrammar.{IsSimple, is_update}
 use Rattle.rules_model.specs.StatementGrammar.{IsStatement, is_empty, is_simple, is_bracketed, AreStatements, no_statements, then_statement, IsBracketed, is_if, is_case, is_do, is_begin, is_delay_case, is_receive_case, AreBranches, no_branches, then_branch, AreCases, no_cases, then_case, AreNamed, no_named, then_named, AreReceives, no_receives, then_receive, IsOtherwise, no_else, with_else, IsHandler, no_handler, with_handler, AreBody, no_parts, then_local, then_action}
 use Rattle.rules_model.specs.ItemGrammar.{IsBlock, is_block, IsProcedure, is_procedure, IsProcess, is_process, IsItem, is_seize, is_grant, is_local_item, are_signals, is_procedure_item, is_process_item, is_modulion_item, is_action, AreItems, no_items, then_item, IsModulion, is_modulion, AreModulions, no_modulions, then_modulion, IsTreeOf, is_tree}
 use Rattle.rules_model.specs.Diagnoses.{HasTree}
-use Rattle.checks_model.specs.Sites.{Site, Around, in_procedure, in_no_procedure, at_item, at_synonym, at_mode_definition, at_declaration, at_mode, at_simple, at_set, at_priority, at_body, some_site, events_listed, sites_of_local, sites_of, sites_of_bracketed, sites_of_each, sites_of_branches, sites_of_cases, sites_of_events, sites_of_receives, sites_of_otherwise, sites_of_handler, sites_of_exceptions, sites_of_parts, locals_of_body, sites_of_modes, sites_of_result, sites_of_body, sites_of_item, sites_of_items, items_of, sites}
+use Rattle.checks_model.specs.Sites.{Site, Around, in_procedure, in_no_procedure, at_item, at_synonym, at_mode_definition, at_declaration, at_mode, at_simple, at_set, at_priority, at_body, some_site, events_listed, sites_of_local, sites_of, sites_of_bracketed, sites_of_each, sites_of_branches, sites_of_cases, sites_of_events, sites_of_receives, sites_of_otherwise, sites_of_handler, sites_of_exceptions, sites_of_parts, locals_of_body, sites_of_modes, sites_of_result, sites_of_body, sites_of_item, sites_of_items, items_of}
 use Rattle.written_laws.specs.Written.{Each}
 use Rattle.written_laws.proofs.Shown.{each_append, each_snoc}
 use Rattle.action_laws.specs.Actions.{is_updating}
