@@ -3,6 +3,8 @@ use Rattle.std.specs.Prelude.{◌≡◌, ◌≤◌, ℕ, List, Some, slice_get, 
 use Rattle.chill_tree.specs.ItemTree.{ProgramTree}
 use Rattle.program_trees.specs.ProgramTree.{BodyRowTree, CheckedTree}
 use Rattle.checks_model.specs.Ground.{Ground}
+use Rattle.written_laws.specs.Written.{Each}
+use Rattle.byte_laws.specs.Bytes.{IsByte}
 use Rattle.source_meaning.specs.Typed.{IsTyped}
 use Rattle.range_laws.specs.StatementInRange.{BodiesInRange}
 use Rattle.code_laws.specs.StatementsInRange.{FitsProgram}
@@ -20,6 +22,6 @@ pub record IsWellElaborated (p : CheckedTree) : Type 0 where
   pub fits : FitsProgram p
   pub well_made : (k : ℕ) (b : BodyRowTree) → slice_get p.bodies k ≡ Some b → IsWellMade b
 
--- So is the elaborated program of a text that breaks no rule and isn't too large, where it is typed.
-abbrev pub TypedElaboratedLaw : Type 0
-TypedElaboratedLaw = (text : List ℕ) (t : ProgramTree) (g : Ground) (p : CheckedTree) → IsOfText text t g p → IsTyped p → IsWellElaborated p
+-- So is the elaborated program of a text of bytes that breaks no rule and isn't too large.
+abbrev pub WellElaboratedLaw : Type 0
+WellElaboratedLaw = (text : List ℕ) (t : ProgramTree) (g : Ground) (p : CheckedTree) → Each IsByte text → IsOfText text t g p → IsWellElaborated p
