@@ -14,8 +14,7 @@ use Rattle.checked_program.specs.declared.expr.Binary.TheVariants.{Equal, NotEqu
 use Rattle.checked_program.specs.declared.program.Parameter.{Parameter}
 use Rattle.checked_program.specs.declared.program.Passing.TheVariants.{In, Out, InOut}
 use Rattle.checked_program.specs.declared.program.Sort.TheVariants.{Procedure}
-use Rattle.program_ranges.specs.Around.{bounds_fit, are_ints, are_members, is_int}
-use Rattle.program_ranges.specs.ExprRanges.{operands_fit}
+use Rattle.program_ranges.specs.Counts.{bounds_fit, are_ints, are_members, is_int, operands_fit}
 use Rattle.program_trees.specs.ExprTree.{ExprTree, expr, OperationTree, constant, own_instance, contents, part_of, receive, start, call, powerset, parts, uniform, routine, get_int, prefixed, binary, ReceivedTree, received, ReceivedNodes, no_received, more_received, PartNodes, no_parts, field, element, RangeNodes, no_ranges, one_member, members, LocationTree, location, StartTree, started, CallTree, called, ArgumentNodes, no_arguments, in_argument, out_argument, inout_argument, count_of, received_count, location_count}
 use Rattle.program_trees.specs.ProgramTree.{LocalRowTree, BodyRowTree, CheckedTree}
 use Rattle.source_meaning.specs.Fitting.{has_instances}
@@ -25,8 +24,8 @@ use Rattle.code_scheme.specs.Pieces.{layout_in}
 use Rattle.code_scheme.specs.ExprCode.{counts_of}
 use Rattle.code_laws.specs.Calls.{result_scalars}
 use Rattle.code_laws.specs.InRange.{IsNumber32, IsOffset, AreInts, AreMembers, BoundsFit, OperandsFit, BaseFits, FitsExpr, FitsOperation, FitsReceived, FitsAll, FitsParts, FitsRanges, FitsLocation, FitsStart, FitsCall, FitsArguments}
-use Rattle.range_laws.specs.ExprInRange.{BaseInRange, ExprInRange, OperationInRange, ReceivedInRange, AllInRange, ValuesInRange, PartsInRange, RangesInRange, LocationInRange, StartInRange, CallInRange, ArgumentsInRange}
-use Rattle.range_laws.proofs.Tests.{both_hold, equal, at_most, truly}
+use Rattle.program_ranges.specs.ExprInRange.{BaseInRange, ExprInRange, OperationInRange, ReceivedInRange, AllInRange, ValuesInRange, PartsInRange, RangesInRange, LocationInRange, StartInRange, CallInRange, ArgumentsInRange}
+use Rattle.compilable_laws.proofs.Tests.{both_hold, equal, at_most, truly}
 use Rattle.scheme_heights.proofs.ModeCounts.{lowest_counted, scalars_few, elements_few, row_told}
 use Rattle.scheme_heights.proofs.Located.{item_below}
 use Rattle.compilable_laws.specs.Few.{HasFewThings}

@@ -1,3 +1,4 @@
+pub mod Tests
 pub mod Expressions
 pub mod Statements
 pub mod Programs

@@ -2,11 +2,10 @@
 use Rattle.std.proofs.Common.{◌≡◌, ℕ, ◌+◌, List, [], ◌∷◌, Some, refl, sym, arith}
 use Rattle.std.specs.Prelude.{slice_get, All}
 use Rattle.std.proofs.lemmas.List.Elements.{All-nil, All-cons}
-use Rattle.program_trees.specs.ProgramTree.{LocalRowTree, BodyRowTree, CheckedTree, checked_tree}
+use Rattle.program_trees.specs.ProgramTree.{LocalRowTree, BodyRowTree, CheckedTree}
 use Rattle.source_meaning.specs.Typed.{AreLaidFrom, around_body, IsTyped}
 use Rattle.code_laws.specs.StatementsInRange.{IsException, AreLaid, FitsWhole}
-use Rattle.range_laws.specs.StatementInRange.{ExceptionsInRange, BodiesInRange}
-use Rattle.range_laws.proofs.Programs.{bodies_in_range}
+use Rattle.program_ranges.specs.StatementInRange.{ExceptionsInRange, BodiesInRange}
 use Rattle.scheme_heights.proofs.ModeCounts.{scalars_few}
 use Rattle.scheme_heights.proofs.Located.{item_below}
 use Rattle.compilable_laws.specs.Few.{HasFew}
@@ -48,6 +47,6 @@ program_fits p typed in_range few = record {
 pub program_compilable : CompilableLaw
 program_compilable p rests = record {
   typed = rests.typed;
-  in_range = program_fits (checked_tree p) rests.typed (bodies_in_range p rests.in_range) rests.few;
+  in_range = program_fits p rests.typed rests.in_range rests.few;
   well_made = rests.well_made;
 }

@@ -19,8 +19,8 @@ use Rattle.code_scheme.specs.StatementPlain.{dropped_by, dropped_scalars}
 use Rattle.code_laws.specs.Calls.{result_scalars}
 use Rattle.code_laws.specs.InRange.{IsNumber32, BaseFits, FitsCall}
 use Rattle.code_laws.specs.StatementsInRange.{LocalFits, FitsNumber, FitsSomeNumber, FitsResult, FitsReturn, FitsSet, FollowFrom, FollowEachOther, FitsSent, FitsControl, labels_with, FitsStatements, FitsStatement, FitsHandler, FitsHandled, FitsOtherwise, FitsAction, FitsChoices, FitsCases, FitsDelays, FitsReceives, FitsItems, FitsItem}
-use Rattle.range_laws.specs.ExprInRange.{NumberInRange, ResultInRange, CallInRange}
-use Rattle.range_laws.specs.StatementInRange.{SomeNumberInRange, GivenInRange, SomeGivenInRange, NamesInRange, SetInRange, SentInRange, ControlInRange, LocalsFollow, StatementsInRange, StatementInRange, HandlerInRange, HandledInRange, OtherwiseInRange, ActionInRange, ChoicesInRange, CasesInRange, DelaysInRange, ReceivesInRange}
+use Rattle.program_ranges.specs.ExprInRange.{NumberInRange, ResultInRange, CallInRange}
+use Rattle.program_ranges.specs.StatementInRange.{SomeNumberInRange, GivenInRange, SomeGivenInRange, NamesInRange, SetInRange, SentInRange, ControlInRange, LocalsFollow, StatementsInRange, StatementInRange, HandlerInRange, HandledInRange, OtherwiseInRange, ActionInRange, ChoicesInRange, CasesInRange, DelaysInRange, ReceivesInRange}
 use Rattle.scheme_heights.proofs.ModeCounts.{lowest_counted, scalars_few, row_told}
 use Rattle.scheme_heights.proofs.Located.{item_below}
 use Rattle.compilable_laws.specs.Few.{HasFewThings, LowestIsFew, StatementsHaveFew, StatementHasFew, HandlerHasFew, HandledHaveFew, OtherwiseHasFew, ActionHasFew, ChoicesHaveFew, CasesHaveFew, DelaysHaveFew, ReceivesHaveFew}

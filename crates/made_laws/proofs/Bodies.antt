@@ -37,8 +37,8 @@ use Rattle.program_laws.proofs.Defined.{names_list, sites_so}
 use Rattle.head_laws.proofs.Rows.{MadeOf, made_parts, three_parts, each_row}
 use Rattle.head_laws.proofs.Heads.{FiveParts, five_parts}
 use Rattle.compilable_laws.specs.Few.{BodyHasFew}
-use Rattle.range_laws.specs.StatementInRange.{ExceptionsInRange}
-use Rattle.range_laws.specs.Placed.{AreInOrder, BodyPlaced}
+use Rattle.program_ranges.specs.StatementInRange.{ExceptionsInRange}
+use Rattle.program_ranges.specs.Placed.{AreInOrder, BodyPlaced}
 use Rattle.made_laws.proofs.Runs.{SiteRun, text_runs}
 use Rattle.made_laws.proofs.Order.{in_order}
 use Rattle.made_laws.proofs.Statements.{SiteOrdered, StatementsOk, HandlerOk, ItemsOk, exceptions_ok, handler_ok, body_ok}

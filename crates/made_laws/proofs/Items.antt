@@ -25,7 +25,7 @@ use Rattle.elaboration_model.specs.Modulions.{has_value, region_action, modulion
 use Rattle.expression_laws.proofs.Actions.{each_first, each_later}
 use Rattle.head_laws.proofs.Rows.{made_parts}
 use Rattle.compilable_laws.specs.Few.{StatementHasFew, ActionHasFew}
-use Rattle.range_laws.specs.Placed.{StatementsPlaced, StatementPlaced, ActionPlaced}
+use Rattle.program_ranges.specs.Placed.{StatementsPlaced, StatementPlaced, ActionPlaced}
 use Rattle.made_laws.proofs.Statements.{SiteOrdered, ItemsOk, local_before, statement_ok, handler_ok}
 
 same_region : (kind : ModulionKind) → process_rules.is_region kind ≡ is_region kind

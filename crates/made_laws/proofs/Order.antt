@@ -28,7 +28,7 @@ use Rattle.program_laws.proofs.Rows.{IsReceivedAs}
 use Rattle.program_laws.proofs.Defined.{names_list, defined_in}
 use Rattle.program_laws.proofs.Grounds.{all_placed}
 use Rattle.head_laws.proofs.Rows.{made_parts}
-use Rattle.range_laws.specs.Placed.{AreNext, AreInOrder}
+use Rattle.program_ranges.specs.Placed.{AreNext, AreInOrder}
 use Rattle.made_laws.proofs.Runs.{AreRun, RunIn}
 
 -- ---- numbers of rows that pass

@@ -31,8 +31,8 @@ use Rattle.expression_laws.proofs.Actions.{each_first, each_later}
 use Rattle.head_laws.proofs.Rows.{made_parts, three_parts}
 use Rattle.code_laws.specs.StatementsInRange.{count_of_delays}
 use Rattle.compilable_laws.specs.Few.{StatementsHaveFew, StatementHasFew, HandlerHasFew, HandledHaveFew, OtherwiseHasFew, ActionHasFew, ChoicesHaveFew, CasesHaveFew, DelaysHaveFew, ReceivesHaveFew}
-use Rattle.range_laws.specs.StatementInRange.{ExceptionsInRange}
-use Rattle.range_laws.specs.Placed.{AreInOrder, StatementsPlaced, StatementPlaced, HandlerPlaced, HandledPlaced, OtherwisePlaced, ActionPlaced, ChoicesPlaced, CasesPlaced, DelaysPlaced, ReceivesPlaced}
+use Rattle.program_ranges.specs.StatementInRange.{ExceptionsInRange}
+use Rattle.program_ranges.specs.Placed.{AreInOrder, StatementsPlaced, StatementPlaced, HandlerPlaced, HandledPlaced, OtherwisePlaced, ActionPlaced, ChoicesPlaced, CasesPlaced, DelaysPlaced, ReceivesPlaced}
 
 -- ---- numbers of exceptions
 

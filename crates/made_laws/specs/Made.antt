@@ -8,8 +8,8 @@ use Rattle.checks_model.specs.Ground.{Ground}
 use Rattle.checks_model.specs.Diagnoses.{BreaksNoRule}
 use Rattle.elaboration_model.specs.Elaborated.{elaborated}
 use Rattle.source_meaning.specs.Typed.{IsTyped}
-use Rattle.range_laws.specs.StatementInRange.{BodiesInRange}
-use Rattle.range_laws.specs.Placed.{BodiesPlaced}
+use Rattle.program_ranges.specs.StatementInRange.{BodiesInRange}
+use Rattle.program_ranges.specs.Placed.{BodiesPlaced}
 use Rattle.code_laws.specs.StatementsInRange.{FitsProgram}
 use Rattle.compilable_laws.specs.Few.{HasFew}
 

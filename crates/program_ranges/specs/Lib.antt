@@ -1,6 +1,4 @@
-pub mod Around
-pub mod ExprRanges
-pub mod Messages
-pub mod ActionRanges
-pub mod StatementRanges
-pub mod ProgramRanges
+pub mod Counts
+pub mod ExprInRange
+pub mod StatementInRange
+pub mod Placed

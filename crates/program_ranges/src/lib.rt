@@ -1,14 +1,6 @@
-//! Whether the numbers of a program are in range: what they name is there, and has as many scalars as is asked of it.
+//! What being in range says of the trees of a program: what its numbers name is there, and operands, parts, arguments and values
+//! have as many scalars as is asked of them.
 //!
-//! It meets `AreInRange` of its own `specs/`. It stands on `checked_program` and `modes`, between what elaborates a program
-//! and what compiles it.
+//! The crate has definitions alone. It stands on `program_trees`, below the laws of the heights of code and of programs that may
+//! be compiled.
 #![tactic(auto)]
-
-mod actions;
-mod around;
-mod exprs;
-mod messages;
-mod program;
-mod statements;
-
-pub use program::are_in_range;

@@ -12,8 +12,7 @@ use Rattle.checked_program.specs.declared.expr.Binary.TheVariants.{Equal, NotEqu
 use Rattle.checked_program.specs.declared.program.Passing.{Passing}
 use Rattle.checked_program.specs.declared.program.Passing.TheVariants.{In, Out, InOut}
 use Rattle.checked_program.specs.declared.program.Parameter.{Parameter}
-use Rattle.program_ranges.specs.Around.{bounds_fit, are_members}
-use Rattle.program_ranges.specs.ExprRanges.{operands_fit}
+use Rattle.program_ranges.specs.Counts.{bounds_fit, are_members, operands_fit}
 use Rattle.program_trees.specs.ExprTree.{ExprTree, expr, OperationTree, constant, own_instance, contents, part_of, receive, start, call, powerset, parts, uniform, routine, get_int, prefixed, binary, ReceivedTree, received, ReceivedNodes, no_received, more_received, PartNodes, no_parts, field, element, RangeNodes, no_ranges, one_member, members, LocationTree, location, StartTree, started, CallTree, called, ArgumentNodes, no_arguments, in_argument, out_argument, inout_argument, count_of, received_count, location_count}
 use Rattle.program_trees.specs.ProgramTree.{LocalRowTree, BodyRowTree, CheckedTree}
 use Rattle.code_scheme.specs.Pieces.{has_index, first_of_parts, lowest_in_row}
@@ -22,7 +21,7 @@ use Rattle.code_scheme.specs.StatementSite.{scalars_in, is_given_back, back_scal
 use Rattle.source_meaning.specs.Typed.{AreLaidFrom}
 use Rattle.source_meaning.specs.TypedValues as meaning
 use Rattle.source_meaning.specs.TypedValues.{Context, HasMode, OperationHas, IsTakenBy, ElementsHave, FieldsHave, AllHave, PartsLead, RangesHave, LocationHas, IsTypedStart, AllTaken, IsTypedCall}
-use Rattle.range_laws.specs.ExprInRange.{ExprInRange, OperationInRange, ReceivedInRange, AllInRange, ValuesInRange, PartsInRange, RangesInRange, LocationInRange, StartInRange, CallInRange, ArgumentsInRange, PassedInRange, ResultInRange, CallGives}
+use Rattle.program_ranges.specs.ExprInRange.{ExprInRange, OperationInRange, ReceivedInRange, AllInRange, ValuesInRange, PartsInRange, RangesInRange, LocationInRange, StartInRange, CallInRange, ArgumentsInRange, PassedInRange, ResultInRange, CallGives}
 use Rattle.scheme_heights.specs.Counts.{TakesCounts, TestsOne, LiesIn, argument_scalars, copied_scalars, CountsFit, OperationFits, ReceivedFits, AllFit, PartsFit, PlaceFits, RangesFit, StartFits, CallFits, ArgumentsFit}
 use Rattle.scheme_heights.proofs.ModeCounts.{both_hold, lowest_counted, scalars_few, elements_few, row_told}
 

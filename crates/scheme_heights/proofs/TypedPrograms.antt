@@ -10,11 +10,8 @@ use Rattle.checked_program.specs.declared.program.Passing.TheVariants.{In}
 use Rattle.checked_program.specs.declared.program.Sort.{Sort}
 use Rattle.checked_program.specs.declared.program.Sort.TheVariants.{Outermost, Process, Procedure}
 use Rattle.code_types.specs.Agreement.{Agrees}
-use Rattle.checked_program.specs.declared.program.Checked.{Checked}
-use Rattle.program_ranges.specs.ProgramRanges.{AreInRange}
-use Rattle.program_trees.specs.ProgramTree.{LocalRowTree, BodyRowTree, CheckedTree, checked_tree}
-use Rattle.range_laws.specs.StatementInRange.{BodiesInRange}
-use Rattle.range_laws.specs.Laws.{BodiesInRangeLaw}
+use Rattle.program_trees.specs.ProgramTree.{LocalRowTree, BodyRowTree, CheckedTree}
+use Rattle.program_ranges.specs.StatementInRange.{BodiesInRange}
 use Rattle.code_scheme.specs.StatementSite.{scalars_of_result, is_given_back, back_scalars, call_results}
 use Rattle.code_scheme.specs.BodyCode.{results_by, site_in, code_of}
 use Rattle.source_meaning.specs.Typed.{AreLaidFrom, HasProcessHead, HasHead, around_body, IsTyped}
@@ -85,5 +82,5 @@ text_fits p typed known k b is =
     let body = known k b is in
     (items_fit (site_in p b) b.statements (around_body p b) stands told.statements body.items, handler_fits (site_in p b) b.handler 0 (around_body p b) stands told.handler body.handled)
 
-pub in_range_agrees : BodiesInRangeLaw → (p : Checked) → IsTyped (checked_tree p) → AreInRange p → Agrees (code_of (checked_tree p))
-in_range_agrees law p typed in_range = typed_agrees (checked_tree p) typed (text_fits (checked_tree p) typed (law p in_range))
+pub in_range_agrees : (p : CheckedTree) → IsTyped p → BodiesInRange p → Agrees (code_of p)
+in_range_agrees p typed in_range = typed_agrees p typed (text_fits p typed in_range)

@@ -13,8 +13,8 @@ use Rattle.code_scheme.specs.StatementPlain.{dropped_by, dropped_scalars}
 use Rattle.source_meaning.specs.Typed.{AreLaidFrom}
 use Rattle.source_meaning.specs.TypedValues.{Context, HasMode, IsTakenBy}
 use Rattle.source_meaning.specs.TypedStatements.{Around, IsSomeCondition, IsReceiver, TakesInstance, LocalHas, IsStepped, IsTypedSend, IsTypedControl, IsTypedReturn, AnyResult, Brings, BufferBrings, SignalHas, labelled_around, in_region_around, around_action, around_handler, IsTypedStatement, AreTyped, IsTypedHandler, AreTypedAlternatives, IsTypedOtherwise, IsTypedAction, AreTypedChoices, AreTypedCases, AreTypedDelays, AreTypedReceives}
-use Rattle.range_laws.specs.ExprInRange.{NumberInRange, CallInRange}
-use Rattle.range_laws.specs.StatementInRange.{SomeNumberInRange, GivenInRange, SomeGivenInRange, SetInRange, SentInRange, ControlInRange, StatementsInRange, StatementInRange, HandlerInRange, HandledInRange, OtherwiseInRange, ActionInRange, ChoicesInRange, CasesInRange, DelaysInRange, ReceivesInRange}
+use Rattle.program_ranges.specs.ExprInRange.{NumberInRange, CallInRange}
+use Rattle.program_ranges.specs.StatementInRange.{SomeNumberInRange, GivenInRange, SomeGivenInRange, SetInRange, SentInRange, ControlInRange, StatementsInRange, StatementInRange, HandlerInRange, HandledInRange, OtherwiseInRange, ActionInRange, ChoicesInRange, CasesInRange, DelaysInRange, ReceivesInRange}
 use Rattle.scheme_heights.specs.Counts.{CallFits}
 use Rattle.scheme_heights.specs.StatementCounts.{LowestFits, NumberFits, SomeNumberFits, SetPlaceFits, SentFits, GivenFits, ReturnFits, ControlFits, labels_within, StatementsFit, StatementFits, HandlerFits, HandledFit, OtherwiseFits, ActionFits, ChoicesFit, CasesFit, DelaysFit, ReceivesFit, ItemsFit, ItemFits, ItemActionFits}
 use Rattle.scheme_heights.proofs.ModeCounts.{lowest_counted, scalars_few, row_told}

@@ -1,9 +1,8 @@
 -- The laws of the heights in compiled code.
 use Rattle.std.specs.Prelude.{◌≡◌, ℕ, ◌+◌, ◌≤◌, Bool, []}
 use Rattle.code_types.specs.Agreement.{Agrees}
-use Rattle.checked_program.specs.declared.program.Checked.{Checked}
-use Rattle.program_ranges.specs.ProgramRanges.{AreInRange}
-use Rattle.program_trees.specs.ProgramTree.{CheckedTree, checked_tree}
+use Rattle.program_ranges.specs.StatementInRange.{BodiesInRange}
+use Rattle.program_trees.specs.ProgramTree.{CheckedTree}
 use Rattle.program_trees.specs.ExprTree.{ExprTree, count_of}
 use Rattle.code_scheme.specs.Pieces.{Layout}
 use Rattle.code_scheme.specs.ExprSizes.{expr_size, condition_size}
@@ -50,4 +49,4 @@ TypedAgreesLaw = (p : CheckedTree) → IsTyped p → TextFits p → Agrees (code
 
 -- The code of a typed program whose numbers are in range agrees.
 abbrev pub InRangeAgreesLaw : Type 0
-InRangeAgreesLaw = (p : Checked) → IsTyped (checked_tree p) → AreInRange p → Agrees (code_of (checked_tree p))
+InRangeAgreesLaw = (p : CheckedTree) → IsTyped p → BodiesInRange p → Agrees (code_of p)

@@ -1,8 +1,6 @@
 // Laws of the scheme's code. Each is a fact about the definitions, which a caller learns by calling the function.
 ghost use Rattle.scheme_heights.specs.Laws.{ConditionHeightsLaw, ExpressionHeightsLaw, InRangeAgreesLaw, ProgramAgreesLaw, ThingsLaw, TypedAgreesLaw};
 
-use range_laws::bodies_in_range_law;
-
 /// The code of an expression finds its operands, jumps within itself, and leaves the value's scalars above what it found.
 pub fn expression_heights_law()
     ensures { ExpressionHeightsLaw }
@@ -31,6 +29,4 @@ pub fn typed_agrees_law()
 /// The code of a typed program whose numbers are in range agrees, in all that a guard asks.
 pub fn in_range_agrees_law()
     ensures { InRangeAgreesLaw }
-{
-    bodies_in_range_law();
-}
+{}

@@ -2,7 +2,7 @@
 //! the code of a program agrees.
 //!
 //! The crate has definitions and laws. It stands on `code_scheme`, whose code it speaks of, on `source_meaning` for what is
-//! typed, and on `range_laws` for what is in range.
+//! typed, and on `program_ranges` for what is in range.
 #![tactic(auto)]
 
 mod laws;

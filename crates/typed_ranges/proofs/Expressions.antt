@@ -22,8 +22,7 @@ use Rattle.checked_program.specs.declared.expr.Routine.{Routine}
 use Rattle.checked_program.specs.declared.expr.Routine.TheVariants.{Number, Absolute, Cardinality, Successor, Predecessor, Least, Greatest}
 use Rattle.checked_program.specs.declared.program.Passing.{Passing}
 use Rattle.checked_program.specs.declared.program.Passing.TheVariants.{In, Out, InOut}
-use Rattle.program_ranges.specs.Around.{bounds_fit}
-use Rattle.program_ranges.specs.ExprRanges.{operands_fit}
+use Rattle.program_ranges.specs.Counts.{bounds_fit, operands_fit}
 use Rattle.program_trees.specs.ExprTree.{ExprTree, expr, OperationTree, constant, own_instance, contents, part_of, receive, start, call, powerset, parts, uniform, routine, get_int, prefixed, binary, ReceivedTree, received, ReceivedNodes, no_received, more_received, PartNodes, no_parts, field, element, RangeNodes, no_ranges, one_member, members, LocationTree, location, StartTree, started, CallTree, called, ArgumentNodes, no_arguments, in_argument, out_argument, inout_argument, count_of, received_count, location_count}
 use Rattle.program_trees.specs.ProgramTree.{LocationRowTree, BufferRowTree, LocalRowTree, BodyRowTree, CheckedTree}
 use Rattle.source_meaning.specs.Values.{domains_of}
@@ -36,7 +35,7 @@ use Rattle.text_laws.proofs.Stores.{RowsFit, row_fits}
 use Rattle.text_laws.proofs.SoundFacts.{all_at}
 use Rattle.text_laws.proofs.ExprAsks.{rows_typed, parts_lead, structure_form, array_form}
 use Rattle.scheme_heights.proofs.ModeCounts.{scalars_few}
-use Rattle.range_laws.specs.ExprInRange.{scalars_held, BaseInRange, PassedInRange, ResultInRange, CallGives, ExprInRange, OperationInRange, ReceivedInRange, AllInRange, ValuesInRange, PartsInRange, RangesInRange, LocationInRange, StartInRange, CallInRange, ArgumentsInRange, NumberInRange}
+use Rattle.program_ranges.specs.ExprInRange.{scalars_held, BaseInRange, PassedInRange, ResultInRange, CallGives, ExprInRange, OperationInRange, ReceivedInRange, AllInRange, ValuesInRange, PartsInRange, RangesInRange, LocationInRange, StartInRange, CallInRange, ArgumentsInRange, NumberInRange}
 use Rattle.typed_ranges.proofs.Modes.{same_count, discrete_one, alike_one, int_one, boolean_one, set_one, root_count, either_count, members_told, array_count, array_some, structure_length, field_inside, element_inside}
 
 -- ---- tests

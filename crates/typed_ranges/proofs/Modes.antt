@@ -14,7 +14,7 @@ use Rattle.modes.specs.Language.{parts_fit, is_from_to, lie_in}
 use Rattle.modes.proofs.SimilarLemmas.{both, of_both}
 use Rattle.layout_map.proofs.Narrow.{bounds-small, Small, values-from}
 use Rattle.layout_map.proofs.Steps.{le-from}
-use Rattle.program_ranges.specs.Around.{is_int, are_ints, are_members}
+use Rattle.program_ranges.specs.Counts.{is_int, are_ints, are_members}
 use Rattle.source_meaning.specs.Values.{member_domains, domains_of, domains_of_fields}
 use Rattle.source_meaning.specs.TypedValues.{HasField, IsIndexed, IsStructure, IsArray, IsRootOfEither}
 use Rattle.text_laws.proofs.Held.{untrue}

@@ -11,7 +11,7 @@ use Rattle.modes.specs.Language.{IsOfLanguage, parts_fit}
 use Rattle.modes.specs.Similar.{Similar}
 use Rattle.checked_program.specs.declared.expr.Base.{Base}
 use Rattle.checked_program.specs.declared.expr.Binary.{Binary}
-use Rattle.program_ranges.specs.ExprRanges.{operands_fit}
+use Rattle.program_ranges.specs.Counts.{operands_fit}
 use Rattle.program_trees.specs.ExprTree.{ExprTree, ReceivedTree, LocationTree, received_count, location_count, count_of}
 use Rattle.program_trees.specs.StatementTree.{SentTree, to_buffer, signal, ControlTree, while_true, for_ever, for_members, for_steps, StatementTree, statement, ActionTree, do_nothing, declare, set_lowest, module_at, region_at, assign, update, perform, drop_routine, evaluate, put_int, put_text, put_line, exit_from, return_with, set_result, assert_that, cause, stop, start_of, delay, continue_at, send, if_then, case_of, do_loop, begin_end, delay_case, receive_buffers, receive_signals, StatementNodes, no_statements, more_statements, ChoiceNodes, no_choices, more_choices, CaseNodes, no_cases, more_cases, DelayNodes, no_delays, more_delays, ReceiveNodes, no_receives, more_receives, OtherwiseNode, no_otherwise, otherwise, HandledNodes, no_handled, more_handled, HandlerNode, no_handler, handler}
 use Rattle.program_trees.specs.ProgramTree.{SignalRowTree, LocalRowTree, BodyRowTree, CheckedTree}
@@ -23,9 +23,9 @@ use Rattle.text_laws.proofs.Stores.{RowsFit, row_fits}
 use Rattle.text_laws.proofs.SoundFacts.{all_at}
 use Rattle.text_laws.proofs.ExprAsks.{rows_typed}
 use Rattle.scheme_heights.proofs.ModeCounts.{scalars_few}
-use Rattle.range_laws.specs.ExprInRange.{LocalInRange, BaseInRange, ResultInRange, ExprInRange, LocationInRange, NumberInRange}
-use Rattle.range_laws.specs.StatementInRange.{SomeNumberInRange, GivenInRange, SomeGivenInRange, NamesInRange, SetInRange, SentInRange, ControlInRange, LocalsFollow, StatementsInRange, StatementInRange, HandlerInRange, HandledInRange, OtherwiseInRange, ActionInRange, ChoicesInRange, CasesInRange, DelaysInRange, ReceivesInRange}
-use Rattle.range_laws.specs.Placed.{AreNext, AreInOrder, StatementsPlaced, StatementPlaced, HandlerPlaced, HandledPlaced, OtherwisePlaced, ActionPlaced, ChoicesPlaced, CasesPlaced, DelaysPlaced, ReceivesPlaced}
+use Rattle.program_ranges.specs.ExprInRange.{LocalInRange, BaseInRange, ResultInRange, ExprInRange, LocationInRange, NumberInRange}
+use Rattle.program_ranges.specs.StatementInRange.{SomeNumberInRange, GivenInRange, SomeGivenInRange, NamesInRange, SetInRange, SentInRange, ControlInRange, LocalsFollow, StatementsInRange, StatementInRange, HandlerInRange, HandledInRange, OtherwiseInRange, ActionInRange, ChoicesInRange, CasesInRange, DelaysInRange, ReceivesInRange}
+use Rattle.program_ranges.specs.Placed.{AreNext, AreInOrder, StatementsPlaced, StatementPlaced, HandlerPlaced, HandledPlaced, OtherwisePlaced, ActionPlaced, ChoicesPlaced, CasesPlaced, DelaysPlaced, ReceivesPlaced}
 use Rattle.typed_ranges.specs.Laws.{TypedInRangeLaw}
 use Rattle.typed_ranges.proofs.Modes.{same_count, discrete_one, int_one, boolean_one, instance_one, set_one, root_count}
 use Rattle.typed_ranges.proofs.Expressions.{Operands, operands_told, result_one, routine_ones, StandsIn, base_in, expr_count, expr_language, taken_count, expr_in, taken_alone, received_in, location_in, start_in, call_in, number_in, all_in}

@@ -1,8 +1,8 @@
 -- The law of typed programs: their numbers are in range.
 use Rattle.program_trees.specs.ProgramTree.{CheckedTree}
 use Rattle.source_meaning.specs.Typed.{IsTyped}
-use Rattle.range_laws.specs.StatementInRange.{BodiesInRange}
-use Rattle.range_laws.specs.Placed.{BodiesPlaced}
+use Rattle.program_ranges.specs.StatementInRange.{BodiesInRange}
+use Rattle.program_ranges.specs.Placed.{BodiesPlaced}
 
 -- The bodies of a typed program are in range, where its statements stand as those of a text.
 abbrev pub TypedInRangeLaw : Type 0

@@ -1,7 +1,7 @@
 //! The law of typed programs: that their numbers are in range.
 //!
 //! The crate has definitions and one law. It stands on `source_meaning`, which says what a typed program is, and on
-//! `range_laws`, which says when trees are in range.
+//! `program_ranges`, which says when trees are in range.
 #![tactic(auto)]
 
 mod laws;

@@ -3,7 +3,7 @@
 use Rattle.std.specs.Prelude.{◌≡◌, ℕ, suc, ◌+◌, ◌<◌, Bool, true, false, List, [], ◌∷◌, length, Some, slice_get}
 use Rattle.program_trees.specs.StatementTree.{StatementTree, statement, ActionTree, module_at, region_at, cause, if_then, case_of, do_loop, begin_end, delay_case, receive_buffers, receive_signals, StatementNodes, no_statements, more_statements, ChoiceNodes, no_choices, more_choices, CaseNodes, no_cases, more_cases, DelayNodes, no_delays, more_delays, ReceiveNodes, no_receives, more_receives, OtherwiseNode, no_otherwise, otherwise, HandledNodes, no_handled, more_handled, HandlerNode, no_handler, handler}
 use Rattle.program_trees.specs.ProgramTree.{BodyRowTree, CheckedTree}
-use Rattle.range_laws.specs.StatementInRange.{ExceptionsInRange}
+use Rattle.program_ranges.specs.StatementInRange.{ExceptionsInRange}
 
 -- the numbers from this one on
 abbrev pub AreNext : ℕ → List ℕ → Type 0

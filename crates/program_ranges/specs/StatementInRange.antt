@@ -2,11 +2,11 @@
 -- locations, and that modules and regions stand among the items of a body alone.
 use Rattle.std.specs.Prelude.{◌≡◌, ℕ, ◌+◌, ◌<◌, Bool, true, false, List, [], ◌∷◌, length, Option, Some, None, slice_get, IsTrue}
 use Rattle.checked_program.specs.declared.expr.Base.{Base}
-use Rattle.program_ranges.specs.ExprRanges.{operands_fit}
+use Rattle.program_ranges.specs.Counts.{operands_fit}
 use Rattle.program_trees.specs.ExprTree.{ExprTree, ReceivedTree, LocationTree, count_of, received_count, location_count}
 use Rattle.program_trees.specs.StatementTree.{SentTree, to_buffer, signal, ControlTree, while_true, for_ever, for_members, for_steps, StatementTree, statement, ActionTree, do_nothing, declare, set_lowest, module_at, region_at, assign, update, perform, drop_routine, evaluate, put_int, put_text, put_line, exit_from, return_with, set_result, assert_that, cause, stop, start_of, delay, continue_at, send, if_then, case_of, do_loop, begin_end, delay_case, receive_buffers, receive_signals, StatementNodes, no_statements, more_statements, ChoiceNodes, no_choices, more_choices, CaseNodes, no_cases, more_cases, DelayNodes, no_delays, more_delays, ReceiveNodes, no_receives, more_receives, OtherwiseNode, no_otherwise, otherwise, HandledNodes, no_handled, more_handled, HandlerNode, no_handler, handler}
 use Rattle.program_trees.specs.ProgramTree.{LocalRowTree, BodyRowTree, CheckedTree}
-use Rattle.range_laws.specs.ExprInRange.{LocalInRange, BaseInRange, ResultInRange, ExprInRange, NumberInRange, ReceivedInRange, AllInRange, LocationInRange, StartInRange, CallInRange}
+use Rattle.program_ranges.specs.ExprInRange.{LocalInRange, BaseInRange, ResultInRange, ExprInRange, NumberInRange, ReceivedInRange, AllInRange, LocationInRange, StartInRange, CallInRange}
 
 -- ---- parts of actions
 

@@ -9,8 +9,7 @@ use Rattle.checked_program.specs.declared.program.Passing.{Passing}
 use Rattle.checked_program.specs.declared.program.Passing.TheVariants.{In, Out, InOut}
 use Rattle.program_trees.specs.ProgramTree.{LocationRowTree, LocalRowTree, BodyRowTree, CheckedTree}
 use Rattle.modes.specs.Bounds.{count_between}
-use Rattle.program_ranges.specs.Around.{bounds_fit, are_ints, are_members}
-use Rattle.program_ranges.specs.ExprRanges.{operands_fit}
+use Rattle.program_ranges.specs.Counts.{bounds_fit, are_ints, are_members, operands_fit}
 use Rattle.program_trees.specs.ExprTree.{ExprTree, expr, OperationTree, constant, own_instance, contents, part_of, receive, start, call, powerset, parts, uniform, routine, get_int, prefixed, binary, ReceivedTree, received, ReceivedNodes, no_received, more_received, PartNodes, no_parts, field, element, RangeNodes, no_ranges, one_member, members, LocationTree, location, StartTree, started, CallTree, called, ArgumentNodes, no_arguments, in_argument, out_argument, inout_argument, count_of, received_count, location_count}
 
 -- the scalars of a mode; more than 4,096 are told as 4,097

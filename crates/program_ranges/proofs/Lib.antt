@@ -1,2 +1,0 @@
-pub mod ExprViews
-pub mod StatementViews

@@ -1,4 +1,0 @@
-pub mod ExprInRange
-pub mod StatementInRange
-pub mod Laws
-pub mod Placed
