@@ -107,7 +107,8 @@ fn set_entry(evaluation: &mut Evaluation<'_>, number: u32, entry: Entry)
 
 // Evaluates the next definition.
 fn fill_next(evaluation: &mut Evaluation<'_>, number: u32, told: &mut Told) -> Result<(), Memory>
-    ensures { (h : Ground) (ds : Row ℕ) → IsEvaluated h → IsUnderway h (number ∷ ds) evaluation.old → OnOk result (IsUnderway h ds evaluation.new) }
+    ensures underway { (h : Ground) (ds : Row ℕ) → IsEvaluated h → IsUnderway h (number ∷ ds) evaluation.old → OnOk result (IsUnderway h ds evaluation.new) }
+    ensures names { OnOk result (evaluation.new.names ≡ evaluation.old.names) }
 {
     let entry = entry_of(evaluation, number, told)?;
     set_entry(evaluation, number, entry);
@@ -116,7 +117,8 @@ fn fill_next(evaluation: &mut Evaluation<'_>, number: u32, told: &mut Told) -> R
 
 // Evaluates definitions in an order.
 fn fill(evaluation: &mut Evaluation<'_>, order: &[u32]) -> Result<(), Memory>
-    ensures { (h : Ground) → IsEvaluated h → IsUnderway h order.now evaluation.old → OnOk result (IsUnderway h [] evaluation.new) }
+    ensures underway { (h : Ground) → IsEvaluated h → IsUnderway h order.now evaluation.old → OnOk result (IsUnderway h [] evaluation.new) }
+    ensures names { OnOk result (evaluation.new.names ≡ evaluation.old.names) }
 {
     // What they break is told where they stand in the text.
     let mut told = Told::new(evaluation.alloc);
@@ -128,7 +130,8 @@ fn fill(evaluation: &mut Evaluation<'_>, order: &[u32]) -> Result<(), Memory>
 
 // The same, in an order that is lent.
 fn fill_in(evaluation: &mut Evaluation<'_>, order: &Numbers) -> Result<(), Memory>
-    ensures { (h : Ground) → IsEvaluated h → IsUnderway h order.now evaluation.old → OnOk result (IsUnderway h [] evaluation.new) }
+    ensures underway { (h : Ground) → IsEvaluated h → IsUnderway h order.now evaluation.old → OnOk result (IsUnderway h [] evaluation.new) }
+    ensures names { OnOk result (evaluation.new.names ≡ evaluation.old.names) }
 {
     fill(evaluation, order.as_slice())
 }
@@ -147,7 +150,8 @@ pub fn evaluate<'a>(
     tree: &'a Tree,
     names: &'a Names,
 ) -> Result<Evaluation<'a>, Memory>
-    ensures { (text : Row ℕ) → HasNames text (program_tree tree.now) → names.now ≡ names_of (level_of (program_tree tree.now)) → IfOk result (IsTableOf (program_tree tree.now)) }
+    ensures table { (text : Row ℕ) → HasNames text (program_tree tree.now) → names.now ≡ names_of (level_of (program_tree tree.now)) → IfOk result (IsTableOf (program_tree tree.now)) }
+    ensures names { IfOk result (λ e. e.names.now ≡ names.now) }
 {
     let mut evaluation = Evaluation::unknown(alloc, tree, names)?;
     evaluation.origins.firsts_law();

@@ -1,6 +1,6 @@
 -- The list of a phase that tells something is what is told of the text.
 use Rattle.std.proofs.Common.{◌≡◌, ℕ, List, [], ◌∷◌, refl, sym, subst}
-use Rattle.std.specs.Prelude.{Result, Ok, Err, IsErrAnd}
+use Rattle.std.specs.Prelude.{Result, Ok, Err, IsErrAnd, OnOk}
 use Rattle.chill_tree.specs.ItemTree.{ProgramTree}
 use Rattle.checks_model.specs.Ground.{Ground}
 use Rattle.checks_model.specs.Table.{IsGroundOf, IsStatementGroundOf}
@@ -30,3 +30,8 @@ statements_answered text t g e (Err refusals.Memory) modes ground keeps order to
 pub handed_on : (text : List ℕ) (t : ProgramTree) (g : Ground) (e : Evaluation) (result : Result (Unit {0}) Refusal) (r : Refusal) → IsErrAnd result (λ x. x ≡ r) → Checks text t g e (Err r) → Checks text t g e result
 handed_on text t g e (Ok done) r same checks = absurd same
 handed_on text t g e (Err x) r same checks = subst (λ (y : Refusal). Checks text t g e (Err y)) (sym same) checks
+
+-- what holds is so whatever is answered
+pub kept : (P : Type 0) (r : Result (Unit {0}) Refusal) → P → OnOk r P
+kept P (Ok done) p = p
+kept P (Err x) p = tt

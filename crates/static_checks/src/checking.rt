@@ -1,5 +1,5 @@
 // The phases of modes and of statements.
-ghost use Rattle.std.specs.Prelude.{◌≡◌, ℕ, List as Row};
+ghost use Rattle.std.specs.Prelude.{◌≡◌, ℕ, OnOk, List as Row};
 ghost use Rattle.std.specs.List.Sorted.{IsStrictlySortedBy};
 ghost use Rattle.chill_tree.specs.ItemTree.{program_tree};
 ghost use Rattle.diagnostics.specs.Order.{diagnostic_cmp};
@@ -47,6 +47,7 @@ pub fn check_own_statements(evaluation: &Evaluation<'_>, tree: &Tree) -> Result<
 pub fn check_statements(evaluation: &mut Evaluation<'_>, tree: &Tree) -> Result<(), Refusal>
     ensures order { TellsInOrder result }
     ensures exact { (text : Row ℕ) → HasNames text (program_tree tree.now) → IsTableOf (program_tree tree.now) evaluation.old → Checks text (program_tree tree.now) (ground_of evaluation.old) evaluation.new result }
+    ensures names { IsTableOf (program_tree tree.now) evaluation.old → OnOk result (evaluation.new.names ≡ evaluation.old.names) }
 {
     check_modes(evaluation, tree)?;
     add_local_modes(evaluation)?;

@@ -1,5 +1,5 @@
 // All checks of a text, behind those of its names.
-ghost use Rattle.std.specs.Prelude.{ℕ, List as Row};
+ghost use Rattle.std.specs.Prelude.{◌≡◌, ℕ, OnOk, List as Row};
 ghost use Rattle.chill_tree.specs.ItemTree.{program_tree};
 ghost use Rattle.checks_model.specs.Diagnoses.{HasNames};
 ghost use Rattle.definition_table.specs.Filling.{IsTableOf};
@@ -17,6 +17,7 @@ use visibility::Refusal;
 pub fn check_text(evaluation: &mut Evaluation<'_>, tree: &Tree) -> Result<(), Refusal>
     ensures order { TellsInOrder result }
     ensures exact { (text : Row ℕ) → HasNames text (program_tree tree.now) → IsTableOf (program_tree tree.now) evaluation.old → AnswersChecks text (program_tree tree.now) evaluation.new result }
+    ensures names { IsTableOf (program_tree tree.now) evaluation.old → OnOk result (evaluation.new.names ≡ evaluation.old.names) }
 {
     check_statements(evaluation, tree)?;
     check_processes(evaluation, tree)
