@@ -2,4 +2,4 @@ use Rattle.scheme_heights.proofs.laws.in_range_agrees_law.Goals as goal
 use Rattle.scheme_heights.proofs.TypedPrograms.{in_range_agrees}
 
 pub returns : goal.returns
-returns c = in_range_agrees c.bodies_in_range_law.ensures
+returns c = in_range_agrees
