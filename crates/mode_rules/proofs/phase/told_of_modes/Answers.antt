@@ -10,7 +10,7 @@ use Rattle.mode_rules.proofs.phase.told_of_modes.Goals as goal
 pub returns-clause-exact : goal.returns-clause-exact
 returns-clause-exact c text g has same is =
     let t = program_tree c.args.tree.now in
-    let table = c.in_ok-evaluation.ensures text has same in
+    let table = c.in_ok-evaluation.ensures.table text has same in
     c.into_list.ensures.list
     ∙ ap (listed diagnostic_cmp) (c.in_ok-told.ensures (record { keeps = table.keeps; few = table.few }))
     ∙ ap (λ h. broken_modes h t) (one_ground text t (ground_of c.in_ok-evaluation.evaluation) g has table.ground is)
