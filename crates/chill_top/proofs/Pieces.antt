@@ -5,7 +5,10 @@ use Rattle.checked_program.specs.declared.program.Checked.{Checked}
 use Rattle.code_types.specs.declared.code.Code.{Code}
 use Rattle.diagnostics.specs.declared.diagnostic.Diagnostic.{Diagnostic}
 use Rattle.rules_model.specs.Diagnoses.{Diagnoses, IsShort, too_long, no_token, too_deep, no_program}
-use Rattle.text_to_code.specs.Telling.{HasCode, IsUnread, IsCanonicalOf, Breaks, Refuses, broken, misnamed, breaks, later, Tells}
+use Rattle.chill_tree.specs.ItemTree.{ProgramTree}
+use Rattle.checks_model.specs.Diagnoses.{BreaksRules, on_names, on_modes, on_statements, on_processes, DiagnosesOf, no_tree, breaks_rules, too_large, accepted}
+use Rattle.text_to_code.specs.Building.{HasCode}
+use Rattle.text_to_code.specs.Telling.{IsDiagnosed, IsUnread, IsCanonicalOf, Tells}
 use Rattle.text_to_code.specs.declared.told.Told.{Told}
 use Rattle.text_to_code.specs.declared.told.Told.TheVariants as tellings
 use Rattle.std.specs.declared.option.Option.{Option}
@@ -72,11 +75,9 @@ reading-long text read (inl is) long = omega (arith, long, ap length is)
 reading-long text read (inr front) long = omega (arith, long, ap length front, length-take 262145 text)
 
 -- what is told of what was read is told of the text
-Refuses-short : (text read : List ℕ) (told : List Diagnostic) → read ≡ text → Refuses read told → Refuses text told
-Refuses-short text read told same refuses = subst (λ (t : List ℕ). Refuses t told) same refuses
-
 Code-reading : (text read : List ℕ) (program : Checked) (code : Code) → IsReadingOf text read → HasCode read program code → HasCode text program code
-Code-reading text read program code of has_code = subst (λ (t : List ℕ). HasCode t program code) (reading-short text read of has_code.resolved.has.short) has_code
+Code-reading text read program code of has_code =
+    subst (λ (t : List ℕ). HasCode t program code) (reading-short text read of has_code.elaborated.of_text.clean.has_modes.has_names.has_tree.short) has_code
 
 Diagnoses-short : (text read : List ℕ) (told : Diagnostic) → IsReadingOf text read → IsShort read → Diagnoses read told → Diagnoses text told
 Diagnoses-short text read told of short r = subst (λ (t : List ℕ). Diagnoses t told) (reading-short text read of short) r
@@ -88,19 +89,24 @@ Diagnoses-reading text read told of (too_deep {at = at} short are deep) = Diagno
 Diagnoses-reading text read told of (no_program {at = at} short are shallow none place) =
     Diagnoses-short text read _ of short (no_program short are shallow none place)
 
-Breaks-short : (text read : List ℕ) (told : List Diagnostic) → IsReadingOf text read → IsShort read → Breaks read told → Breaks text told
-Breaks-short text read told of short r = subst (λ (t : List ℕ). Breaks t told) (reading-short text read of short) r
+-- the text of rules that are broken behind its grammar is no longer than a text may be
+short_of_rules : (text : List ℕ) (tree : ProgramTree) (told : List Diagnostic) → BreaksRules text tree told → IsShort text
+short_of_rules text tree _ (on_names has is) = has.short
+short_of_rules text tree _ (on_modes has ground is) = has.has_tree.short
+short_of_rules text tree _ (on_statements has ground is) = has.has_names.has_tree.short
+short_of_rules text tree _ (on_processes has ground statements is) = has.has_names.has_tree.short
 
-Breaks-reading : (text read : List ℕ) (told : List Diagnostic) → IsReadingOf text read → Breaks read told → Breaks text told
-Breaks-reading text read told of (broken {diagnostic = one} breaking) = broken (Diagnoses-reading text read one of breaking)
-Breaks-reading text read told of (misnamed has some) = Breaks-short text read _ of has.short (misnamed has some)
+DiagnosesOf-short : (text read : List ℕ) (told : List Diagnostic) → IsReadingOf text read → IsShort read → DiagnosesOf read told → DiagnosesOf text told
+DiagnosesOf-short text read told of short r = subst (λ (t : List ℕ). DiagnosesOf t told) (reading-short text read of short) r
 
-Refuses-reading : (text read : List ℕ) (told : List Diagnostic) → IsReadingOf text read → Refuses read told → Refuses text told
-Refuses-reading text read told of (breaks breaking) = breaks (Breaks-reading text read told of breaking)
-Refuses-reading text read told of (later resolved may) = Refuses-short text read told (reading-short text read of resolved.has.short) (later resolved may)
+DiagnosesOf-reading : (text read : List ℕ) (told : List Diagnostic) → IsReadingOf text read → DiagnosesOf read told → DiagnosesOf text told
+DiagnosesOf-reading text read _ of (no_tree {d = one} breaking) = no_tree (Diagnoses-reading text read one of breaking)
+DiagnosesOf-reading text read told of (breaks_rules {tree = tree} rules) = DiagnosesOf-short text read told of (short_of_rules read tree told rules) (breaks_rules rules)
+DiagnosesOf-reading text read _ of (too_large none large) = DiagnosesOf-short text read _ of none.has_modes.has_names.has_tree.short (too_large none large)
+DiagnosesOf-reading text read _ of (accepted none small) = DiagnosesOf-short text read _ of none.has_modes.has_names.has_tree.short (accepted none small)
 
 pub Tells-reading : (text read : List ℕ) (told : Told) → IsReadingOf text read → Tells read told → Tells text told
-Tells-reading text read (tellings.Refused told) of tells = Refuses-reading text read told of tells
+Tells-reading text read (tellings.Refused told) of tells = record { are = DiagnosesOf-reading text read told of tells.are; some = tells.some }
 Tells-reading text read (tellings.Accepted built) of tells = Code-reading text read built.value.program.checked.value built.value.code of tells
 
 pub Unread-reading : (text read : List ℕ) (told : List Diagnostic) → IsReadingOf text read → IsUnread read told → IsUnread text told

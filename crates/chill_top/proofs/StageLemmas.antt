@@ -1,6 +1,6 @@
 -- The input of a program, and how far a command comes.
 use Rattle.std.proofs.Common.{◌≡◌, ◌⊎◌, inl, inr, ℕ, ◌<◌, ◌≤◌, Bool, true, false, List, [], length, take, refl, sym, ap, ◌∙◌, subst, arith, length-take, IfOk, IsErrOf}
-use Rattle.std.specs.Prelude.{◌↔◌, None, Some, Ok, Err, Any, IfSome, IsTrue, MatchBool}
+use Rattle.std.specs.Prelude.{None, Some, Ok, Err, IfSome, MatchBool}
 use Rattle.std.specs.Global.{Box}
 use Rattle.std.specs.declared.option.Option.{Option}
 use Rattle.std.specs.declared.result.Result.{Result}
@@ -8,11 +8,8 @@ use Rattle.std.proofs.lemmas.Bool.{cases_lt}
 use Rattle.std.proofs.lemmas.List.{take_all}
 use Rattle.diagnostics.specs.declared.diagnostic.Diagnostic.{Diagnostic}
 use Rattle.checked_program.specs.declared.program.Checked.{Checked}
-use Rattle.code_gen.specs.Facts.{facts_of, HasNoLayout}
+use Rattle.code_gen.specs.Facts.{facts_of}
 use Rattle.code_types.specs.declared.code.Code.{Code}
-use Rattle.code_types.specs.Runs.{Suits}
-use Rattle.code_gen.specs.declared.refusal.FactsRefusal.{FactsRefusal}
-use Rattle.code_gen.specs.declared.refusal.FactsRefusal.TheVariants.{NoLayout}
 use Rattle.kernel_base.specs.declared.facts.Facts.{Facts}
 use Rattle.kernel_base.specs.Facts.{IsSound}
 use Rattle.outside_ports.specs.Faults.{Rose}
@@ -20,18 +17,17 @@ use Rattle.outside_ports.specs.Library.{Contents, untold, missing, held}
 use Rattle.journal_verdict.specs.Judgements.{IsJudgement}
 use Rattle.journal_verdict.specs.declared.judging.Judgement.{Judgement}
 use Rattle.serial_run.specs.Driven.{IsDriven}
-use Rattle.text_to_code.specs.Telling.{HasCode, Tells}
+use Rattle.text_to_code.specs.Building.{HasCode}
+use Rattle.text_to_code.specs.Telling.{Tells}
 use Rattle.text_to_code.specs.declared.build.Built.{Built}
 use Rattle.text_to_code.specs.declared.told.Told.{Told}
 use Rattle.text_to_code.specs.declared.told.Told.TheVariants as tellings
 use Rattle.word_reader.specs.declared.command.Command.{Command}
 use Rattle.word_reader.specs.declared.command.Command.TheVariants as words
 use Rattle.chill_top.specs.Causes.{IsFeedFault, IsReadFault}
-use Rattle.chill_top.specs.Commands.{task_of, file_of, journal_of, HasNoJournal, Holds, IsRunning, IsRunningTask, IsTextBy, IsTextOf, Runs}
-use Rattle.chill_top.specs.Plan.{AreFactsOf, HasNoFacts, IsInputOf, IsInputTooLong, IsRefusedFor, IsRunFor, IsBuildPlan, IsFormatPlan, IsJournalOf, IsJournalShort, IsJournalTooLong, IsNoRun, IsSoundStage, IsPlanFor, IsPlanFrom, IsPlanOf, IsReadyFor, IsReplayPlan, IsStageFor, IsStageFrom, IsStageOf, IsNotBuilt, IsPlanAfter, Completes, HasProgram, ReadsInput, IsUnrun, unfounded, unsuited}
-use Rattle.chill_top.specs.Runs.{IsAttempt}
-use Rattle.chill_top.specs.declared.run.Attempt.{Attempt}
-use Rattle.chill_top.specs.declared.run.Attempt.TheVariants as attempts
+use Rattle.chill_top.specs.Commands.{task_of, file_of, journal_of, HasNoJournal, Holds, HasBudget, HasBudgetFor, IsBudget, IsBudgeted, IsRunning, IsRunningTask, IsTextBy, IsTextOf, Runs}
+use Rattle.chill_top.specs.Plan.{AreFactsOf, IsInputOf, IsInputTooLong, IsRunFor, IsBuildPlan, IsFormatPlan, IsJournalOf, IsJournalShort, IsJournalTooLong, IsNoRun, IsSoundStage, IsPlanFor, IsPlanFrom, IsPlanOf, IsReadyFor, IsReplayPlan, IsStageFor, IsStageFrom, IsStageOf, Completes, HasProgram, HasText, ReadsInput}
+use Rattle.chill_top.specs.Runs.{AreRunnable}
 use Rattle.chill_top.specs.Reading.{IsInputRead, IsRead, IsReadingOf, IsReadingUpTo}
 use Rattle.chill_top.specs.declared.plan.Plan.{Plan}
 use Rattle.chill_top.specs.declared.plan.Plan.TheVariants as plans
@@ -45,7 +41,7 @@ use Rattle.chill_top.specs.declared.task.Task.TheVariants.{Format, Build}
 use Rattle.chill_top.specs.declared.task.Purpose.{Purpose}
 use Rattle.chill_top.specs.declared.task.Purpose.TheVariants.{Run, Check, List as Listing}
 use Rattle.chill_top.proofs.Pieces.{Tells-reading}
-use Rattle.chill_top.proofs.TextRuns.{has_text_runs, is_run, run_of_text}
+use Rattle.chill_top.proofs.TextRuns.{has_text_runs, run_of_text, runnable}
 
 -- an input that was read past the greatest length is too long
 too_long_input : (reads : Bool) (told : Option (List ℕ)) (input : List ℕ) → MatchBool reads (IsInputRead told input) (input ≡ []) → 1048576 < length input → IsInputTooLong told
@@ -208,74 +204,39 @@ pub input_for : (program : Checked) (feed left : Option (List ℕ)) (input : Lis
 input_for program feed left input is short untouched =
     record { whole = whole_input program.reads_input feed input is short; short = short; untouched = untouched }
 
--- a program with such facts is ready for a run
-pub ready_for : (units : ℕ) (text : List ℕ) (feed left : Option (List ℕ)) (ready : Ready) (input : List ℕ)
-    → AreFactsOf ready.built.value.program.checked.value input units ready.facts → IsInputOf ready.built.value.program.checked.value feed left input
+-- its code can be run from its facts
+pub facts_runnable : (units : ℕ) (text : List ℕ) (ready : Ready) (input : List ℕ) → IsBudget units → ready.facts ≡ facts_of ready.built.value.program.checked.value input units
     → HasCode text ready.built.value.program.checked.value ready.built.value.code
+    → AreRunnable ready.built.value.code ready.facts
+facts_runnable units text ready input budget are has_code =
+    subst (AreRunnable ready.built.value.code) (sym are) (runnable text ready.built.value.program.checked.value ready.built.value.code input units has_code budget)
+
+-- a program with its facts is ready for a run
+pub ready_for : (units : ℕ) (text : List ℕ) (feed left : Option (List ℕ)) (ready : Ready) (input : List ℕ) → IsBudget units → ready.facts ≡ facts_of ready.built.value.program.checked.value input units
+    → IsInputOf ready.built.value.program.checked.value feed left input → HasCode text ready.built.value.program.checked.value ready.built.value.code
     → IsReadyFor (Build (Run units)) text feed left ready
-ready_for units text feed left ready input are reads has_code =
-    record { units = units; is_task = refl; has_code = has_code; input = input; reads = reads; facts = are }
-
--- one without facts isn't run
-pub unfounded_for : (units : ℕ) (text : List ℕ) (program : Checked) (code : Code) (feed left : Option (List ℕ)) (input : List ℕ) (told : List Diagnostic)
-    → HasCode text program code → IsInputOf program feed left input → HasNoFacts program input units → IsNotBuilt told
-    → IsRefusedFor (Run units) text feed left told
-unfounded_for units text program code feed left input told has_code reads none is =
-    inr (record {
-      program = program;
-      code = code;
-      has_code = has_code;
-      input = input;
-      reads = reads;
-      cause = unfounded none;
-      not_of_well_elaborated = is_run text program code input units has_code (unfounded none);
-      is = is;
-    })
-
--- the facts aren't sound, or there are none
-pub unsound_facts : (program other : Checked) (input : List ℕ) (units : ℕ) (facts : Facts) (said : Bool) → other ≡ program → facts ≡ facts_of other input units → IsTrue said ↔ IsSound facts → said ≡ false
-    → HasNoFacts program input units
-unsound_facts program other input units facts said same are exact unsound = inr (λ sound.
-    let told : IsTrue said = exact.1 (subst IsSound (sym (are ∙ ap (λ (p : Checked). facts_of p input units) same)) sound) in
-    let never : ⊥ = cc in never)
-
-pub no_layouts : {T : Type 0} (program other : Checked) (input : List ℕ) (units : ℕ) (refusal : FactsRefusal) → other ≡ program → refusal ≡ NoLayout
-    → (IsErrOf {T = T} (Err refusal) NoLayout → Any HasNoLayout other.locations) → HasNoFacts program input units
-no_layouts program other input units refusal same is unsound = inl (subst (λ (p : Checked). Any HasNoLayout p.locations) same (unsound (ap (λ (e : FactsRefusal). Err e) is)))
+ready_for units text feed left ready input budget are reads has_code =
+    record { units = units; is_task = refl; has_code = has_code; input = input; reads = reads; budget = budget; facts = record { are = are; runnable = facts_runnable units text ready input budget are has_code } }
 
 -- a plan for a run is one for the task that it was made for
 run_plan : (task : Task) (units : ℕ) (text : List ℕ) (feed left : Option (List ℕ)) (plan : Plan) → task ≡ Build (Run units) → IsBuildPlan (Run units) text feed left plan → IsPlanFor task text feed left plan
 run_plan task units text feed left plan same is = subst (λ (t : Task). IsPlanFor t text feed left plan) (sym same) is
 
 -- what comes of the run of a program that is ready is the plan
-completed : (task : Task) (text : List ℕ) (feed left : Option (List ℕ)) (ready : Ready) (attempt : Attempt) (plan : Plan) → IsReadyFor task text feed left ready → IsAttempt ready.built.value.code ready.facts attempt
-    → IsPlanAfter ready.built.value attempt plan → IsPlanFor task text feed left plan
-completed task text feed left ready attempt plans.Usage is ran after = absurd after
-completed task text feed left ready attempt (plans.Refused told) is ran after =
+completed : (task : Task) (text : List ℕ) (feed left : Option (List ℕ)) (ready : Ready) (plan : Plan) → IsReadyFor task text feed left ready → Completes ready plan → IsPlanFor task text feed left plan
+completed task text feed left ready plans.Usage is after = absurd after
+completed task text feed left ready (plans.Refused told) is after = absurd after
+completed task text feed left ready plans.Accepted is after = absurd after
+completed task text feed left ready (plans.Listed built) is after = absurd after
+completed task text feed left ready (plans.Formatted canonical) is after = absurd after
+completed task text feed left ready plans.InputTooLong is after = absurd after
+completed task text feed left ready plans.JournalTooLong is after = absurd after
+completed task text feed left ready (plans.Judged judgement) is after = absurd after
+completed task text feed left ready (plans.Ran one) is after =
     let program : Checked = ready.built.value.program.checked.value in
-    let unsuited_to : IsAttempt ready.built.value.code ready.facts attempts.NotBuilt = subst (IsAttempt ready.built.value.code ready.facts) after.0 ran in
-    let cause : IsUnrun program ready.built.value.code is.input is.units = unsuited (subst (λ (f : Facts). Suits ready.built.value.code f → ⊥) is.facts.are unsuited_to) in
-    run_plan task is.units text feed left (plans.Refused told) is.is_task (inr (record {
-      program = program;
-      code = ready.built.value.code;
-      has_code = is.has_code;
-      input = is.input;
-      reads = is.reads;
-      cause = cause;
-      not_of_well_elaborated = is_run text program ready.built.value.code is.input is.units is.has_code cause;
-      is = after.1;
-    }))
-completed task text feed left ready attempt plans.Accepted is ran after = absurd after
-completed task text feed left ready attempt (plans.Listed built) is ran after = absurd after
-completed task text feed left ready attempt (plans.Formatted canonical) is ran after = absurd after
-completed task text feed left ready attempt plans.InputTooLong is ran after = absurd after
-completed task text feed left ready attempt plans.JournalTooLong is ran after = absurd after
-completed task text feed left ready attempt (plans.Judged judgement) is ran after = absurd after
-completed task text feed left ready attempt (plans.Ran one) is ran after =
-    let program : Checked = ready.built.value.program.checked.value in
-    let sound : IsSound (facts_of program is.input is.units) = subst IsSound is.facts.are is.facts.sound in
+    let sound : IsSound (facts_of program is.input is.units) = subst IsSound is.facts.are is.facts.runnable.sound in
     let run : IsDriven ready.built.value.code (facts_of program is.input is.units) one.driven.value =
-    subst (λ (f : Facts). IsDriven ready.built.value.code f one.driven.value) is.facts.are (subst (IsAttempt ready.built.value.code ready.facts) after.0 ran) in
+    subst (λ (f : Facts). IsDriven ready.built.value.code f one.driven.value) is.facts.are after.0 in
     run_plan task is.units text feed left (plans.Ran one) is.is_task
     (subst (λ (b : Built). IsRunFor (Run is.units) text b.program.checked.value b.code feed left one.driven.value) (sym after.1) (record {
       has_code = is.has_code;
@@ -283,21 +244,15 @@ completed task text feed left ready attempt (plans.Ran one) is ran after =
       reads = is.reads;
       sound = sound;
       run = run;
-      of_text = run_of_text text program ready.built.value.code is.input is.units one.driven.value.events sound run.run is.has_code;
+      of_text = run_of_text text program ready.built.value.code is.input is.units one.driven.value.events is.has_code is.budget run.run;
       same_runs = has_text_runs text program ready.built.value.code is.has_code;
     }))
 
 pub ok-plan-completed : (command : Command) (contents : List ℕ → Contents) (feed left : Option (List ℕ)) (ready : Ready) (plan : Plan) → IsStageOf command contents feed left (stages.Ready ready) → Completes ready plan
     → IsPlanOf command contents feed left plan
 ok-plan-completed command contents feed left ready plan stage completes =
-    let of_task : IsPlanFor (task_of command) stage.text feed left plan = completed (task_of command) stage.text feed left ready completes.attempt plan stage.is.0 completes.ran completes.is in
+    let of_task : IsPlanFor (task_of command) stage.text feed left plan = completed (task_of command) stage.text feed left ready plan stage.is.0 completes in
     record { text = stage.text; told = stage.told; is = plan_from command contents stage.text feed left plan stage.is.1 of_task }
-
--- a plan after an attempt is what comes of the run
-pub ok-completes : {E : Type 0} (ready : Ready) (attempt : Attempt) (made : Result Plan E) → IsAttempt ready.built.value.code ready.facts attempt
-    → IfOk made (IsPlanAfter ready.built.value attempt) → IfOk made (Completes ready)
-ok-completes ready attempt (Ok plan) ran is = record { attempt = attempt; ran = ran; is = is }
-ok-completes ready attempt (Err e) ran is = tt
 
 -- a text with such a code has a program, and one that reads input where that one does
 has_program : (text : List ℕ) (built : Built) → HasCode text built.program.checked.value built.code → HasProgram text
@@ -310,7 +265,7 @@ reads_with text built has_code reads = record { program = built.program.checked.
 
 pub stage-refused : (purpose : Purpose) (feed : Option (List ℕ)) (told : Told) (list : List Diagnostic) → told ≡ tellings.Refused list
     → (text : List ℕ) → Tells text told → IsStageFor (Build purpose) text feed feed (stages.Decided (plans.Refused list))
-stage-refused purpose feed told list is text tells = inl (subst (Tells text) is tells, refl)
+stage-refused purpose feed told list is text tells = (subst (Tells text) is tells, refl)
 
 pub stage-accepted : (purpose : Purpose) (feed : Option (List ℕ)) (told : Told) (built : Box Built) → told ≡ tellings.Accepted built → purpose ≡ Check
     → (text : List ℕ) → Tells text told → IsStageFor (Build purpose) text feed feed (stages.Decided plans.Accepted)
@@ -340,7 +295,7 @@ reads_run told built made is reads fault text tells = reads_with text built.valu
 -- the plan for a text that is refused
 pub replay-refused : (units : ℕ) (read : List ℕ) (journal : Contents) (feed : Option (List ℕ)) (told : Told) (list : List Diagnostic) → told ≡ tellings.Refused list → Tells read told
     → (text : List ℕ) → IsReadingOf text read → IsReplayPlan units text journal feed feed (plans.Refused list)
-replay-refused units read journal feed told list is tells text of = inl (subst (Tells text) is (Tells-reading text read told of tells), refl)
+replay-refused units read journal feed told list is tells text of = (subst (Tells text) is (Tells-reading text read told of tells), refl)
 
 pub ok-replay-built : (units : ℕ) (read : List ℕ) (journal : Contents) (feed left : Option (List ℕ)) (told : Told) (built : Box Built) (made : Result Plan ReadRefusal) → told ≡ tellings.Accepted built → Tells read told
     → IfOk made (λ plan. (text : List ℕ) → HasCode text built.value.program.checked.value built.value.code → IsReplayPlan units text journal feed left plan)
@@ -381,8 +336,7 @@ too_long_journal units journal read built feed found long text has_code = (has_p
 decided_plan : (units : ℕ) (text : List ℕ) (journal : Contents) (feed left : Option (List ℕ)) (plan : Plan) → IsJournalShort journal → IsNoRun plan → IsBuildPlan (Run units) text feed left plan
     → IsReplayPlan units text journal feed left plan
 decided_plan units text journal feed left plans.Usage short no_run is = absurd is
-decided_plan units text journal feed left (plans.Refused told) short no_run (inl refused) = inl refused
-decided_plan units text journal feed left (plans.Refused told) short no_run (inr unrun) = inr (short, unrun)
+decided_plan units text journal feed left (plans.Refused told) short no_run refused = refused
 decided_plan units text journal feed left plans.Accepted short no_run is = absurd (let no : ⊥ = cc in no)
 decided_plan units text journal feed left (plans.Listed built) short no_run is = absurd (let no : ⊥ = cc in no)
 decided_plan units text journal feed left (plans.Formatted canonical) short no_run is = absurd is
@@ -411,7 +365,7 @@ judged_plan units text journal feed left ready bytes judgement of is judged =
       has_code = is.has_code;
       input = is.input;
       reads = is.reads;
-      sound = subst IsSound are is.facts.sound;
+      sound = subst IsSound are is.facts.runnable.sound;
       bytes = bytes;
       of = of;
       is = subst (λ (f : Facts). IsJudgement code f bytes judgement) are judged;

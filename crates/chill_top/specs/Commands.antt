@@ -1,5 +1,5 @@
 -- What commands do, and where their texts come from.
-use Rattle.std.specs.Prelude.{◌≡◌, ◌⊎◌, ℕ, Bool, true, false, List, None, Some}
+use Rattle.std.specs.Prelude.{◌≡◌, ◌≤◌, ◌⊎◌, ℕ, Bool, true, false, List, None, Some}
 use Rattle.std.specs.declared.option.Option.{Option}
 use Rattle.exchange_text.specs.Exchange.{exchange_text}
 use Rattle.outside_ports.specs.Library.{Contents, untold, missing, held}
@@ -118,3 +118,22 @@ Runs command = IsRunningTask (task_of command)
 abbrev pub SaysRun : Option Command → Type 0
 SaysRun None = ⊥
 SaysRun (Some command) = Runs command
+
+-- a budget that there may be
+pub record IsBudget (units : ℕ) : Type 0 where
+  pub least : 1 ≤ units
+  pub most : units ≤ 10000000
+
+-- the run that a text is built for has one
+abbrev pub HasBudget : Purpose → Type 0
+HasBudget (purposes.Run units) = IsBudget units
+HasBudget purposes.Check = Unit {0}
+HasBudget purposes.List = Unit {0}
+
+abbrev pub HasBudgetFor : Task → Type 0
+HasBudgetFor Format = Unit {0}
+HasBudgetFor (Build purpose) = HasBudget purpose
+
+-- so has the run of a command; words that mean a command give it one
+abbrev pub IsBudgeted : Command → Type 0
+IsBudgeted command = HasBudgetFor (task_of command)

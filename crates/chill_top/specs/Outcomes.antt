@@ -18,7 +18,7 @@ use Rattle.watchers.specs.Shown.{stayed, places, IsLeft}
 use Rattle.word_reader.specs.declared.command.Command.{Command}
 use Rattle.chill_top.specs.Commands.{task_of, showing_said, IsTextBy}
 use Rattle.chill_top.specs.Runs.{status_of_run}
-use Rattle.chill_top.specs.Plan.{IsPlan, IsRefusedFor, IsRunOf, status_of, written_of, out_of, err_of}
+use Rattle.chill_top.specs.Plan.{IsPlan, IsRunOf, IsTurnedDown, status_of, written_of, out_of, err_of}
 use Rattle.chill_top.specs.Causes.{IsReadFault, IsFeedFault, IsOutBroken, IsErrBroken}
 use Rattle.chill_top.specs.declared.plan.Plan.{Plan}
 use Rattle.chill_top.specs.declared.plan.Plan.TheVariants as plans
@@ -186,8 +186,8 @@ events_shown said events = if watch_of said then Some events else None
 -- The journal of an outcome: the outcome holds a program for the text of the command, and its code, and the events are a run of that
 -- code to its end, from the facts of that program with its input and the budget; the machines stand where the events leave them.
 -- The texts that were written are the output of the events, or under `record` their text, and their report with the names of that
--- program. Where that program is well elaborated, the events are a run of the program's meaning, and the runs of the code are those
--- of that meaning, `run (of_text, same_runs)`.
+-- program. The program is the text's, the events are a run of it, and the runs of the code are those of the text, `run (of_text,
+-- same_runs)`.
 pub record IsJournal (said : Option Command) (contents : List ℕ → Contents) (watchers : List Watching) (sources left : Sources) (before behind : Sinks) (outcome : Outcome) (over : Over) : Type 0 where
   pub command : Command
   pub named : said ≡ Some command
@@ -206,7 +206,7 @@ pub record IsJournal (said : Option Command) (contents : List ℕ → Contents) 
 -- the diagnostics of a text that is refused under a task, and what is left of the input
 abbrev pub IsRefusedUnder : Task → List ℕ → Option (List ℕ) → Option (List ℕ) → List Diagnostic → Type 0
 IsRefusedUnder Format text feed left told = IsUnread text told
-IsRefusedUnder (Build purpose) text feed left told = IsRefusedFor purpose text feed left told
+IsRefusedUnder (Build purpose) text feed left told = IsTurnedDown text feed left told
 
 -- The text of the command is refused, and err took a line for each of its diagnostics, and out nothing.
 pub record IsRefused (said : Option Command) (contents : List ℕ → Contents) (sources left : Sources) (before behind : Sinks) : Type 0 where

@@ -1,12 +1,10 @@
 -- What a call has to answer and to write, by its command, the text of that and the input.
-use Rattle.std.specs.Prelude.{◌≡◌, ◌⊎◌, ◌<◌, ◌≤◌, ℕ, Bool, true, false, List, [], ◌∷◌, ◌++◌, length, if◌then◌else◌, None, Some, IfSome, MatchBool, Any, codes}
+use Rattle.std.specs.Prelude.{◌≡◌, ◌<◌, ◌≤◌, ℕ, Bool, true, false, List, [], ◌++◌, length, if◌then◌else◌, None, Some, IfSome, MatchBool, codes}
 use Rattle.std.specs.declared.option.Option.{Option}
 use Rattle.checked_program.specs.declared.program.Checked.{Checked}
-use Rattle.code_gen.specs.Facts.{facts_of, HasNoLayout}
+use Rattle.code_gen.specs.Facts.{facts_of}
 use Rattle.code_types.specs.declared.code.Code.{Code}
-use Rattle.code_types.specs.Runs.{Suits}
 use Rattle.diagnostics.specs.declared.diagnostic.Diagnostic.{Diagnostic}
-use Rattle.diagnostics.specs.declared.rule.Rule.TheVariants as rules
 use Rattle.kernel_base.specs.Facts.{IsSound}
 use Rattle.kernel_base.specs.declared.facts.Facts.{Facts}
 use Rattle.kernel_base.specs.declared.event.Event.{Event}
@@ -17,24 +15,20 @@ use Rattle.journal_verdict.specs.declared.judging.Judgement.{Judgement}
 use Rattle.list_texts.specs.Layouts.{layout_lines}
 use Rattle.list_texts.specs.Code.{code_lines}
 use Rattle.listing.specs.Diagnostics.{lines_of}
-use Rattle.rules_model.specs.TokensCut.{first_place}
-use Rattle.rules_model.specs.Diagnoses.{plain}
 use Rattle.run_texts.specs.Report.{report_of}
 use Rattle.outside_ports.specs.Library.{Contents, untold, missing, held}
 use Rattle.program_trees.specs.ProgramTree.{checked_tree}
 use Rattle.serial_run.specs.declared.serial.Driven.{Driven}
 use Rattle.serial_run.specs.Driven.{IsDriven}
-use Rattle.text_to_code.specs.Building.{IsWellElaborated}
-use Rattle.text_to_code.specs.Telling.{HasCode, IsUnread, IsCanonicalOf, Refuses}
+use Rattle.text_to_code.specs.Building.{HasCode}
+use Rattle.text_to_code.specs.Telling.{IsDiagnosed, IsUnread, IsCanonicalOf}
 use Rattle.text_to_code.specs.declared.build.Built.{Built}
 use Rattle.word_reader.specs.declared.command.Command.{Command}
 use Rattle.word_reader.specs.declared.command.Command.TheVariants as words
 use Rattle.world_model.specs.Journal.{output_of}
-use Rattle.chill_top.specs.Commands.{task_of, HasNoJournal, IsTextBy, IsTextOf, IsRunning}
-use Rattle.chill_top.specs.Runs.{IsAttempt, status_of_run}
-use Rattle.chill_top.specs.TextRuns.{HasTextRuns, IsBudget, IsRunOfText}
-use Rattle.chill_top.specs.declared.run.Attempt.{Attempt}
-use Rattle.chill_top.specs.declared.run.Attempt.TheVariants as attempts
+use Rattle.chill_top.specs.Commands.{task_of, HasNoJournal, IsBudget, IsTextBy, IsTextOf, IsRunning}
+use Rattle.chill_top.specs.Runs.{AreRunnable, status_of_run}
+use Rattle.chill_top.specs.TextRuns.{HasTextRuns, IsRunOfText}
 use Rattle.chill_top.specs.declared.plan.Plan.{Plan}
 use Rattle.chill_top.specs.declared.plan.Plan.TheVariants as plans
 use Rattle.chill_top.specs.declared.plan.Ready.{Ready}
@@ -71,6 +65,10 @@ pub record HasProgram (text : List ℕ) : Type 0 where
   pub code : Code
   pub has_code : HasCode text program code
 
+-- a program and its code are those of some text
+abbrev pub HasText : Built → Type 0
+HasText built = (text : List ℕ) × HasCode text built.program.checked.value built.code
+
 -- a text has a program that reads input, and its code
 pub record ReadsInput (text : List ℕ) : Type 0 where
   pub program : Checked
@@ -80,57 +78,22 @@ pub record ReadsInput (text : List ℕ) : Type 0 where
 
 -- ---- runs
 
--- sound facts of a program with an input and a budget
-pub record AreFactsOf (program : Checked) (input : List ℕ) (units : ℕ) (facts : Facts) : Type 0 where
-  pub are : facts ≡ facts_of program input units
-  pub sound : IsSound facts
-
--- A run of the code of a text from the facts of its program. Where the program is well elaborated, the events are a run of the
--- program's meaning, and from all facts of the program the code has the runs of that meaning.
+-- A run of the code of a text from the facts of its program, which are sound: the events are a run of the text, and from all facts
+-- of the program the code has the runs of the text.
 pub record IsRunOf (units : ℕ) (text : List ℕ) (program : Checked) (code : Code) (feed left : Option (List ℕ)) (driven : Driven) : Type 0 where
   pub has_code : HasCode text program code
   pub input : List ℕ
   pub reads : IsInputOf program feed left input
   pub sound : IsSound (facts_of program input units)
   pub run : IsDriven code (facts_of program input units) driven
-  pub of_text : IsWellElaborated program → IsRunOfText (checked_tree program) (facts_of program input units) driven.events
-  pub same_runs : IsWellElaborated program → HasTextRuns program code
+  pub of_text : IsRunOfText (checked_tree program) (facts_of program input units) driven.events
+  pub same_runs : HasTextRuns program code
 
 -- the same for a purpose
 abbrev pub IsRunFor : Purpose → List ℕ → Checked → Code → Option (List ℕ) → Option (List ℕ) → Driven → Type 0
 IsRunFor (Run units) text program code feed left driven = IsRunOf units text program code feed left driven
 IsRunFor Check text program code feed left driven = ⊥
 IsRunFor Listing text program code feed left driven = ⊥
-
--- there are no facts to run a program from: a location has no layout, or they aren't sound
-abbrev pub HasNoFacts : Checked → List ℕ → ℕ → Type 0
-HasNoFacts program input units = Any HasNoLayout program.locations ⊎ (IsSound (facts_of program input units) → ⊥)
-
--- why a text with such a code isn't run: each is a fault of this compiler, and none of the text
-pub data IsUnrun (program : Checked) (code : Code) (input : List ℕ) (units : ℕ) : Type 0 where
-  unfounded : HasNoFacts program input units → IsUnrun program code input units
-  unsuited : (Suits code (facts_of program input units) → ⊥) → IsUnrun program code input units
-
--- what isn't built is told so
-abbrev pub IsNotBuilt : List Diagnostic → Type 0
-IsNotBuilt told = told ≡ plain first_place rules.B1 ∷ []
-
--- A text with a code isn't run, and is told so. With a budget that there may be this comes of no program that is well elaborated.
-pub record TellsUnrun (units : ℕ) (text : List ℕ) (feed left : Option (List ℕ)) (told : List Diagnostic) : Type 0 where
-  pub program : Checked
-  pub code : Code
-  pub has_code : HasCode text program code
-  pub input : List ℕ
-  pub reads : IsInputOf program feed left input
-  pub cause : IsUnrun program code input units
-  pub not_of_well_elaborated : IsBudget units → IsWellElaborated program → ⊥
-  pub is : IsNotBuilt told
-
--- the same for a purpose
-abbrev pub TellsUnrunFor : Purpose → List ℕ → Option (List ℕ) → Option (List ℕ) → List Diagnostic → Type 0
-TellsUnrunFor (Run units) text feed left told = TellsUnrun units text feed left told
-TellsUnrunFor Check text feed left told = ⊥
-TellsUnrunFor Listing text feed left told = ⊥
 
 -- ---- journals that are held against a text
 
@@ -149,8 +112,8 @@ pub record IsJournalShort (journal : Contents) : Type 0 where
   pub bytes : List ℕ
   pub of : IsJournalOf journal bytes
 
--- A journal was held against the code of a text, from the facts of its program with its input and the budget. Where the program is
--- well elaborated, the runs of that code are those of the program's meaning.
+-- A journal was held against the code of a text, from the facts of its program with its input and the budget. The runs of that code
+-- are those of the text.
 pub record IsJudged (units : ℕ) (text : List ℕ) (journal : Contents) (feed left : Option (List ℕ)) (judgement : Judgement) : Type 0 where
   pub program : Checked
   pub code : Code
@@ -161,7 +124,7 @@ pub record IsJudged (units : ℕ) (text : List ℕ) (journal : Contents) (feed l
   pub bytes : List ℕ
   pub of : IsJournalOf journal bytes
   pub is : IsJudgement code (facts_of program input units) bytes judgement
-  pub same_runs : IsWellElaborated program → HasTextRuns program code
+  pub same_runs : HasTextRuns program code
 
 -- ---- plans
 
@@ -177,19 +140,19 @@ IsFormatPlan text (plans.Ran ran) = ⊥
 IsFormatPlan text plans.JournalTooLong = ⊥
 IsFormatPlan text (plans.Judged judgement) = ⊥
 
--- the diagnostics of a text that is built for a purpose: the text is refused, and the feed is left as it was; or it isn't run
-abbrev pub IsRefusedFor : Purpose → List ℕ → Option (List ℕ) → Option (List ℕ) → List Diagnostic → Type 0
-IsRefusedFor purpose text feed left told = (Refuses text told × (left ≡ feed)) ⊎ TellsUnrunFor purpose text feed left told
+-- the text is refused, and the feed is left as it was
+abbrev pub IsTurnedDown : List ℕ → Option (List ℕ) → Option (List ℕ) → List Diagnostic → Type 0
+IsTurnedDown text feed left told = IsDiagnosed text told × (left ≡ feed)
 
--- the listing of a text with its code: where its program is well elaborated, the code has the runs of the program
+-- the listing of a text with its code, which has the runs of the text
 pub record IsListingOf (text : List ℕ) (program : Checked) (code : Code) : Type 0 where
   pub has_code : HasCode text program code
-  pub same_runs : IsWellElaborated program → HasTextRuns program code
+  pub same_runs : HasTextRuns program code
 
 -- the plan for a text that is built for a purpose
 abbrev pub IsBuildPlan : Purpose → List ℕ → Option (List ℕ) → Option (List ℕ) → Plan → Type 0
 IsBuildPlan purpose text feed left plans.Usage = ⊥
-IsBuildPlan purpose text feed left (plans.Refused told) = IsRefusedFor purpose text feed left told
+IsBuildPlan purpose text feed left (plans.Refused told) = IsTurnedDown text feed left told
 IsBuildPlan purpose text feed left plans.Accepted = (purpose ≡ Check) × HasProgram text
 IsBuildPlan purpose text feed left (plans.Listed built) = (purpose ≡ Listing) × IsListingOf text built.value.program.checked.value built.value.code
 IsBuildPlan purpose text feed left (plans.Formatted canonical) = ⊥
@@ -207,7 +170,7 @@ IsPlanFor (Build purpose) text feed left plan = IsBuildPlan purpose text feed le
 -- the input, and then what the journal is.
 abbrev pub IsReplayPlan : ℕ → List ℕ → Contents → Option (List ℕ) → Option (List ℕ) → Plan → Type 0
 IsReplayPlan units text journal feed left plans.Usage = ⊥
-IsReplayPlan units text journal feed left (plans.Refused told) = (Refuses text told × (left ≡ feed)) ⊎ (IsJournalShort journal × TellsUnrun units text feed left told)
+IsReplayPlan units text journal feed left (plans.Refused told) = IsTurnedDown text feed left told
 IsReplayPlan units text journal feed left plans.Accepted = ⊥
 IsReplayPlan units text journal feed left (plans.Listed built) = ⊥
 IsReplayPlan units text journal feed left (plans.Formatted canonical) = ⊥
@@ -226,6 +189,11 @@ IsPlanFrom (words.Make subscribers) contents text feed left plan = IsBuildPlan (
 IsPlanFrom (words.Record file workers units) contents text feed left plan = IsBuildPlan (Run units) text feed left plan
 IsPlanFrom (words.Replay file journal units) contents text feed left plan = IsReplayPlan units text (contents journal) feed left plan
 
+-- sound facts of a program with an input and a budget, which its code suits
+pub record AreFactsOf (program : Checked) (code : Code) (input : List ℕ) (units : ℕ) (facts : Facts) : Type 0 where
+  pub are : facts ≡ facts_of program input units
+  pub runnable : AreRunnable code facts
+
 -- a program is ready for a run of a text
 pub record IsReadyFor (task : Task) (text : List ℕ) (feed left : Option (List ℕ)) (ready : Ready) : Type 0 where
   pub units : ℕ
@@ -233,30 +201,25 @@ pub record IsReadyFor (task : Task) (text : List ℕ) (feed left : Option (List 
   pub has_code : HasCode text ready.built.value.program.checked.value ready.built.value.code
   pub input : List ℕ
   pub reads : IsInputOf ready.built.value.program.checked.value feed left input
-  pub facts : AreFactsOf ready.built.value.program.checked.value input units ready.facts
+  pub budget : IsBudget units
+  pub facts : AreFactsOf ready.built.value.program.checked.value ready.built.value.code input units ready.facts
 
 -- how far a text comes without a run
 abbrev pub IsStageFor : Task → List ℕ → Option (List ℕ) → Option (List ℕ) → Stage → Type 0
 IsStageFor task text feed left (stages.Decided plan) = IsPlanFor task text feed left plan
 IsStageFor task text feed left (stages.Ready ready) = IsReadyFor task text feed left ready
 
--- the plan of a program after an attempt to run its code
-abbrev pub IsPlanAfter : Built → Attempt → Plan → Type 0
-IsPlanAfter built attempt plans.Usage = ⊥
-IsPlanAfter built attempt (plans.Refused told) = (attempt ≡ attempts.NotBuilt) × IsNotBuilt told
-IsPlanAfter built attempt plans.Accepted = ⊥
-IsPlanAfter built attempt (plans.Listed other) = ⊥
-IsPlanAfter built attempt (plans.Formatted canonical) = ⊥
-IsPlanAfter built attempt plans.InputTooLong = ⊥
-IsPlanAfter built attempt (plans.Ran ran) = (attempt ≡ attempts.Driven ran.driven) × (ran.built.value ≡ built)
-IsPlanAfter built attempt plans.JournalTooLong = ⊥
-IsPlanAfter built attempt (plans.Judged judgement) = ⊥
-
 -- what comes of the run of a program that is ready
-pub record Completes (ready : Ready) (plan : Plan) : Type 0 where
-  pub attempt : Attempt
-  pub ran : IsAttempt ready.built.value.code ready.facts attempt
-  pub is : IsPlanAfter ready.built.value attempt plan
+abbrev pub Completes : Ready → Plan → Type 0
+Completes ready plans.Usage = ⊥
+Completes ready (plans.Refused told) = ⊥
+Completes ready plans.Accepted = ⊥
+Completes ready (plans.Listed other) = ⊥
+Completes ready (plans.Formatted canonical) = ⊥
+Completes ready plans.InputTooLong = ⊥
+Completes ready (plans.Ran ran) = IsDriven ready.built.value.code ready.facts ran.driven.value × (ran.built.value ≡ ready.built.value)
+Completes ready plans.JournalTooLong = ⊥
+Completes ready (plans.Judged judgement) = ⊥
 
 -- nothing was run for the plan
 abbrev pub IsNoRun : Plan → Type 0
@@ -270,10 +233,10 @@ IsNoRun (plans.Ran ran) = ⊥
 IsNoRun plans.JournalTooLong = Unit {0}
 IsNoRun (plans.Judged judgement) = Unit {0}
 
--- what is decided is no run, and a program that is ready has sound facts
+-- what is decided is no run, and a program that is ready can be run
 abbrev pub IsSoundStage : Stage → Type 0
 IsSoundStage (stages.Decided plan) = IsNoRun plan
-IsSoundStage (stages.Ready ready) = IsSound ready.facts
+IsSoundStage (stages.Ready ready) = AreRunnable ready.built.value.code ready.facts
 
 -- how far a command comes with its text: where it is ready for a run, it holds no journal against it
 abbrev pub IsStageFrom : Command → (List ℕ → Contents) → List ℕ → Option (List ℕ) → Option (List ℕ) → Stage → Type 0

@@ -6,17 +6,15 @@ use Rattle.kernel_base.specs.declared.ends.Over.TheVariants.{AllEnded, Still, Sp
 use Rattle.kernel_base.specs.declared.request.Request.TheVariants.{End}
 use Rattle.kernel_base.specs.declared.event.Event.{Event}
 use Rattle.kernel_base.specs.declared.event.Event.TheVariants.{Did}
+use Rattle.kernel_base.specs.Facts.{IsSound}
 use Rattle.kernel_base.specs.declared.facts.Facts.{Facts}
 use Rattle.code_types.specs.declared.code.Code.{Code}
 use Rattle.code_types.specs.Runs.{Suits}
-use Rattle.serial_run.specs.Driven.{IsDriven}
-use Rattle.chill_top.specs.declared.run.Attempt.{Attempt}
-use Rattle.chill_top.specs.declared.run.Attempt.TheVariants as attempts
 
--- what comes of an attempt is a run of the code from the facts; or else the code doesn't suit these
-abbrev pub IsAttempt : Code → Facts → Attempt → Type 0
-IsAttempt code facts (attempts.Driven driven) = IsDriven code facts driven.value
-IsAttempt code facts attempts.NotBuilt = Suits code facts → ⊥
+-- the facts are sound, and the code suits them: so its run isn't refused
+pub record AreRunnable (code : Code) (facts : Facts) : Type 0 where
+  pub sound : IsSound facts
+  pub suits : Suits code facts
 
 -- a process ended with an exception
 abbrev pub is_raised : Event → Bool

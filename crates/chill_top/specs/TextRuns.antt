@@ -1,5 +1,5 @@
--- Where a program is well elaborated, the journals of its code are runs of the text.
-use Rattle.std.specs.Prelude.{◌≡◌, ◌↔◌, ℕ, ◌≤◌, List, ◌∷◌, ◌++◌, Some}
+-- The journals of a code as runs of its program's meaning.
+use Rattle.std.specs.Prelude.{◌≡◌, ◌↔◌, ℕ, List, ◌∷◌, ◌++◌, Some}
 use Rattle.checked_program.specs.declared.program.Checked.{Checked}
 use Rattle.code_gen.specs.Facts.{facts_of}
 use Rattle.code_types.specs.declared.code.Code.{Code}
@@ -13,11 +13,7 @@ use Rattle.source_meaning.specs.Runs.{IsSourceRun}
 use Rattle.text_laws.specs.Journals.{KeepsValues}
 use Rattle.world_model.specs.Journal.{Birth, born_of, answers_of}
 use Rattle.world_model.specs.World.{world_of}
-
--- a budget that there may be
-pub record IsBudget (units : ℕ) : Type 0 where
-  pub least : 1 ≤ units
-  pub most : units ≤ 10000000
+use Rattle.chill_top.specs.Commands.{IsBudget}
 
 -- the arguments and the answers of each instance fit
 abbrev pub AllFit : CheckedTree → List Event → Type 0

@@ -2,10 +2,10 @@
 ghost use Rattle.std.specs.Prelude.{◌≡◌, ◌⊎◌, ◌≤◌, ℕ, List, true, length, OnOk, IfOk, IsErrOf, MatchOption};
 ghost use Rattle.outside_ports.specs.Faults.{Rose};
 ghost use Rattle.outside_ports.specs.Library.{Contents};
-ghost use Rattle.chill_top.specs.Commands.{HasNoJournal, Holds};
-ghost use Rattle.chill_top.specs.Plan.{IsJournalOf, IsReplayPlan, ReadsInput};
+ghost use Rattle.chill_top.specs.Commands.{HasNoJournal, Holds, IsBudget};
+ghost use Rattle.chill_top.specs.Plan.{HasText, IsJournalOf, IsReplayPlan, ReadsInput};
 ghost use Rattle.chill_top.specs.Reading.{IsReadingOf};
-ghost use Rattle.text_to_code.specs.Telling.{HasCode};
+ghost use Rattle.text_to_code.specs.Building.{HasCode};
 
 use crate::plan::{Plan, Stage};
 use crate::read::{ReadRefusal, read_file};
@@ -53,6 +53,7 @@ pub(crate) fn plan_for_journal<L: Library, I: Feed>(
     library: &mut L,
     feed: &mut I,
 ) -> Result<Plan, ReadRefusal>
+    requires { IsBudget held.now.units }
     ensures plan { IfOk result (λ plan. (text : List ℕ) → IsReadingOf text read.now
         → IsReplayPlan held.now.units text (L.contents library.old held.now.journal.now)
         (I.bytes feed.old) (I.bytes feed.new) plan) }
@@ -78,6 +79,8 @@ fn hold_against<L: Library, I: Feed>(
     library: &mut L,
     feed: &mut I,
 ) -> Result<Plan, ReadRefusal>
+    requires has_text { HasText built.value }
+    requires budget { IsBudget held.now.units }
     ensures plan { IfOk result (λ plan. (text : List ℕ)
         → HasCode text built.value.program.checked.value built.value.code
         → IsReplayPlan held.now.units text (L.contents library.old held.now.journal.now)
@@ -105,6 +108,8 @@ fn judge<I: Feed>(
     bytes: &[u8],
     feed: &mut I,
 ) -> Result<Plan, ReadRefusal>
+    requires has_text { HasText built.value }
+    requires budget { IsBudget units }
     requires short { length bytes.now ≤ 1073741824 }
     ensures plan { IfOk result (λ plan. (text : List ℕ) (journal : Contents)
         → HasCode text built.value.program.checked.value built.value.code

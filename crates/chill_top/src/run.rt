@@ -1,8 +1,8 @@
 // The run of a program that is ready.
 ghost use Rattle.std.specs.Prelude.{◌≤◌, IfOk};
-ghost use Rattle.kernel_base.specs.Facts.{IsSound};
-ghost use Rattle.chill_top.specs.Plan.{Completes, IsPlanAfter};
-ghost use Rattle.chill_top.specs.Runs.{IsAttempt};
+ghost use Rattle.serial_run.specs.Driven.{IsDriven};
+ghost use Rattle.chill_top.specs.Plan.{Completes};
+ghost use Rattle.chill_top.specs.Runs.{AreRunnable};
 
 use crate::plan::{Plan, Ran, Ready};
 use chill_base::{Item, Memory};
@@ -13,26 +13,16 @@ use serial_run::{Driven, RunRefusal, attempt};
 use std::alloc::Global;
 use std::sync::Wait;
 use std::thread::Threads;
-use text_to_code::{Built, not_built};
 use worker_pool::{gather, run_pool};
-
-/// What comes of an attempt to run a code.
-#[derive(Drop)]
-pub(crate) enum Attempt {
-    /// The run.
-    Driven(Box<Driven>),
-    /// The facts don't suit the code. This comes of no program that breaks no rule.
-    NotBuilt,
-}
 
 /// Runs a program that is ready, by one worker.
 pub(crate) fn run_alone(alloc: Global, ready: Ready) -> Result<Plan, Memory>
-    requires { IsSound ready.facts }
+    requires { AreRunnable ready.built.value.code ready.facts }
     ensures { IfOk result (Completes ready) }
 {
     let Ready { built, facts } = ready;
-    let attempt = drive(alloc, &built.code, facts)?;
-    plan_after(alloc, built, attempt)
+    let driven = drive(alloc, &built.code, facts)?;
+    Ok(Plan::Ran(Ran { built, driven }))
 }
 
 /// Several workers of a run, and the gate that each passes behind its bursts.
@@ -50,32 +40,22 @@ pub(crate) fn run_by_workers<R: Threads + Wait + Sync, G: Gate>(
     ready: Ready,
     workers: &Workers<'_, R, G>,
 ) -> Result<Plan, Memory>
-    requires { IsSound ready.facts }
+    requires { AreRunnable ready.built.value.code ready.facts }
     ensures { IfOk result (Completes ready) }
 {
     let Ready { built, facts } = ready;
-    let attempt = drive_by_workers(alloc, &built.code, facts, workers)?;
-    plan_after(alloc, built, attempt)
-}
-
-// The plan of a program after an attempt to run its code.
-fn plan_after(alloc: Global, built: Box<Built>, attempt: Attempt) -> Result<Plan, Memory>
-    ensures { IfOk result (IsPlanAfter built.value attempt) }
-{
-    match attempt {
-        Attempt::Driven(driven) => Ok(Plan::Ran(Ran { built, driven })),
-        Attempt::NotBuilt => Ok(Plan::Refused(not_built(alloc)?)),
-    }
+    let driven = drive_by_workers(alloc, &built.code, facts, workers)?;
+    Ok(Plan::Ran(Ran { built, driven }))
 }
 
 // Runs a code from facts, by one worker.
-fn drive(alloc: Global, code: &Guarded, facts: Facts) -> Result<Attempt, Memory>
-    requires { IsSound facts }
-    ensures { IfOk result (IsAttempt code.now facts) }
+fn drive(alloc: Global, code: &Guarded, facts: Facts) -> Result<Box<Driven>, Memory>
+    requires { AreRunnable code.now facts }
+    ensures { IfOk result (λ driven. IsDriven code.now facts driven.value) }
 {
     match attempt(alloc, code, facts) {
-        Ok(driven) => Ok(Attempt::Driven(Box::new(alloc, driven)?)),
-        Err(RunRefusal::Misfit) => Ok(Attempt::NotBuilt),
+        Ok(driven) => Ok(Box::new(alloc, driven)?),
+        Err(RunRefusal::Misfit) => unreachable!(),
         Err(RunRefusal::Memory) => Err(Memory),
     }
 }
@@ -86,9 +66,9 @@ fn drive_by_workers<R: Threads + Wait + Sync, G: Gate>(
     code: &Guarded,
     facts: Facts,
     workers: &Workers<'_, R, G>,
-) -> Result<Attempt, Memory>
-    requires { IsSound facts }
-    ensures { IfOk result (IsAttempt code.now facts) }
+) -> Result<Box<Driven>, Memory>
+    requires { AreRunnable code.now facts }
+    ensures { IfOk result (λ driven. IsDriven code.now facts driven.value) }
 {
     let pool = run_pool(
         workers.rt,
@@ -99,7 +79,7 @@ fn drive_by_workers<R: Threads + Wait + Sync, G: Gate>(
         workers.gate,
     )?;
     match gather(code, &facts, pool)? {
-        Some(driven) => Ok(Attempt::Driven(Box::new(alloc, driven)?)),
+        Some(driven) => Ok(Box::new(alloc, driven)?),
         None => drive(alloc, code, facts),
     }
 }

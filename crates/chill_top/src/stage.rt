@@ -1,13 +1,15 @@
 // How far a command comes without a run.
-ghost use Rattle.std.specs.Prelude.{◌≡◌, ◌⊎◌, ℕ, List, [], None, false, true, OnOk, IfOk, IsErrOf, MatchBool, MatchOption};
+ghost use Rattle.std.specs.Prelude.{◌≡◌, ◌⊎◌, ℕ, List, [], None, false, true, OnOk, IfOk, IsErrOf, MatchBool};
 ghost use Rattle.outside_ports.specs.Faults.{Rose};
 ghost use Rattle.chill_top.specs.Causes.{IsReadFault, IsFeedFault};
-ghost use Rattle.chill_top.specs.Commands.{IsRunning, IsRunningTask, Runs, file_of};
-ghost use Rattle.chill_top.specs.Plan.{AreFactsOf, HasNoFacts, IsFormatPlan, IsSoundStage, IsStageFor, IsStageOf, ReadsInput};
+ghost use Rattle.code_gen.specs.Facts.{facts_of};
+ghost use Rattle.chill_top.specs.Commands.{HasBudget, HasBudgetFor, IsBudget, IsBudgeted, IsRunning, IsRunningTask, Runs, file_of};
+ghost use Rattle.chill_top.specs.Plan.{HasText, IsFormatPlan, IsSoundStage, IsStageFor, IsStageOf, ReadsInput};
 ghost use Rattle.chill_top.specs.Reading.{IsInputRead, IsReadingOf};
 ghost use Rattle.chill_top.specs.declared.task.Task.TheVariants as tasks;
 ghost use Rattle.chill_top.specs.declared.task.Purpose.TheVariants as purposes;
-ghost use Rattle.text_to_code.specs.Telling.{HasCode, Tells};
+ghost use Rattle.text_to_code.specs.Building.{HasCode};
+ghost use Rattle.text_to_code.specs.Telling.{Tells};
 
 use crate::input::{MAX_INPUT, read_input};
 use crate::plan::{Plan, Ready, Stage};
@@ -19,9 +21,8 @@ use chill_base::{Memory, Text};
 use code_gen::{FactsRefusal, facts_of};
 use kernel_base::Facts;
 use outside_ports::{Feed, Library};
-use sound_facts::are_sound;
 use std::alloc::Global;
-use text_to_code::{Built, Formatted, Told, format_text, not_built, tell};
+use text_to_code::{Built, Formatted, Told, format_text, tell};
 use word_reader::Command;
 
 // The input of a program: what is read where it reads one, and else none.
@@ -43,32 +44,27 @@ fn input_of<I: Feed>(alloc: Global, built: &Built, feed: &mut I) -> Result<Text,
     Ok(Text::from_vec(input))
 }
 
-// The facts of a program with an input and a budget, where there are some and they are sound.
-fn facts_for(alloc: Global, built: &Built, input: Text, units: u64) -> Result<Option<Facts>, Memory>
-    ensures { IfOk result (λ facts. MatchOption facts
-        (HasNoFacts built.now.program.checked.value input units)
-        (AreFactsOf built.now.program.checked.value input units)) }
+// The facts of a program with an input and a budget.
+fn facts_for(alloc: Global, built: &Built, input: Text, units: u64) -> Result<Facts, Memory>
+    requires { HasText built.now }
+    ensures { IfOk result (λ facts. facts ≡ facts_of built.now.program.checked.value input units) }
 {
     match facts_of(alloc, built.program.checked(), input, units) {
-        Ok(facts) => {
-            if are_sound(alloc, &facts)? {
-                Ok(Some(facts))
-            } else {
-                Ok(None)
-            }
-        }
+        Ok(facts) => Ok(facts),
         Err(FactsRefusal::Memory) => Err(Memory),
-        Err(FactsRefusal::NoLayout) => Ok(None),
+        Err(FactsRefusal::NoLayout) => unreachable!(),
     }
 }
 
-// How far a program comes that is to be run: its input is read. Facts that aren't sound come of no program that breaks no rule.
+// How far a program comes that is to be run: its input is read.
 pub(crate) fn stage_for_run<I: Feed>(
     alloc: Global,
     built: Box<Built>,
     units: u64,
     feed: &mut I,
 ) -> Result<Stage, ReadRefusal>
+    requires has_text { HasText built.value }
+    requires budget { IsBudget units }
     ensures stage { IfOk result (λ stage. (text : List ℕ)
         → HasCode text built.value.program.checked.value built.value.code
         → IsStageFor (tasks.Build (purposes.Run units)) text
@@ -84,10 +80,8 @@ pub(crate) fn stage_for_run<I: Feed>(
     if input.len() > MAX_INPUT {
         return Ok(Stage::Decided(Plan::InputTooLong));
     }
-    match facts_for(alloc, &built, input, units)? {
-        Some(facts) => Ok(Stage::Ready(Ready { built, facts })),
-        None => Ok(Stage::Decided(Plan::Refused(not_built(alloc)?))),
-    }
+    let facts = facts_for(alloc, &built, input, units)?;
+    Ok(Stage::Ready(Ready { built, facts }))
 }
 
 // How far a text comes of which this is told.
@@ -97,6 +91,8 @@ fn stage_for_told<I: Feed>(
     told: Told,
     feed: &mut I,
 ) -> Result<Stage, ReadRefusal>
+    requires tells { (text : List ℕ) × Tells text told }
+    requires budget { HasBudget purpose }
     ensures stage { IfOk result (λ stage. (text : List ℕ) → Tells text told
         → IsStageFor (tasks.Build purpose) text (I.bytes feed.old) (I.bytes feed.new) stage) }
     ensures stays { OnOk result (I.faults feed.new ≡ I.faults feed.old) }
@@ -134,6 +130,7 @@ fn stage_for_text<I: Feed>(
     read: &[u8],
     feed: &mut I,
 ) -> Result<Stage, ReadRefusal>
+    requires { HasBudgetFor task }
     ensures stage { IfOk result (λ stage. (text : List ℕ) → IsReadingOf text read.now
         → IsStageFor task text (I.bytes feed.old) (I.bytes feed.new) stage) }
     ensures stays { OnOk result (I.faults feed.new ≡ I.faults feed.old) }
@@ -159,6 +156,7 @@ pub(crate) fn make_stage<L: Library, I: Feed>(
     library: &mut L,
     feed: &mut I,
 ) -> Result<Stage, ReadRefusal>
+    requires { IsBudgeted command.now }
     ensures stage { IfOk result
         (IsStageOf command.now (L.contents library.old) (I.bytes feed.old) (I.bytes feed.new)) }
     ensures stays { OnOk result (I.faults feed.new ≡ I.faults feed.old) }

@@ -5,7 +5,7 @@ ghost use Rattle.std.specs.Io.KnownBytes.{Appends};
 ghost use Rattle.word_reader.specs.Said.{said};
 ghost use Rattle.chill_top.specs.Causes.{IsReadFault, IsFeedFault, IsOutBroken, IsErrBroken};
 ghost use Rattle.chill_top.specs.Commands as commands;
-ghost use Rattle.chill_top.specs.Commands.{Runs, SaysRun};
+ghost use Rattle.chill_top.specs.Commands.{IsBudgeted, Runs, SaysRun};
 ghost use Rattle.chill_top.specs.Plan.{IsPlanOf, out_of, err_of};
 ghost use Rattle.chill_top.specs.Outcomes as outcomes;
 ghost use Rattle.chill_top.specs.Outcomes.{Answers, IsAnswer, IsCarriedOut, IsCutShort, IsJournal, IsPartlyShown, IsRefused, Wrote, dropped_of, outcome_with, shown_of, sinks_at, sources_at, told_by, watch_of, watchers_after};
@@ -171,6 +171,7 @@ fn plan_alone<L: Library, I: Feed>(
     library: &mut L,
     input: &mut I,
 ) -> Result<Plan, ReadRefusal>
+    requires { IsBudgeted command.now }
     ensures plan { IfOk result
         (IsPlanOf command.now (L.contents library.old) (I.bytes input.old) (I.bytes input.new)) }
     ensures stays { OnOk result (I.faults input.new ≡ I.faults input.old) }
@@ -196,6 +197,7 @@ fn plan_by_workers<R: Threads + Wait + Sync, L: Library, I: Feed, G: Gate>(
     input: &mut I,
     workers: &Workers<'_, R, G>,
 ) -> Result<Plan, ReadRefusal>
+    requires { IsBudgeted command.now }
     ensures plan { IfOk result
         (IsPlanOf command.now (L.contents library.old) (I.bytes input.old) (I.bytes input.new)) }
     ensures stays { OnOk result (I.faults input.new ≡ I.faults input.old) }
@@ -213,8 +215,8 @@ fn plan_by_workers<R: Threads + Wait + Sync, L: Library, I: Feed, G: Gate>(
     }
 }
 
-/// Carries out a command. One worker does the work of all, whatever the command says: so no lock is taken, and the call
-/// returns.
+/// Carries out a command, whose run has a budget from 1 to 10,000,000 units. One worker does the work of all, whatever the
+/// command says: so no lock is taken, and the call returns.
 pub fn chill_alone<L: Library, I: Feed, O: Sink, E: Sink>(
     alloc: Global,
     command: &Command,
@@ -225,6 +227,7 @@ pub fn chill_alone<L: Library, I: Feed, O: Sink, E: Sink>(
     watchers: &mut Vec<Box<dyn Watcher>>,
 ) -> Outcome
     requires few { length watchers.old.items < 2 ^ 32 }
+    requires budget { IsBudgeted command.now }
     ensures answer { IsAnswer (Some command.now) (L.contents library.old)
         (map (λ b. watching b) watchers.old.items) (map (λ b. watching b) watchers.new.items)
         (sources_at (L.faults library.old) (I.faults input.old) (I.bytes input.old))

@@ -3,12 +3,12 @@ use Rattle.std.proofs.Common.{◌≡◌, ◌⊎◌, inl, inr, ℕ, ◌<◌, ◌�
 use Rattle.std.specs.Prelude.{◌≢◌}
 use Rattle.std.proofs.lemmas.Bool.{cases_lt}
 use Rattle.chill_base.specs.declared.pos.Pos.{Pos}
-use Rattle.chill_base.specs.declared.memory.Memory.{Memory}
 use Rattle.diagnostics.specs.declared.rule.Rule.TheVariants as rules
 use Rattle.diagnostics.specs.declared.diagnostic.Diagnostic.{Diagnostic}
 use Rattle.chill_tree.specs.declared.token.Token.{Token}
 use Rattle.chill_tree.specs.ItemTree.{ProgramTree}
 use Rattle.checked_program.specs.declared.program.Checked.{Checked}
+use Rattle.program_trees.specs.ProgramTree.{checked_tree}
 use Rattle.code_types.specs.declared.code.Code.{Code}
 use Rattle.rules_model.specs.TokensCut.{first_place}
 use Rattle.rules_model.specs.Nesting.{first_deep}
@@ -20,11 +20,11 @@ use Rattle.names_model.specs.Resolving.{broken_names, level_of}
 use Rattle.text_size.specs.Sizes.{program_size}
 use Rattle.checks_model.specs.Ground.{Ground}
 use Rattle.checks_model.specs.Diagnoses.{BreaksNoRule, BreaksRules, on_names, on_modes, on_statements, on_processes, DiagnosesOf, no_tree, breaks_rules, too_large, accepted}
+use Rattle.elaborated_laws.proofs.Rows.{text_size_is}
 use Rattle.diagnosis_laws.specs.Lists.{IsListOf, broken as tells_rules, sound as tells_none}
 use Rattle.diagnosis_laws.proofs.Lists.{one_list, some_list, tree_of_list}
-use Rattle.text_to_code.specs.Telling.{HasCode, Refuses, broken, misnamed, breaks, later, by_checks, by_size, by_building, SameButForPlace, RefusesExactly, diagnosed, not_built, Tells, TellsExactly}
-use Rattle.text_to_code.specs.declared.told.Told.{Told}
-use Rattle.text_to_code.specs.declared.told.Told.TheVariants as tellings
+use Rattle.text_to_code.specs.Building.{HasCode}
+use Rattle.text_to_code.specs.Telling.{SameButForPlace}
 use Rattle.text_to_code.proofs.Readings.{IsRead, each_read}
 
 -- one value isn't there and not there
@@ -149,30 +149,11 @@ some_by_reading text (inr (told, breaking)) = (told ∷ [], no_tree breaking)
 pub some_diagnosis : (text : List ℕ) → SomeDiagnosis text
 some_diagnosis text = some_by_reading text (each_read text)
 
--- ---- what is refused, and what is accepted
+-- ---- what is accepted
 
-not_none : (told : Diagnostic) → told ∷ [] ≢ []
-not_none told none = cc
-
-misnamed_exactly : (text : List ℕ) (tree : ProgramTree) (list : List Diagnostic) → broken_names (level_of tree) ≡ list → HasTree text tree → list ≢ [] → RefusesExactly text list
-misnamed_exactly text tree [] is has some = absurd (some refl)
-misnamed_exactly text tree (d ∷ ds) is has some = diagnosed (breaks_rules (on_names has is)) some
-
-pub refused_exactly : (text : List ℕ) (told : List Diagnostic) → Refuses text told → RefusesExactly text told
-refused_exactly text _ (breaks (broken {diagnostic = d} breaking)) = diagnosed (no_tree breaking) (not_none d)
-refused_exactly text _ (breaks (misnamed {tree = tree} has some)) = misnamed_exactly text tree (broken_names (level_of tree)) refl has some
-refused_exactly text told (later resolved (by_checks order rules)) = diagnosed (breaks_rules rules) order.some
-refused_exactly text _ (later resolved (by_size sound large)) = diagnosed (too_large sound.none large) (not_none (plain first_place rules.L8))
-refused_exactly text _ (later resolved (by_building sound small cause)) = not_built (accepted sound.none small)
-
+-- the text of a program that has a code breaks no rule
 pub accepted_exactly : (text : List ℕ) (program : Checked) (code : Code) → HasCode text program code → DiagnosesOf text []
-accepted_exactly text program code has = accepted has.sound.none has.small
-
-pub told_exactly : (text : List ℕ) (told : Told) → Tells text told → TellsExactly text told
-told_exactly text (tellings.Refused told) tells = refused_exactly text told tells
-told_exactly text (tellings.Accepted built) tells = accepted_exactly text built.value.program.checked.value built.value.code tells
-
--- what is told is told exactly
-pub exactly : (text : List ℕ) (made : Result Told Memory) → IfOk made (λ told. Tells text told) → IfOk made (λ told. TellsExactly text told)
-exactly text (Ok told) tells = told_exactly text told tells
-exactly text (Err e) tells = tt
+accepted_exactly text program code has =
+    let of = has.elaborated.of_text in
+    let size = text_size_is has.elaborated.ground has.elaborated.tree (checked_tree program) of.made in
+    accepted of.clean (subst (λ (n : ℕ). n ≤ 65536) size of.small)

@@ -1,10 +1,8 @@
 -- What is told of a text on each way through the code.
 use Rattle.std.proofs.Common.{◌≡◌, inl, ℕ, ◌<◌, ◌≤◌, List, [], ◌∷◌, length, Some, None, Result, Ok, Err, refl, sym, subst, ◌∙◌, IfOk}
 use Rattle.std.specs.Prelude.{◌≢◌}
-use Rattle.std.specs.List.Sorted.{IsStrictlySortedBy}
 use Rattle.chill_base.specs.declared.pos.Pos.{Pos}
 use Rattle.chill_base.specs.declared.memory.Memory.{Memory}
-use Rattle.diagnostics.specs.Order.{diagnostic_cmp}
 use Rattle.diagnostics.specs.declared.rule.Rule.TheVariants as rules
 use Rattle.diagnostics.specs.declared.diagnostic.Diagnostic.{Diagnostic}
 use Rattle.chill_tree.specs.declared.token.Token.{Token}
@@ -14,12 +12,11 @@ use Rattle.rules_model.specs.Nesting.{first_deep}
 use Rattle.rules_model.specs.Diagnoses.{plain, IsShort, IsPlaceIn, HasTree, Diagnoses, too_long, no_token, too_deep, no_program}
 use Rattle.chill_parser.specs.Parsing.{HasNoTree, TokenAt}
 use Rattle.names_model.specs.Resolving.{broken_names, level_of}
-use Rattle.names_model.specs.declared.names.Names.{Names}
 use Rattle.text_size.specs.Sizes.{program_size}
-use Rattle.checks_model.specs.Diagnoses.{HasNames, BreaksRules}
-use Rattle.definition_origins.specs.CheckRules.{AreOfChecks}
-use Rattle.text_to_code.specs.Building.{IsBuiltOf, IsUnbuilt}
-use Rattle.text_to_code.specs.Telling.{IsResolved, BreaksNone, HasCode, broken, misnamed, breaks, later, by_checks, by_size, by_building, Tells}
+use Rattle.checks_model.specs.Ground.{Ground}
+use Rattle.checks_model.specs.Diagnoses.{BreaksNoRule, BreaksRules, on_names, no_tree, breaks_rules, too_large}
+use Rattle.text_to_code.specs.Building.{HasCode}
+use Rattle.text_to_code.specs.Telling.{IsDiagnosed, Tells}
 use Rattle.text_to_code.specs.declared.build.Built.{Built}
 use Rattle.text_to_code.specs.declared.told.Told.{Told}
 use Rattle.text_to_code.specs.declared.told.Told.TheVariants as tellings
@@ -48,42 +45,35 @@ place_of_token text tokens at h = inl (h.index, h.token, h.here, h.place)
 -- ---- a tree
 
 -- a tree that breaks rules on names is refused with just these
-pub names_told : (text : List ℕ) (tree : ProgramTree) (told : List Diagnostic) → HasTree text tree → told ≡ broken_names (level_of tree) → told ≢ [] → Tells text (tellings.Refused told)
-names_told text tree told has is some =
-    subst (λ (l : List Diagnostic). Tells text (tellings.Refused l)) (sym is) (breaks (misnamed has (λ (none : broken_names (level_of tree) ≡ []). some (is ∙ none))))
+pub names_told : (text : List ℕ) (tree : ProgramTree) (told : List Diagnostic) → HasTree text tree → told ≡ broken_names (level_of tree) → told ≢ [] → IsDiagnosed text told
+names_told text tree [] has is some = absurd (some refl)
+names_told text tree (d ∷ ds) has is some = record { are = breaks_rules (on_names has (sym is)); some = some }
 
 -- what the checks tell of it is told of the text
-pub checks_told : (text : List ℕ) (tree : ProgramTree) (told : List Diagnostic) → HasNames text tree → IsStrictlySortedBy diagnostic_cmp told × (told ≢ []) × AreOfChecks told → BreaksRules text tree told
-    → Tells text (tellings.Refused told)
-checks_told text tree told has order exactly =
-    let resolved : IsResolved text = record { tree = tree; has = has.has_tree; named = has.names } in
-    later resolved (by_checks (record { sorted = order.0; some = order.1; own = order.2 }) exactly)
+pub checks_told : (text : List ℕ) (tree : ProgramTree) (told : List Diagnostic) → told ≢ [] → BreaksRules text tree told → IsDiagnosed text told
+checks_told text tree told some rules = record { are = breaks_rules rules; some = some }
 
--- a tree that breaks none is resolved
-abbrev resolved_of : (text : List ℕ) (tree : ProgramTree) → BreaksNone text tree → IsResolved text
-resolved_of text tree sound = record { tree = tree; has = sound.none.has_modes.has_names.has_tree; named = sound.none.has_modes.has_names.names }
+-- what is refused is told
+pub refused_told : (text : List ℕ) (list : List Diagnostic) (made : Result Told Memory) → IsDiagnosed text list → IfOk made (λ t. t ≡ tellings.Refused list) → IfOk made (Tells text)
+refused_told text list (Ok told) refused is = subst (Tells text) (sym is) refused
+refused_told text list (Err e) refused is = tt
+
+-- a diagnostic is some
+one_is_some : (told : Diagnostic) → told ∷ [] ≢ []
+one_is_some told none = cc
 
 -- one that is too large is told so
-pub large_told : (text : List ℕ) (tree : ProgramTree) (made : Result Told Memory) → BreaksNone text tree → 65536 < program_size tree → IfOk made (λ t. t ≡ tellings.Refused (plain first_place rules.L8 ∷ []))
-    → IfOk made (λ t. Tells text t)
-large_told text tree (Ok told) sound large is = subst (λ (t : Told). Tells text t) (sym is) (later (resolved_of text tree sound) (by_size sound large))
-large_told text tree (Err e) sound large is = tt
-
--- one that isn't built is told so
-pub unbuilt_told : (text : List ℕ) (tree : ProgramTree) (made : Result Told Memory) → BreaksNone text tree → program_size tree ≤ 65536 → IsUnbuilt tree → IfOk made (λ t. t ≡ tellings.Refused (plain first_place rules.B1 ∷ []))
-    → IfOk made (λ t. Tells text t)
-unbuilt_told text tree (Ok told) sound small cause is = subst (λ (t : Told). Tells text t) (sym is) (later (resolved_of text tree sound) (by_building sound small cause))
-unbuilt_told text tree (Err e) sound small cause is = tt
+pub large_told : (text : List ℕ) (tree : ProgramTree) (g : Ground) (made : Result Told Memory) → BreaksNoRule text tree g → 65536 < program_size tree → IfOk made (λ t. t ≡ tellings.Refused (plain first_place rules.L8 ∷ []))
+    → IfOk made (Tells text)
+large_told text tree g made sound large is =
+    refused_told text (plain first_place rules.L8 ∷ []) made (record { are = too_large sound large; some = one_is_some (plain first_place rules.L8) }) is
 
 -- one that is built has its code
-pub built_told : (text : List ℕ) (tree : ProgramTree) (built : Built) → BreaksNone text tree → program_size tree ≤ 65536 → IsBuiltOf tree built.program.checked.value built.code
-    → (kept : Built) → kept ≡ built → HasCode text kept.program.checked.value kept.code
-built_told text tree built sound small is kept same =
-    subst (λ (b : Built). HasCode text b.program.checked.value b.code) (sym same) (record { resolved = resolved_of text tree sound; sound = sound; small = small; built = is })
+pub built_told : (text : List ℕ) (built : Built) → HasCode text built.program.checked.value built.code → (kept : Built) → kept ≡ built → HasCode text kept.program.checked.value kept.code
+built_told text built has kept same = subst (λ (b : Built). HasCode text b.program.checked.value b.code) (sym same) has
 
 -- ---- a text
 
 -- a rule on tokens and grammar that it breaks is told of it
-pub broken_told : (text : List ℕ) (one : Diagnostic) (made : Result Told Memory) → Diagnoses text one → IfOk made (λ t. t ≡ tellings.Refused (one ∷ [])) → IfOk made (λ t. Tells text t)
-broken_told text one (Ok t) breaking is = subst (λ (x : Told). Tells text x) (sym is) (breaks (broken breaking))
-broken_told text one (Err e) breaking is = tt
+pub broken_told : (text : List ℕ) (one : Diagnostic) (made : Result Told Memory) → Diagnoses text one → IfOk made (λ t. t ≡ tellings.Refused (one ∷ [])) → IfOk made (Tells text)
+broken_told text one made breaking is = refused_told text (one ∷ []) made (record { are = no_tree breaking; some = one_is_some one }) is

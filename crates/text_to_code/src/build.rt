@@ -1,16 +1,23 @@
-// The code of a program that breaks no rule on names, modes, statements and processes.
-ghost use Rattle.std.specs.Prelude.{◌≡◌, ◌<◌, IfErr, IfOk, IsErrOf};
+// The program of a text that breaks no rule, and its code.
+ghost use Rattle.std.specs.Prelude.{◌≡◌, ◌≤◌, ℕ, List, IfOk};
 ghost use Rattle.chill_tree.specs.ItemTree.{program_tree};
+ghost use Rattle.checks_model.specs.Diagnoses.{BreaksNoRule};
+ghost use Rattle.constant_operators.specs.Grounds.{ground_of};
+ghost use Rattle.program_numbers.specs.Sources.{IsWalkOf};
+ghost use Rattle.elaborate.specs.Whole.{walk_of};
+ghost use Rattle.program_trees.specs.ProgramTree.{checked_tree};
+ghost use Rattle.code_laws.specs.Talk.{IsCompilable};
 ghost use Rattle.code_types.specs.Agreement.{Agrees};
-ghost use Rattle.program_ranges.specs.ProgramRanges.{AreInRange};
-ghost use Rattle.text_to_code.specs.Building.{IsBuiltOf, IsCompiled, IsGivenUp};
+ghost use Rattle.text_size.specs.Sizes.{program_size};
+ghost use Rattle.text_to_code.specs.Building.{HasCode, IsCodeOf, IsProgramOf};
 
+use chill_base::Memory;
 use checked_program::Checked;
 use chill_tree::tree::Tree;
 use code_gen::{CodeRefusal, compile};
 use code_guard::{GuardRefusal, Guarded, guard};
 use code_types::Code;
-use elaborate::{ElaborationRefusal, Program, elaborate};
+use elaborate::{Program, elaborate};
 use std::alloc::Global;
 use text_checks::Evaluation;
 
@@ -21,23 +28,17 @@ pub struct Built {
     pub code: Guarded,
 }
 
-/// Why a program has no code.
-#[derive(Drop)]
-pub(crate) enum BuildRefusal {
-    /// It isn't elaborated or compiled, or the guard doesn't take its code. No program that breaks no rule should come to this.
-    NotBuilt,
-    /// No memory was to be had.
-    Memory,
-}
-
-/// The code of a program, whose size was tested.
+/// The program of a text that breaks no rule and isn't too large, and its code.
 pub(crate) fn build(
     alloc: Global,
     tree: &Tree,
     evaluation: &Evaluation<'_>,
-) -> Result<Built, BuildRefusal>
-    ensures built { IfOk result (λ b. IsBuiltOf (program_tree tree.now) b.program.checked.value b.code) }
-    ensures refused { IfErr result (IsGivenUp (program_tree tree.now)) }
+) -> Result<Built, Memory>
+    ghost text: { List ℕ }
+    requires sound { BreaksNoRule text (program_tree tree.now) (ground_of evaluation.now) }
+    requires walk { IsWalkOf (program_tree tree.now) (walk_of evaluation) }
+    requires small { program_size (program_tree tree.now) ≤ 65536 }
+    ensures { IfOk result (λ b. HasCode text b.program.checked.value b.code) }
 {
     let program = elaborated(evaluation, tree)?;
     let code = compiled(alloc, program.checked())?;
@@ -45,34 +46,38 @@ pub(crate) fn build(
     Ok(Built { program, code })
 }
 
-fn elaborated(evaluation: &Evaluation<'_>, tree: &Tree) -> Result<Program, BuildRefusal>
-    ensures { IfOk result (λ p. AreInRange p.checked.value) }
+// The program of the text.
+fn elaborated(evaluation: &Evaluation<'_>, tree: &Tree) -> Result<Program, Memory>
+    ghost text: { List ℕ }
+    requires sound { BreaksNoRule text (program_tree tree.now) (ground_of evaluation.now) }
+    requires walk { IsWalkOf (program_tree tree.now) (walk_of evaluation) }
+    requires small { program_size (program_tree tree.now) ≤ 65536 }
+    ensures { IfOk result (λ p. IsProgramOf text p.checked.value) }
 {
-    match elaborate(evaluation, tree) {
-        Ok(program) => Ok(program),
-        Err(ElaborationRefusal::Memory) => Err(BuildRefusal::Memory),
-        Err(ElaborationRefusal::Unsound) => Err(BuildRefusal::NotBuilt),
-    }
+    elaborate(evaluation, tree)
 }
 
-fn compiled(alloc: Global, program: &Checked) -> Result<Code, BuildRefusal>
-    ensures made { IfOk result (IsCompiled program.now) }
-    ensures too_long { IsErrOf result BuildRefusal.NotBuilt → 65536 < program.now.size }
+// The code of a program that may be compiled.
+fn compiled(alloc: Global, program: &Checked) -> Result<Code, Memory>
+    requires small { program.now.size ≤ 65536 }
+    requires compilable { IsCompilable (checked_tree program.now) }
+    ensures { IfOk result (IsCodeOf program.now) }
 {
     match compile(alloc, program) {
         Ok(code) => Ok(code),
-        Err(CodeRefusal::CodeTooLong) => Err(BuildRefusal::NotBuilt),
-        Err(CodeRefusal::Memory) => Err(BuildRefusal::Memory),
+        Err(CodeRefusal::CodeTooLong) => unreachable!(),
+        Err(CodeRefusal::Memory) => Err(Memory),
     }
 }
 
-fn guarded(alloc: Global, code: Code) -> Result<Guarded, BuildRefusal>
-    ensures guarded { IfOk result (λ guarded. (guarded ≡ code) × Agrees code) }
-    ensures refused { IsErrOf result BuildRefusal.NotBuilt → Agrees code → ⊥ }
+// The same code, as the machine takes it.
+fn guarded(alloc: Global, code: Code) -> Result<Guarded, Memory>
+    requires { Agrees code }
+    ensures { IfOk result (λ guarded. guarded ≡ code) }
 {
     match guard(alloc, code) {
         Ok(code) => Ok(code),
-        Err(GuardRefusal::Disagrees(_)) => Err(BuildRefusal::NotBuilt),
-        Err(GuardRefusal::Memory) => Err(BuildRefusal::Memory),
+        Err(GuardRefusal::Disagrees(_)) => unreachable!(),
+        Err(GuardRefusal::Memory) => Err(Memory),
     }
 }

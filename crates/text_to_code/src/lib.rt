@@ -14,4 +14,4 @@ pub use build::Built;
 pub use elaborate::Program;
 pub use formatting::{Formatted, format_text};
 pub use laws::one_answer;
-pub use told::{Told, not_built, tell};
+pub use told::{Told, tell};

@@ -1,13 +1,18 @@
 // What is told of a text: its program with the code, or why it is refused.
-ghost use Rattle.std.specs.Prelude.{◌≡◌, [], ◌∷◌, IfOk, IfErr};
+ghost use Rattle.std.specs.Prelude.{◌≡◌, [], ◌∷◌, ℕ, List, IfOk, IfErr};
 ghost use Rattle.rules_model.specs.TokensCut.{first_place};
 ghost use Rattle.rules_model.specs.Diagnoses.{HasTree, plain};
 ghost use Rattle.chill_tree.specs.ItemTree.{program_tree};
+ghost use Rattle.names_model.specs.Resolving.{names_of, level_of};
+ghost use Rattle.checks_model.specs.Diagnoses.{BreaksNoRule, HasNames};
+ghost use Rattle.constant_operators.specs.Grounds.{ground_of};
+ghost use Rattle.program_numbers.specs.Sources.{IsWalkOf};
+ghost use Rattle.elaborate.specs.Whole.{walk_of};
+ghost use Rattle.text_to_code.specs.Telling.{IsNoTree, Tells};
 ghost use Rattle.diagnostics.specs.declared.rule.Rule.TheVariants as rules;
-ghost use Rattle.text_to_code.specs.Telling.{BreaksNone, HasNamesOf, IsNoTree, Tells, TellsExactly, TellsWhere};
 ghost use Rattle.text_to_code.specs.declared.told.Told.TheVariants as tellings;
 
-use crate::build::{BuildRefusal, Built, build};
+use crate::build::{Built, build};
 use crate::grammar::{FIRST_PLACE, NoTree, plainly, tokens_of, tree_of};
 use chill_base::Memory;
 use chill_tree::tree::Tree;
@@ -39,13 +44,6 @@ pub(crate) fn only(alloc: Global, told: Diagnostic) -> Result<Diagnostics, Memor
     Ok(list)
 }
 
-/// What is told of a text that has a tree, and no run for a reason which is none of the language.
-pub fn not_built(alloc: Global) -> Result<Diagnostics, Memory>
-    ensures { IfOk result (λ list. list ≡ plain first_place rules.B1 ∷ []) }
-{
-    only(alloc, plainly(alloc, FIRST_PLACE, Rule::B1))
-}
-
 // One diagnostic is told.
 fn refuse(alloc: Global, told: Diagnostic) -> Result<Told, Memory>
     ensures { IfOk result (λ t. t ≡ tellings.Refused (told ∷ [])) }
@@ -53,30 +51,33 @@ fn refuse(alloc: Global, told: Diagnostic) -> Result<Told, Memory>
     Ok(Told::Refused(only(alloc, told)?))
 }
 
-// A rule on the whole text is told, at its first byte.
-fn refuse_plainly(alloc: Global, rule: Rule) -> Result<Told, Memory>
-    ensures { IfOk result (λ t. t ≡ tellings.Refused (plain first_place rule ∷ [])) }
+// The text is too large, which is told at its first byte.
+fn refuse_size(alloc: Global) -> Result<Told, Memory>
+    ensures { IfOk result (λ t. t ≡ tellings.Refused (plain first_place rules.L8 ∷ [])) }
 {
-    refuse(alloc, plainly(alloc, FIRST_PLACE, rule))
+    refuse(alloc, plainly(alloc, FIRST_PLACE, Rule::L8))
 }
 
-// What is told of a tree of which the checks tell nothing.
+// What is told of a tree that breaks no rule.
 fn tell_of_code(alloc: Global, tree: &Tree, evaluation: &Evaluation<'_>) -> Result<Told, Memory>
-    ensures { TellsWhere (λ text. BreaksNone text (program_tree tree.now)) result }
+    ghost text: { List ℕ }
+    requires sound { BreaksNoRule text (program_tree tree.now) (ground_of evaluation.now) }
+    requires walk { IsWalkOf (program_tree tree.now) (walk_of evaluation) }
+    ensures { IfOk result (Tells text) }
 {
     if size_of_program(tree) > GREATEST_SIZE {
-        return refuse_plainly(alloc, Rule::L8);
+        return refuse_size(alloc);
     }
-    match build(alloc, tree, evaluation) {
-        Ok(built) => Ok(Told::Accepted(Box::new(alloc, built)?)),
-        Err(BuildRefusal::NotBuilt) => refuse_plainly(alloc, Rule::B1),
-        Err(BuildRefusal::Memory) => Err(Memory),
-    }
+    let built = build(alloc, tree, evaluation)?;
+    Ok(Told::Accepted(Box::new(alloc, built)?))
 }
 
 // What is told of a tree that breaks no rule on names.
 fn tell_of_checks(alloc: Global, tree: &Tree, names: &Names) -> Result<Told, Memory>
-    ensures { TellsWhere (HasNamesOf (program_tree tree.now) names.now) result }
+    ghost text: { List ℕ }
+    requires has { HasNames text (program_tree tree.now) }
+    requires names { names.now ≡ names_of (level_of (program_tree tree.now)) }
+    ensures { IfOk result (Tells text) }
 {
     let mut evaluation = evaluate(alloc, tree, names)?;
     match check_text(&mut evaluation, tree) {
@@ -88,7 +89,9 @@ fn tell_of_checks(alloc: Global, tree: &Tree, names: &Names) -> Result<Told, Mem
 
 // What is told of a text with a tree.
 fn tell_of_tree(alloc: Global, tree: &Tree) -> Result<Told, Memory>
-    ensures { TellsWhere (λ text. HasTree text (program_tree tree.now)) result }
+    ghost text: { List ℕ }
+    requires { HasTree text (program_tree tree.now) }
+    ensures { IfOk result (Tells text) }
 {
     match resolve(alloc, tree) {
         Ok(names) => tell_of_checks(alloc, tree, &names),
@@ -99,7 +102,7 @@ fn tell_of_tree(alloc: Global, tree: &Tree) -> Result<Told, Memory>
 
 // What is told of a text that has a tree.
 fn tell_of_text(alloc: Global, text: &[u8]) -> Result<Told, NoTree>
-    ensures tells { IfOk result (λ told. Tells text.now told) }
+    ensures tells { IfOk result (Tells text.now) }
     ensures breaks { IfErr result (IsNoTree text.now) }
 {
     let tokens = tokens_of(alloc, text)?;
@@ -108,11 +111,10 @@ fn tell_of_text(alloc: Global, text: &[u8]) -> Result<Told, NoTree>
     Ok(told)
 }
 
-/// What is told of a text: exactly the rules that it breaks of the first phase in which it breaks some; or its program and the
-/// code of that; or, by B1, that this compiler gives no code for it.
+/// What is told of a text: exactly the rules that it breaks of the first phase in which it breaks some; or, where it breaks none,
+/// its program and the code of that.
 pub fn tell(alloc: Global, text: &[u8]) -> Result<Told, Memory>
-    ensures told { IfOk result (λ told. Tells text.now told) }
-    ensures exact { IfOk result (λ told. TellsExactly text.now told) }
+    ensures { IfOk result (Tells text.now) }
 {
     match tell_of_text(alloc, text) {
         Ok(told) => Ok(told),
