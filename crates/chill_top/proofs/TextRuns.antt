@@ -1,7 +1,8 @@
 -- The code of a text runs as the text does: its facts are sound, it suits them, and each of its runs is one of the text.
 use Rattle.std.proofs.Common.{◌≡◌, ℕ, ◌≤◌, List, length, ap, subst, sym, length-map}
 use Rattle.checked_program.specs.declared.program.Checked.{Checked}
-use Rattle.code_gen.specs.Facts.{facts_of}
+use Rattle.std.specs.Prelude.{Any}
+use Rattle.code_gen.specs.Facts.{facts_of, HasNoLayout}
 use Rattle.code_types.specs.declared.code.Code.{Code}
 use Rattle.code_types.specs.Runs.{IsCodeRun}
 use Rattle.facts_laws.proofs.Facts.{facts_law}
@@ -66,3 +67,7 @@ run_of_text text program code input units events has budget run =
 pub has_text_runs : (text : List ℕ) (program : Checked) (code : Code) → HasCode text program code → HasTextRuns program code
 has_text_runs text program code has input units events budget =
     same_runs (checked_tree program) code (facts_of program input units) events (typed_facts text program code input units has budget) has.compiled.talks
+
+-- each location has a layout
+pub laid_out : (text : List ℕ) (program : Checked) (code : Code) → HasCode text program code → Any HasNoLayout program.locations → ⊥
+laid_out text program code has none = facts_law.laid program (typed_program text program code has) none

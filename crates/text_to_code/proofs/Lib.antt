@@ -1,4 +1,4 @@
-pub mod Causes
+pub mod Built
 pub mod OneAnswer
 pub mod Readings
 pub mod TellingLemmas

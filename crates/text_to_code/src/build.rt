@@ -9,6 +9,8 @@ ghost use Rattle.program_trees.specs.ProgramTree.{checked_tree};
 ghost use Rattle.code_laws.specs.Talk.{IsCompilable};
 ghost use Rattle.code_types.specs.Agreement.{Agrees};
 ghost use Rattle.text_size.specs.Sizes.{program_size};
+ghost use Rattle.written_laws.specs.Written.{Each};
+ghost use Rattle.byte_laws.specs.Bytes.{IsByte};
 ghost use Rattle.text_to_code.specs.Building.{HasCode, IsCodeOf, IsProgramOf};
 
 use chill_base::Memory;
@@ -18,8 +20,10 @@ use code_gen::{CodeRefusal, compile};
 use code_guard::{GuardRefusal, Guarded, guard};
 use code_types::Code;
 use elaborate::{Program, elaborate};
+use program_laws::program_law;
 use std::alloc::Global;
 use text_checks::Evaluation;
+use well_elaborated_laws::well_elaborated_law;
 
 /// A program and its code.
 #[derive(Drop)]
@@ -35,6 +39,7 @@ pub(crate) fn build(
     evaluation: &Evaluation<'_>,
 ) -> Result<Built, Memory>
     ghost text: { List ℕ }
+    requires bytes { Each IsByte text }
     requires sound { BreaksNoRule text (program_tree tree.now) (ground_of evaluation.now) }
     requires walk { IsWalkOf (program_tree tree.now) (walk_of evaluation) }
     requires small { program_size (program_tree tree.now) ≤ 65536 }
@@ -49,11 +54,14 @@ pub(crate) fn build(
 // The program of the text.
 fn elaborated(evaluation: &Evaluation<'_>, tree: &Tree) -> Result<Program, Memory>
     ghost text: { List ℕ }
+    requires bytes { Each IsByte text }
     requires sound { BreaksNoRule text (program_tree tree.now) (ground_of evaluation.now) }
     requires walk { IsWalkOf (program_tree tree.now) (walk_of evaluation) }
     requires small { program_size (program_tree tree.now) ≤ 65536 }
     ensures { IfOk result (λ p. IsProgramOf text p.checked.value) }
 {
+    program_law();
+    well_elaborated_law();
     elaborate(evaluation, tree)
 }
 

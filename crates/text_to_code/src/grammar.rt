@@ -3,6 +3,8 @@ ghost use Rattle.std.specs.Prelude.{◌≡◌, ◌-◌, ◌<◌, ◌^◌, IfOk, 
 ghost use Rattle.chill_tree.specs.ItemTree.{program_tree};
 ghost use Rattle.rules_model.specs.Diagnoses.{HasTree, IsShort, plain};
 ghost use Rattle.rules_model.specs.TokensCut.{AreTokensOf, behind, behind_all, first_place};
+ghost use Rattle.written_laws.specs.Written.{Each};
+ghost use Rattle.byte_laws.specs.Bytes.{IsByte};
 ghost use Rattle.text_to_code.specs.Telling.{IsNoTree};
 ghost use Rattle.text_to_code.specs.declared.grammar.NoTree.TheVariants as reasons;
 
@@ -78,6 +80,13 @@ fn end_of(text: &[u8]) -> Pos
         at = behind(at, *byte);
     }
     at
+}
+
+/// A text is made of bytes.
+pub(crate) fn bytes_law(text: &[u8])
+    ensures { Each IsByte text.now }
+{
+    let _length = text.len();
 }
 
 /// The tokens of a text.

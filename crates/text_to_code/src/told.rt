@@ -8,12 +8,14 @@ ghost use Rattle.checks_model.specs.Diagnoses.{BreaksNoRule, HasNames};
 ghost use Rattle.constant_operators.specs.Grounds.{ground_of};
 ghost use Rattle.program_numbers.specs.Sources.{IsWalkOf};
 ghost use Rattle.elaborate.specs.Whole.{walk_of};
+ghost use Rattle.written_laws.specs.Written.{Each};
+ghost use Rattle.byte_laws.specs.Bytes.{IsByte};
 ghost use Rattle.text_to_code.specs.Telling.{IsNoTree, Tells};
 ghost use Rattle.diagnostics.specs.declared.rule.Rule.TheVariants as rules;
 ghost use Rattle.text_to_code.specs.declared.told.Told.TheVariants as tellings;
 
 use crate::build::{Built, build};
-use crate::grammar::{FIRST_PLACE, NoTree, plainly, tokens_of, tree_of};
+use crate::grammar::{FIRST_PLACE, NoTree, bytes_law, plainly, tokens_of, tree_of};
 use chill_base::Memory;
 use chill_tree::tree::Tree;
 use diagnostics::{Diagnostic, Diagnostics, Rule};
@@ -61,6 +63,7 @@ fn refuse_size(alloc: Global) -> Result<Told, Memory>
 // What is told of a tree that breaks no rule.
 fn tell_of_code(alloc: Global, tree: &Tree, evaluation: &Evaluation<'_>) -> Result<Told, Memory>
     ghost text: { List ℕ }
+    requires bytes { Each IsByte text }
     requires sound { BreaksNoRule text (program_tree tree.now) (ground_of evaluation.now) }
     requires walk { IsWalkOf (program_tree tree.now) (walk_of evaluation) }
     ensures { IfOk result (Tells text) }
@@ -75,6 +78,7 @@ fn tell_of_code(alloc: Global, tree: &Tree, evaluation: &Evaluation<'_>) -> Resu
 // What is told of a tree that breaks no rule on names.
 fn tell_of_checks(alloc: Global, tree: &Tree, names: &Names) -> Result<Told, Memory>
     ghost text: { List ℕ }
+    requires bytes { Each IsByte text }
     requires has { HasNames text (program_tree tree.now) }
     requires names { names.now ≡ names_of (level_of (program_tree tree.now)) }
     ensures { IfOk result (Tells text) }
@@ -90,7 +94,8 @@ fn tell_of_checks(alloc: Global, tree: &Tree, names: &Names) -> Result<Told, Mem
 // What is told of a text with a tree.
 fn tell_of_tree(alloc: Global, tree: &Tree) -> Result<Told, Memory>
     ghost text: { List ℕ }
-    requires { HasTree text (program_tree tree.now) }
+    requires bytes { Each IsByte text }
+    requires tree { HasTree text (program_tree tree.now) }
     ensures { IfOk result (Tells text) }
 {
     match resolve(alloc, tree) {
@@ -107,6 +112,7 @@ fn tell_of_text(alloc: Global, text: &[u8]) -> Result<Told, NoTree>
 {
     let tokens = tokens_of(alloc, text)?;
     let tree = tree_of(alloc, text, tokens.as_slice())?;
+    bytes_law(text);
     let told = tell_of_tree(alloc, &tree)?;
     Ok(told)
 }

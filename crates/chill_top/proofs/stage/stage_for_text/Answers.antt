@@ -9,8 +9,8 @@ returns-in_ok-formatted-in-Format-clause-stage g c =
 -- it is built
 pub returns-in_ok-told-in-Build-clause-stage : goal.returns-in_ok-told-in-Build-clause-stage
 returns-in_ok-told-in-Build-clause-stage g c =
-    ok-stage-told c.args.read.now c.args.task c.in-Build.purpose (g.I.Feed.bytes c.args.feed.now) _ c.in_ok-told-in-Build.told c.stage_for_told.result c.in-Build.is c.in_ok-told-in-Build.ensures.told c.stage_for_told.ensures.stage
+    ok-stage-told c.args.read.now c.args.task c.in-Build.purpose (g.I.Feed.bytes c.args.feed.now) _ c.in_ok-told-in-Build.told c.stage_for_told.result c.in-Build.is c.in_ok-told-in-Build.ensures c.stage_for_told.ensures.stage
 
 pub returns-in_ok-told-in-Build-clause-reads : goal.returns-in_ok-told-in-Build-clause-reads
 returns-in_ok-told-in-Build-clause-reads g c =
-    reads_told c.args.read.now c.in_ok-told-in-Build.told c.stage_for_told.result c.in_ok-told-in-Build.ensures.told c.stage_for_told.ensures.reads
+    reads_told c.args.read.now c.in_ok-told-in-Build.told c.stage_for_told.result c.in_ok-told-in-Build.ensures c.stage_for_told.ensures.reads

@@ -1,4 +1,4 @@
-use Rattle.text_to_code.proofs.OneAnswer.{some_diagnosis, one_diagnosis, refused_exactly, accepted_exactly}
+use Rattle.text_to_code.proofs.OneAnswer.{some_diagnosis, one_diagnosis, accepted_exactly}
 use Rattle.text_to_code.proofs.laws.one_answer.Goals as goal
 
 pub returns-clause-some : goal.returns-clause-some
@@ -6,9 +6,6 @@ returns-clause-some c = some_diagnosis
 
 pub returns-clause-list : goal.returns-clause-list
 returns-clause-list c = one_diagnosis
-
-pub returns-clause-refused : goal.returns-clause-refused
-returns-clause-refused c = refused_exactly
 
 pub returns-clause-accepted : goal.returns-clause-accepted
 returns-clause-accepted c = accepted_exactly

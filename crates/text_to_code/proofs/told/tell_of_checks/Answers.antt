@@ -1,18 +1,18 @@
+use Rattle.std.proofs.Common.{◌∙◌, ap}
 use Rattle.chill_tree.specs.ItemTree.{program_tree}
-use Rattle.constant_operators.specs.Grounds.{ground_of}
+use Rattle.names_model.specs.declared.names.Names.{Names}
 use Rattle.text_to_code.proofs.TellingLemmas.{checks_told}
 use Rattle.text_to_code.proofs.told.tell_of_checks.Goals as goal
 
--- the checks tell nothing
-pub returns-in-Ok : goal.returns-in-Ok
-returns-in-Ok c = λ text has.
-    let sound = c.in-Ok.ensures.exact text has.has (c.in_ok-evaluation.ensures text has.has has.are) in
-    c.tell_of_code.ensures text (record { ground = ground_of c.check_text.new.evaluation; none = sound.none })
+-- the checks tell nothing: the names are the text's, and so is what is known of them
+pub requires-tell_of_code-sound : goal.requires-tell_of_code-sound
+requires-tell_of_code-sound g c = (c.in-Ok.ensures.exact g.text c.requires.has (c.in_ok-evaluation.ensures.table g.text c.requires.has c.requires.names)).none
 
 -- they tell what is broken
 pub returns-in-Err-Broken : goal.returns-in-Err-Broken
-returns-in-Err-Broken c = λ text has.
+returns-in-Err-Broken g c =
     let arm = c.in-Err-Broken in
+    let table = c.in_ok-evaluation.ensures.table g.text c.requires.has c.requires.names in
     let order = rw arm.field-0-is at arm.ensures.order in
-    let exactly = rw arm.field-0-is at arm.ensures.exact text has.has (c.in_ok-evaluation.ensures text has.has has.are) in
-    rw arm.field-0-is (checks_told text (program_tree c.args.tree.now) arm.told has.has order exactly)
+    let exactly = rw arm.field-0-is at arm.ensures.exact g.text c.requires.has table in
+    checks_told g.text (program_tree c.args.tree.now) arm.told order.1 exactly
