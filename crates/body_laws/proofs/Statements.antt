@@ -154,13 +154,13 @@ declared_each s at known shared (d ∷ ds) ys all built =
     let parts = made_parts (λ y ys. y ∷ ys) (declaration s d) (made_each (declaration s) ds) ys built in
     subst (λ l. Each (IsTypedStatement at) l) parts.whole (declaration_typed s at known shared d parts.first all.0 parts.of_first, declared_each s at known shared ds parts.second all.1 parts.of_second)
 
-declarations_typed : (s : Source) (at : typed.Around) (known : AllNamesKnown s) (shared : Bool) (l : LocalTree) (ys : List done.StatementTree) → Sounds s at.context (sites_of_local shared l) → declarations s l ≡ Some ys → Each (IsTypedStatement at) ys
+pub declarations_typed : (s : Source) (at : typed.Around) (known : AllNamesKnown s) (shared : Bool) (l : LocalTree) (ys : List done.StatementTree) → Sounds s at.context (sites_of_local shared l) → declarations s l ≡ Some ys → Each (IsTypedStatement at) ys
 declarations_typed s at known shared (locations p ds) ys all built = declared_each s at known shared ds ys all built
 declarations_typed s at known shared (synonyms p ss) ys all built = subst (λ l. Each (IsTypedStatement at) l) (same_some [] ys built) tt
 declarations_typed s at known shared (syn_modes p ds) ys all built = subst (λ l. Each (IsTypedStatement at) l) (same_some [] ys built) tt
 declarations_typed s at known shared (new_modes p ds) ys all built = subst (λ l. Each (IsTypedStatement at) l) (same_some [] ys built) tt
 
-before_typed : (at : typed.Around) (xs : List done.StatementTree) (rest : done.StatementNodes) → Each (IsTypedStatement at) xs → AreTyped at rest → AreTyped at (before xs rest)
+pub before_typed : (at : typed.Around) (xs : List done.StatementTree) (rest : done.StatementNodes) → Each (IsTypedStatement at) xs → AreTyped at rest → AreTyped at (before xs rest)
 before_typed at [] rest all have = have
 before_typed at (x ∷ xs) rest all have = (all.0, before_typed at xs rest all.1 have)
 

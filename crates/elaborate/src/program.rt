@@ -1,7 +1,15 @@
-// The elaborated program as callers hold it.
+// The elaborated program as callers hold it, and what a body does.
 ghost use Rattle.std.specs.Prelude.{◌≡◌};
 
-use checked_program::Checked;
+use checked_program::{Checked, Handler, Statement};
+use chill_base::List;
+
+/// What a body does.
+#[derive(Drop)]
+pub struct Inside {
+    pub statements: List<Statement>,
+    pub handler: Option<Box<Handler>>,
+}
 
 /// An elaborated program in memory of its own.
 pub struct Program {

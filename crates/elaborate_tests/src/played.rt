@@ -41,10 +41,10 @@ const TURNS: &[Turn] = &[
 
 // The guarded code of a text.
 fn guarded_of(alloc: Global, text: &[u8]) -> Result<Guarded, Fail> {
-    let Ok(program) = elaborated(alloc, text) else {
+    let Ok(built) = elaborated(alloc, text) else {
         return Err(Fail::from("no program"));
     };
-    let Ok(code) = compile(alloc, program.checked()) else {
+    let Ok(code) = compile(alloc, built.program.checked()) else {
         return Err(Fail::from("no code"));
     };
     match guard(alloc, code) {

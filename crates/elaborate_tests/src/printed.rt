@@ -8,10 +8,10 @@ use crate::statement_rows::{HOLDING, SIMPLE};
 use crate::value_rows::{CONSTANTS, OPERATORS, PLACES};
 use checked_program::Checked;
 use chill_base::Memory;
-use elaborate::Program;
 use std::alloc::Global;
 use std::process::Abort;
 use std::test::Fail;
+use text_to_code::Built;
 
 /// A program, and what each of its bodies does, written by hand.
 pub struct Printed {
@@ -19,10 +19,10 @@ pub struct Printed {
     pub bodies: &'static [&'static str],
 }
 
-// The elaborated program of a text.
-fn program_of(alloc: Global, text: &str) -> Result<Program, Fail> {
+// The elaborated program of a text, with its code.
+fn built_of(alloc: Global, text: &str) -> Result<Box<Built>, Fail> {
     match elaborated(alloc, text.as_bytes()) {
-        Ok(program) => Ok(program),
+        Ok(built) => Ok(built),
         Err(cause) => Err(Fail::from(cause)),
     }
 }
@@ -39,15 +39,15 @@ fn body_text(alloc: Global, program: &Checked, number: usize) -> Result<Page, Me
 // Each program has these bodies, which do what stands in the table.
 fn compare_all(rt: &impl Abort, alloc: Global, all: &[Printed]) -> Result<(), Fail> {
     for own in all {
-        let program = program_of(alloc, own.text)?;
+        let built = built_of(alloc, own.text)?;
         assert_eq!(rt;
-            program.checked().bodies.len(),
+            built.program.checked().bodies.len(),
             own.bodies.len(),
             "{}",
             own.text
         );
         for (number, wanted) in own.bodies.iter().enumerate() {
-            let page = body_text(alloc, program.checked(), number)?;
+            let page = body_text(alloc, built.program.checked(), number)?;
             assert_eq!(rt; page.as_text(), *wanted, "{}", own.text);
         }
     }
@@ -82,9 +82,9 @@ fn holding_actions_are_elaborated(rt: HostRuntime) -> Result<(), Fail> {
 #[test]
 fn definitions_are_numbered(rt: HostRuntime) -> Result<(), Fail> {
     for own in ROWS {
-        let program = program_of(rt.alloc(), own.text)?;
+        let built = built_of(rt.alloc(), own.text)?;
         let mut page = Page::new(rt.alloc());
-        put_rows(&mut page, program.checked(), own.rows)?;
+        put_rows(&mut page, built.program.checked(), own.rows)?;
         assert_eq!(rt; page.as_text(), own.printed, "{}", own.text);
     }
     Ok(())

@@ -31,7 +31,7 @@ use Rattle.expression_laws.proofs.Exits.{exits_there}
 use Rattle.expression_laws.proofs.Nodes.{nodes_there}
 use Rattle.expression_laws.proofs.Outside.{row_parts}
 use Rattle.expression_laws.proofs.Text.{of_member}
-use Rattle.program_laws.proofs.Rows.{SiteSo}
+use Rattle.program_laws.proofs.Rows.{SiteSo, each_received}
 use Rattle.program_laws.proofs.Counters.{processes_clean}
 use Rattle.program_laws.proofs.Defined.{names_list, sites_so}
 use Rattle.head_laws.proofs.Rows.{MadeOf, made_parts, three_parts, each_row}
@@ -62,7 +62,7 @@ module _ (text : List ℕ) (t : ProgramTree) (h : Ground) (has : BreaksNoRule te
 
   received_ordered : (n : Name) (names : Option (List Name)) → SiteRun (text_definitions (level_of t)) (at_received n names) → SiteSo (text_origins t) (names_list text t h has) (at_received n names) → SiteOrdered own_source (at_received n names)
   received_ordered n None run so ks made = subst AreInOrder (same_some [] ks made) tt
-  received_ordered n (Some ns) run so ks made = in_order text t h has n (length ns) ns ks run so made
+  received_ordered n (Some ns) run so ks made = in_order text t h has n (length ns) ns ks run (each_received (text_origins t) (names_list text t h has) n (length ns) 0 ns so) made
 
   site_ordered : (n : Site) → SiteRun (text_definitions (level_of t)) n → SiteSo (text_origins t) (names_list text t h has) n → processes_told_at h n ≡ [] → SiteOrdered own_source n
   site_ordered (at_received n names) run so none = received_ordered n names run so

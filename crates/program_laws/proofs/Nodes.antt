@@ -61,7 +61,7 @@ use Rattle.expression_laws.proofs.Placed.{fits_kind, FitsPlace, text_placed}
 use Rattle.expression_laws.proofs.Text.{of_member, each_one}
 use Rattle.expression_laws.proofs.TextRows.{definition_there}
 use Rattle.expression_laws.proofs.Things.{in_body, apart_thing, things_known}
-use Rattle.program_laws.proofs.Rows.{AreDefinedAs, IsDefinedAs, IsReceivedAs, SiteSo, ModulionSo, EachModulionSo}
+use Rattle.program_laws.proofs.Rows.{AreDefinedAs, IsDefinedAs, IsReceivedAs, each_received, SiteSo, ModulionSo, EachModulionSo}
 use Rattle.program_laws.proofs.Counters.{IsWellAt, sites_well, processes_clean, all_modal}
 use Rattle.program_laws.proofs.Frames.{DeclaredSo, all_shared, SameMode, SiteSame, mode_same, site_same}
 use Rattle.program_laws.proofs.Defined.{DefinedIn, names_list, defined_in, sites_so, modulions_so, entry_at, location_place, defined_place}
@@ -203,7 +203,7 @@ module _ (text : List ℕ) (t : ProgramTree) (h : Ground) (has : BreaksNoRule te
   received_stands n None so = tt
   received_stands n (Some ns) so =
       each_more (IsReceivedAs (text_origins t) (names_list text t h has) n (length ns)) (λ x. IsSome (local_defined (source_of h t) x))
-      (λ x at. local_there x (a_received n (length ns) at.0) (defined_in text t h has x (a_received n (length ns) at.0) at.1) refl refl refl) ns so
+      (λ x at. local_there x (a_received n (length ns) at.0) (defined_in text t h has x (a_received n (length ns) at.0) at.1) refl refl refl) ns (each_received (text_origins t) (names_list text t h has) n (length ns) 0 ns so)
 
   node_stands : (n : Site) → Contains (sites t) n → SiteSo (text_origins t) (names_list text t h has) n → IsWellAt h n → NamesNamed h n → DeclaresSome n → NodeStands (source_of h t) n
   node_stands (at_declaration shared d) c so well named some = declared d d.names some so

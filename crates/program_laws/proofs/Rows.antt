@@ -71,11 +71,20 @@ AreDefinedAs os is o ns = Each (λ n. IsDefinedAs os is n o) ns
 abbrev pub IsReceivedAs : List Origin → List Identifier → Name → ℕ → Name → Type 0
 IsReceivedAs os is source count n = (part : ℕ) × IsDefinedAs os is n (a_received source count part)
 
+-- so many received names in order, from a part on
+abbrev pub AreReceivedAs : List Origin → List Identifier → Name → ℕ → ℕ → List Name → Type 0
+AreReceivedAs os is source count k [] = Unit {0}
+AreReceivedAs os is source count k (n ∷ ns) = IsDefinedAs os is n (a_received source count k) × AreReceivedAs os is source count (suc k) ns
+
+pub each_received : (os : List Origin) (is : List Identifier) (source : Name) (count k : ℕ) (ns : List Name) → AreReceivedAs os is source count k ns → Each (IsReceivedAs os is source count) ns
+each_received os is source count k [] all = tt
+each_received os is source count k (n ∷ ns) all = ((k, all.0), each_received os is source count (suc k) ns all.1)
+
 -- the node of the whole program stands in no item
 abbrev pub SiteSo : List Origin → List Identifier → Site → Type 0
 SiteSo os is (at_declaration shared d) = AreDefinedAs os is (a_location d) d.names
 SiteSo os is (at_control c) = AreDefinedAs os is (a_counter c) (counter_in c)
-SiteSo os is (at_received n (Some ns)) = Each (IsReceivedAs os is n (length ns)) ns
+SiteSo os is (at_received n (Some ns)) = AreReceivedAs os is n (length ns) 0 ns
 SiteSo os is (at_program shared) = ⊥
 SiteSo os is s = Unit {0}
 
@@ -108,10 +117,14 @@ abbrev mutual
 are_more : (os us : List Origin) (is js : List Identifier) (o : Origin) → Carries os is us js → (ns : List Name) → AreDefinedAs os is o ns → AreDefinedAs us js o ns
 are_more os us is js o carry ns all = each_more (λ n. IsDefinedAs os is n o) (λ n. IsDefinedAs us js n o) (λ n at. carry n o at) ns all
 
+received_more : (os us : List Origin) (is js : List Identifier) (source : Name) (count k : ℕ) → Carries os is us js → (ns : List Name) → AreReceivedAs os is source count k ns → AreReceivedAs us js source count k ns
+received_more os us is js source count k carry [] all = tt
+received_more os us is js source count k carry (n ∷ ns) all = (carry n (a_received source count k) all.0, received_more os us is js source count (suc k) carry ns all.1)
+
 site_more : (os us : List Origin) (is js : List Identifier) → Carries os is us js → (s : Site) → SiteSo os is s → SiteSo us js s
 site_more os us is js carry (at_declaration shared d) so = are_more os us is js (a_location d) carry d.names so
 site_more os us is js carry (at_control c) so = are_more os us is js (a_counter c) carry (counter_in c) so
-site_more os us is js carry (at_received n (Some ns)) so = each_more (IsReceivedAs os is n (length ns)) (IsReceivedAs us js n (length ns)) (λ m at. (at.0, carry m (a_received n (length ns) at.0) at.1)) ns so
+site_more os us is js carry (at_received n (Some ns)) so = received_more os us is js n (length ns) 0 carry ns so
 site_more os us is js carry (at_program shared) so = so
 site_more os us is js carry s so = tt
 
@@ -390,11 +403,11 @@ module _ (test : Mention → Bool) where
   turn_held (for_members at n s c) = joined (counter_held (for_members at n s c) n refl) (mentions (mentions_of_some c))
   turn_held (for_steps at n s b down e c) = joined (counter_held (for_steps at n s b down e c) n refl) (mentions (mentions_of_some c))
 
-  received_rows : (source : Name) (count k : ℕ) (ns : List Name) → Each (IsReceivedAs (map (a_received source count) (numbers_on k (length ns))) (identifiers ns) source count) ns
+  received_rows : (source : Name) (count k : ℕ) (ns : List Name) → AreReceivedAs (map (a_received source count) (numbers_on k (length ns))) (identifiers ns) source count k ns
   received_rows source count k [] = tt
   received_rows source count k (n ∷ ns) =
       let us = map (a_received source count) (numbers_on (suc k) (length ns)) in
-      ((k, inl (refl, refl)), each_more (IsReceivedAs us (identifiers ns) source count) (IsReceivedAs (a_received source count k ∷ us) (identifier n ∷ identifiers ns) source count) (λ m at. (at.0, inr at.1)) ns (received_rows source count (suc k) ns))
+      (inl (refl, refl), received_more us (a_received source count k ∷ us) (identifiers ns) (identifier n ∷ identifiers ns) source count (suc k) (λ m o at. inr at) ns (received_rows source count (suc k) ns))
 
   received_same : (source : Name) (count k : ℕ) (ns : List Name) → length (map (a_received source count) (numbers_on k (length ns))) ≡ length (identifiers ns)
   received_same source count k [] = refl

@@ -1,54 +1,56 @@
-// What a region grants (Z.200, chapters on program structure and on visibility).
-use chill_base::Memory;
-use chill_tree::tree::{Item, Modulion, Name, Passed};
-use std::alloc::Global;
-use std::collections::HashSet;
+// What a modulion grants (Z.200, chapters on program structure and on visibility).
+ghost use Rattle.std.specs.Prelude.{◌≡◌};
+ghost use Rattle.std.specs.List.{list_any};
+ghost use Rattle.std.specs.Str.{bytes_eq};
+ghost use Rattle.chill_tree.specs.ItemTree.{item_tree, item_trees};
+ghost use Rattle.elaboration_model.specs.Elaborated as model;
 
-/// The names that a modulion grants, one by one or all.
-#[derive(Drop)]
-pub struct Granted {
-    names: HashSet<Vec<u8>>,
-    all: bool,
+use chill_tree::tree::{Item, Name, Passed};
+
+/// Whether some item grants a name, by itself or among all.
+pub fn some_grants(items: &[Item], name: &Name) -> bool
+    ensures { result ≡ list_any (model.grants name.now) (item_trees items.now) }
+{
+    for item in items {
+        if grants(item, name) {
+            return true;
+        }
+    }
+    false
 }
 
-impl Granted {
-    /// Nothing.
-    pub fn nothing(alloc: Global) -> Granted {
-        Granted {
-            names: HashSet::new(alloc),
-            all: false,
+#[tactic(auto, using(chill_tree::proofs::ItemViews::item_built))]
+fn grants(item: &Item, name: &Name) -> bool
+    ensures { result ≡ model.grants name.now (item_tree item.now) }
+{
+    match item {
+        Item::Grant { passed, .. } => is_granted_by(passed, name),
+        Item::Seize { .. }
+        | Item::Local(_)
+        | Item::Signals { .. }
+        | Item::Procedure(_)
+        | Item::Process(_)
+        | Item::Modulion(_)
+        | Item::Statement(_) => false,
+    }
+}
+
+fn is_granted_by(passed: &Passed, name: &Name) -> bool
+    ensures { result ≡ model.is_granted_by name.now passed.now }
+{
+    match passed {
+        Passed::All(_) => true,
+        Passed::Names(names) => is_among(names.as_slice(), name),
+    }
+}
+
+fn is_among(names: &[Name], name: &Name) -> bool
+    ensures { result ≡ list_any (λ m. bytes_eq m.text name.now.text) names.now }
+{
+    for own in names {
+        if own.text.as_slice() == name.text.as_slice() {
+            return true;
         }
     }
-
-    /// What a modulion grants.
-    pub fn by(alloc: Global, own: &Modulion) -> Result<Granted, Memory> {
-        let mut granted = Granted::nothing(alloc);
-        for item in own.items.as_slice() {
-            match item {
-                Item::Grant {
-                    passed: Passed::All(_),
-                    ..
-                } => granted.all = true,
-                Item::Grant {
-                    passed: Passed::Names(names),
-                    ..
-                } => granted.add(alloc, names.as_slice())?,
-                _ => {}
-            }
-        }
-        Ok(granted)
-    }
-
-    fn add(&mut self, alloc: Global, names: &[Name]) -> Result<(), Memory> {
-        for name in names {
-            let text = Vec::from_slice(alloc, name.text.as_slice())?;
-            self.names.insert(text)?;
-        }
-        Ok(())
-    }
-
-    /// Whether a procedure of this name that is defined in the modulion is granted.
-    pub fn has(&self, procedure: &Name) -> bool {
-        self.all || self.names.contains(procedure.text.as_slice())
-    }
+    false
 }

@@ -1,156 +1,73 @@
 // The number of each definition in the list that it stands in.
-use crate::refusal::ElaborationRefusal;
+ghost use Rattle.std.specs.Prelude.{◌≡◌, ℕ, if◌then◌else◌, List as Listed, slice_index_or, IfOk};
+ghost use Rattle.elaboration_model.specs.Numbering as model;
+ghost use Rattle.program_numbers.specs.Rows.{row_trees, AreBodiesOf};
+ghost use Rattle.program_numbers.specs.Sources.{thing_at};
+
+use crate::counts::Counts;
+use crate::row::{Row, counted};
 use crate::thing::Thing;
 use chill_base::{List, Memory, Numbers};
-use chill_tree::tree::ModulionKind;
-use expr_rules::Walk;
-use mode_rules::{Meeting, Origin, meeting_of};
 use names_model::Inside;
 use std::alloc::Global;
 
 // The number of the outermost process's body.
 const OUTERMOST: u32 = 0;
 
-/// What each definition of a text is, by its number.
-pub type Things = List<Thing>;
-
-/// What each definition of a program is.
-pub fn things_of(walk: &Walk<'_, '_>) -> Result<Things, ElaborationRefusal> {
-    let alloc = walk.evaluation.alloc;
-    let mut found = List::new(alloc);
-    let mut counts = Counts::none(alloc)?;
-    let definitions = walk.evaluation.names.definitions.as_slice();
-    for number in 0..walk.evaluation.defined.len() {
-        let Some(own) = definitions.get(number) else {
-            return Err(ElaborationRefusal::Unsound);
-        };
-        let around = body_around(own.inside, found.as_slice())?;
-        let number = u32::try_from(number).unwrap_or(u32::MAX);
-        let thing = match around {
-            None => counts.outside(walk, number)?,
-            Some(body) => counts.inside(walk, number, body)?,
-        };
-        found.push(thing)?;
+/// The number of the body that each definition has: that of the outermost process where it has none.
+pub fn bodies_of(alloc: Global, rows: &[Row<'_>]) -> Result<Numbers, Memory>
+    ensures { IfOk result (λ bodies. AreBodiesOf (row_trees rows.now) bodies) }
+{
+    let mut bodies = Numbers::new(alloc);
+    let mut last = OUTERMOST;
+    for row in rows {
+        let has_body = row.has_body();
+        let more = counted(last, has_body)?;
+        last = more;
+        bodies.push(body_with(last, has_body))?;
     }
-    Ok(found)
+    Ok(bodies)
 }
 
-// The number of the body in which a definition stands that isn't directly in a modulion: the outermost process has the
-// blocks of modules and regions.
-fn body_around(inside: Inside, things: &[Thing]) -> Result<Option<u32>, ElaborationRefusal> {
-    let around = match inside {
-        Inside::Outermost | Inside::Modulion(_) => return Ok(None),
-        Inside::Body(definition) | Inside::Block(definition) => things.get(definition as usize),
-    };
-    match around {
-        Some(Thing::Body(body)) => Ok(Some(*body)),
-        Some(Thing::Region(_)) | Some(Thing::Nothing) => Ok(Some(OUTERMOST)),
-        Some(Thing::Shared(_))
-        | Some(Thing::Local { .. })
-        | Some(Thing::Event(_))
-        | Some(Thing::Buffer(_))
-        | Some(Thing::Signal(_))
-        | None => Err(ElaborationRefusal::Unsound),
+// The number of the body, where there is one.
+fn body_with(number: u32, has_body: bool) -> u32
+    ensures { result ≡ (if has_body then number else 0) }
+{
+    if has_body { number } else { OUTERMOST }
+}
+
+/// The body in which something stands that isn't directly in a modulion: the outermost process has the blocks of modulions.
+pub fn body_around(inside: Inside, bodies: &[u32]) -> Option<u32>
+    ensures { (rs : Listed model.Row) → AreBodiesOf rs bodies.now → result ≡ model.body_around rs inside }
+{
+    match inside {
+        Inside::Outermost | Inside::Modulion(_) => None,
+        Inside::Body(around) | Inside::Block(around) => Some(body_at(bodies, around as usize)),
     }
 }
 
-// How many there are so far of each list.
-struct Counts {
-    shared: u32,
-    events: u32,
-    buffers: u32,
-    signals: u32,
-    regions: u32,
-    // The locals of each body.
-    locals: Numbers,
-}
-
-// Dropped by hand, so that whoever drops one makes one call.
-impl Drop for Counts {
-    fn drop(self) {
-        let Counts {
-            shared: _,
-            events: _,
-            buffers: _,
-            signals: _,
-            regions: _,
-            locals,
-        } = self;
-        drop(locals);
+/// The number of the body that a definition has.
+pub fn body_at(bodies: &[u32], definition: usize) -> u32
+    ensures { result ≡ slice_index_or bodies.now definition 0 }
+{
+    match bodies.get(definition) {
+        None => OUTERMOST,
+        Some(body) => *body,
     }
 }
 
-impl Counts {
-    // The outermost process alone.
-    fn none(alloc: Global) -> Result<Counts, Memory> {
-        let mut locals = Numbers::new(alloc);
-        locals.push(0_u32)?;
-        Ok(Counts {
-            shared: 0,
-            events: 0,
-            buffers: 0,
-            signals: 0,
-            regions: 0,
-            locals,
-        })
+/// What each definition is.
+pub fn things_of(alloc: Global, rows: &[Row<'_>], bodies: &[u32]) -> Result<List<Thing>, Memory>
+    requires { AreBodiesOf (row_trees rows.now) bodies.now }
+    ensures { IfOk result (λ things. (d : ℕ) → thing_at things d ≡ model.thing_of (row_trees rows.now) d) }
+{
+    let mut counts = Counts::none(alloc);
+    let mut things = List::new(alloc);
+    for row in rows {
+        let around = body_around(row.inside, bodies);
+        let thing = counts.thing(row, around)?;
+        things.push(thing)?;
+        counts.add(row, around)?;
     }
-
-    // What a definition is that stands directly in a modulion or at the outermost level.
-    fn outside(&mut self, walk: &Walk<'_, '_>, number: u32) -> Result<Thing, ElaborationRefusal> {
-        match walk.evaluation.origin(number) {
-            Some(Origin::Modulion(own)) if own.kind == ModulionKind::Region => {
-                Ok(Thing::Region(next(&mut self.regions)))
-            }
-            Some(Origin::Procedure(_)) | Some(Origin::Process(_)) => {
-                let body = u32::try_from(self.locals.len()).unwrap_or(u32::MAX);
-                self.locals.push(0)?;
-                Ok(Thing::Body(body))
-            }
-            Some(Origin::Signal(_)) => Ok(Thing::Signal(next(&mut self.signals))),
-            Some(Origin::Location { .. }) => self.location(walk, number),
-            _ => Ok(Thing::Nothing),
-        }
-    }
-
-    // What a location is that stands directly in a modulion.
-    fn location(&mut self, walk: &Walk<'_, '_>, number: u32) -> Result<Thing, ElaborationRefusal> {
-        let Some(mode) = walk.mode_of(number) else {
-            return Err(ElaborationRefusal::Unsound);
-        };
-        Ok(match meeting_of(mode) {
-            None => Thing::Shared(next(&mut self.shared)),
-            Some(Meeting::Event { .. }) => Thing::Event(next(&mut self.events)),
-            Some(Meeting::Buffer { .. }) => Thing::Buffer(next(&mut self.buffers)),
-        })
-    }
-
-    // What a definition is that stands in a body.
-    fn inside(
-        &mut self,
-        walk: &Walk<'_, '_>,
-        number: u32,
-        body: u32,
-    ) -> Result<Thing, ElaborationRefusal> {
-        match walk.evaluation.origin(number) {
-            Some(Origin::Location { .. })
-            | Some(Origin::Parameter { .. })
-            | Some(Origin::Counter(_))
-            | Some(Origin::Received { .. }) => {}
-            _ => return Ok(Thing::Nothing),
-        }
-        match self.locals.room().get_mut(body as usize) {
-            None => Err(ElaborationRefusal::Unsound),
-            Some(count) => Ok(Thing::Local {
-                body,
-                number: next(count),
-            }),
-        }
-    }
-}
-
-// The next number of a list.
-fn next(count: &mut u32) -> u32 {
-    let number = *count;
-    *count = number.saturating_add(1);
-    number
+    Ok(things)
 }

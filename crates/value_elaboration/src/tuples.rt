@@ -1,208 +1,253 @@
 // Tuples, with a mode's name or of the mode of what receives them (Z.200, chapter on values).
-use crate::elaborated::{Elaborated, boxed};
+ghost use Rattle.std.specs.Prelude.{◌≡◌, ℕ, Bool, true, Option, Some, IfOk, option_and_then};
+ghost use Rattle.chill_tree.specs.ExprTree.{expr_tree, range_trees, range_nodes};
+ghost use Rattle.chill_tree.specs.ExprTree.{range_tree as written_range};
+ghost use Rattle.modes.specs.ModeTree.{ModeTree, mode_tree};
+ghost use Rattle.modes.specs.Form.{FormTree, form_of};
+ghost use Rattle.modes.specs.Bounds.{bounds_of};
+ghost use Rattle.program_trees.specs.ExprTree.{operation_tree, range_tree, received_tree, received_of, powerset};
+ghost use Rattle.checks_model.specs.Classes.{tuple_mode, shape_fits, uniform_fits, value_if, mode_of_part};
+ghost use Rattle.checks_model.specs.ValueRules.{received_mode};
+ghost use Rattle.elaboration_model.specs.Parts.{made_of};
+ghost use Rattle.elaboration_model.specs.Expressions.{tuple_operation, ranges_as, range_as, parts_as, part_as};
+ghost use Rattle.expr_rules.specs.Views.{some_mode, own_mode, receiver_tree, part_of_shape, shape_misfits_at};
+ghost use Rattle.program_numbers.specs.Answers.{Elaborates};
+ghost use Rattle.value_elaboration.specs.Steps.{tuple_in, shaped_in, uniform_in, uniform_made};
+ghost use Rattle.value_elaboration.specs.Views.{source_of, HasSource, members_tree};
+ghost use Rattle.value_elaboration.specs.Made.{IsMade};
+
 use crate::values::Values;
-use checked_program::{Operation, Range, Received};
+use checked_program::{Expr, Operation, Range, Received};
 use chill_base::{List, Memory};
 use chill_tree::tree::{Expr as Tree, Name, ValueRange};
+use constant_operators::shared;
+use elaborated_operators::values_in;
 use expr_rules::{Receiver, Shape, shape_of};
-use modes::{Class, Form, Mode, bounds, form_of, number_of_values};
-use program_numbers::{ElaborationRefusal, Known, TupleValue};
+use modes::{Class, Form, Mode, bounds, form_of};
+use program_numbers::ElaborationRefusal;
 use std::rc::Rc;
 
 impl<'a, 'b, 'c> Values<'a, 'b, 'c> {
     // A tuple of parts.
+    #[tactic(auto, using(crate::proofs::Telling::made_handed, crate::proofs::Telling::made_unsound, crate::proofs::Telling::not_chained))]
     #[cycle(value)]
     pub(crate) fn tuple(
         &self,
         parts: &[ValueRange],
-        mode: &Option<Name>,
-        receiver: Receiver<'_>,
-    ) -> Result<Elaborated, ElaborationRefusal> {
-        match (mode, receiver) {
-            (Some(name), _) => {
-                let own = self.mode_named(name)?;
-                self.tuple_of(parts, &own, true)
-            }
-            (None, Receiver::Mode(Some(own))) => self.tuple_of(parts, own, false),
-            (None, _) => Err(ElaborationRefusal::Unsound),
-        }
+        name: &Option<Name>,
+        mode: Option<&Rc<Mode>>,
+    ) -> Result<Box<Expr>, ElaborationRefusal>
+        ensures { HasSource self.now → IsMade (option_and_then (value_if (shape_fits (range_nodes (range_trees parts.now)))) (tuple_mode (source_of self.now).known name.now (some_mode mode.entry))) (option_and_then (λ own. tuple_operation (form_of own) (ranges_as (source_of self.now) own (range_nodes (range_trees parts.now))) (parts_as (source_of self.now) (shape_fits (range_nodes (range_trees parts.now))) 0 (Some own) (range_nodes (range_trees parts.now)))) (tuple_mode (source_of self.now).known name.now (some_mode mode.entry))) result }
+    {
+        let Some(own) = self.tuple_mode(name, mode)? else {
+            return Err(ElaborationRefusal::Unsound);
+        };
+        let operation = self.tuple_operation(parts, &own)?;
+        self.made(Some(Class::Value(own)), operation)
     }
 
     // A tuple of one value for all elements of an array.
+    #[tactic(auto, using(crate::proofs::Telling::made_handed, crate::proofs::Telling::made_unsound, crate::proofs::Telling::not_chained))]
     #[cycle(value)]
     pub(crate) fn uniform(
         &self,
         value: &Tree,
-        mode: &Option<Name>,
-        receiver: Receiver<'_>,
-    ) -> Result<Elaborated, ElaborationRefusal> {
-        match (mode, receiver) {
-            (Some(name), _) => {
-                let own = self.mode_named(name)?;
-                self.uniform_of(value, &own, true)
-            }
-            (None, Receiver::Mode(Some(own))) => self.uniform_of(value, own, false),
-            (None, _) => Err(ElaborationRefusal::Unsound),
+        name: &Option<Name>,
+        mode: Option<&Rc<Mode>>,
+    ) -> Result<Box<Expr>, ElaborationRefusal>
+        ensures { HasSource self.now → IsMade (option_and_then (value_if uniform_fits) (tuple_mode (source_of self.now).known name.now (some_mode mode.entry))) (uniform_made (source_of self.now) (tuple_mode (source_of self.now).known name.now (some_mode mode.entry)) (expr_tree value.now)) result }
+    {
+        let Some(own) = self.tuple_mode(name, mode)? else {
+            return Err(ElaborationRefusal::Unsound);
+        };
+        let operation = self.uniform_operation(value, &own)?;
+        self.made(Some(Class::Value(own)), operation)
+    }
+
+    // The mode of a tuple: that of its name, else that of what receives it.
+    fn tuple_mode(
+        &self,
+        name: &Option<Name>,
+        mode: Option<&Rc<Mode>>,
+    ) -> Result<Option<Rc<Mode>>, Memory>
+        ensures { HasSource self.now → IfOk result (λ m. own_mode m ≡ tuple_mode (source_of self.now).known name.now (some_mode mode.entry)) }
+    {
+        match name {
+            Some(name) => self.walk.evaluation.mode_of_name(name),
+            None => shared(mode),
         }
     }
 
-    // The mode before a tuple.
-    fn mode_named(&self, name: &Name) -> Result<Rc<Mode>, ElaborationRefusal> {
-        match self.walk.evaluation.mode_of_name(name)? {
-            Some(mode) => Ok(mode),
-            None => Err(ElaborationRefusal::Unsound),
-        }
-    }
-
-    // A tuple of parts of a mode, with its name or without.
+    // What finds a tuple of a mode, which has the form of that mode.
+    #[tactic(auto, using(crate::proofs::Telling::handed, crate::proofs::MadeViews::made_views))]
     #[cycle(value)]
-    fn tuple_of(
+    fn tuple_operation(
         &self,
         parts: &[ValueRange],
-        mode: &Rc<Mode>,
-        is_named: bool,
-    ) -> Result<Elaborated, ElaborationRefusal> {
-        let shape = shape_of(Receiver::Mode(Some(mode)), parts);
-        match shape {
-            Shape::Members(member) => self.powerset(parts, mode, member, is_named),
-            Shape::Elements(_) | Shape::Fields(_) => {
-                let mut value = TupleValue::of_parts(self.alloc());
-                let operation = self.parts(parts, shape, &mut value)?;
-                let known = tuple_known(value, mode, is_named)?;
-                Ok(Elaborated::found(known, operation))
-            }
-            Shape::Unknown | Shape::Misfit => Err(ElaborationRefusal::Unsound),
+        own: &Rc<Mode>,
+    ) -> Result<Operation, ElaborationRefusal>
+        ensures { HasSource self.now → Elaborates (tuple_in (source_of self.now) (mode_tree own.now.value) (range_nodes (range_trees parts.now))) operation_tree result }
+    {
+        match form_of(own) {
+            Form::Powerset(member) => self.powerset(parts, member),
+            Form::Array { .. } => self.shaped(parts, own),
+            Form::Struct { .. } => self.shaped(parts, own),
+            Form::Int
+            | Form::Bool
+            | Form::Char
+            | Form::Instance
+            | Form::Set { .. }
+            | Form::Chars(_)
+            | Form::Meeting => Err(ElaborationRefusal::Unsound),
         }
     }
 
-    // A tuple of members of a powerset.
+    // A tuple of an array or a structure, which has so many parts.
+    #[tactic(auto, using(crate::proofs::Telling::handed, crate::proofs::MadeViews::made_views))]
+    #[cycle(value)]
+    fn shaped(&self, parts: &[ValueRange], own: &Rc<Mode>) -> Result<Operation, ElaborationRefusal>
+        ensures { HasSource self.now → Elaborates (shaped_in (source_of self.now) (mode_tree own.now.value) (range_nodes (range_trees parts.now))) operation_tree result }
+    {
+        let shape = shape_of(Receiver::Mode(Some(own)), parts);
+        if is_misfit(&shape) {
+            return Err(ElaborationRefusal::Unsound);
+        }
+        let all = self.parts_as(parts, shape)?;
+        Ok(Operation::Parts(all))
+    }
+
+    // A powerset of members of a mode.
+    #[tactic(auto, using(crate::proofs::Telling::handed, crate::proofs::Telling::second_missing, crate::proofs::Telling::both_there, crate::proofs::MadeViews::made_views))]
     #[cycle(value)]
     fn powerset(
         &self,
         parts: &[ValueRange],
-        mode: &Rc<Mode>,
         member: &Rc<Mode>,
-        is_named: bool,
-    ) -> Result<Elaborated, ElaborationRefusal> {
-        let mut value = TupleValue::of_members(self.alloc(), member)?;
-        let operation = self.members(parts, member, &mut value)?;
-        let known = tuple_known(value, mode, is_named)?;
-        Ok(Elaborated::found(known, operation))
-    }
-
-    // The members of a powerset, which are added to its value.
-    #[cycle(value)]
-    fn members(
-        &self,
-        parts: &[ValueRange],
-        member: &Rc<Mode>,
-        value: &mut TupleValue,
-    ) -> Result<Box<Operation>, ElaborationRefusal> {
+    ) -> Result<Operation, ElaborationRefusal>
+        ensures { HasSource self.now → (own : ModeTree) → mode_of_part (λ f. true) 0 (Some own) ≡ Some (mode_tree member.now.value) → Elaborates (made_of powerset (bounds_of (mode_tree member.now.value)) (ranges_as (source_of self.now) own (range_nodes (range_trees parts.now)))) operation_tree result }
+    {
         let Some(bounds) = bounds(member) else {
             return Err(ElaborationRefusal::Unsound);
         };
+        let members = self.ranges_as(parts, member)?;
+        Ok(Operation::Powerset { bounds, members })
+    }
+
+    // The members of a powerset.
+    #[tactic(auto, using(crate::proofs::Telling::handed, crate::proofs::Lists::ranges_end))]
+    #[cycle(value)]
+    fn ranges_as(
+        &self,
+        parts: &[ValueRange],
+        member: &Rc<Mode>,
+    ) -> Result<List<Range>, ElaborationRefusal>
+        ensures { HasSource self.now → (own : ModeTree) → mode_of_part (λ f. true) 0 (Some own) ≡ Some (mode_tree member.now.value) → Elaborates (ranges_as (source_of self.now) own (range_nodes (range_trees parts.now))) members_tree result }
+    {
         let mut members = List::new(self.alloc());
         for part in parts {
-            members.push(self.range(part, member, value)?)?;
+            let range = self.range_as(part, member)?;
+            members.push(range)?;
         }
-        Ok(boxed(self.alloc(), Operation::Powerset { bounds, members })?)
+        Ok(members)
     }
 
     // A member of a powerset, or the members from one to another.
+    #[tactic(auto, using(crate::proofs::Telling::handed, crate::proofs::MadeViews::made_views))]
     #[cycle(value)]
-    fn range(
-        &self,
-        part: &ValueRange,
-        member: &Rc<Mode>,
-        value: &mut TupleValue,
-    ) -> Result<Range, ElaborationRefusal> {
-        let receiver = Receiver::Mode(Some(member));
-        let first = self.node(&part.first, receiver)?;
-        let Some(last) = &part.last else {
-            value.add_span(member, &first.known, &first.known);
-            let first = first.into_expr(self.alloc())?;
-            return Ok(Range { first, last: None });
+    fn range_as(&self, part: &ValueRange, member: &Rc<Mode>) -> Result<Range, ElaborationRefusal>
+        ensures { HasSource self.now → Elaborates (range_as (source_of self.now) (Some (mode_tree member.now.value)) (written_range part.now)) range_tree result }
+    {
+        let first = self.expr_as(&part.first, Some(member))?;
+        let last = match &part.last {
+            None => None,
+            Some(last) => Some(self.expr_as(last, Some(member))?),
         };
-        let last = self.node(last, receiver)?;
-        value.add_span(member, &first.known, &last.known);
-        let first = first.into_expr(self.alloc())?;
-        let last = Some(last.into_expr(self.alloc())?);
         Ok(Range { first, last })
     }
 
-    // The elements of an array or the fields of a structure, which are added to its value.
+    // The elements of an array or the fields of a structure.
+    #[tactic(auto, using(crate::proofs::Telling::handed, crate::proofs::Lists::parts_end))]
     #[cycle(value)]
-    fn parts(
+    fn parts_as(
         &self,
         parts: &[ValueRange],
         shape: Shape<'_>,
-        value: &mut TupleValue,
-    ) -> Result<Box<Operation>, ElaborationRefusal> {
+    ) -> Result<List<Received>, ElaborationRefusal>
+        ensures { HasSource self.now → (fits : FormTree → Bool) (m : Option ModeTree) → ((k : ℕ) → part_of_shape shape.entry k ≡ mode_of_part fits k m) → Elaborates (parts_as (source_of self.now) fits 0 m (range_nodes (range_trees parts.now))) received_of result }
+    {
         let mut all = List::new(self.alloc());
         for (place, part) in parts.iter().enumerate() {
-            all.push(self.part(&part.first, shape.receiver(place), value)?)?;
+            let received = self.part_as(part, mode_received(shape.receiver(place)))?;
+            all.push(received)?;
         }
-        Ok(boxed(self.alloc(), Operation::Parts(all))?)
+        Ok(all)
     }
 
     // An element or a field.
     #[cycle(value)]
-    fn part(
+    fn part_as(
         &self,
-        expr: &Tree,
-        receiver: Receiver<'_>,
-        value: &mut TupleValue,
-    ) -> Result<Received, ElaborationRefusal> {
-        let Receiver::Mode(Some(mode)) = receiver else {
-            return Err(ElaborationRefusal::Unsound);
-        };
-        let node = self.node(expr, receiver)?;
-        value.add(&node.known)?;
-        node.into_received(self.alloc(), mode)
+        part: &ValueRange,
+        mode: Option<&Rc<Mode>>,
+    ) -> Result<Received, ElaborationRefusal>
+        ensures { HasSource self.now → Elaborates (part_as (source_of self.now) (some_mode mode.entry) (written_range part.now)) received_tree result }
+    {
+        match &part.last {
+            None => self.received_by(&part.first, mode),
+            Some(_) => Err(ElaborationRefusal::Unsound),
+        }
     }
 
-    // An array whose elements all have one value.
+    // What finds a tuple of one value for all elements of a mode, which is an array.
+    #[tactic(auto, using(crate::proofs::Telling::handed, crate::proofs::Telling::not_mapped, crate::proofs::MadeViews::made_views))]
     #[cycle(value)]
-    fn uniform_of(
+    fn uniform_operation(
         &self,
         value: &Tree,
-        mode: &Rc<Mode>,
-        is_named: bool,
-    ) -> Result<Elaborated, ElaborationRefusal> {
-        let Form::Array { index, element, .. } = form_of(mode) else {
-            return Err(ElaborationRefusal::Unsound);
-        };
-        let count = number_of_values(index);
-        let node = self.node(value, Receiver::Mode(Some(element)))?;
-        let copies = self.copies(&node.known, count)?;
-        let known = tuple_known(copies, mode, is_named)?;
-        let value = node.into_received(self.alloc(), element)?;
-        let elements = u32::try_from(count).unwrap_or(u32::MAX);
-        self.found(known, Operation::Uniform { elements, value })
-    }
-
-    // The value of an array of so many elements of which this is known.
-    fn copies(&self, element: &Known, count: u64) -> Result<TupleValue, Memory> {
-        let mut all = TupleValue::of_parts(self.alloc());
-        for _ in 0..count {
-            all.add(element)?;
-            if element.value.is_none() {
-                break;
+        own: &Rc<Mode>,
+    ) -> Result<Operation, ElaborationRefusal>
+        ensures { HasSource self.now → Elaborates (uniform_in (source_of self.now) (form_of (mode_tree own.now.value)) (expr_tree value.now)) operation_tree result }
+    {
+        match form_of(own) {
+            Form::Array { index, element, .. } => {
+                let elements = values_in(index)?;
+                let value = self.received_by(value, Some(element))?;
+                Ok(Operation::Uniform { elements, value })
             }
+            Form::Int
+            | Form::Bool
+            | Form::Char
+            | Form::Instance
+            | Form::Set { .. }
+            | Form::Powerset(_)
+            | Form::Chars(_)
+            | Form::Struct { .. }
+            | Form::Meeting => Err(ElaborationRefusal::Unsound),
         }
-        Ok(all)
     }
 }
 
-// What is known of a tuple, whose mode is this. It is a constant where it has a value and is written with its mode's name;
-// without one it has a value only to be a part of such a tuple.
-fn tuple_known(value: TupleValue, mode: &Rc<Mode>, is_named: bool) -> Result<Known, Memory> {
-    let value = value.into_value();
-    let is_constant = is_named && value.is_some();
-    Ok(Known {
-        class: Some(Class::Value(mode.clone()?)),
-        value,
-        is_constant,
-        is_clean: true,
-    })
+// Whether a tuple doesn't have the form of its mode.
+fn is_misfit(shape: &Shape<'_>) -> bool
+    ensures { result ≡ shape_misfits_at shape.now }
+{
+    match shape {
+        Shape::Misfit => true,
+        Shape::Unknown | Shape::Members(_) | Shape::Elements(_) | Shape::Fields(_) => false,
+    }
+}
+
+// The mode of what receives a value.
+fn mode_received<'r>(receiver: Receiver<'r>) -> Option<&'r Rc<Mode>>
+    ensures { some_mode result ≡ received_mode (receiver_tree receiver.entry) }
+{
+    match receiver {
+        Receiver::Mode(mode) => mode,
+        Receiver::Nothing
+        | Receiver::Location(_)
+        | Receiver::Condition
+        | Receiver::Selector
+        | Receiver::Bound
+        | Receiver::Members => None,
+    }
 }

@@ -1,0 +1,5 @@
+pub mod Trees
+pub mod Views
+pub mod Sources
+pub mod Lists
+pub mod Parts

@@ -1,0 +1,11 @@
+pub mod Answering
+pub mod Heads
+pub mod Rows
+pub mod Turns
+pub mod Numbered
+pub mod Whole
+pub mod BodyHeads
+pub mod Passing
+pub mod Modulions
+pub mod Counting
+pub mod Placing

@@ -1,0 +1,12 @@
+pub mod Upward
+pub mod Standing
+pub mod Elements
+pub mod Reaches
+pub mod Uses
+pub mod Walked
+pub mod Bodies
+pub mod Owned
+pub mod Grants
+pub mod Places
+pub mod Given
+pub mod Items

@@ -1,0 +1,3 @@
+pub mod BodyViews
+pub mod ItemViews
+pub mod SiteLemmas
