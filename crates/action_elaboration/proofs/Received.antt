@@ -1,5 +1,5 @@
 -- A list of values of which the last is taken.
-use Rattle.std.proofs.Common.{◌≡◌, List, [], ◌∷◌, ◌++◌, Option, Some, None, refl, ap, ◌∙◌}
+use Rattle.std.proofs.Common.{◌≡◌, List, [], ◌∷◌, ◌++◌, Some, None, refl, ap, ◌∙◌}
 use Rattle.checked_program.specs.declared.expr.Received.{Received}
 use Rattle.program_trees.specs.ExprTree.{received_tree, received_of}
 use Rattle.elaboration_model.specs.Statements.{only_received}

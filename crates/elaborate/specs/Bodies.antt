@@ -44,4 +44,4 @@ bodied s (o ∷ os) = if has_body o then made_of (λ i is. i ∷ is) (inside_as 
 -- ---- bodies with what they do
 
 abbrev pub with_its_inside : Body × Inside → Body
-with_its_inside (b, i) = record b { statements = i.statements; handler = i.handler }
+with_its_inside p = record p.0 { statements = p.1.statements; handler = p.1.handler }

@@ -140,9 +140,8 @@ impl<'a, 'b, 'c> Bodies<'a, 'b, 'c> {
             (tree.body_trees body.now) (option_map tree.boxed_handler handler.now))
             inside_tree result }
     {
-        let around = Around::in_body(returned);
-        let statements = self.statements.body(body, around)?;
-        let handler = self.statements.handled(handler, around)?;
+        let statements = self.statements.body(body, Around::in_body(returned))?;
+        let handler = self.statements.handled(handler, Around::in_body(returned))?;
         Ok(Inside {
             statements,
             handler,

@@ -5,6 +5,7 @@ use Rattle.chill_tree.specs.ItemTree.{ProcedureTree, ProcessTree}
 use Rattle.modes.specs.ModeTree.{ModeTree}
 use Rattle.checked_program.specs.declared.program.Parameter.{Parameter}
 use Rattle.checked_program.specs.declared.program.Sort.TheVariants as sorts
+use Rattle.checked_program.specs.declared.statement.Statement.{Statement}
 use Rattle.program_trees.specs.StatementTree as done
 use Rattle.program_trees.specs.ProgramTree.{BodyRowTree, LocalRowTree}
 use Rattle.checks_model.specs.Ground.{a_procedure, a_process}
@@ -83,3 +84,21 @@ procedure-there s d r p m ks b ls name region critical ps result listed own loca
     ∙ ap (λ a. Some (procedure_with d name a (is_critical s.rows r p.name) (flat_map parameters_of p.params) m ks ls)) (sym around)
     ∙ ap (λ k. Some (procedure_with d name region k (flat_map parameters_of p.params) m ks ls)) (sym marked)
     ∙ ap (λ ps. Some (procedure_with d name region critical ps m ks ls)) (sym passed)
+
+-- ---- by lists that are empty
+
+abbrev pub process_full : ℕ → List ℕ → List Parameter → List LocalRowTree → List ℕ → List Statement → BodyRowTree
+process_full d name ps ls listed ss = record (process_with d name ps ls) { listed = listed; statements = done.statements_of ss }
+
+pub process-filled : (whole : Option BodyRowTree) (d : ℕ) (name : List ℕ) (ps : List Parameter) (ls : List LocalRowTree) (listed : List ℕ) (ss : List Statement) → listed ≡ [] → ss ≡ []
+    → whole ≡ Some (process_with d name ps ls) → whole ≡ Some (process_full d name ps ls listed ss)
+process-filled whole d name ps ls listed ss none nothing before =
+    before ∙ ap (λ (listed : List ℕ). Some (process_full d name ps ls listed [])) (sym none) ∙ ap (λ (ss : List Statement). Some (process_full d name ps ls listed ss)) (sym nothing)
+
+abbrev pub procedure_full : ℕ → List ℕ → Option ℕ → Bool → List Parameter → Option ModeTree → List ℕ → List LocalRowTree → List Statement → BodyRowTree
+procedure_full d name region critical ps m ks ls ss = record (procedure_with d name region critical ps m ks ls) { statements = done.statements_of ss }
+
+pub procedure-filled : (whole : Option BodyRowTree) (d : ℕ) (name : List ℕ) (region : Option ℕ) (critical : Bool) (ps : List Parameter) (m : Option ModeTree) (ks : List ℕ) (ls : List LocalRowTree) (ss : List Statement) → ss ≡ []
+    → whole ≡ Some (procedure_with d name region critical ps m ks ls) → whole ≡ Some (procedure_full d name region critical ps m ks ls ss)
+procedure-filled whole d name region critical ps m ks ls ss nothing before =
+    before ∙ ap (λ (ss : List Statement). Some (procedure_full d name region critical ps m ks ls ss)) (sym nothing)

@@ -102,17 +102,21 @@ impl<'s, 'a, 'b> Source<'s, 'a, 'b> {
         ensures { Elaborates (heads.head_as (source_at self.now) definition (row_tree row.now) (a_process (process_tree own.now))) body_row_tree result }
     {
         let locals = self.locals_of(self.own_body(definition))?;
+        let name = text(self.alloc(), row.name.as_bytes())?;
+        let parameters = formals_of(self.alloc(), own.formals.as_slice())?;
+        let listed = Numbers::new(self.alloc());
+        let statements = List::new(self.alloc());
         Ok(Body {
             definition: Some(definition),
-            name: text(self.alloc(), row.name.as_bytes())?,
+            name,
             sort: Sort::Process,
             region: None,
             critical: false,
-            parameters: formals_of(self.alloc(), own.formals.as_slice())?,
+            parameters,
             result: None,
-            listed: Numbers::new(self.alloc()),
+            listed,
             locals,
-            statements: List::new(self.alloc()),
+            statements,
             handler: None,
         })
     }
@@ -130,17 +134,20 @@ impl<'s, 'a, 'b> Source<'s, 'a, 'b> {
         let result = self.result_of(own)?;
         let listed = self.listed_by(&own.exceptions)?;
         let locals = self.locals_of(self.own_body(definition))?;
+        let name = text(self.alloc(), row.name.as_bytes())?;
+        let parameters = parameters_of(self.alloc(), own.params.as_slice())?;
+        let statements = List::new(self.alloc());
         Ok(Body {
             definition: Some(definition),
-            name: text(self.alloc(), row.name.as_bytes())?,
+            name,
             sort: Sort::Procedure,
             region: self.region_around(row.inside),
             critical: self.is_critical(row, &own.name),
-            parameters: parameters_of(self.alloc(), own.params.as_slice())?,
+            parameters,
             result,
             listed,
             locals,
-            statements: List::new(self.alloc()),
+            statements,
             handler: None,
         })
     }

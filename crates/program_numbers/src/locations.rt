@@ -7,7 +7,7 @@ ghost use Rattle.chill_tree.specs.ItemTree.{signal_tree};
 ghost use Rattle.checks_model.specs.ProcessRules.{meets_event, meets_buffer, meets_nothing};
 ghost use Rattle.elaboration_model.specs.Parts.{made_each, made_of_some};
 ghost use Rattle.expr_rules.specs.Grounds.{HasItsGround};
-ghost use Rattle.expr_rules.specs.Views.{part_modes};
+ghost use Rattle.expr_rules.specs.Views.{own_mode, part_modes};
 ghost use Rattle.elaboration_model.specs.Numbering.{is_shared, is_signal, body_used};
 ghost use Rattle.elaboration_model.specs.Elaborated as model;
 ghost use Rattle.elaboration_model.specs.Elaborated.{rows_made};
@@ -43,6 +43,16 @@ fn event_length(mode: &Mode) -> Option<u32>
         | Mode::Array { .. }
         | Mode::Struct { .. }
         | Mode::Buffer { .. } => None,
+    }
+}
+
+// The mode, which has to be known.
+fn known(mode: &Option<Rc<Mode>>) -> Result<Rc<Mode>, ElaborationRefusal>
+    ensures { Elaborates (own_mode mode.now) shared_mode result }
+{
+    match mode {
+        None => Err(ElaborationRefusal::Unsound),
+        Some(mode) => Ok(shared(mode)?),
     }
 }
 
@@ -247,10 +257,7 @@ impl<'s, 'a, 'b> Source<'s, 'a, 'b> {
     {
         let mut made = List::new(self.alloc());
         for mode in modes {
-            let Some(mode) = mode else {
-                return Err(ElaborationRefusal::Unsound);
-            };
-            made.push(shared(mode)?)?;
+            made.push(known(mode)?)?;
         }
         Ok(made)
     }

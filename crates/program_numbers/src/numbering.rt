@@ -8,7 +8,7 @@ ghost use Rattle.elaboration_model.specs.Elaborated.{source_of};
 ghost use Rattle.expr_rules.specs.Grounds.{ground_in};
 ghost use Rattle.program_numbers.specs.Answers.{Elaborates};
 ghost use Rattle.program_numbers.specs.Sources.{thing_tree, thing_at, source_in, HasNumbers, IsWalkOf};
-ghost use Rattle.program_numbers.specs.Heads.{headed, headed_by, nothing_of, with_exceptions};
+ghost use Rattle.program_numbers.specs.Heads.{headed, headed_by, with_exceptions};
 ghost use Rattle.program_numbers.specs.Rows.{source_at, HasTables};
 ghost use Rattle.text_size.specs.Sizes.{program_size};
 
@@ -68,23 +68,9 @@ fn exceptions_of(alloc: Global, tree: &Tree) -> Result<Exceptions, Memory>
     Exceptions::none(alloc).behind(names.as_slice())
 }
 
-// A program of which only the size is known.
-fn empty_program(alloc: Global, size: u32) -> Result<Box<Checked>, Memory>
-    ensures { IfOk result (λ p. p.value ≡ nothing_of size) }
+fn boxed(alloc: Global, program: Checked) -> Result<Box<Checked>, Memory>
+    ensures { IfOk result (λ p. p.value ≡ program) }
 {
-    let program = Checked {
-        locations: List::new(alloc),
-        bodies: List::new(alloc),
-        regions: 0,
-        events: List::new(alloc),
-        buffers: List::new(alloc),
-        signals: List::new(alloc),
-        exceptions: List::new(alloc),
-        reads_input: false,
-        size,
-        definitions: List::new(alloc),
-        modulions: List::new(alloc),
-    };
     Ok(Box::new(alloc, program)?)
 }
 
@@ -93,24 +79,32 @@ fn lists_of(source: &Source<'_, '_, '_>, tree: &Tree) -> Result<Box<Checked>, El
     requires { HasTables source.now }
     ensures { IsWalkOf (program_tree tree.now) source.now.walk.now → Elaborates (headed (source_at source.now) (program_tree tree.now)) (λ p. with_exceptions source.now.exceptions.now.spellings (checked_tree p.value)) result }
 {
-    let mut program = empty_program(source.alloc(), size_of(tree)?)?;
-    let locations = source.locations()?;
-    program.locations = locations;
-    let events = source.events()?;
-    program.events = events;
-    let buffers = source.buffers()?;
-    program.buffers = buffers;
-    let signals = source.signals()?;
-    program.signals = signals;
-    let bodies = source.heads()?;
-    program.bodies = bodies;
+    let size = size_of(tree)?;
     let regions = source.regions()?;
-    program.regions = regions;
-    program.reads_input = source.reads_input();
+    let locations = source.locations()?;
+    let events = source.events()?;
+    let buffers = source.buffers()?;
+    let signals = source.signals()?;
+    let bodies = source.heads()?;
     let definitions = source.definitions()?;
-    program.definitions = definitions;
     let modulions = modulion_rows(source.alloc(), &source.known(), tree)?;
-    program.modulions = modulions;
+    let exceptions = List::new(source.alloc());
+    let program = boxed(
+        source.alloc(),
+        Checked {
+            locations,
+            bodies,
+            regions,
+            events,
+            buffers,
+            signals,
+            exceptions,
+            reads_input: source.reads_input(),
+            size,
+            definitions,
+            modulions,
+        },
+    )?;
     Ok(program)
 }
 

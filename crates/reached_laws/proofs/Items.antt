@@ -46,7 +46,7 @@ use Rattle.written_laws.proofs.Rows.{AreSized}
 use Rattle.written_laws.proofs.Defining.{program_sized}
 use Rattle.elaboration_model.specs.Numbering.{Source, Row, body_of, thing_of}
 use Rattle.elaboration_model.specs.Elaborated.{region_in, region_around, source_of}
-use Rattle.reached_laws.specs.Reached.{other_names, defined_names, IsUsedWithin, IsDefinedWithin, IsSiteWithin, ItemWithin, ItemsWithin, ModulionsKnown, EachModulionKnown, ReachedLaw}
+use Rattle.reached_laws.specs.Reached.{other_names, defined_names, IsUseReached, IsDefinitionReached, IsSiteReached, IsItemReached, AreItemsReached, ModulionsKnown, EachModulionKnown, ReachedLaw}
 use Rattle.reached_laws.proofs.Standing.{GoesAlong, ArePlain, plain_both, params_long, Stand, stand_left, stand_right, stand_next, stand_both, heads_inside}
 use Rattle.reached_laws.proofs.Elements.{IsFit, AreFit, fit_both, plain_fit, GoElements, parts_go}
 use Rattle.reached_laws.proofs.Reaches.{Fact, IsGood, block_good, modulion_good, outermost_good, plain_ups}
@@ -215,25 +215,25 @@ module _ (bytes : List ℕ) (t : ProgramTree) (g : Ground) (has : HasNames bytes
   abbrev OpenTo : ℕ → Option ℕ → Fact text
   OpenTo body region = Open s text inside_is body region
 
-  site_within : (body : ℕ) (region : Option ℕ) (n : Site) → walk.SiteSo t (OpenTo body region) n → IsSiteWithin s body region n
+  site_within : (body : ℕ) (region : Option ℕ) (n : Site) → walk.SiteSo t (OpenTo body region) n → IsSiteReached s body region n
   site_within body region n so = record {
-    exprs = each_into (λ e. Each (walk.UsedSo t (OpenTo body region)) (names_in e)) (λ e. Each (IsUsedWithin s body region) (names_in e)) (λ e all. each_into (walk.UsedSo t (OpenTo body region)) (IsUsedWithin s body region) used (names_in e) all) (exprs_at n) so.exprs;
-    others = each_into (walk.UsedSo t (OpenTo body region)) (IsUsedWithin s body region) used (other_names n) so.others;
-    defined = each_into (walk.DefinedSo t (OpenTo body region)) (IsDefinedWithin s body region) defines_it (defined_names n) so.defined;
+    exprs = each_into (λ e. Each (walk.UsedSo t (OpenTo body region)) (names_in e)) (λ e. Each (IsUseReached s body region) (names_in e)) (λ e all. each_into (walk.UsedSo t (OpenTo body region)) (IsUseReached s body region) used (names_in e) all) (exprs_at n) so.exprs;
+    others = each_into (walk.UsedSo t (OpenTo body region)) (IsUseReached s body region) used (other_names n) so.others;
+    defined = each_into (walk.DefinedSo t (OpenTo body region)) (IsDefinitionReached s body region) defines_it (defined_names n) so.defined;
   }
     where
-      used : (m : Name) → walk.UsedSo t (OpenTo body region) m → IsUsedWithin s body region m
+      used : (m : Name) → walk.UsedSo t (OpenTo body region) m → IsUseReached s body region m
       used m own d r number row =
           let x = row_is text g.origins g.entries d r row in
           own d x.definition (sym (ap (λ (y : Ground). number_at y.uses m.at) is_ground) ∙ number) x.is r row
 
-      defines_it : (m : Name) → walk.DefinedSo t (OpenTo body region) m → IsDefinedWithin s body region m
+      defines_it : (m : Name) → walk.DefinedSo t (OpenTo body region) m → IsDefinitionReached s body region m
       defines_it m own d r number row =
           let same = same_some own.number d (sym (number_is m own.number own.definition own.is own.named) ∙ number) in
           own.so r (ap (slice_get s.rows) same ∙ row)
 
-  sites_within : (body : ℕ) (region : Option ℕ) (ns : List Site) → Each (walk.SiteSo t (OpenTo body region)) ns → Each (IsSiteWithin s body region) ns
-  sites_within body region ns all = each_into (walk.SiteSo t (OpenTo body region)) (IsSiteWithin s body region) (site_within body region) ns all
+  sites_within : (body : ℕ) (region : Option ℕ) (ns : List Site) → Each (walk.SiteSo t (OpenTo body region)) ns → Each (IsSiteReached s body region) ns
+  sites_within body region ns all = each_into (walk.SiteSo t (OpenTo body region)) (IsSiteReached s body region) (site_within body region) ns all
 
   -- ---- what modulions give
 
@@ -310,7 +310,7 @@ module _ (bytes : List ℕ) (t : ProgramTree) (g : Ground) (has : HasNames bytes
     good : (body : ℕ) → IsGood text (OpenTo body region) r
 
   routine_sites : (around : Inside) (r : Reach) (from : ℕ) (region : Option ℕ) (n : Name) (kind : Kind) (params : List Clause) (result : List Mention) (a : Around) (ps : List BodyTree) (h : Option HandlerTree) → RoutinePlaced around r from region n kind params result (whole_body ps h)
-      → Each (IsSiteWithin s (body_of s.rows from) region) (sites_of_body a ps h)
+      → Each (IsSiteReached s (body_of s.rows from) region) (sites_of_body a ps h)
   routine_sites around r from region n kind params result a ps h placed =
       let body = body_of s.rows from in
       let parts = whole_body ps h in
@@ -367,7 +367,7 @@ module _ (bytes : List ℕ) (t : ProgramTree) (g : Ground) (has : HasNames bytes
   modulion_module modulions.Module every n own items h closing clean = refl
   modulion_module modulions.Region every n own items h closing clean = let none : ⊥ = cc in absurd none
 
-  procedure_within : (kind : ModulionKind) (every : ItemNodes) (m : ℕ) (r : Reach) (from : ℕ) (p : ProcedureTree) → ItemPlaced kind every m r from (procedure p) → ItemWithin s (region_around s.rows (Modulion m)) (procedure p)
+  procedure_within : (kind : ModulionKind) (every : ItemNodes) (m : ℕ) (r : Reach) (from : ℕ) (p : ProcedureTree) → ItemPlaced kind every m r from (procedure p) → IsItemReached s (region_around s.rows (Modulion m)) (procedure p)
   procedure_within kind every m r from p placed d row at =
       let params = map param_clause p.params in
       let result = mentions_of_some_mode p.returns in
@@ -375,16 +375,16 @@ module _ (bytes : List ℕ) (t : ProgramTree) (g : Ground) (has : HasNames bytes
       let place = routine_place (Modulion m) from p.name kinds.Procedure _ d row placed.stands same at.row in
       let region = region_around s.rows (Modulion m) in (
         ap (region_around s.rows) (sym place),
-        subst (λ k. Each (IsSiteWithin s (body_of s.rows k) region) (sites_of_body (in_procedure p) p.body p.handler)) same
+        subst (λ k. Each (IsSiteReached s (body_of s.rows k) region) (sites_of_body (in_procedure p) p.body p.handler)) same
             (routine_sites (Modulion m) r from region p.name kinds.Procedure params result (in_procedure p) p.body p.handler (record { sized = placed.sized.0.1; stands = placed.stands; seen = placed.seen.0; good = placed.good })),
       )
 
-  process_within : (kind : ModulionKind) (every : ItemNodes) (m : ℕ) (r : Reach) (from : ℕ) (p : ProcessTree) → ItemPlaced kind every m r from (process p) → ItemWithin s (region_around s.rows (Modulion m)) (process p)
+  process_within : (kind : ModulionKind) (every : ItemNodes) (m : ℕ) (r : Reach) (from : ℕ) (p : ProcessTree) → ItemPlaced kind every m r from (process p) → IsItemReached s (region_around s.rows (Modulion m)) (process p)
   process_within kind every m r from p placed d row at =
       let params = map formal_clause p.formals in
       let same = routine_number (Modulion m) from p.name kinds.Process _ d placed.stands at.number in
       let alone = in_module kind every m true placed.row (process_module kind every p placed.clean) in
-      subst (λ k. Each (IsSiteWithin s (body_of s.rows k) None) (sites_of_body in_no_procedure p.body p.handler)) same
+      subst (λ k. Each (IsSiteReached s (body_of s.rows k) None) (sites_of_body in_no_procedure p.body p.handler)) same
       (routine_sites (Modulion m) r from None p.name kinds.Process params [] in_no_procedure p.body p.handler (record { sized = placed.sized.0.1; stands = placed.stands; seen = placed.seen.0; good = λ body. subst (λ q. IsGood text (OpenTo body q) r) alone (placed.good body) }))
 
   -- a modulion in a reach that sees what may be named outside all regions
@@ -426,7 +426,7 @@ module _ (bytes : List ℕ) (t : ProgramTree) (g : Ground) (has : HasNames bytes
 
   modulion_by : (n : Name) (kind : ModulionKind) (items : ItemNodes) (h : Option HandlerTree) (closing : Option Name) (around : Inside) (r : Reach) (from : ℕ) (region : Option ℕ) → ModulionPlaced around r from n kind items h closing
       → (IsModulionRow s.rows from kind items → Stand text (suc from) (definitions_in (Modulion from) (suc from) (part_nodes (each_item items))) → AreSeen t (in_modulion r (suc from) (part_nodes (inner_parts items h))) (suc from) (each_item items)
-      → ((body : ℕ) → IsGood text (OpenTo body (region_around s.rows (Modulion from))) (in_modulion r (suc from) (part_nodes (inner_parts items h)))) → ItemsWithin s (region_around s.rows (Modulion from)) items) → ItemWithin s region (modulion_of n kind items h closing)
+      → ((body : ℕ) → IsGood text (OpenTo body (region_around s.rows (Modulion from))) (in_modulion r (suc from) (part_nodes (inner_parts items h)))) → AreItemsReached s (region_around s.rows (Modulion from)) items) → IsItemReached s region (modulion_of n kind items h closing)
   modulion_by n kind items h closing around r from region placed inside =
       let parts = handler_parts [] (handler_node h) in
       let ps = inner_parts items h in
@@ -448,7 +448,7 @@ module _ (bytes : List ℕ) (t : ProgramTree) (g : Ground) (has : HasNames bytes
       )
 
   mutual
-    item_within : (i : ItemTree) (kind : ModulionKind) (every : ItemNodes) (m : ℕ) (r : Reach) (from : ℕ) → ItemPlaced kind every m r from i → ItemWithin s (region_around s.rows (Modulion m)) i
+    item_within : (i : ItemTree) (kind : ModulionKind) (every : ItemNodes) (m : ℕ) (r : Reach) (from : ℕ) → ItemPlaced kind every m r from i → IsItemReached s (region_around s.rows (Modulion m)) i
     item_within (local_item l) kind every m r from placed =
         let region = region_around s.rows (Modulion m) in
         let walked = local_walked t (OpenTo 0 region) true l in
@@ -476,7 +476,7 @@ module _ (bytes : List ℕ) (t : ProgramTree) (g : Ground) (has : HasNames bytes
     item_within (grant_item at w) kind every m r from placed = tt
 
     items_within : (is : ItemNodes) (kind : ModulionKind) (every : ItemNodes) (m : ℕ) (r : Reach) (from : ℕ) → IsModulionRow s.rows m kind every → EachModulionKnown g is → Each Untold (sites_of_items kind every is) → AreSized (part_nodes (each_item is)) → Stand text from (definitions_in (Modulion m) from (part_nodes (each_item is)))
-        → AreSeen t r from (each_item is) → ((body : ℕ) → IsGood text (OpenTo body (region_around s.rows (Modulion m))) r) → ItemsWithin s (region_around s.rows (Modulion m)) is
+        → AreSeen t r from (each_item is) → ((body : ℕ) → IsGood text (OpenTo body (region_around s.rows (Modulion m))) r) → AreItemsReached s (region_around s.rows (Modulion m)) is
     items_within no_items kind every m r from row known untold sized stands seen good = tt
     items_within (more_items i is) kind every m r from row known untold sized stands seen good =
         let front = sized_first (item_parts i) (each_item is) sized in
@@ -486,7 +486,7 @@ module _ (bytes : List ℕ) (t : ProgramTree) (g : Ground) (has : HasNames bytes
           items_within is kind every m r (from + sizes_of (part_nodes (item_parts i))) row known.1 (each_later Untold (at_item kind every i ∷ sites_of_item i) (sites_of_items kind every is) untold) (sized_later (item_parts i) (each_item is) sized) split.1 both.1 good,
         )
 
-  modulion_within : (n : Name) (kind : ModulionKind) (items : ItemNodes) (h : Option HandlerTree) (closing : Option Name) (around : Inside) (r : Reach) (from : ℕ) (region : Option ℕ) → ModulionPlaced around r from n kind items h closing → ItemWithin s region (modulion_of n kind items h closing)
+  modulion_within : (n : Name) (kind : ModulionKind) (items : ItemNodes) (h : Option HandlerTree) (closing : Option Name) (around : Inside) (r : Reach) (from : ℕ) (region : Option ℕ) → ModulionPlaced around r from n kind items h closing → IsItemReached s region (modulion_of n kind items h closing)
   modulion_within n kind items h closing around r from region placed =
       let untold = each_first Untold (sites_of_items kind items items) (sites_of_handler in_no_procedure (handler_node h)) placed.untold in
       let front = sized_first (each_item items) (handler_parts [] (handler_node h)) placed.sized.0.1 in
@@ -509,7 +509,7 @@ module _ (bytes : List ℕ) (t : ProgramTree) (g : Ground) (has : HasNames bytes
       (modulions_give ms (from + sizes_of (part_nodes own)) known.1 (each_later Untold (sites_of_item (modulion_item m)) rest untold) (sized_later own (parts_of ms) sized) split.1)
 
   modulions_within : (ms : List ModulionTree) (r : Reach) (from : ℕ) → Each (ModulionsKnown g) (map modulion_item ms) → Each Untold (flat_map sites_of_item (map modulion_item ms)) → AreSized (part_nodes (parts_of ms)) → Stand text from (definitions_in Outermost from (part_nodes (parts_of ms))) → AreSeen t r from (parts_of ms)
-      → ((body : ℕ) → IsGood text (OpenTo body None) r) → Each (ItemWithin s None) (map modulion_item ms)
+      → ((body : ℕ) → IsGood text (OpenTo body None) r) → Each (IsItemReached s None) (map modulion_item ms)
   modulions_within [] r from known untold sized stands seen good = tt
   modulions_within (m ∷ ms) r from known untold sized stands seen good =
       let own = item_parts (modulion_item m) in
@@ -521,7 +521,7 @@ module _ (bytes : List ℕ) (t : ProgramTree) (g : Ground) (has : HasNames bytes
         modulions_within ms r (from + sizes_of (part_nodes own)) known.1 (each_later Untold (sites_of_item (modulion_item m)) rest untold) (sized_later own (parts_of ms) sized) split.1 both.1 good,
       )
 
-  all_within : Each Untold (sites t) → Each (ModulionsKnown g) (items_of t) → Each (ItemWithin s None) (items_of t)
+  all_within : Each Untold (sites t) → Each (ModulionsKnown g) (items_of t) → Each (IsItemReached s None) (items_of t)
   all_within untold known =
       let sized = program_sized t in
       let stands : Stand text 0 (definitions_in Outermost 0 (level_of t)) = λ k e x at same. (ap (slice_get text) (let back : e ≡ k = omega (arith, same) in back) ∙ at) in

@@ -28,11 +28,11 @@ pub record IsOpenTo (s : Source) (body : ℕ) (region : Option ℕ) (r : Row) : 
 abbrev pub Leads : Source → ℕ → Option ℕ → List Resolved → Name → Type 0
 Leads s body region us n = (d : ℕ) (r : Row) → number_at us n.at ≡ Some d → slice_get s.rows d ≡ Some r → IsOpenTo s body region r
 
-abbrev pub IsUsedWithin : Source → ℕ → Option ℕ → Name → Type 0
-IsUsedWithin s body region n = Leads s body region s.known.uses n
+abbrev pub IsUseReached : Source → ℕ → Option ℕ → Name → Type 0
+IsUseReached s body region n = Leads s body region s.known.uses n
 
-abbrev pub IsDefinedWithin : Source → ℕ → Option ℕ → Name → Type 0
-IsDefinedWithin s body region n = Leads s body region s.known.defined n
+abbrev pub IsDefinitionReached : Source → ℕ → Option ℕ → Name → Type 0
+IsDefinitionReached s body region n = Leads s body region s.known.defined n
 
 -- ---- the names at a node
 
@@ -58,10 +58,10 @@ defined_names (at_received n names) = names_received names
 defined_names n = []
 
 -- all names at a node of a body, which stands in a region or in none
-pub record IsSiteWithin (s : Source) (body : ℕ) (region : Option ℕ) (n : Site) : Type 0 where
-  pub exprs : Each (λ e. Each (IsUsedWithin s body region) (names_in e)) (exprs_at n)
-  pub others : Each (IsUsedWithin s body region) (other_names n)
-  pub defined : Each (IsDefinedWithin s body region) (defined_names n)
+pub record IsSiteReached (s : Source) (body : ℕ) (region : Option ℕ) (n : Site) : Type 0 where
+  pub exprs : Each (λ e. Each (IsUseReached s body region) (names_in e)) (exprs_at n)
+  pub others : Each (IsUseReached s body region) (other_names n)
+  pub defined : Each (IsDefinitionReached s body region) (defined_names n)
 
 -- ---- the law
 
@@ -72,20 +72,20 @@ pub record RoutineAt (s : Source) (n : Name) (d : ℕ) (r : Row) : Type 0 where
 
 abbrev mutual
   -- The names in an item that stands in a region or in none. The nodes of items themselves are those of the outermost body.
-  pub ItemWithin : Source → Option ℕ → ItemTree → Type 0
-  ItemWithin s region (local_item l) = Each (IsSiteWithin s 0 region) (sites_of_local true l)
-  ItemWithin s region (action x) = Each (IsSiteWithin s 0 region) (sites_of in_no_procedure x)
-  ItemWithin s region (procedure p) = (d : ℕ) (r : Row) → RoutineAt s p.name d r → (region ≡ region_around s.rows r.inside) × Each (IsSiteWithin s (body_of s.rows d) region) (sites_of_body (in_procedure p) p.body p.handler)
-  ItemWithin s region (process p) = (d : ℕ) (r : Row) → RoutineAt s p.name d r → Each (IsSiteWithin s (body_of s.rows d) None) (sites_of_body in_no_procedure p.body p.handler)
-  ItemWithin s region (modulion n kind items h closing) =
-      (inner : Option ℕ) × (((d : ℕ) → number_at s.known.defined n.at ≡ Some d → inner ≡ region_in (thing_of s.rows d)) × (ItemsWithin s inner items × Each (IsSiteWithin s 0 inner) (sites_of_handler in_no_procedure (handler_node h))))
-  ItemWithin s region (seize at passed) = Unit {0}
-  ItemWithin s region (grant at passed) = Unit {0}
-  ItemWithin s region (signals at ss) = Unit {0}
+  pub IsItemReached : Source → Option ℕ → ItemTree → Type 0
+  IsItemReached s region (local_item l) = Each (IsSiteReached s 0 region) (sites_of_local true l)
+  IsItemReached s region (action x) = Each (IsSiteReached s 0 region) (sites_of in_no_procedure x)
+  IsItemReached s region (procedure p) = (d : ℕ) (r : Row) → RoutineAt s p.name d r → (region ≡ region_around s.rows r.inside) × Each (IsSiteReached s (body_of s.rows d) region) (sites_of_body (in_procedure p) p.body p.handler)
+  IsItemReached s region (process p) = (d : ℕ) (r : Row) → RoutineAt s p.name d r → Each (IsSiteReached s (body_of s.rows d) None) (sites_of_body in_no_procedure p.body p.handler)
+  IsItemReached s region (modulion n kind items h closing) =
+      (inner : Option ℕ) × (((d : ℕ) → number_at s.known.defined n.at ≡ Some d → inner ≡ region_in (thing_of s.rows d)) × (AreItemsReached s inner items × Each (IsSiteReached s 0 inner) (sites_of_handler in_no_procedure (handler_node h))))
+  IsItemReached s region (seize at passed) = Unit {0}
+  IsItemReached s region (grant at passed) = Unit {0}
+  IsItemReached s region (signals at ss) = Unit {0}
 
-  pub ItemsWithin : Source → Option ℕ → ItemNodes → Type 0
-  ItemsWithin s region no_items = Unit {0}
-  ItemsWithin s region (more_items i is) = ItemWithin s region i × ItemsWithin s region is
+  pub AreItemsReached : Source → Option ℕ → ItemNodes → Type 0
+  AreItemsReached s region no_items = Unit {0}
+  AreItemsReached s region (more_items i is) = IsItemReached s region i × AreItemsReached s region is
 
 abbrev mutual
   -- modulions stand under the numbers of their names
@@ -105,4 +105,4 @@ abbrev mutual
 
 -- In a text that breaks no rule on names and on processes.
 abbrev pub ReachedLaw : Type 0
-ReachedLaw = (text : List ℕ) (t : ProgramTree) (g : Ground) → HasNames text t → g ≡ ground_with t g.entries → Each (λ n. processes_told_at g n ≡ []) (sites t) → Each (ModulionsKnown g) (items_of t) → Each (ItemWithin (source_of g t) None) (items_of t)
+ReachedLaw = (text : List ℕ) (t : ProgramTree) (g : Ground) → HasNames text t → g ≡ ground_with t g.entries → Each (λ n. processes_told_at g n ≡ []) (sites t) → Each (ModulionsKnown g) (items_of t) → Each (IsItemReached (source_of g t) None) (items_of t)

@@ -23,7 +23,7 @@ use Rattle.elaboration_model.specs.Statements.{is_buffer, source_used}
 use Rattle.expression_laws.specs.Names.{stands_for_message, takes_parts}
 use Rattle.expression_laws.proofs.Outside.{row_parts}
 use Rattle.program_laws.proofs.Grounds.{all_names_known}
-use Rattle.reached_laws.specs.Reached.{IsUsedWithin}
+use Rattle.reached_laws.specs.Reached.{IsUseReached}
 use Rattle.reached_laws.proofs.Places.{row_is}
 use Rattle.source_meaning.specs.TypedValues.{Context, BufferHas}
 use Rattle.source_meaning.specs.TypedStatements.{SignalHas, BufferBrings}
@@ -187,7 +187,7 @@ module _ (text : List ℕ) (t : ProgramTree) (h : Ground) (p : CheckedTree) (has
             (parts.entry.parts, ap (message_of (entry_of h n)) (origin_row n d r number at ∙ ap Some origin) ∙ ap (option_map (λ (e : Entry). e.parts)) entry)
         by o origin is = no_some x is
 
-    signal_source : (n : Name) (k : ℕ) → IsUsedWithin s body ctx.region n → thing_used s n ≡ Some (a_message k) → SourceIs n k
+    signal_source : (n : Name) (k : ℕ) → IsUseReached s body ctx.region n → thing_used s n ≡ Some (a_message k) → SourceIs n k
     signal_source n k used is =
         let u = number_is n (a_message k) is in
         let lead = u.lead in
@@ -200,7 +200,7 @@ module _ (text : List ℕ) (t : ProgramTree) (h : Ground) (p : CheckedTree) (has
           signal = λ other. own.1.0;
         }
 
-    pub source_is : (n : Name) (k : ℕ) → IsUsedWithin s body ctx.region n → source_used s n ≡ Some k → SourceIs n k
+    pub source_is : (n : Name) (k : ℕ) → IsUseReached s body ctx.region n → source_used s n ≡ Some k → SourceIs n k
     source_is n k used is = let there = there_chained source_number (thing_used s n) k is in by there.0 there.1 there.2
       where
         by : (x : Thing) → thing_used s n ≡ Some x → source_number x ≡ Some k → SourceIs n k
@@ -209,7 +209,7 @@ module _ (text : List ℕ) (t : ProgramTree) (h : Ground) (p : CheckedTree) (has
         by x thing number = no_some k number
 
     -- what is sent to
-    pub message_typed : (n : Name) → IsUsedWithin s body ctx.region n → IsMessageTyped s ctx n
+    pub message_typed : (n : Name) → IsUseReached s body ctx.region n → IsMessageTyped s ctx n
     message_typed n used =
         let leads_to = name_leads text t h p has made body ctx is_in n used in
         record {

@@ -30,7 +30,7 @@ use Rattle.head_laws.specs.Parameters.{BeginWith}
 use Rattle.head_laws.proofs.Formals.{formals_are, started_are}
 use Rattle.head_laws.proofs.Rows.{made_parts, three_parts}
 use Rattle.program_laws.proofs.Defined.{entry_at}
-use Rattle.reached_laws.specs.Reached.{IsOpenTo, IsUsedWithin}
+use Rattle.reached_laws.specs.Reached.{IsOpenTo, IsUseReached}
 use Rattle.reached_laws.proofs.Places.{row_is}
 use Rattle.reached_laws.proofs.Items.{number_is, defines_is}
 use Rattle.source_meaning.specs.TypedValues.{Context, IsReached, BaseHas, IsReachedFrom}
@@ -210,10 +210,10 @@ module _ (text : List ℕ) (t : ProgramTree) (h : Ground) (p : CheckedTree) (has
 
   -- ---- used names
 
-  pub name_within : (n : Name) → IsUsedWithin s body ctx.region n → IsNameWithin s ctx body n
+  pub name_within : (n : Name) → IsUseReached s body ctx.region n → IsNameWithin s ctx body n
   name_within n used d number = within_at d (λ r at. used d r number at)
 
-  pub name_leads : (n : Name) → IsUsedWithin s body ctx.region n → NameLeads s ctx n
+  pub name_leads : (n : Name) → IsUseReached s body ctx.region n → NameLeads s ctx n
   name_leads n used = name_leads_law h t p ctx body n made is_in (name_within n used)
 
   -- the definition of a name that leads to a body
@@ -262,7 +262,7 @@ module _ (text : List ℕ) (t : ProgramTree) (h : Ground) (p : CheckedTree) (has
       by None returns made = sym (same_some None result made) ∙ (sym (ap (some_mode_of h) returns) ∙ (sym (ap mode_of_entry (entry_at text t h has d (a_procedure q) origin)) ∙ sym entry))
       by (Some w) returns made = let m = there_mapped Some (mode_defined s q.name) result made in sym m.2 ∙ (sym m.1 ∙ (own ∙ sym entry))
 
-  called_typed : (n : Name) → IsUsedWithin s body ctx.region n → (q : ProcedureTree) (b : ℕ) → origin_of h n ≡ Some (a_procedure q) → body_used s n ≡ Some b → IsCalledRow ctx b (mode_of_entry (entry_of h n)) (formals_by s (Some (a_procedure q)))
+  called_typed : (n : Name) → IsUseReached s body ctx.region n → (q : ProcedureTree) (b : ℕ) → origin_of h n ≡ Some (a_procedure q) → body_used s n ≡ Some b → IsCalledRow ctx b (mode_of_entry (entry_of h n)) (formals_by s (Some (a_procedure q)))
   called_typed n used q b origin is =
       let u = body_is n b is in
       let at_number = origin_at_number n u.number (a_procedure q) u.is origin in
@@ -301,7 +301,7 @@ module _ (text : List ℕ) (t : ProgramTree) (h : Ground) (p : CheckedTree) (has
         parameters = are_taken u.made_row 0 (flat_map (modes_of_formal s) q.formals) u.made_row.locals (whole_from u.made_row.locals) (subst (λ ps. From u.made_row.parameters 0 ps) parameters (whole_from u.made_row.parameters)) begins;
       }
 
-  pub name_typed : (n : Name) → IsNameFit h n → IsUsedWithin s body ctx.region n → IsNameTyped s ctx n
+  pub name_typed : (n : Name) → IsNameFit h n → IsUseReached s body ctx.region n → IsNameTyped s ctx n
   name_typed n fit used =
       let leads_to = name_leads n used in
       record { fit = fit; base = leads_to.base; buffer = leads_to.buffer; called = called_typed n used; started = started_typed n }

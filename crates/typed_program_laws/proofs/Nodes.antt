@@ -33,7 +33,7 @@ use Rattle.constant_laws.specs.Constants.{HasBytes, IsNameFit}
 use Rattle.program_laws.proofs.Rows.{AreDefinedAs, AreReceivedAs, SiteSo}
 use Rattle.program_laws.proofs.Defined.{DefinedIn, names_list, defined_in, entry_at}
 use Rattle.head_laws.proofs.Rows.{made_parts}
-use Rattle.reached_laws.specs.Reached.{IsUsedWithin, IsDefinedWithin, IsSiteWithin}
+use Rattle.reached_laws.specs.Reached.{IsUseReached, IsDefinitionReached, IsSiteReached}
 use Rattle.source_meaning.specs.TypedValues.{Context, BaseHas}
 use Rattle.source_meaning.specs.TypedStatements.{LocalHas, LocalsHave, IsEvent}
 use Rattle.lead_laws.specs.Leads.{IsInBody}
@@ -89,10 +89,10 @@ module _ (text : List ℕ) (t : ProgramTree) (h : Ground) (p : CheckedTree) (has
 
   module _ (fit : (n : Name) → IsNameFit h n) (body : ℕ) (ctx : Context) (is_in : IsInBody s p ctx body) where
     abbrev Used : Name → Type 0
-    Used n = IsUsedWithin s body ctx.region n
+    Used n = IsUseReached s body ctx.region n
 
     abbrev Defined : Name → Type 0
-    Defined n = IsDefinedWithin s body ctx.region n
+    Defined n = IsDefinitionReached s body ctx.region n
 
     names_typed : (ns : List Name) → Each Used ns → AreNamesTyped s ctx ns
     names_typed [] all = tt
@@ -170,7 +170,7 @@ module _ (text : List ℕ) (t : ProgramTree) (h : Ground) (p : CheckedTree) (has
     none_received [] none = refl
     none_received (m ∷ ms) none = absurd (let no : ⊥ = omega (arith, none) in no)
 
-    received_typed : (n : Name) (names : Option (List Name)) → SiteSo (text_origins t) (names_list text t h has) (at_received n names) → told_received_names h n names ≡ [] → IsSiteWithin s body ctx.region (at_received n names) → (ks : List ℕ) (k : ℕ) → made_each (local_defined s) (some_names names) ≡ Some ks → source_used s n ≡ Some k → ReceivedTyped s ctx n ks k
+    received_typed : (n : Name) (names : Option (List Name)) → SiteSo (text_origins t) (names_list text t h has) (at_received n names) → told_received_names h n names ≡ [] → IsSiteReached s body ctx.region (at_received n names) → (ks : List ℕ) (k : ℕ) → made_each (local_defined s) (some_names names) ≡ Some ks → source_used s n ≡ Some k → ReceivedTyped s ctx n ks k
     received_typed n None so told within ks k built source =
         let x = source_is text t h p has made body ctx is_in n k within.others.0 source in
         record { modes = x.modes; buffer = x.buffer; signal = x.signal; locals = subst (λ l. LocalsHave ctx l x.modes) (same_some [] ks built) (none_received x.modes (count_is n None x.modes x.are told)) }
@@ -184,7 +184,7 @@ module _ (text : List ℕ) (t : ProgramTree) (h : Ground) (p : CheckedTree) (has
     event_of : (n : Name) → Used n → (k : ℕ) → event_used s n ≡ Some k → IsEvent ctx k
     event_of n used = (name_leads text t h p has made body ctx is_in n used).event
 
-    action_typed : (a : Around) (x : SimpleTree) → UpdateSo (at_simple a x) → IsSiteWithin s body ctx.region (at_simple a x) → ActionTyped s ctx x
+    action_typed : (a : Around) (x : SimpleTree) → UpdateSo (at_simple a x) → IsSiteReached s body ctx.region (at_simple a x) → ActionTyped s ctx x
     action_typed a (update at k o q v) updates within = updates
     action_typed a (start_of at n es) updates within = name_typed text t h p has made body ctx is_in n (fit n) within.others.0
     action_typed a (delay at n q) updates within = event_of n within.others.0
@@ -194,7 +194,7 @@ module _ (text : List ℕ) (t : ProgramTree) (h : Ground) (p : CheckedTree) (has
 
     -- ---- nodes
 
-    node_typed : (n : Site) → IsNodeKnown n → IsSiteWithin s body ctx.region n → NodeTyped s ctx n
+    node_typed : (n : Site) → IsNodeKnown n → IsSiteReached s body ctx.region n → NodeTyped s ctx n
     node_typed (at_declaration shared d) known within = λ m is. declared_each d d.names m known.defined within.defined (declared_first d d.names m known.defined is)
     node_typed (at_simple a x) known within = action_typed a x known.updates within
     node_typed (at_control c) known within = control_typed c known.defined within.defined
@@ -206,5 +206,5 @@ module _ (text : List ℕ) (t : ProgramTree) (h : Ground) (p : CheckedTree) (has
     node_typed (at_received n names) known within = (let clean_is = known.clean in received_typed n names known.defined clean_is.statements within)
     node_typed n known within = tt
 
-    pub node_sound : (n : Site) → IsNodeKnown n → IsSiteWithin s body ctx.region n → IsNodeSound s ctx n
+    pub node_sound : (n : Site) → IsNodeKnown n → IsSiteReached s body ctx.region n → IsNodeSound s ctx n
     node_sound n known within = record { clean = known.clean; sound = exprs_sound (exprs_at n) within.exprs known.bytes; names = node_typed n known within }

@@ -64,7 +64,7 @@ use Rattle.body_laws.specs.Statements.{IsNodeSound}
 use Rattle.body_laws.specs.Rows.{IsTypedInside}
 use Rattle.body_laws.proofs.Statements.{declarations_typed, before_typed, statement_typed_law, handler_typed_law}
 use Rattle.body_laws.proofs.Rows.{procedure_typed, process_typed}
-use Rattle.reached_laws.specs.Reached.{IsSiteWithin, ItemWithin, ItemsWithin, ModulionsKnown, EachModulionKnown}
+use Rattle.reached_laws.specs.Reached.{IsSiteReached, IsItemReached, AreItemsReached, ModulionsKnown, EachModulionKnown}
 use Rattle.reached_laws.proofs.Places.{row_is, IsModulionRow, module_alone}
 use Rattle.reached_laws.proofs.Items.{number_is, defines_is, reached}
 use Rattle.ground_laws.specs.Defining.{Defines}
@@ -131,8 +131,8 @@ module _ (text : List ℕ) (t : ProgramTree) (h : Ground) (p : CheckedTree) (byt
     (record { clean = (all_clean text t h has).1.0; defined = tt; bytes = tt; updates = tt; sources = tt }, rest_known),
   )
 
-  sounds : (body : ℕ) (ctx : Context) → IsInBody s p ctx body → (ns : List Site) → Each Known ns → Each (IsSiteWithin s body ctx.region) ns → Each (IsNodeSound s ctx) ns
-  sounds body ctx is_in ns known within = each_both Known (IsSiteWithin s body ctx.region) (IsNodeSound s ctx) (node_sound text t h p has made fit body ctx is_in) ns known within
+  sounds : (body : ℕ) (ctx : Context) → IsInBody s p ctx body → (ns : List Site) → Each Known ns → Each (IsSiteReached s body ctx.region) ns → Each (IsNodeSound s ctx) ns
+  sounds body ctx is_in ns known within = each_both Known (IsSiteReached s body ctx.region) (IsNodeSound s ctx) (node_sound text t h p has made fit body ctx is_in) ns known within
 
   -- ---- what is reached
 
@@ -154,7 +154,7 @@ module _ (text : List ℕ) (t : ProgramTree) (h : Ground) (p : CheckedTree) (byt
     items_known no_items so = tt
     items_known (more_items i is) so = (item_known i so.0, items_known is so.1)
 
-  all_reached : Each (ItemWithin s None) (items_of t)
+  all_reached : Each (IsItemReached s None) (items_of t)
   all_reached =
       reached text t h has.has_modes.has_names has.is_ground.names (processes_clean text t h has)
       (each_more (ModulionSo (text_origins t) (names_list text t h has)) (ModulionsKnown h) item_known (items_of t) (modulions_so text t h has))
@@ -226,7 +226,7 @@ module _ (text : List ℕ) (t : ProgramTree) (h : Ground) (p : CheckedTree) (byt
       let locals : locals_of s (body_of s.rows d) ≡ Some b.locals = ap (locals_of s) (body_is d r at holds) ∙ (m.of_middle ∙ ap (λ (x : BodyRowTree). Some x.locals) m.whole) in
       let ns = sites_of_body (in_procedure q) q.body q.handler in
       let known = members Known (sites.sites t) ns all_known (nodes_there t (exits_there text t has.has_modes.has_names) d (a_procedure q) (origins_are d (a_procedure q) origin)).1.1 in
-      let all = sounds (body_of s.rows d) (context_of b) (record { program = refl; locals = locals }) ns known (subst (λ k. Each (IsSiteWithin s (body_of s.rows d) k) ns) same_region within.1) in
+      let all = sounds (body_of s.rows d) (context_of b) (record { program = refl; locals = locals }) ns known (subst (λ k. Each (IsSiteReached s (body_of s.rows d) k) ns) same_region within.1) in
       let front = sites_of_parts (in_procedure q) (body_nodes q.body) in
       let back = sites_of_handler (in_procedure q) (handler_node q.handler) in
       procedure_typed s p d r q b (in_procedure q) (all_names_known text t h has) is around (first_of (IsNodeSound s (context_of b)) front back all) (later_of (IsNodeSound s (context_of b)) front back all)
@@ -240,7 +240,7 @@ module _ (text : List ℕ) (t : ProgramTree) (h : Ground) (p : CheckedTree) (byt
       let locals : locals_of s (body_of s.rows d) ≡ Some b.locals = ap (locals_of s) (body_is d r at holds) ∙ (m.of_first ∙ ap (λ (x : BodyRowTree). Some x.locals) m.whole) in
       let ns = sites_of_body in_no_procedure q.body q.handler in
       let known = members Known (sites.sites t) ns all_known (nodes_there t (exits_there text t has.has_modes.has_names) d (a_process q) (origins_are d (a_process q) origin)).1 in
-      let all = sounds (body_of s.rows d) (context_of b) (record { program = refl; locals = locals }) ns known (subst (λ k. Each (IsSiteWithin s (body_of s.rows d) k) ns) same_region within) in
+      let all = sounds (body_of s.rows d) (context_of b) (record { program = refl; locals = locals }) ns known (subst (λ k. Each (IsSiteReached s (body_of s.rows d) k) ns) same_region within) in
       let front = sites_of_parts in_no_procedure (body_nodes q.body) in
       let back = sites_of_handler in_no_procedure (handler_node q.handler) in
       process_typed s p d r q b in_no_procedure (all_names_known text t h has) is refl (first_of (IsNodeSound s (context_of b)) front back all) (later_of (IsNodeSound s (context_of b)) front back all)
@@ -262,7 +262,7 @@ module _ (text : List ℕ) (t : ProgramTree) (h : Ground) (p : CheckedTree) (byt
     is_in : (region : Option ℕ) → IsInBody s p (record { program = p; rows = locals; region = region }) 0
     is_in region = record { program = refl; locals = are }
 
-    sounds_in : (region : Option ℕ) (ns : List Site) → Each Known ns → Each (IsSiteWithin s 0 region) ns → Each (IsNodeSound s (at_region region).context) ns
+    sounds_in : (region : Option ℕ) (ns : List Site) → Each Known ns → Each (IsSiteReached s 0 region) ns → Each (IsNodeSound s (at_region region).context) ns
     sounds_in region ns known within = sounds 0 (record { program = p; rows = locals; region = region }) (is_in region) ns known within
 
     outside : IsAround s (in_body None) in_no_procedure
@@ -279,7 +279,7 @@ module _ (text : List ℕ) (t : ProgramTree) (h : Ground) (p : CheckedTree) (byt
     Follows : Option ℕ → Option done.StatementNodes → Type 0
     Follows region rest = (ys : done.StatementNodes) → rest ≡ Some ys → AreTyped (at_region region) ys
 
-    handler_in : (region : Option ℕ) (hd : Option HandlerTree) (y : done.HandlerNode) → Each Known (sites_of_handler in_no_procedure (handler_node hd)) → Each (IsSiteWithin s 0 region) (sites_of_handler in_no_procedure (handler_node hd)) → handled s (in_body None) (handler_node hd) ≡ Some y → IsTypedHandler (at_region region) y
+    handler_in : (region : Option ℕ) (hd : Option HandlerTree) (y : done.HandlerNode) → Each Known (sites_of_handler in_no_procedure (handler_node hd)) → Each (IsSiteReached s 0 region) (sites_of_handler in_no_procedure (handler_node hd)) → handled s (in_body None) (handler_node hd) ≡ Some y → IsTypedHandler (at_region region) y
     handler_in region hd y known within built =
         handler_typed_law s (in_body None) in_no_procedure (at_region region) (handler_node hd) y (all_names_known text t h has) outside (stands region) (sounds_in region (sites_of_handler in_no_procedure (handler_node hd)) known within) built
 
@@ -334,7 +334,7 @@ module _ (text : List ℕ) (t : ProgramTree) (h : Ground) (p : CheckedTree) (byt
     mutual
       unfolding Follows
 
-      item_typed : (i : ItemTree) (region : Option ℕ) (rest : Option done.StatementNodes) → (is_modulion : ((n : Name) (kind : ModulionKind) (items : ItemNodes) (hd : Option HandlerTree) (closing : Option Name) → i ≡ modulion n kind items hd closing → region ≡ None)) → ItemWithin s region i → ModulionSo (text_origins t) (names_list text t h has) i
+      item_typed : (i : ItemTree) (region : Option ℕ) (rest : Option done.StatementNodes) → (is_modulion : ((n : Name) (kind : ModulionKind) (items : ItemNodes) (hd : Option HandlerTree) (closing : Option Name) → i ≡ modulion n kind items hd closing → region ≡ None)) → IsItemReached s region i → ModulionSo (text_origins t) (names_list text t h has) i
           → Each Known (sites_of_item i) → Follows region rest → Follows region (item_before s i rest)
       item_typed (local_item l) region rest top within so known next ys built =
           let parts = made_parts before (declarations s l) rest ys built in
@@ -360,7 +360,7 @@ module _ (text : List ℕ) (t : ProgramTree) (h : Ground) (p : CheckedTree) (byt
       item_typed (grant at passed) region rest top within so known next ys built = next ys built
       item_typed (signals at ss) region rest top within so known next ys built = next ys built
 
-      items_typed : (is : ItemNodes) (kind : ModulionKind) (every : ItemNodes) (region : Option ℕ) → (is_region kind ≡ false → region ≡ None) → ItemsWithin s region is → EachModulionSo (text_origins t) (names_list text t h has) is → Each Known (sites_of_items kind every is) → Follows region (items_done s is)
+      items_typed : (is : ItemNodes) (kind : ModulionKind) (every : ItemNodes) (region : Option ℕ) → (is_region kind ≡ false → region ≡ None) → AreItemsReached s region is → EachModulionSo (text_origins t) (names_list text t h has) is → Each Known (sites_of_items kind every is) → Follows region (items_done s is)
       items_typed no_items kind every region alone within so known ys built = subst (AreTyped (at_region region)) (same_some done.no_statements ys built) tt
       items_typed (more_items i is) kind every region alone within so known ys built =
           let later = sites_of_items kind every is in
@@ -368,7 +368,7 @@ module _ (text : List ℕ) (t : ProgramTree) (h : Ground) (p : CheckedTree) (byt
           item_typed i region (items_done s is) (λ n own items hd closing is_one. alone (alone_in kind every n own items hd closing (subst (λ x. told_item kind every x ≡ []) is_one clean_is.processes))) within.0 so.0
           (first_of Known (sites_of_item i) later known.1) (λ zs is_rest. items_typed is kind every region alone within.1 so.1 (later_of Known (sites_of_item i) later known.1) zs is_rest) ys built
 
-    tops_typed : (is : List ItemTree) → Each (ItemWithin s None) is → Each (ModulionSo (text_origins t) (names_list text t h has)) is → Each Known (flat_map sites_of_item is) → Follows None (modulions_done s is)
+    tops_typed : (is : List ItemTree) → Each (IsItemReached s None) is → Each (ModulionSo (text_origins t) (names_list text t h has)) is → Each Known (flat_map sites_of_item is) → Follows None (modulions_done s is)
     unfolding Follows
     tops_typed [] within so known ys built = subst (AreTyped (at_region None)) (same_some done.no_statements ys built) tt
     tops_typed (i ∷ is) within so known ys built =

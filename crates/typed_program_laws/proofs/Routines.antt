@@ -14,15 +14,15 @@ use Rattle.written_laws.proofs.Shown.{each_append, each_any, each_flat}
 use Rattle.written_laws.proofs.Sets.{each_more}
 use Rattle.written_laws.proofs.WrittenSo.{each_predefined, each_there}
 use Rattle.elaboration_model.specs.Numbering.{Source}
-use Rattle.reached_laws.specs.Reached.{ItemWithin, ItemsWithin}
+use Rattle.reached_laws.specs.Reached.{IsItemReached, AreItemsReached}
 use Rattle.reached_laws.proofs.Reaches.{Fact}
 use Rattle.reached_laws.proofs.Walked.{NotRoutine}
 use Rattle.reached_laws.proofs.Bodies.{elements_none, some_none, names_none, local_walked, statement_walked, handler_walked, whole_walked}
 
 -- a routine that stands in a region or in none
 abbrev pub RoutineWithin : Source → Origin → Type 0
-RoutineWithin s (a_procedure p) = (region : Option ℕ) × ItemWithin s region (procedure p)
-RoutineWithin s (a_process p) = (region : Option ℕ) × ItemWithin s region (process p)
+RoutineWithin s (a_procedure p) = (region : Option ℕ) × IsItemReached s region (procedure p)
+RoutineWithin s (a_process p) = (region : Option ℕ) × IsItemReached s region (process p)
 RoutineWithin s o = Unit {0}
 
 module _ (s : Source) (t : ProgramTree) where
@@ -67,7 +67,7 @@ module _ (s : Source) (t : ProgramTree) where
   signals_within (x ∷ xs) = both (origins_of_signal x) (flat_map origins_of_signal xs) (signal_within x) (signals_within xs)
 
   mutual
-    item_routines : (i : ItemTree) (region : Option ℕ) → ItemWithin s region i → Within (origins_of_item i)
+    item_routines : (i : ItemTree) (region : Option ℕ) → IsItemReached s region i → Within (origins_of_item i)
     item_routines (seize at passed) region within = tt
     item_routines (grant at passed) region within = tt
     item_routines (local_item l) region within = none_within (origins_of_local l) (local_walked t Nothing true l).none
@@ -81,15 +81,15 @@ module _ (s : Source) (t : ProgramTree) where
         (tt, both (origins_of_items items) (origins_in_handler (handler_node h)) (items_routines items within.0 within.1.1.0) (none_within (origins_in_handler (handler_node h)) (handler_walked t Nothing (handler_node h) in_no_procedure []).none))
     item_routines (action x) region within = none_within (origins_in x) (statement_walked t Nothing x in_no_procedure []).none
 
-    items_routines : (is : ItemNodes) (region : Option ℕ) → ItemsWithin s region is → Within (origins_of_items is)
+    items_routines : (is : ItemNodes) (region : Option ℕ) → AreItemsReached s region is → Within (origins_of_items is)
     items_routines no_items region within = tt
     items_routines (more_items i is) region within = both (origins_of_item i) (origins_of_items is) (item_routines i region within.0) (items_routines is region within.1)
 
-  modulions_routines : (ms : List ModulionTree) → Each (ItemWithin s None) (map modulion_item ms) → Within (flat_map (λ m. origins_of_item (modulion_item m)) ms)
+  modulions_routines : (ms : List ModulionTree) → Each (IsItemReached s None) (map modulion_item ms) → Within (flat_map (λ m. origins_of_item (modulion_item m)) ms)
   modulions_routines [] within = tt
   modulions_routines (m ∷ ms) within = both (origins_of_item (modulion_item m)) (flat_map (λ m. origins_of_item (modulion_item m)) ms) (item_routines (modulion_item m) None within.0) (modulions_routines ms within.1)
 
-  pub routines_within : Each (ItemWithin s None) (items_of t) → (d : ℕ) (o : Origin) → slice_get (origins_of t) d ≡ Some o → RoutineWithin s o
+  pub routines_within : Each (IsItemReached s None) (items_of t) → (d : ℕ) (o : Origin) → slice_get (origins_of t) d ≡ Some o → RoutineWithin s o
   routines_within within d o at =
       each_there (RoutineWithin s) (origins_of t) d o
       (both (text_origins t) predefined_origins (modulions_routines t.modulions within) (each_flat (λ p. Unit {0}) (RoutineWithin s) in_both_cases (λ p fits. (tt, (tt, tt))) each_predefined (each_any (λ p. Unit {0}) (λ p. tt) each_predefined))) at

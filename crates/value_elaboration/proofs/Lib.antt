@@ -9,3 +9,4 @@ pub mod Ends
 pub mod Turns
 pub mod OfTuples
 pub mod OfPaths
+pub mod OfRanges

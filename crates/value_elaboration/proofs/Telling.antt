@@ -69,6 +69,10 @@ pub elaborated_handed : (s : Source) (m : Option ModeTree) (e : ExprTree) (r : A
 elaborated_handed s m e (Ok x) f same told = absurd same
 elaborated_handed s m e (Err x) f same told = subst (λ (y : ElaborationRefusal). IsElaborated s m e (Err y)) (sym same) (constant_refused s m e f told)
 
+-- the same where what is told of a constant is said in other words
+pub evaluated_lost : (s : Source) (m : Option ModeTree) (e : ExprTree) (part : Option (Option made.ExprTree)) (r : Answer) (f : ElaborationRefusal) → IsErrAnd r (λ x. x ≡ f) → part ≡ constant_in s e → Elaborates part (option_map made.boxed_expr) (Err f) → IsElaborated s m e r
+evaluated_lost s m e part r f same is told = elaborated_handed s m e r f same (subst (λ (o : Option (Option made.ExprTree)). Elaborates o (option_map made.boxed_expr) (Err f)) is told)
+
 pub ruleset handing = (memory_handed, made_memory_handed)
 
 -- ---- the same by other words

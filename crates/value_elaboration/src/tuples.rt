@@ -158,11 +158,16 @@ impl<'a, 'b, 'c> Values<'a, 'b, 'c> {
         ensures { HasSource self.now → Elaborates (range_as (source_of self.now) (Some (mode_tree member.now.value)) (written_range part.now)) range_tree result }
     {
         let first = self.expr_as(&part.first, Some(member))?;
-        let last = match &part.last {
-            None => None,
-            Some(last) => Some(self.expr_as(last, Some(member))?),
-        };
-        Ok(Range { first, last })
+        match &part.last {
+            None => Ok(Range { first, last: None }),
+            Some(last) => {
+                let last = self.expr_as(last, Some(member))?;
+                Ok(Range {
+                    first,
+                    last: Some(last),
+                })
+            }
+        }
     }
 
     // The elements of an array or the fields of a structure.

@@ -11,7 +11,7 @@ use Rattle.program_numbers.proofs.row.row_at.Goals as goal
 pub returns-in_err-own : goal.returns-in_err-own
 returns-in_err-own c =
     let w = c.args.walk.now in
-    rw c.from_residual-in_err-own.ensures (row-no-definition (definitions_in w) (ground_in w).origins (ground_in w).entries c.args.number (sym c.in_err-own.ensures))
+    rw c.from_residual.ensures (row-no-definition (definitions_in w) (ground_in w).origins (ground_in w).entries c.args.number (sym c.in_err-own.ensures))
 
 pub returns-in_err-origin : goal.returns-in_err-origin
 returns-in_err-origin c =

@@ -25,3 +25,10 @@ loop-row-preserved c =
 
 pub returns : goal.returns
 returns c = things-all (row_trees c.args.rows.now) c.loop-row.things c.loop-row.row-index c.loop-row.invariant.count (omega (arith, length-map c.args.rows.now row_tree)) c.loop-row.invariant.before
+
+pub loop-row-init : goal.loop-row-init
+loop-row-init c = record {
+  count = ap length c.new-things.ensures;
+  counted = c.none-counts.ensures (row_trees c.args.rows.now);
+  before = λ d below. absurd (omega arith);
+}

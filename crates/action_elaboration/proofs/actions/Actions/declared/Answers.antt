@@ -1,8 +1,7 @@
-use Rattle.std.proofs.Common.{refl, ap, sym, ◌∙◌}
+use Rattle.std.proofs.Common.{refl, ap, ◌∙◌}
 use Rattle.chill_tree.specs.LocalTree.{declaration_tree}
 use Rattle.program_trees.specs.StatementTree.{statement_tree}
 use Rattle.elaboration_model.specs.Statements.{declaration}
-use Rattle.elaboration_model.specs.Parts.{made_each}
 use Rattle.action_elaboration.proofs.Combined.{handed}
 use Rattle.action_elaboration.specs.Lists.{behind}
 use Rattle.action_elaboration.specs.Sources.{source_at}

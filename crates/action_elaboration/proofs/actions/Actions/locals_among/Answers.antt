@@ -1,4 +1,3 @@
-use Rattle.std.proofs.Common.{refl}
 use Rattle.elaboration_model.specs.Numbering.{local_defined}
 use Rattle.action_elaboration.specs.Sources.{source_at}
 use Rattle.action_elaboration.proofs.Locals.{one_more, all_there, none_there}

@@ -35,6 +35,6 @@ returns c = λ has. turns-end (made_at c.args.self.now) (λ r. has_body r.origin
 pub returns-in_err-outermost : goal.returns-in_err-outermost
 returns-in_err-outermost c = λ has.
     let s = source_at c.args.self.now in
-    let p = err_from_is_err_and c.from_residual-in_err-outermost.result c.from_residual-in_err-outermost.ensures.1 in
+    let p = err_from_is_err_and c.from_residual.result c.from_residual.ensures.1 in
     rw (p.1, p.2) (handed_on (outermost_head s) body_row_tree (heads_of s) (map body_row_tree) c.in_err-outermost.field-0.0
         (λ none. ap (λ o. joined o (rows_made (made_at c.args.self.now) (λ r. has_body r.origin) 0 (row_trees c.args.self.now.rows.now))) none) c.in_err-outermost.ensures)

@@ -32,7 +32,7 @@ loop-row-preserved c =
 pub returns-in_err-local : goal.returns-in_err-local
 returns-in_err-local c =
     let test = test_at c.args.self.now c.args.body in
-    let p = err_from_is_err_and c.from_residual-in_err-local.result c.from_residual-in_err-local.ensures.1 in
+    let p = err_from_is_err_and c.from_residual.result c.from_residual.ensures.1 in
     rw (p.1, p.2) (handed_on (local_row (row_tree c.row-item.result) c.loop-row.first (row_tree c.row-item.result).mode) local_row_tree (local_rows test 0 (row_trees c.args.self.now.rows.now)) (map local_row_tree) c.in_err-local.field-0.0
         (local-turn-refused test c.args.self.now.rows.now c.loop-row.row-index c.loop-row.first c.row-item.result (local_rows test 0 (row_trees c.args.self.now.rows.now)) (map local_row_tree c.loop-row.locals)
             c.loop-row-test.true c.row-item.is (sym c.is_local_of.ensures ∙ c.if-not-is_local_of.false) c.loop-row.invariant)

@@ -1,6 +1,7 @@
 use Rattle.std.proofs.Common.{◌≡◌, ℕ, suc, Bool, true, false, Some, None, IsTrue, refl, ◌+◌, ◌<◌, ◌≤◌, length, map, drop, ap, sym, subst, ◌∙◌, arith, rules}
 use Rattle.std.proofs.lemmas.List.{length-map}
-use Rattle.std.specs.Prelude.{Option, option_map, not}
+use Rattle.std.specs.Prelude.{Option, option_map, not, is_none}
+use Rattle.chill_tree.specs.declared.tree.expr.ValueRange.{out-ValueRange}
 use Rattle.chill_tree.specs.ExprTree.{ExprTree, this_instance, paren, receive, start, tuple, uniform, name, apply, field, prefixed, binary, expr_tree, expr_trees, expr_nodes, boxed_expr, range_tree, range_trees, range_nodes}
 use Rattle.chill_tree.proofs.ExprViews.{tree-this_instance, tree-receive, tree-name, tree-apply, tree-binary, expr_built}
 use Rattle.modes.specs.declared.mode.Class.TheVariants as kinds
@@ -29,7 +30,8 @@ use Rattle.value_elaboration.specs.Views.{source_of, path_tree, formal_tree, som
 use Rattle.value_elaboration.specs.Made.{IsMade, IsElaborated, IsSomeOfClass}
 use Rattle.value_elaboration.proofs.Telling.{Answer, handed, made_handed}
 use Rattle.value_elaboration.proofs.Constants.{no_form, refused, given, given_form, class_alone}
-use Rattle.value_elaboration.proofs.MadeViews.{made_views}
+use Rattle.value_elaboration.proofs.MadeViews.{made_views, range_tree-fields}
+use Rattle.value_elaboration.proofs.OfRanges.{only_none, part_alone, part_ranged, member_alone, member_lost, last_lost, member_between}
 use Rattle.value_elaboration.proofs.Nodes.{between_refused, between_refused_later, routine_without}
 use Rattle.value_elaboration.proofs.Lists.{arguments_apart, received_apart, arguments_in, received_in, ranges_in, parts_in, arguments_end, received_end, ranges_end, parts_end}
 use Rattle.value_elaboration.proofs.Turns.{turn_first, mapped_at, arguments_kept, arguments_lost, received_kept, received_lost, ranges_kept, ranges_lost, parts_kept, parts_lost}
@@ -276,9 +278,9 @@ by_operation-returns-in-Tuple t c = λ has form.
     let m = some_mode c.args.mode in
     let b = c.in-Tuple in
     let rs = range_nodes (range_trees c.as_slice-in-Tuple.result.now) in
-    let x = tuple b.at b.mode b.bracket rs in
+    let x = tuple b.at b.name b.bracket rs in
     let tree : expr_tree c.args.expr.now ≡ x = search (rules, expr_built) in
-    told_of s m (expr_tree c.args.expr.now) x c.tuple.result tree (tuple_node s m b.at c.tuple.result b.mode b.bracket rs (form_so s (expr_tree c.args.expr.now) x tree form) (c.tuple.ensures has))
+    told_of s m (expr_tree c.args.expr.now) x c.tuple.result tree (tuple_node s m b.at c.tuple.result b.name b.bracket rs (form_so s (expr_tree c.args.expr.now) x tree form) (c.tuple.ensures has))
 
 pub by_operation-returns-in-Uniform : goal.by_operation-returns-in-Uniform
 by_operation-returns-in-Uniform t c = λ has form.
@@ -286,9 +288,9 @@ by_operation-returns-in-Uniform t c = λ has form.
     let m = some_mode c.args.mode in
     let b = c.in-Uniform in
     let e = expr_tree c.deref-in-Uniform.result.now in
-    let x = uniform b.at b.mode b.bracket e in
+    let x = uniform b.at b.name b.bracket e in
     let tree : expr_tree c.args.expr.now ≡ x = search (rules, expr_built) in
-    told_of s m (expr_tree c.args.expr.now) x c.uniform.result tree (uniform_node s m b.at c.uniform.result b.mode b.bracket e (form_so s (expr_tree c.args.expr.now) x tree form) (c.uniform.ensures has))
+    told_of s m (expr_tree c.args.expr.now) x c.uniform.result tree (uniform_node s m b.at c.uniform.result b.name b.bracket e (form_so s (expr_tree c.args.expr.now) x tree form) (c.uniform.ensures has))
 
 pub by_operation-returns-in-Name : goal.by_operation-returns-in-Name
 by_operation-returns-in-Name t c = λ has form.
@@ -342,27 +344,18 @@ field_of-returns t c = λ has.
 pub element_of-returns : goal.element_of-returns
 element_of-returns t c = λ has. element_whole (source_of c.args.self.now) (expr_tree c.args.expr.now) (path_tree c.in_ok-path.path) c.part_of.result (c.in_ok-path.ensures has) c.part_of.ensures
 
-pub element-returns-in_err-path : goal.element-returns-in_err-path
-element-returns-in_err-path t c = λ has.
-    let s = source_of c.args.self.now in
-    let e = expr_tree c.deref.result.now in
-    let es = expr_nodes (expr_trees c.in-Apply.args) in
-    let x = expr_tree c.args.expr.now in
-    let tree : x ≡ apply c.in-Apply.at e es = search (rules, expr_built) in
-    handed (path s e) path_tree (element_in s x) path_tree c.from_residual.result _ c.from_residual.ensures.1 (element_without s x c.in-Apply.at e es tree) (c.in_err-path.ensures has)
-
-pub element-returns-in-Apply : goal.element-returns-in-Apply
-element-returns-in-Apply t c = λ has.
+pub element-returns-in_ok-index-in-Apply : goal.element-returns-in_ok-index-in-Apply
+element-returns-in_ok-index-in-Apply t c = λ has.
     let s = source_of c.args.self.now in
     let e = expr_tree c.deref.result.now in
     let es = expr_nodes (expr_trees c.as_slice.result.now) in
     let x = expr_tree c.args.expr.now in
-    let p = path_tree c.in_ok-path.path in
+    let p = path_tree c.in_ok-path-in-Apply.path in
     let m = some_mode c.index_mode_of.result in
-    let i = made.boxed_expr c.in_ok-index.index in
+    let i = made.boxed_expr c.in_ok-index-in-Apply.index in
     let tree : x ≡ apply c.in-Apply.at e es = search (rules, expr_built) in
     let mode : m ≡ index_of_path (form_of p.mode) = search rules in
-    subst (λ (o : Option Path). Elaborates o path_tree c.with_element.result) (sym (element_there s x c.in-Apply.at e es tree p m i (c.in_ok-path.ensures has) mode (c.in_ok-index.ensures.exact has))) (c.with_element.ensures has)
+    subst (λ (o : Option Path). Elaborates o path_tree c.with_element.result) (sym (element_there s x c.in-Apply.at e es tree p m i (c.in_ok-path-in-Apply.ensures has) mode (c.in_ok-index-in-Apply.ensures.exact has))) (c.with_element.ensures has)
 
 pub path-returns-in-Name : goal.path-returns-in-Name
 path-returns-in-Name t c = λ has. c.path_of_name.ensures has (ap expr_tree c.in-Name.is ∙ tree-name c.in-Name.name)
@@ -447,35 +440,35 @@ prefixed-returns-in_err-operand t c = λ has.
     let e = expr_tree c.args.operand.now in
     made_handed (expr_as s None e) made.boxed_expr _ _ c.from_residual.result _ c.from_residual.ensures.1 (prefixed_without s c.args.operator e) (c.in_err-operand.ensures.exact has)
 
-pub binary-returns-in_err-left : goal.binary-returns-in_err-left
-binary-returns-in_err-left t c = λ has.
+pub binary-returns-in_err-left-in-Binary : goal.binary-returns-in_err-left-in-Binary
+binary-returns-in_err-left-in-Binary t c = λ has.
     let s = source_of c.args.self.now in
     let b = c.in-Binary in
     let l = expr_tree c.deref.result.now in
     let x = expr_tree c.args.expr.now in
     let tree : x ≡ binary b.at l b.operator b.sign (boxed_expr b.right) = search (rules, expr_built) in
     made_handed (expr_as s None l) made.boxed_expr _ _ c.from_residual.result _ c.from_residual.ensures.1
-    (λ none. ap (operation_between s) tree ∙ between_refused s b.at l b.operator b.sign (boxed_expr b.right) none) (c.in_err-left.ensures.exact has)
+    (λ none. ap (operation_between s) tree ∙ between_refused s b.at l b.operator b.sign (boxed_expr b.right) none) (c.in_err-left-in-Binary.ensures.exact has)
 
-pub binary-returns-in_err-right : goal.binary-returns-in_err-right
-binary-returns-in_err-right t c = λ has.
+pub binary-returns-in_err-right-in-Binary : goal.binary-returns-in_err-right-in-Binary
+binary-returns-in_err-right-in-Binary t c = λ has.
     let s = source_of c.args.self.now in
     let b = c.in-Binary in
     let r = expr_tree c.deref-in-Binary.result.now in
     let x = expr_tree c.args.expr.now in
     let tree : x ≡ binary b.at (boxed_expr b.left) b.operator b.sign r = search (rules, expr_built) in
-    made_handed (expr_as s None r) made.boxed_expr _ _ c.from_residual-in_err-right.result _ c.from_residual-in_err-right.ensures.1
-    (λ none. ap (operation_between s) tree ∙ between_refused_later s b.at (boxed_expr b.left) b.operator b.sign r none) (c.in_err-right.ensures.exact has)
+    made_handed (expr_as s None r) made.boxed_expr _ _ c.from_residual-in_err-right-in-Binary.result _ c.from_residual-in_err-right-in-Binary.ensures.1
+    (λ none. ap (operation_between s) tree ∙ between_refused_later s b.at (boxed_expr b.left) b.operator b.sign r none) (c.in_err-right-in-Binary.ensures.exact has)
 
-pub binary-returns-in-Binary : goal.binary-returns-in-Binary
-binary-returns-in-Binary t c = λ has.
+pub binary-returns-in_ok-right-in-Binary : goal.binary-returns-in_ok-right-in-Binary
+binary-returns-in_ok-right-in-Binary t c = λ has.
     let s = source_of c.args.self.now in
     let b = c.in-Binary in
     let l = expr_tree c.deref.result.now in
     let r = expr_tree c.deref-in-Binary.result.now in
     let x = expr_tree c.args.expr.now in
     let tree : x ≡ binary b.at l b.operator b.sign r = search (rules, expr_built) in
-    binary_whole s x b.at l b.operator b.sign r tree c.in_ok-left.left c.in_ok-right.right c.binary_of.result (c.in_ok-left.ensures.exact has) (c.in_ok-left.ensures.class has) (c.in_ok-right.ensures.exact has) (c.in_ok-right.ensures.class has) c.binary_of.ensures
+    binary_whole s x b.at l b.operator b.sign r tree c.in_ok-left-in-Binary.left c.in_ok-right-in-Binary.right c.binary_of.result (c.in_ok-left-in-Binary.ensures.exact has) (c.in_ok-left-in-Binary.ensures.class has) (c.in_ok-right-in-Binary.ensures.exact has) (c.in_ok-right-in-Binary.ensures.class has) c.binary_of.ensures
 
 -- ---- other numbers of arguments
 
@@ -523,18 +516,18 @@ started-returns-in_err-start t c = λ has.
 
 -- ---- elements
 
-pub element-returns-in_err-index : goal.element-returns-in_err-index
-element-returns-in_err-index t c = λ has.
+pub element-returns-in_err-index-in-Apply : goal.element-returns-in_err-index-in-Apply
+element-returns-in_err-index-in-Apply t c = λ has.
     let s = source_of c.args.self.now in
     let e = expr_tree c.deref.result.now in
     let es = expr_nodes (expr_trees c.as_slice.result.now) in
     let x = expr_tree c.args.expr.now in
-    let p = path_tree c.in_ok-path.path in
+    let p = path_tree c.in_ok-path-in-Apply.path in
     let m = some_mode c.index_mode_of.result in
     let tree : x ≡ apply c.in-Apply.at e es = search (rules, expr_built) in
     let mode : m ≡ index_of_path (form_of p.mode) = search rules in
-    handed (only_one s m es) made.boxed_expr (element_in s x) path_tree c.from_residual-in_err-index.result _ c.from_residual-in_err-index.ensures.1
-    (element_lost s x c.in-Apply.at e es tree p m (c.in_ok-path.ensures has) mode) (c.in_err-index.ensures.exact has)
+    handed (only_one s m es) made.boxed_expr (element_in s x) path_tree c.from_residual-in_err-index-in-Apply.result _ c.from_residual-in_err-index-in-Apply.ensures.1
+    (element_lost s x c.in-Apply.at e es tree p m (c.in_ok-path-in-Apply.ensures has) mode) (c.in_err-index-in-Apply.ensures.exact has)
 
 -- ---- tuples by the form of their mode
 
@@ -619,14 +612,69 @@ routine_value-returns-in-GetInt t c = λ has m.
     let es = expr_nodes (expr_trees c.args.args.now) in
     routine_input (predefined_tree c.args.own) m (model.class_first s es) (class_of_first s.known es) (model.only_one s None es) c.input.result (ap predefined_tree c.in-GetInt.is) (c.input.ensures has)
 
-pub routine_value-returns-in_default : goal.routine_value-returns-in_default
-routine_value-returns-in_default t c = λ has m.
-    routine_whole (source_of c.args.self.now) (predefined_tree c.args.own) m (expr_nodes (expr_trees c.args.args.now)) c.in_ok-argument.argument c.routine_of.result (is_input c.args.own c.in_default.not-GetInt) (c.in_ok-argument.ensures.exact has) (c.in_ok-argument.ensures.class has) c.routine_of.ensures
+pub routine_value-returns-in_ok-argument-in_default : goal.routine_value-returns-in_ok-argument-in_default
+routine_value-returns-in_ok-argument-in_default t c = λ has m.
+    let k = c.in_ok-argument-in_default in
+    routine_whole (source_of c.args.self.now) (predefined_tree c.args.own) m (expr_nodes (expr_trees c.args.args.now)) k.argument c.routine_of.result (is_input c.args.own c.in_default.not-GetInt) (k.ensures.exact has) (k.ensures.class has) c.routine_of.ensures
 
-pub routine_value-returns-in_err-argument : goal.routine_value-returns-in_err-argument
-routine_value-returns-in_err-argument t c = λ has m.
+-- ---- members, parts and what is alone
+
+pub only_one-returns-in_default-clause-exact : goal.only_one-returns-in_default-clause-exact
+only_one-returns-in_default-clause-exact t c = λ has.
+    let other : length c.args.args.now ≡ 1 → ⊥ = λ one. omega (arith, one) in
+    only_none (source_of c.args.self.now) (some_mode c.args.mode) c.args.args.now other
+
+pub part_as-returns-in-None : goal.part_as-returns-in-None
+part_as-returns-in-None t c = λ has.
+    let r = c.args.part.now in
+    let first : c.deref.result.now ≡ (out-ValueRange r).first.value = search rules in
+    let none : is_none (out-ValueRange r).last ≡ true = search rules in
+    subst (λ (o : Option made.ReceivedTree). Elaborates o made.received_tree c.received_by.result) (part_alone (source_of c.args.self.now) (some_mode c.args.mode) r c.deref.result.now first none) (c.received_by.ensures has)
+
+pub part_as-returns-in-Some : goal.part_as-returns-in-Some
+part_as-returns-in-Some t c = λ has.
+    let r = c.args.part.now in
+    let some : is_none (out-ValueRange r).last ≡ false = search rules in
+    part_ranged (source_of c.args.self.now) (some_mode c.args.mode) r some
+
+pub range_as-returns-in_err-first : goal.range_as-returns-in_err-first
+range_as-returns-in_err-first t c = λ has.
     let s = source_of c.args.self.now in
-    let p = predefined_tree c.args.own in
-    let es = expr_nodes (expr_trees c.args.args.now) in
-    made_handed (model.only_one s None es) made.boxed_expr (class_of_call p m (class_of_first s.known es)) (model.routine_operation p (model.class_first s es) (model.only_one s None es)) c.from_residual.result _ c.from_residual.ensures.1
-    (λ none. routine_without p (model.class_first s es) (model.only_one s None es) none (is_input c.args.own c.in_default.not-GetInt)) (c.in_err-argument.ensures.exact has)
+    let r = c.args.part.now in
+    let m = Some (mode_tree c.args.member.now.value) in
+    let first : c.deref.result.now ≡ (out-ValueRange r).first.value = search rules in
+    handed (expr_as s m (expr_tree c.deref.result.now)) made.boxed_expr (range_as s m (range_tree r)) made.range_tree c.from_residual.result _ c.from_residual.ensures.1 (member_lost s m r c.deref.result.now first) (c.in_err-first.ensures.exact has)
+
+pub range_as-returns-in-None : goal.range_as-returns-in-None
+range_as-returns-in-None t c = λ has.
+    let r = c.args.part.now in
+    let m = Some (mode_tree c.args.member.now.value) in
+    let v = c.in_ok-first.first in
+    let first : c.deref.result.now ≡ (out-ValueRange r).first.value = search rules in
+    let none : is_none (out-ValueRange r).last ≡ true = search rules in
+    member_alone (source_of c.args.self.now) m r c.deref.result.now first (made.boxed_expr v) none (c.in_ok-first.ensures.exact has) ∙ ap Some (sym (range_tree-fields v None))
+
+pub range_as-returns-in_err-last-in-Some : goal.range_as-returns-in_err-last-in-Some
+range_as-returns-in_err-last-in-Some t c = λ has.
+    let s = source_of c.args.self.now in
+    let r = c.args.part.now in
+    let m = Some (mode_tree c.args.member.now.value) in
+    let b = c.in-Some.last in
+    let y = c.deref-in-Some.result.now in
+    let first : c.deref.result.now ≡ (out-ValueRange r).first.value = search rules in
+    let last : y ≡ b.value = search rules in
+    let two : (out-ValueRange r).last ≡ Some b = search rules in
+    handed (expr_as s m (expr_tree y)) made.boxed_expr (range_as s m (range_tree r)) made.range_tree c.from_residual-in_err-last-in-Some.result _ c.from_residual-in_err-last-in-Some.ensures.1 (last_lost s m r c.deref.result.now first b y two last) (c.in_err-last-in-Some.ensures.exact has)
+
+pub range_as-returns-in_ok-last-in-Some : goal.range_as-returns-in_ok-last-in-Some
+range_as-returns-in_ok-last-in-Some t c = λ has.
+    let r = c.args.part.now in
+    let m = Some (mode_tree c.args.member.now.value) in
+    let b = c.in-Some.last in
+    let y = c.deref-in-Some.result.now in
+    let v = c.in_ok-first.first in
+    let w = c.in_ok-last-in-Some.last in
+    let first : c.deref.result.now ≡ (out-ValueRange r).first.value = search rules in
+    let last : y ≡ b.value = search rules in
+    let two : (out-ValueRange r).last ≡ Some b = search rules in
+    member_between (source_of c.args.self.now) m r c.deref.result.now first b y (made.boxed_expr v) (made.boxed_expr w) two last (c.in_ok-first.ensures.exact has) (c.in_ok-last-in-Some.ensures.exact has) ∙ ap Some (sym (range_tree-fields v (Some w)))

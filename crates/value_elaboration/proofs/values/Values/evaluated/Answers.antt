@@ -8,11 +8,11 @@ use Rattle.checks_model.specs.Constants.{value_of_call, value_of_first}
 use Rattle.constant_rules.specs.Walks.{constant_routine, routine_form, told_of_routine}
 use Rattle.expr_rules.proofs.Applied.{class-routine}
 use Rattle.program_numbers.specs.Answers.{Elaborates}
-use Rattle.value_elaboration.specs.Shown.{constant_in}
+use Rattle.value_elaboration.specs.Shown.{constant_if}
 use Rattle.value_elaboration.specs.Views.{source_of}
 use Rattle.value_elaboration.specs.Made.{IsSomeOfClass}
 use Rattle.value_elaboration.proofs.Constants.{no_form}
-use Rattle.value_elaboration.proofs.Telling.{constant_given, elaborated_handed}
+use Rattle.value_elaboration.proofs.Telling.{constant_given, evaluated_lost}
 use Rattle.value_elaboration.proofs.Ends.{evaluated_in, routine_node}
 use Rattle.value_elaboration.proofs.values.Values.evaluated.Goals as goal
 
@@ -25,9 +25,11 @@ returns-in_err-constant c = λ has callee.
     let es = expr_nodes (expr_trees c.args.args.now) in
     let x = apply n.at (name n) es in
     let found = (c.in_ok-known.ensures has.keeps).found in
-    let told = c.in_err-constant.ensures.exact (routine_form g p es) (told_of_routine g n.at p es) (class_of_call p (measured_first g es) (class_of_first g es)) (value_of_call (constant_routine p) (measured_first g es) (class_of_first g es) (value_of_first g es)) found in
-    elaborated_handed s None x c.from_residual-in_err-constant.result _ c.from_residual-in_err-constant.ensures.1
-    (subst (λ o. Elaborates o (option_map made.boxed_expr) _) (evaluated_in s n p es callee) told)
+    let f = routine_form g p es in
+    let t = told_of_routine g n.at p es in
+    let k = class_of_call p (measured_first g es) (class_of_first g es) in
+    let v = value_of_call (constant_routine p) (measured_first g es) (class_of_first g es) (value_of_first g es) in
+    evaluated_lost s None x (constant_if f t k v) c.from_residual-in_err-constant.result _ c.from_residual-in_err-constant.ensures.1 (evaluated_in s n p es callee) (c.in_err-constant.ensures.exact f t k v found)
 
 pub returns-in-Some : goal.returns-in-Some
 returns-in-Some c = λ has callee.
@@ -46,8 +48,8 @@ returns-in-Some c = λ has callee.
     (sym (evaluated_in s n p es callee) ∙ c.in_ok-constant.ensures.exact f t k v found ∙ ap (λ k. Some (option_map made.boxed_expr k)) c.in-Some.is)
     (class-routine g n.at (name n) es p callee ∙ subst (λ o. IsSomeOfClass k o) c.in-Some.is (c.in_ok-constant.ensures.class f t k v found))
 
-pub returns-in-None : goal.returns-in-None
-returns-in-None c = λ has callee.
+pub returns : goal.returns
+returns c = λ has callee.
     let s = source_of c.args.self.now in
     let g = s.known in
     let n = c.args.name.now in
