@@ -128,11 +128,11 @@ impl<'a, 'b, 'c> Bodies<'a, 'b, 'c> {
     }
 
     // What a body does, with its handler, where it gives back values of a mode or none.
-    fn inside_of<'t>(
+    fn inside_of<'t: 'l, 'l>(
         &self,
         body: &'t [BodyPart],
         handler: &'t Option<Box<tree::Handler>>,
-        returned: Option<&Rc<Mode>>,
+        returned: Option<&'l Rc<Mode>>,
     ) -> Result<Inside, ElaborationRefusal>
         ensures { AreNumbered self.now →
             Elaborates
@@ -166,7 +166,8 @@ pub fn with_insides(
 ) -> Result<List<Body>, Memory>
     ensures { IfOk result (λ all. all ≡ map with_its_inside (zip bodies insides)) }
 {
-    let pairs = bodies.into_vec().into_iter().zip(insides.into_vec());
+    let insides = insides.into_vec().into_iter();
+    let pairs = bodies.into_vec().into_iter().zip(insides);
     let all: Vec<Body> = pairs
         .map(|(body, inside)| with_inside(body, inside))
         .collect(alloc)?;

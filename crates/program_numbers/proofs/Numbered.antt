@@ -50,7 +50,7 @@ bodies-more rs bodies n last b i r at count counted is_last is before =
     below_more (λ d. slice_index_or (bodies ++ b ∷ []) d 0 ≡ body_of rs d) i
     (λ d below. get_or-append bodies (b ∷ []) 0 d (omega arith) ∙ before d below)
     (ap (λ k. slice_index_or (bodies ++ b ∷ []) k 0) (sym count) ∙ get_or-append_seam bodies b [] 0 ∙ body_here (has_body r.origin) n last b is_last is
-      ∙ ap (λ k. if has_body r.origin then suc k else 0) counted ∙ sym (ap (body_by rs i) at))
+    ∙ ap (λ k. if has_body r.origin then suc k else 0) counted ∙ sym (ap (body_by rs i) at))
 
 pub bodies-all : (rs : List Row) (bodies : List ℕ) (i : ℕ) → length bodies ≡ i → length rs ≤ i → ((d : ℕ) → d < i → slice_index_or bodies d 0 ≡ body_of rs d) → AreBodiesOf rs bodies
 bodies-all rs bodies i count few before d =

@@ -38,7 +38,7 @@ by_same n q ms w old true is new number before =
     let same : n ≡ q = (bytes_eq-Decides n q).0 is in
     ap Some number
     ∙ sym (ap (option_map (λ k. 7 + k)) (place-more q n ms ∙ ap (λ o. place_behind o (bytes_eq q n) (length ms)) (ap (λ n. place_among n ms) (sym same) ∙ new)
-        ∙ ap (λ b. place_behind None b (length ms)) ((bytes_eq-Decides q n).1 (sym same))))
+    ∙ ap (λ b. place_behind None b (length ms)) ((bytes_eq-Decides q n).1 (sym same))))
 by_same n q ms w old false is new number before =
     before ∙ sym (ap (option_map (λ k. 7 + k)) (place-more q n ms ∙ ap (λ b. place_behind (place_among q ms) b (length ms)) (same_other_way n q (bytes_eq q n) refl is) ∙ unchanged (place_among q ms) (length ms)))
 

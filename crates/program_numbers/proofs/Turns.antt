@@ -155,16 +155,16 @@ pub local-turn-made : (test : Row → Bool) (rows : List own.Row) (i first next 
     → IsLeft whole made (locals_left test rows first i) → IsLeft whole new (locals_left test rows next (i + 1))
 local-turn-made test rows i first next count row whole made new x within is passes found counted behind more before =
     left-made whole made (local_row (row_tree row) first (row_tree row).mode) x (locals_left test rows first i) (locals_left test rows next (i + 1))
-        (local-made test (row_trees rows) first i (row_tree row) (read-there row_tree rows i row within is) passes
-        ∙ ap (λ k. joined (local_row (row_tree row) first (row_tree row).mode) (locals_left test rows k (i + 1))) (sym (behind ∙ ap (λ k. first + k) counted)))
-        found before
+    (local-made test (row_trees rows) first i (row_tree row) (read-there row_tree rows i row within is) passes
+    ∙ ap (λ k. joined (local_row (row_tree row) first (row_tree row).mode) (locals_left test rows k (i + 1))) (sym (behind ∙ ap (λ k. first + k) counted)))
+    found before
     ∙ ap (λ made. option_map (λ xs. made ++ xs) (locals_left test rows next (i + 1))) (sym more)
 
 pub local-turn-refused : (test : Row → Bool) (rows : List own.Row) (i first : ℕ) (row : own.Row) (whole : Option (List LocalRowTree)) (made : List LocalRowTree)
     → i < length rows → row ≡ get_or rows i row → test (row_tree row) ≡ true → IsLeft whole made (locals_left test rows first i) → local_row (row_tree row) first (row_tree row).mode ≡ None → whole ≡ None
 local-turn-refused test rows i first row whole made within is passes before none =
     left-none whole made (local_row (row_tree row) first (row_tree row).mode) (locals_left test rows first i) (local_rows test (first + scalars_in_mode (row_tree row).mode) (drop (i + 1) (row_trees rows)))
-        (local-made test (row_trees rows) first i (row_tree row) (read-there row_tree rows i row within is) passes) before none
+    (local-made test (row_trees rows) first i (row_tree row) (read-there row_tree rows i row within is) passes) before none
 
 pub local-turn-passed : (test : Row → Bool) (rows : List own.Row) (i first : ℕ) (row : own.Row) (whole : Option (List LocalRowTree)) (made : List LocalRowTree)
     → i < length rows → row ≡ get_or rows i row → test (row_tree row) ≡ false → IsLeft whole made (locals_left test rows first i) → IsLeft whole made (locals_left test rows first (i + 1))

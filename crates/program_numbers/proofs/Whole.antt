@@ -116,10 +116,10 @@ pub program-made : (s : Source) (t : ProgramTree) (p : Checked)
 unfolding assembled
 program-made s t p locations events buffers signals heads regions reads size definitions modulions =
     all-there (program_of s t) (locations_part s) (events_part s) (buffers_part s) (signals_part s) (heads_of s)
-        (map location_row_tree p.locations) p.events (map buffer_row_tree p.buffers) (map signal_row_tree p.signals) (map body_row_tree p.bodies) locations events buffers signals heads
+    (map location_row_tree p.locations) p.events (map buffer_row_tree p.buffers) (map signal_row_tree p.signals) (map body_row_tree p.bodies) locations events buffers signals heads
     ∙ ap Some (same_assembled (map location_row_tree p.locations) p.events (map buffer_row_tree p.buffers) (map signal_row_tree p.signals) (map body_row_tree p.bodies) s.own_exceptions
-        (length (filter (λ r. is_region_origin r.origin) s.rows)) p.regions (reads_input s.known) p.reads_input (program_size t) p.size (map (definition_row s.rows) s.rows) p.definitions (modulion_rows s t) p.modulions
-        (sym regions) (sym reads) (sym size) (sym definitions) (sym modulions))
+    (length (filter (λ r. is_region_origin r.origin) s.rows)) p.regions (reads_input s.known) p.reads_input (program_size t) p.size (map (definition_row s.rows) s.rows) p.definitions (modulion_rows s t) p.modulions
+    (sym regions) (sym reads) (sym size) (sym definitions) (sym modulions))
 
 -- ---- the rows of a walk over a text
 
@@ -135,7 +135,7 @@ take-text (d ∷ ds) es = ap (λ rest. d ∷ rest) (take-text ds es)
 definitions-there : (t : ProgramTree) (w : Walk) → IsWalkOf t w → definitions_in w ≡ text_definitions (level_of t)
 definitions-there t w is =
     let count : length w.evaluation.now.defined ≡ length (text_definitions (level_of t)) =
-        ap length (sym (defined-there w.evaluation.now) ∙ ap (λ (g : Ground). g.defined) is.ground.names) ∙ length-numbered 0 (text_definitions (level_of t)) in
+    ap length (sym (defined-there w.evaluation.now) ∙ ap (λ (g : Ground). g.defined) is.ground.names) ∙ length-numbered 0 (text_definitions (level_of t)) in
     ap (λ k. take k w.evaluation.now.names.now.definitions) count
     ∙ ap (λ (ns : Names). take (length (text_definitions (level_of t))) ns.definitions) is.names
     ∙ take-text (text_definitions (level_of t)) predefined

@@ -166,6 +166,20 @@ routine_whole s p m es x r apart tree class h =
     same_made _ _ _ _ r (ap (class_of_call p m) (sym (first_class s es ∙ first)))
     (sym (ap (λ (c : Option ClassTree). routine_operation p c (only_one s None es)) first ∙ ap (routine_operation p (Some (class_in x.value))) tree)) (routine_with p m (class_in x.value) (made.boxed_expr x) r apart h)
 
+-- a routine of one value that stands as an action
+abbrev with_value : Routine → made.ExprTree → Routine × made.ExprTree
+with_value r x = (r, x)
+
+pair_mapped : (k : Option Routine) (x : made.ExprTree) → option_map (λ r. with_value r x) k ≡ made_of with_value k (Some x)
+pair_mapped None x = refl
+pair_mapped (Some k) x = refl
+
+pub applied_so : (s : Source) (p : Predefined) (es : ExprNodes) (x : made.ExprTree) (k : ClassTree) → only_one s None es ≡ Some x → class_of_one s None es ≡ Some k
+    → option_map (λ r. with_value r x) (routine_on p k) ≡ made_of with_value (option_and_then (routine_on p) (class_first s es)) (only_one s None es)
+applied_so s p es x k one class =
+    pair_mapped (routine_on p k) x
+    ∙ sym (ap (λ (c : Option ClassTree). made_of with_value (option_and_then (routine_on p) c) (only_one s None es)) (only_class s es k class) ∙ ap (made_of with_value (routine_on p k)) one)
+
 -- a routine's call that stands as an action
 pub evaluated_in : (s : Source) (n : Name) (p : Predefined) (es : ExprNodes) → callee_named s.known n ≡ routine p
     → constant_if (routine_form s.known p es) (told_of_routine s.known n.at p es) (class_of_call p (measured_first s.known es) (class_of_first s.known es)) (value_of_call (constant_routine p) (measured_first s.known es) (class_of_first s.known es) (value_of_first s.known es))

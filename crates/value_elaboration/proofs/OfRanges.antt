@@ -1,5 +1,5 @@
 -- What calls tell of members and parts, which are alone or between two, and of the only thing in brackets.
-use Rattle.std.proofs.Common.{◌≡◌, List, [], ◌∷◌, length, Bool, true, false, Option, Some, None, refl, sym, ap, ◌∙◌}
+use Rattle.std.proofs.Common.{◌≡◌, List, [], ◌∷◌, length, get_or, arith, Bool, true, false, Option, Some, None, refl, sym, ap, ◌∙◌}
 use Rattle.std.proofs.lemmas.Bool.{false≢true}
 use Rattle.std.specs.Prelude.{is_none, option_map}
 use Rattle.std.specs.declared.alloc.Global.{Global}
@@ -10,6 +10,8 @@ use Rattle.chill_tree.specs.ExprTree.{ExprTree, RangeTree, alone, between, range
 use Rattle.chill_tree.proofs.ExprViews.{tree-range}
 use Rattle.modes.specs.ModeTree.{ModeTree}
 use Rattle.program_trees.specs.ExprTree as made
+use Rattle.checks_model.specs.Classes.{class_as}
+use Rattle.value_elaboration.specs.Steps.{class_of_one}
 use Rattle.elaboration_model.specs.Parts.{made_of}
 use Rattle.elaboration_model.specs.Numbering.{Source}
 use Rattle.elaboration_model.specs.Expressions.{expr_as, only_one, range_as, part_as, received_by}
@@ -18,6 +20,17 @@ pub only_none : (s : Source) (m : Option ModeTree) (es : List Expr) → (length 
 only_none s m [] other = refl
 only_none s m (e ∷ []) other = absurd (other refl)
 only_none s m (e ∷ (f ∷ es)) other = refl
+
+module _ (s : Source) (m : Option ModeTree) where
+  pub one_alone : (es : List Expr) (x : Expr) → length es ≡ 1 → x ≡ get_or es 0 x → only_one s m (expr_nodes (expr_trees es)) ≡ expr_as s m (expr_tree x)
+  one_alone [] x one is = absurd (omega (arith, one))
+  one_alone (e ∷ []) x one is = ap (λ (y : Expr). expr_as s m (expr_tree y)) (sym is)
+  one_alone (e ∷ (f ∷ es)) x one is = absurd (omega (arith, one))
+
+  pub one_class : (es : List Expr) (x : Expr) → length es ≡ 1 → x ≡ get_or es 0 x → class_of_one s m (expr_nodes (expr_trees es)) ≡ class_as s.known m (expr_tree x)
+  one_class [] x one is = absurd (omega (arith, one))
+  one_class (e ∷ []) x one is = ap (λ (y : Expr). class_as s.known m (expr_tree y)) (sym is)
+  one_class (e ∷ (f ∷ es)) x one is = absurd (omega (arith, one))
 
 range_seen : (r : ValueRange) → range_tree r ≡ range_of (boxed_expr (out-ValueRange r).first) (option_map boxed_expr (out-ValueRange r).last)
 range_seen r = tree-range (out-ValueRange r).first (out-ValueRange r).last

@@ -200,10 +200,10 @@ impl<'a, 'b, 'c> Values<'a, 'b, 'c> {
         ensures exact { HasSource self.now → Elaborates (model.only_one (source_of self.now) (some_mode mode.entry) (expr_nodes (expr_trees args.now))) boxed_expr result }
         ensures class { HasSource self.now → IsOfClass (class_of_one (source_of self.now) (some_mode mode.entry) (expr_nodes (expr_trees args.now))) result }
     {
-        match args {
-            [arg] => self.expr_as(arg, mode),
-            _ => Err(ElaborationRefusal::Unsound),
+        if args.len() != 1 {
+            return Err(ElaborationRefusal::Unsound);
         }
+        self.expr_as(&args[0], mode)
     }
 
     // A call of a routine that stands as a value and doesn't have the form of a constant.

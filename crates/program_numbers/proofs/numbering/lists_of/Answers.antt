@@ -25,5 +25,5 @@ returns c = λ is.
       modulions = c.in_ok-modulions.modulions;
     } in
     program-made s t p c.in_ok-locations.ensures c.in_ok-events.ensures c.in_ok-buffers.ensures (c.in_ok-signals.ensures is.keeps) (c.in_ok-bodies.ensures is.keeps)
-        c.in_ok-regions.ensures c.reads_input.ensures c.in_ok-size.ensures c.in_ok-definitions.ensures (c.in_ok-modulions.ensures s (c.known.ensures is.keeps))
+    c.in_ok-regions.ensures c.reads_input.ensures c.in_ok-size.ensures c.in_ok-definitions.ensures (c.in_ok-modulions.ensures s (c.known.ensures is.keeps))
     ∙ ap (λ (p : Checked). Some (with_exceptions s.own_exceptions (checked_tree p))) (sym c.in_ok-program.ensures)

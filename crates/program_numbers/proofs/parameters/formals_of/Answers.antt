@@ -15,7 +15,7 @@ pub loop-formal-preserved : goal.loop-formal-preserved
 loop-formal-preserved c =
     let fs = c.args.formals.now in
     passed-turn each (map formal_tree fs) c.loop-formal.formal-index (formal_tree c.formal-item.result) (flat_map each (map formal_tree fs)) c.loop-formal.found c.add_passed.new.found (passed_in c.as_slice.result.now)
-        (read-there formal_tree fs c.loop-formal.formal-index c.formal-item.result c.loop-formal-test.true c.formal-item.is) (ap (λ (ns : List Name). passed_in ns) c.as_slice.ensures) c.in_ok-add_passed.ensures c.loop-formal.invariant
+    (read-there formal_tree fs c.loop-formal.formal-index c.formal-item.result c.loop-formal-test.true c.formal-item.is) (ap (λ (ns : List Name). passed_in ns) c.as_slice.ensures) c.in_ok-add_passed.ensures c.loop-formal.invariant
 
 pub returns : goal.returns
 returns c =

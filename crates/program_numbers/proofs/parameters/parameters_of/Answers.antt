@@ -13,8 +13,8 @@ pub loop-param-preserved : goal.loop-param-preserved
 loop-param-preserved c =
     let ps = c.args.params.now in
     passed-turn parameters_of (map param_tree ps) c.loop-param.param-index (param_tree c.param-item.result) (flat_map parameters_of (map param_tree ps)) c.loop-param.found c.add_passed.new.found (all_passed c.way_of.result c.as_slice.result.now)
-        (read-there param_tree ps c.loop-param.param-index c.param-item.result c.loop-param-test.true c.param-item.is)
-        (ap (λ (ns : List Name). all_passed c.way_of.result ns) c.as_slice.ensures ∙ ap (λ (way : Passing). all_passed way c.param-item.result.names) c.way_of.ensures) c.in_ok-add_passed.ensures c.loop-param.invariant
+    (read-there param_tree ps c.loop-param.param-index c.param-item.result c.loop-param-test.true c.param-item.is)
+    (ap (λ (ns : List Name). all_passed c.way_of.result ns) c.as_slice.ensures ∙ ap (λ (way : Passing). all_passed way c.param-item.result.names) c.way_of.ensures) c.in_ok-add_passed.ensures c.loop-param.invariant
 
 pub returns : goal.returns
 returns c =

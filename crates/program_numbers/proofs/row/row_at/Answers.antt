@@ -22,11 +22,11 @@ pub returns-in_err-entry : goal.returns-in_err-entry
 returns-in_err-entry c =
     let w = c.args.walk.now in
     rw c.from_residual-in_err-entry.ensures (row-no-entry (definitions_in w) (ground_in w).origins (ground_in w).entries c.args.number
-        (entries-there w.evaluation.now c.args.number ∙ ap (option_map entry_tree) (sym c.in_err-entry.ensures)))
+    (entries-there w.evaluation.now c.args.number ∙ ap (option_map entry_tree) (sym c.in_err-entry.ensures)))
 
 pub returns : goal.returns
 returns c =
     let w = c.args.walk.now in
     ap Some c.row_with.ensures
     ∙ sym (row-some (definitions_in w) (ground_in w).origins (ground_in w).entries c.args.number c.in_ok-own.own.now (origin_tree c.in_ok-origin.origin) (entry_tree c.in_ok-entry.entry.now)
-        (sym c.in_ok-own.ensures) (sym c.in_ok-origin.ensures) (entries-there w.evaluation.now c.args.number ∙ ap (option_map entry_tree) (sym c.in_ok-entry.ensures)))
+    (sym c.in_ok-own.ensures) (sym c.in_ok-origin.ensures) (entries-there w.evaluation.now c.args.number ∙ ap (option_map entry_tree) (sym c.in_ok-entry.ensures)))

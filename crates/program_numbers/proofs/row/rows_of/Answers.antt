@@ -18,4 +18,4 @@ returns c =
     let w = c.args.walk.now in
     c.loop-number.invariant
     ∙ take-whole (rows_in w) c.loop-number.number
-        (sym (row-no-definition (definitions_in w) (ground_in w).origins (ground_in w).entries c.loop-number.number (get-take-past w.evaluation.now.names.now.definitions _ c.loop-number.number (omega (arith, c.in_ok-number-end.ensures)))))
+    (sym (row-no-definition (definitions_in w) (ground_in w).origins (ground_in w).entries c.loop-number.number (get-take-past w.evaluation.now.names.now.definitions _ c.loop-number.number (omega (arith, c.in_ok-number-end.ensures)))))

@@ -15,5 +15,5 @@ returns-in_err-first c = λ of.
 pub returns : goal.returns
 returns c = λ of.
     told_alike _ _ (map inside_tree) c.insides_behind.result
-    (insides_there (source_of_bodies c.args.self.now) (program_tree c.args.tree.now) (inside_tree c.in_ok-first.field-0) of.ground of.source (c.in_ok-first.ensures of.numbered))
+    (insides_there (source_of_bodies c.args.self.now) (program_tree c.args.tree.now) (inside_tree c.in_ok-first.first) of.ground of.source (c.in_ok-first.ensures of.numbered))
     (c.insides_behind.ensures of.numbered)

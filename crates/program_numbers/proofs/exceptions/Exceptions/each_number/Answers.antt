@@ -15,7 +15,7 @@ loop-name-preserved c =
     let f = exception_number c.args.self.now.spellings in
     let ns = c.args.names.now in
     each-more f ns c.loop-name.name-index c.name-item.result (made_each f ns) c.loop-name.found c.push.new.self c.in_ok-needed_number.field-0
-        (slice_get_read ns (length ns) c.loop-name.name-index c.name-item.result refl c.loop-name-test.true c.name-item.is) c.in_ok-needed_number.ensures c.in_ok-push.ensures.ok c.loop-name.invariant
+    (slice_get_read ns (length ns) c.loop-name.name-index c.name-item.result refl c.loop-name-test.true c.name-item.is) c.in_ok-needed_number.ensures c.in_ok-push.ensures.ok c.loop-name.invariant
 
 pub returns-in_err-needed_number : goal.returns-in_err-needed_number
 returns-in_err-needed_number c =
@@ -23,9 +23,9 @@ returns-in_err-needed_number c =
     let ns = c.args.names.now in
     let p = err_from_is_err_and c.from_residual.result c.from_residual.ensures.1 in
     rw (p.1, p.2) (handed_on (f c.name-item.result) (λ k. k) (made_each f ns) (λ ks. ks) c.in_err-needed_number.field-0.0
-        (each-refused f ns c.loop-name.name-index c.name-item.result (made_each f ns) c.loop-name.found
-            (slice_get_read ns (length ns) c.loop-name.name-index c.name-item.result refl c.loop-name-test.true c.name-item.is) c.loop-name.invariant)
-        c.in_err-needed_number.ensures)
+    (each-refused f ns c.loop-name.name-index c.name-item.result (made_each f ns) c.loop-name.found
+    (slice_get_read ns (length ns) c.loop-name.name-index c.name-item.result refl c.loop-name-test.true c.name-item.is) c.loop-name.invariant)
+    c.in_err-needed_number.ensures)
 
 pub returns : goal.returns
 returns c =

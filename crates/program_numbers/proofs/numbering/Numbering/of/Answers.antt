@@ -1,12 +1,11 @@
 use Rattle.std.proofs.Common.{◌≡◌, ◌∙◌, List, Err, refl, ap, sym, subst}
 use Rattle.chill_tree.specs.ItemTree.{program_tree}
-use Rattle.program_trees.specs.ProgramTree.{checked_tree}
 use Rattle.elaboration_model.specs.Numbering as model
 use Rattle.elaboration_model.specs.Elaborated.{source_of}
 use Rattle.expr_rules.specs.Grounds.{ground_in}
 use Rattle.program_numbers.specs.declared.row.Row.{Row}
 use Rattle.program_numbers.specs.Answers.{Elaborates}
-use Rattle.program_numbers.specs.Heads.{headed, headed_by, with_exceptions}
+use Rattle.program_numbers.specs.Heads.{headed, headed_by}
 use Rattle.program_numbers.specs.Rows.{row_trees}
 use Rattle.program_numbers.specs.Sources.{rows_in}
 use Rattle.std.proofs.lemmas.Result.{err_from_is_err_and}
@@ -32,6 +31,6 @@ returns-in_err-rows-clause-headed c = λ is.
     let same = ap (λ (rs : List Row). row_trees rs) c.as_slice-listed_rows.ensures ∙ c.in_ok-own_rows.ensures in
     let s = source_with (ground_in w) (row_trees c.as_slice-listed_rows.result.now) own in
     let p = err_from_is_err_and c.from_residual-in_err-rows.result c.from_residual-in_err-rows.ensures.1 in
-    rw (p.1, p.2) (handed_on (headed s t) (λ p. with_exceptions own (checked_tree p.value)) (headed (source_of (ground_in w) t) t) headed_by c.in_err-rows.field-0.0
-        (λ none. sym (ap (λ (s : model.Source). headed s t) (source-there t w (row_trees c.as_slice-listed_rows.result.now) own is same c.in_ok-exceptions.ensures)) ∙ none)
-        (c.in_err-rows.ensures is))
+    rw (p.1, p.2) (handed_on (headed s t) headed_by (headed (source_of (ground_in w) t) t) headed_by c.in_err-rows.field-0.0
+    (λ none. sym (ap (λ (s : model.Source). headed s t) (source-there t w (row_trees c.as_slice-listed_rows.result.now) own is same c.in_ok-exceptions.ensures)) ∙ none)
+    (c.in_err-rows.ensures is))

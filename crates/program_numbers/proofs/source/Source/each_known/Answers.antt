@@ -15,20 +15,20 @@ loop-mode-init c = left-empty (made_each (λ m. m) (part_modes c.args.modes.now)
 pub returns : goal.returns
 returns c =
     each-all (λ m. m) (part_modes c.args.modes.now) c.loop-mode.mode-index (made_each (λ m. m) (part_modes c.args.modes.now)) (map shared_mode c.loop-mode.made)
-        (omega (arith, length-map c.args.modes.now own_mode)) c.loop-mode.invariant
+    (omega (arith, length-map c.args.modes.now own_mode)) c.loop-mode.invariant
 
 pub loop-mode-preserved : goal.loop-mode-preserved
 loop-mode-preserved c =
     let ms = c.args.modes.now in
     each-more (λ m. m) (part_modes ms) c.loop-mode.mode-index (own_mode c.mode-item.result) (made_each (λ m. m) (part_modes ms)) (map shared_mode c.loop-mode.made) (map shared_mode c.push.new.self) (shared_mode c.in_ok-known.field-0)
-        (read-there own_mode ms c.loop-mode.mode-index c.mode-item.result c.loop-mode-test.true c.mode-item.is) c.in_ok-known.ensures
-        (ap (map shared_mode) c.in_ok-push.ensures.ok ∙ map-append shared_mode c.loop-mode.made (c.in_ok-known.field-0 ∷ [])) c.loop-mode.invariant
+    (read-there own_mode ms c.loop-mode.mode-index c.mode-item.result c.loop-mode-test.true c.mode-item.is) c.in_ok-known.ensures
+    (ap (map shared_mode) c.in_ok-push.ensures.ok ∙ map-append shared_mode c.loop-mode.made (c.in_ok-known.field-0 ∷ [])) c.loop-mode.invariant
 
 pub returns-in_err-known : goal.returns-in_err-known
 returns-in_err-known c =
     let ms = c.args.modes.now in
     let p = err_from_is_err_and c.from_residual.result c.from_residual.ensures.1 in
     rw (p.1, p.2) (handed_on (own_mode c.mode-item.result) shared_mode (made_each (λ m. m) (part_modes ms)) (map shared_mode) c.in_err-known.field-0.0
-        (each-refused (λ m. m) (part_modes ms) c.loop-mode.mode-index (own_mode c.mode-item.result) (made_each (λ m. m) (part_modes ms)) (map shared_mode c.loop-mode.made)
-            (read-there own_mode ms c.loop-mode.mode-index c.mode-item.result c.loop-mode-test.true c.mode-item.is) c.loop-mode.invariant)
-        c.in_err-known.ensures)
+    (each-refused (λ m. m) (part_modes ms) c.loop-mode.mode-index (own_mode c.mode-item.result) (made_each (λ m. m) (part_modes ms)) (map shared_mode c.loop-mode.made)
+    (read-there own_mode ms c.loop-mode.mode-index c.mode-item.result c.loop-mode-test.true c.mode-item.is) c.loop-mode.invariant)
+    c.in_err-known.ensures)

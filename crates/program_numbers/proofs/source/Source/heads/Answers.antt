@@ -1,5 +1,6 @@
 use Rattle.std.proofs.Common.{◌∙◌, ℕ, [], ◌∷◌, Option, map, ap, sym}
 use Rattle.std.proofs.lemmas.List.{map-append}
+use Rattle.std.specs.Prelude.{slice_get}
 use Rattle.elaboration_model.specs.Numbering.{Row}
 use Rattle.elaboration_model.specs.Elaborated.{rows_made}
 use Rattle.std.proofs.Common.{List, ◌++◌}
@@ -11,7 +12,7 @@ use Rattle.program_numbers.specs.declared.source.Source.{Source}
 use Rattle.program_numbers.specs.Rows.{row_tree, row_trees, source_at}
 use Rattle.std.proofs.lemmas.Result.{err_from_is_err_and}
 use Rattle.program_numbers.proofs.Answering.{handed_on}
-use Rattle.program_numbers.proofs.Turns.{joined, left-first, turn-made, turn-refused, turn-passed, turns-end}
+use Rattle.program_numbers.proofs.Turns.{read-there, joined, left-first, turn-made, turn-refused, turn-passed, turns-end}
 use Rattle.program_numbers.proofs.source.Source.heads.Goals as goal
 
 abbrev made_at : Source → ℕ → Row → Option BodyRowTree
@@ -37,4 +38,9 @@ returns-in_err-outermost c = λ has.
     let s = source_at c.args.self.now in
     let p = err_from_is_err_and c.from_residual.result c.from_residual.ensures.1 in
     rw (p.1, p.2) (handed_on (outermost_head s) body_row_tree (heads_of s) (map body_row_tree) c.in_err-outermost.field-0.0
-        (λ none. ap (λ o. joined o (rows_made (made_at c.args.self.now) (λ r. has_body r.origin) 0 (row_trees c.args.self.now.rows.now))) none) c.in_err-outermost.ensures)
+    (λ none. ap (λ o. joined o (rows_made (made_at c.args.self.now) (λ r. has_body r.origin) 0 (row_trees c.args.self.now.rows.now))) none) c.in_err-outermost.ensures)
+
+pub head-requires-clause-there : goal.head-requires-clause-there
+head-requires-clause-there c =
+    ap (λ k. slice_get (row_trees c.args.self.now.rows.now) k) c.in_ok-number_at.ensures
+    ∙ read-there row_tree c.args.self.now.rows.now c.loop-place.place c.index-rows-place.result c.loop-place-test.true c.index-rows-place.is

@@ -20,23 +20,23 @@ pub loop-row-preserved-then-not-is_local_of : goal.loop-row-preserved-then-not-i
 loop-row-preserved-then-not-is_local_of c =
     let test = test_at c.args.self.now c.args.body in
     local-turn-passed test c.args.self.now.rows.now c.loop-row.row-index c.loop-row.first c.row-item.result (local_rows test 0 (row_trees c.args.self.now.rows.now)) (map local_row_tree c.loop-row.locals)
-        c.loop-row-test.true c.row-item.is (sym c.is_local_of.ensures ∙ c.if-not-is_local_of.true) c.loop-row.invariant
+    c.loop-row-test.true c.row-item.is (sym c.is_local_of.ensures ∙ c.if-not-is_local_of.true) c.loop-row.invariant
 
 pub loop-row-preserved : goal.loop-row-preserved
 loop-row-preserved c =
     let test = test_at c.args.self.now c.args.body in
     local-turn-made test c.args.self.now.rows.now c.loop-row.row-index c.loop-row.first c.in_ok-next.next c.in_ok-local.local.count c.row-item.result (local_rows test 0 (row_trees c.args.self.now.rows.now))
-        (map local_row_tree c.loop-row.locals) (map local_row_tree c.push.new.self) (local_row_tree c.in_ok-local.local) c.loop-row-test.true c.row-item.is (sym c.is_local_of.ensures ∙ c.if-not-is_local_of.false)
-        c.in_ok-local.ensures.made c.in_ok-local.ensures.count c.in_ok-next.ensures (ap (map local_row_tree) c.in_ok-push.ensures.ok ∙ map-append local_row_tree c.loop-row.locals (c.in_ok-local.local ∷ [])) c.loop-row.invariant
+    (map local_row_tree c.loop-row.locals) (map local_row_tree c.push.new.self) (local_row_tree c.in_ok-local.local) c.loop-row-test.true c.row-item.is (sym c.is_local_of.ensures ∙ c.if-not-is_local_of.false)
+    c.in_ok-local.ensures.made c.in_ok-local.ensures.count c.in_ok-next.ensures (ap (map local_row_tree) c.in_ok-push.ensures.ok ∙ map-append local_row_tree c.loop-row.locals (c.in_ok-local.local ∷ [])) c.loop-row.invariant
 
 pub returns-in_err-local : goal.returns-in_err-local
 returns-in_err-local c =
     let test = test_at c.args.self.now c.args.body in
     let p = err_from_is_err_and c.from_residual.result c.from_residual.ensures.1 in
     rw (p.1, p.2) (handed_on (local_row (row_tree c.row-item.result) c.loop-row.first (row_tree c.row-item.result).mode) local_row_tree (local_rows test 0 (row_trees c.args.self.now.rows.now)) (map local_row_tree) c.in_err-local.field-0.0
-        (local-turn-refused test c.args.self.now.rows.now c.loop-row.row-index c.loop-row.first c.row-item.result (local_rows test 0 (row_trees c.args.self.now.rows.now)) (map local_row_tree c.loop-row.locals)
-            c.loop-row-test.true c.row-item.is (sym c.is_local_of.ensures ∙ c.if-not-is_local_of.false) c.loop-row.invariant)
-        c.in_err-local.ensures.made)
+    (local-turn-refused test c.args.self.now.rows.now c.loop-row.row-index c.loop-row.first c.row-item.result (local_rows test 0 (row_trees c.args.self.now.rows.now)) (map local_row_tree c.loop-row.locals)
+    c.loop-row-test.true c.row-item.is (sym c.is_local_of.ensures ∙ c.if-not-is_local_of.false) c.loop-row.invariant)
+    c.in_err-local.ensures.made)
 
 pub returns : goal.returns
 returns c =

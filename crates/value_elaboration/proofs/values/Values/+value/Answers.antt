@@ -21,17 +21,17 @@ use Rattle.program_trees.specs.ExprTree as made
 use Rattle.elaboration_model.specs.Parts.{made_of}
 use Rattle.elaboration_model.specs.Numbering.{Source, body_used}
 use Rattle.elaboration_model.specs.Expressions as model
-use Rattle.elaboration_model.specs.Expressions.{Path, path, expr_as, field_path, received_by, range_as, part_as}
+use Rattle.elaboration_model.specs.Expressions.{Path, path, only_one, expr_as, field_path, received_by, range_as, part_as}
 use Rattle.elaborated_operators.specs.Forms.{index_of_path}
 use Rattle.program_numbers.specs.Answers.{Elaborates}
 use Rattle.value_elaboration.specs.Steps.{argument_of, element_in, operation_between, shaped_in}
 use Rattle.value_elaboration.specs.Shown.{constant_in}
 use Rattle.value_elaboration.specs.Views.{source_of, path_tree, formal_tree, some_modes, members_tree, arguments_tree}
-use Rattle.value_elaboration.specs.Made.{IsMade, IsElaborated, IsSomeOfClass}
+use Rattle.value_elaboration.specs.Made.{IsMade, IsElaborated, IsOfClass, IsSomeOfClass}
 use Rattle.value_elaboration.proofs.Telling.{Answer, handed, made_handed}
 use Rattle.value_elaboration.proofs.Constants.{no_form, refused, given, given_form, class_alone}
 use Rattle.value_elaboration.proofs.MadeViews.{made_views, range_tree-fields}
-use Rattle.value_elaboration.proofs.OfRanges.{only_none, part_alone, part_ranged, member_alone, member_lost, last_lost, member_between}
+use Rattle.value_elaboration.proofs.OfRanges.{only_none, one_alone, one_class, part_alone, part_ranged, member_alone, member_lost, last_lost, member_between}
 use Rattle.value_elaboration.proofs.Nodes.{between_refused, between_refused_later, routine_without}
 use Rattle.value_elaboration.proofs.Lists.{arguments_apart, received_apart, arguments_in, received_in, ranges_in, parts_in, arguments_end, received_end, ranges_end, parts_end}
 use Rattle.value_elaboration.proofs.Turns.{turn_first, mapped_at, arguments_kept, arguments_lost, received_kept, received_lost, ranges_kept, ranges_lost, parts_kept, parts_lost}
@@ -619,10 +619,20 @@ routine_value-returns-in_ok-argument-in_default t c = λ has m.
 
 -- ---- members, parts and what is alone
 
-pub only_one-returns-in_default-clause-exact : goal.only_one-returns-in_default-clause-exact
-only_one-returns-in_default-clause-exact t c = λ has.
+pub only_one-returns-then-args-ne1-clause-exact : goal.only_one-returns-then-args-ne1-clause-exact
+only_one-returns-then-args-ne1-clause-exact t c = λ has.
     let other : length c.args.args.now ≡ 1 → ⊥ = λ one. omega (arith, one) in
     only_none (source_of c.args.self.now) (some_mode c.args.mode) c.args.args.now other
+
+pub only_one-returns-clause-exact : goal.only_one-returns-clause-exact
+only_one-returns-clause-exact t c = λ has.
+    let one : length c.args.args.now ≡ 1 = omega arith in
+    subst (λ (o : Option made.ExprTree). Elaborates o made.boxed_expr c.expr_as.result) (sym (one_alone (source_of c.args.self.now) (some_mode c.args.mode) c.args.args.now c.index-args-0.result one c.index-args-0.is)) (c.expr_as.ensures.exact has)
+
+pub only_one-returns-clause-class : goal.only_one-returns-clause-class
+only_one-returns-clause-class t c = λ has.
+    let one : length c.args.args.now ≡ 1 = omega arith in
+    subst (λ (k : Option ClassTree). IsOfClass k c.expr_as.result) (sym (one_class (source_of c.args.self.now) (some_mode c.args.mode) c.args.args.now c.index-args-0.result one c.index-args-0.is)) (c.expr_as.ensures.class has)
 
 pub part_as-returns-in-None : goal.part_as-returns-in-None
 part_as-returns-in-None t c = λ has.
