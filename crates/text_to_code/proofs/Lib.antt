@@ -1,4 +1,4 @@
-pub mod Built
+pub mod BuildingLemmas
 pub mod OneAnswer
 pub mod Readings
 pub mod TellingLemmas

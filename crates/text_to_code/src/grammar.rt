@@ -86,7 +86,9 @@ fn end_of(text: &[u8]) -> Pos
 pub(crate) fn bytes_law(text: &[u8])
     ensures { Each IsByte text.now }
 {
-    let _length = text.len();
+    for byte in text {
+        let _byte = *byte;
+    }
 }
 
 /// The tokens of a text.

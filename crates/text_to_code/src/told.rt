@@ -92,12 +92,13 @@ fn tell_of_checks(alloc: Global, tree: &Tree, names: &Names) -> Result<Told, Mem
 }
 
 // What is told of a text with a tree.
-fn tell_of_tree(alloc: Global, tree: &Tree) -> Result<Told, Memory>
-    ghost text: { List ℕ }
-    requires bytes { Each IsByte text }
-    requires tree { HasTree text (program_tree tree.now) }
-    ensures { IfOk result (Tells text) }
+fn tell_of_tree(alloc: Global, text: &[u8], tree: &Tree) -> Result<Told, Memory>
+    ghost source: { List ℕ }
+    requires source { text.now ≡ source }
+    requires tree { HasTree source (program_tree tree.now) }
+    ensures { IfOk result (Tells source) }
 {
+    bytes_law(text);
     match resolve(alloc, tree) {
         Ok(names) => tell_of_checks(alloc, tree, &names),
         Err(Refusal::Broken(misnamed)) => Ok(Told::Refused(misnamed)),
@@ -112,8 +113,7 @@ fn tell_of_text(alloc: Global, text: &[u8]) -> Result<Told, NoTree>
 {
     let tokens = tokens_of(alloc, text)?;
     let tree = tree_of(alloc, text, tokens.as_slice())?;
-    bytes_law(text);
-    let told = tell_of_tree(alloc, &tree)?;
+    let told = tell_of_tree(alloc, text, &tree)?;
     Ok(told)
 }
 

@@ -7,7 +7,7 @@ use Rattle.text_to_code.proofs.told.tell_of_code.Goals as goal
 -- it is too large
 pub returns-then-size_of_program-gt-GREATEST_SIZE : goal.returns-then-size_of_program-gt-GREATEST_SIZE
 returns-then-size_of_program-gt-GREATEST_SIZE g c =
-    large_told g.text (program_tree c.args.tree.now) (ground_of c.args.evaluation.now) c.refuse_size.result c.requires.sound (omega (arith, c.size_of_program.ensures)) c.refuse_size.ensures
+    large_told g.text (program_tree c.args.tree.now) (ground_of c.args.evaluation.now) c.refuse_size.result c.requires.1.0 (omega (arith, c.size_of_program.ensures)) c.refuse_size.ensures
 
 -- it is built
 pub returns : goal.returns
