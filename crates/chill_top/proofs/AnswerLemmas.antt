@@ -20,7 +20,7 @@ use Rattle.word_reader.specs.declared.command.Command.{Command}
 use Rattle.word_reader.specs.declared.command.Command.TheVariants as words
 use Rattle.chill_top.specs.Causes.{IsReadFault, IsFeedFault}
 use Rattle.chill_top.specs.Commands.{task_of, showing_of, showing_said, IsTextBy}
-use Rattle.chill_top.specs.Plan.{IsPlan, IsPlanOf, IsPlanFor, IsPlanFrom, IsRefusedFor, IsReplayPlan, status_of, out_of, err_of}
+use Rattle.chill_top.specs.Plan.{IsPlan, IsPlanOf, IsPlanFor, IsPlanFrom, status_of, out_of, err_of}
 use Rattle.chill_top.specs.Runs.{is_some_raised, status_of_run}
 use Rattle.chill_top.specs.Outcomes.{Answers, IsNothing, Sinks, Sources, SameCounts, Wrote, NothingWritten, IsCutShort, IsPartlyShown, IsCarriedOut, done, broken, no_memory, IsAnswer, planned, unread, no_memory_before, IsJournal, IsReported, IsRefused, IsRefusedUnder, outcome_with, without_run, shown_of, watchers_after, dropped_of, told_by}
 use Rattle.chill_top.specs.declared.plan.Plan.{Plan}
@@ -217,12 +217,7 @@ no_judgement_is_refused TooLong refused = let no : ⊥ = cc in no
 no_judgement_is_refused (Judged (Yes count over)) refused = let no : ⊥ = cc in no
 no_judgement_is_refused (Judged (No place)) refused = let no : ⊥ = cc in no
 
--- under `replay` a text is refused as under `run`
-replay_refused : (units : ℕ) (text : List ℕ) (journal : Contents) (feed left : Option (List ℕ)) (told : List Diagnostic)
-    → IsReplayPlan units text journal feed left (plans.Refused told) → IsRefusedFor (Run units) text feed left told
-replay_refused units text journal feed left told (inl refused) = inl refused
-replay_refused units text journal feed left told (inr unrun) = inr unrun.1
-
+-- what is refused under a command is refused under its task
 refused_from : (command : Command) (contents : List ℕ → Contents) (text : List ℕ) (feed left : Option (List ℕ)) (told : List Diagnostic)
     → IsPlanFrom command contents text feed left (plans.Refused told) → IsRefusedUnder (task_of command) text feed left told
 refused_from (words.Run file workers units watch) contents text feed left told is = is
@@ -231,7 +226,7 @@ refused_from (words.List file) contents text feed left told is = is
 refused_from (words.Format file) contents text feed left told is = is
 refused_from (words.Make subscribers) contents text feed left told is = is
 refused_from (words.Record file workers units) contents text feed left told is = is
-refused_from (words.Replay file journal units) contents text feed left told is = replay_refused units text (contents journal) feed left told is
+refused_from (words.Replay file journal units) contents text feed left told is = is
 
 refused_of_plan : (said : Option Command) (contents : List ℕ → Contents) (sources left : Sources) (before behind : Sinks) (told : List Diagnostic)
     → IsPlan said contents sources.input left.input (plans.Refused told)

@@ -148,7 +148,7 @@ plain_says of (Some r) any = elim r.place as (λ o. SaysBudget (option_map of o)
 
 number_says : (o : Option ℕ) → SaysBudget (option_map Make o)
 number_says None = tt
-number_says (Some n) = tt
+number_says (Some n) = record { least = omega arith; most = omega arith }
 
 made_says : (r : Option Reading) → SaysBudget (option_and_then made_of r)
 made_says None = tt

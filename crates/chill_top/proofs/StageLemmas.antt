@@ -254,6 +254,35 @@ ok-plan-completed command contents feed left ready plan stage completes =
     let of_task : IsPlanFor (task_of command) stage.text feed left plan = completed (task_of command) stage.text feed left ready plan stage.is.0 completes in
     record { text = stage.text; told = stage.told; is = plan_from command contents stage.text feed left plan stage.is.1 of_task }
 
+-- ---- what is required of a call
+
+-- the run of a journal that is held has the budget of its command
+pub held_budget : (command : Command) (journal : List ℕ) (units : ℕ) → Holds command journal units → IsBudgeted command → IsBudget units
+held_budget command journal units holds budget = subst IsBudgeted holds.is budget
+
+-- and so have the task of a command, the purpose of a task, and a run
+pub task_budget : (command : Command) (task : Task) → task ≡ task_of command → IsBudgeted command → HasBudgetFor task
+task_budget command task same budget = subst HasBudgetFor (sym same) budget
+
+pub purpose_budget : (task : Task) (purpose : Purpose) → task ≡ Build purpose → HasBudgetFor task → HasBudget purpose
+purpose_budget task purpose same budget = subst HasBudgetFor same budget
+
+pub run_budget : (purpose : Purpose) (units : ℕ) → purpose ≡ Run units → HasBudget purpose → IsBudget units
+run_budget purpose units same budget = subst HasBudget same budget
+
+-- what was accepted has a text
+pub accepted_text : (told : Told) (built : Box Built) → told ≡ tellings.Accepted built → (text : List ℕ) × Tells text told → HasText built.value
+accepted_text told built is tells = (tells.0, subst (Tells tells.0) is tells.1)
+
+-- a command that is ready can be run
+pub ready_runs : (command : Command) (contents : List ℕ → Contents) (feed left : Option (List ℕ)) (stage : Stage) (ready : Ready) → stage ≡ stages.Ready ready → IsStageOf command contents feed left stage
+    → AreRunnable ready.built.value.code ready.facts
+ready_runs command contents feed left stage ready same is = (subst (IsStageOf command contents feed left) same is).is.0.facts.runnable
+
+-- and so can what is ready of a sound stage
+pub sound_runs : (stage : Stage) (ready : Ready) → stage ≡ stages.Ready ready → IsSoundStage stage → AreRunnable ready.built.value.code ready.facts
+sound_runs stage ready same sound = subst IsSoundStage same sound
+
 -- a text with such a code has a program, and one that reads input where that one does
 has_program : (text : List ℕ) (built : Built) → HasCode text built.program.checked.value built.code → HasProgram text
 has_program text built has_code = record { program = built.program.checked.value; code = built.code; has_code = has_code }

@@ -1,7 +1,8 @@
 -- The code of a text runs as the text does: its facts are sound, it suits them, and each of its runs is one of the text.
-use Rattle.std.proofs.Common.{◌≡◌, ℕ, ◌≤◌, List, length, ap, subst, sym, length-map}
+use Rattle.std.proofs.Common.{◌≡◌, ℕ, ◌≤◌, List, length, ap, subst, sym}
 use Rattle.checked_program.specs.declared.program.Checked.{Checked}
 use Rattle.std.specs.Prelude.{Any}
+use Rattle.std.proofs.lemmas.List.{length-map}
 use Rattle.code_gen.specs.Facts.{facts_of, HasNoLayout}
 use Rattle.code_types.specs.declared.code.Code.{Code}
 use Rattle.code_types.specs.Runs.{IsCodeRun}
@@ -25,7 +26,7 @@ use Rattle.text_to_code.specs.Building.{HasCode}
 pub typed_program : (text : List ℕ) (program : Checked) (code : Code) → HasCode text program code → IsTypedProgram program
 typed_program text program code has =
     let well = has.elaborated.well in
-    record { typed = well.typed; few = subst (λ (n : ℕ). n ≤ 4294967295) (length-map _ program.bodies) well.few_bodies }
+    record { typed = well.typed; few = subst (λ (n : ℕ). n ≤ 4294967295) (length-map program.bodies _) well.few_bodies }
 
 typed_facts : (text : List ℕ) (program : Checked) (code : Code) (input : List ℕ) (units : ℕ) → HasCode text program code → IsBudget units → AreTypedFacts (checked_tree program) (facts_of program input units)
 typed_facts text program code input units has budget =

@@ -40,7 +40,7 @@ pub(crate) fn run_by_workers<R: Threads + Wait + Sync, G: Gate>(
     ready: Ready,
     workers: &Workers<'_, R, G>,
 ) -> Result<Plan, Memory>
-    requires { AreRunnable ready.built.value.code ready.facts }
+    requires runnable { AreRunnable ready.built.value.code ready.facts }
     ensures { IfOk result (Completes ready) }
 {
     let Ready { built, facts } = ready;

@@ -197,7 +197,7 @@ fn plan_by_workers<R: Threads + Wait + Sync, L: Library, I: Feed, G: Gate>(
     input: &mut I,
     workers: &Workers<'_, R, G>,
 ) -> Result<Plan, ReadRefusal>
-    requires { IsBudgeted command.now }
+    requires budget { IsBudgeted command.now }
     ensures plan { IfOk result
         (IsPlanOf command.now (L.contents library.old) (I.bytes input.old) (I.bytes input.new)) }
     ensures stays { OnOk result (I.faults input.new ≡ I.faults input.old) }

@@ -13,8 +13,8 @@ ghost use Rattle.written_laws.specs.Written.{Each};
 ghost use Rattle.byte_laws.specs.Bytes.{IsByte};
 ghost use Rattle.text_to_code.specs.Building.{HasCode, IsCodeOf, IsProgramOf};
 
-use chill_base::Memory;
 use checked_program::Checked;
+use chill_base::Memory;
 use chill_tree::tree::Tree;
 use code_gen::{CodeRefusal, compile};
 use code_guard::{GuardRefusal, Guarded, guard};

@@ -8,6 +8,10 @@ returns-then-len-gt-MAX_JOURNAL-clause-plan g c =
     too_long_journal c.args.held.now.units (g.L.Library.contents c.args.library.now c.args.held.now.journal.now) c.in_ok-bytes.bytes.items c.args.built (g.I.Feed.bytes c.args.feed.now)
     (rw c.as_str.ensures at c.in_ok-bytes.ensures.text) (omega (arith, c.len.ensures))
 
+-- it is short
+pub judge-requires-clause-short : goal.judge-requires-clause-short
+judge-requires-clause-short g c = omega (arith, ap length c.deref.ensures.value, c.len.ensures)
+
 -- it was read whole
 pub returns-clause-plan : goal.returns-clause-plan
 returns-clause-plan g c =

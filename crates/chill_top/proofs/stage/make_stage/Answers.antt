@@ -1,6 +1,13 @@
 use Rattle.std.proofs.Common.{inr, rules}
-use Rattle.chill_top.proofs.StageLemmas.{ok-stage-of, feed_fault, held-plan, held_fault}
+use Rattle.chill_top.proofs.StageLemmas.{ok-stage-of, feed_fault, held-plan, held_fault, held_budget, task_budget}
 use Rattle.chill_top.proofs.stage.make_stage.Goals as goal
+
+-- the run has the budget of its command
+pub plan_for_journal-requires : goal.plan_for_journal-requires
+plan_for_journal-requires g c = held_budget c.args.command.now c.in-Some.held.journal.now c.in-Some.held.units c.in-Some.ensures c.requires
+
+pub stage_for_text-requires : goal.stage_for_text-requires
+stage_for_text-requires g c = task_budget c.args.command.now c.task_of.result c.task_of.ensures c.requires
 
 -- a journal is held against the text
 pub returns-in-Some-clause-stage : goal.returns-in-Some-clause-stage

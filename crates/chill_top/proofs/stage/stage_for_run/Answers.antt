@@ -9,8 +9,8 @@ returns-then-len-gt-MAX_INPUT-clause-stage g c =
     λ text accepted. too_long_for c.args.units text _ _ (g.I.Feed.bytes c.args.feed.now) c.in_ok-input.input accepted read (omega (arith, c.len.ensures))
 
 -- its facts can be asked for
-pub requires-facts_for : goal.requires-facts_for
-requires-facts_for g c = rw c.deref-2.ensures c.requires.has_text
+pub facts_for-requires : goal.facts_for-requires
+facts_for-requires g c = rw c.deref-2.ensures c.requires.has_text
 
 -- it was read whole
 pub returns-clause-stage : goal.returns-clause-stage

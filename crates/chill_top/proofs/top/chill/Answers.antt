@@ -2,7 +2,18 @@ use Rattle.std.proofs.Common.{rules, ◌≡◌, map, string_bytes}
 use Rattle.std.specs.Prelude.{None}
 use Rattle.word_reader.specs.Said.{said}
 use Rattle.chill_top.proofs.AnswerLemmas.{answer_as, answer_of, answer_usage, answer_no_memory, journal_of, refused_of, keeps_same}
+use Rattle.chill_top.specs.Commands.{IsBudgeted}
+use Rattle.chill_top.proofs.Budgets.{said_budget}
 use Rattle.chill_top.proofs.top.chill.Goals as goal
+
+-- words that mean a command give it a budget
+pub plan_by_workers-planned-requires-clause-budget : goal.plan_by_workers-planned-requires-clause-budget
+plan_by_workers-planned-requires-clause-budget g c =
+    let budget : IsBudgeted c.in-Ok.command = said_budget (map string_bytes c.args.words.now) c.in-Ok.command c.in-Ok.ensures.ok in
+    search (rules, budget)
+
+pub chill_alone-requires-clause-budget : goal.chill_alone-requires-clause-budget
+chill_alone-requires-clause-budget g c = said_budget (map string_bytes c.args.words.now) c.in-Ok.command c.in-Ok.ensures.ok
 
 -- several workers do the run
 pub returns-in-Some-clause-answer : goal.returns-in-Some-clause-answer

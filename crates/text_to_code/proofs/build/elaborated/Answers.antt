@@ -10,4 +10,4 @@ pub elaborate-requires-clause-there : goal.elaborate-requires-clause-there
 elaborate-requires-clause-there g c = c.program_law.ensures g.text (program_tree c.args.tree.now) (ground_of c.args.evaluation.now) c.requires.1.0
 
 pub returns : goal.returns
-returns g c = elaborated_so g.text (program_tree c.args.tree.now) (ground_of c.args.evaluation.now) c.elaborate.result c.requires.0 c.requires.1.0 c.requires.1.1.1 c.well_elaborated_law.ensures c.elaborate.ensures
+returns g c = elaborated_so g.text (program_tree c.args.tree.now) (ground_of c.args.evaluation.now) c.elaborate.result c.requires.0 c.requires.1.0 c.requires.1.1.1 c.well_elaborated_law.ensures c.elaborate.ensures.exact

@@ -11,7 +11,7 @@ tell_of_code-requires g c =
     let table = c.in_ok-evaluation.ensures.table g.text c.requires.1.0 c.requires.1.1 in
     let sound = c.in-Ok.ensures.exact g.text c.requires.1.0 table in
     let names = ap (λ (names : Bor Names). names.now) (c.in-Ok.ensures.names table) ∙ c.in_ok-evaluation.ensures.names ∙ c.requires.1.1 in
-    (c.requires.0, sound.none, record { names = names; ground = sound.none.is_ground; keeps = sound.keeps })
+    (c.requires.0, (sound.none, record { names = names; ground = sound.none.is_ground; keeps = sound.keeps }))
 
 -- they tell what is broken
 pub returns-in-Err-Broken : goal.returns-in-Err-Broken

@@ -7,7 +7,7 @@ use Rattle.text_to_code.proofs.told.tell_of_tree.Goals as goal
 
 -- it breaks no rule on names
 pub tell_of_checks-requires : goal.tell_of_checks-requires
-tell_of_checks-requires g c = (subst (Each IsByte) c.requires.0 c.bytes_law.ensures, record { has_tree = c.requires.1; names = c.in-Ok.ensures.0 }, c.in-Ok.ensures.1)
+tell_of_checks-requires g c = (subst (Each IsByte) c.requires.0 c.bytes_law.ensures, (record { has_tree = c.requires.1; names = c.in-Ok.ensures.0 }, c.in-Ok.ensures.1))
 
 -- it breaks some
 pub returns-in-Err-Broken : goal.returns-in-Err-Broken
