@@ -22,7 +22,7 @@ use Rattle.chill_top.specs.Causes.{IsReadFault, IsFeedFault}
 use Rattle.chill_top.specs.Commands.{task_of, showing_of, showing_said, IsTextBy}
 use Rattle.chill_top.specs.Plan.{IsPlan, IsPlanOf, IsPlanFor, IsPlanFrom, status_of, out_of, err_of}
 use Rattle.chill_top.specs.Runs.{is_some_raised, status_of_run}
-use Rattle.chill_top.specs.Outcomes.{Answers, IsNothing, Sinks, Sources, SameCounts, Wrote, NothingWritten, IsCutShort, IsPartlyShown, IsCarriedOut, done, broken, no_memory, IsAnswer, planned, unread, no_memory_before, IsJournal, IsReported, IsRefused, IsRefusedUnder, outcome_with, without_run, shown_of, watchers_after, dropped_of, told_by}
+use Rattle.chill_top.specs.Outcomes.{Answers, Sinks, Sources, Wrote, NothingWritten, IsCutShort, IsPartlyShown, IsCarriedOut, done, broken, no_memory, IsAnswer, planned, unread, no_memory_before, IsJournal, IsReported, IsRefused, IsRefusedUnder, outcome_with, without_run, shown_of, watchers_after, dropped_of, told_by}
 use Rattle.chill_top.specs.declared.plan.Plan.{Plan}
 use Rattle.chill_top.specs.declared.plan.Plan.TheVariants as plans
 use Rattle.chill_top.specs.declared.plan.Ran.{Ran}

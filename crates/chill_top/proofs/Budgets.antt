@@ -1,10 +1,10 @@
 -- The budget that words say is one that there may be.
-use Rattle.std.proofs.Common.{◌≡◌, ℕ, ◌≤◌, ◌==◌, ◌&&◌, Bool, true, false, List, [], ◌∷◌, length, drop, refl, sym, subst, arith, rules}
+use Rattle.std.proofs.Common.{◌≡◌, ℕ, ◌≤◌, ◌&&◌, Bool, true, false, List, [], ◌∷◌, length, drop, refl, subst, arith, rules}
 use Rattle.std.specs.Prelude.{Option, Some, None, is_some, if◌then◌else◌, nat_lt, nat_le, nat_eq, option_map, option_and_then, unwrap_or, codes, IsTrue}
 use Rattle.std.specs.List.{starts_with}
 use Rattle.std.specs.Str.{bytes_eq}
 use Rattle.word_reader.specs.Number.{number_of, within, decimal_after}
-use Rattle.word_reader.specs.Reading.{Text, Reading, opening, placed_second, placed, with_workers, with_units, is_option, plain, watched, for_watch, counted_units, for_units, counted_workers, for_workers, idle, awaited, step, ended, walk, run_manner, record_manner, replay_manner, plain_manner}
+use Rattle.word_reader.specs.Reading.{Text, Reading, opening, placed_second, placed, with_workers, with_units, is_option, plain, watched, for_watch, counted_units, for_units, counted_workers, for_workers, awaited, step, ended, walk, run_manner, record_manner, replay_manner, plain_manner}
 use Rattle.word_reader.specs.Said.{run_of, record_of, replay_of, check_of, list_of, format_of, made_of, said_by, said}
 use Rattle.word_reader.specs.declared.reading.Waiting.{Waiting}
 use Rattle.word_reader.specs.declared.reading.Waiting.TheVariants.{Nothing, Workers, Units}

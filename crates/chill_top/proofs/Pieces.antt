@@ -8,7 +8,7 @@ use Rattle.rules_model.specs.Diagnoses.{Diagnoses, IsShort, too_long, no_token, 
 use Rattle.chill_tree.specs.ItemTree.{ProgramTree}
 use Rattle.checks_model.specs.Diagnoses.{BreaksRules, on_names, on_modes, on_statements, on_processes, DiagnosesOf, no_tree, breaks_rules, too_large, accepted}
 use Rattle.text_to_code.specs.Building.{HasCode}
-use Rattle.text_to_code.specs.Telling.{IsDiagnosed, IsUnread, IsCanonicalOf, Tells}
+use Rattle.text_to_code.specs.Telling.{IsUnread, IsCanonicalOf, Tells}
 use Rattle.text_to_code.specs.declared.told.Told.{Told}
 use Rattle.text_to_code.specs.declared.told.Told.TheVariants as tellings
 use Rattle.std.specs.declared.option.Option.{Option}

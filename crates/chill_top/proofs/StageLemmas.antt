@@ -26,7 +26,7 @@ use Rattle.word_reader.specs.declared.command.Command.{Command}
 use Rattle.word_reader.specs.declared.command.Command.TheVariants as words
 use Rattle.chill_top.specs.Causes.{IsFeedFault, IsReadFault}
 use Rattle.chill_top.specs.Commands.{task_of, file_of, journal_of, HasNoJournal, Holds, HasBudget, HasBudgetFor, IsBudget, IsBudgeted, IsRunning, IsRunningTask, IsTextBy, IsTextOf, Runs}
-use Rattle.chill_top.specs.Plan.{AreFactsOf, IsInputOf, IsInputTooLong, IsRunFor, IsBuildPlan, IsFormatPlan, IsJournalOf, IsJournalShort, IsJournalTooLong, IsNoRun, IsSoundStage, IsPlanFor, IsPlanFrom, IsPlanOf, IsReadyFor, IsReplayPlan, IsStageFor, IsStageFrom, IsStageOf, Completes, HasProgram, HasText, ReadsInput}
+use Rattle.chill_top.specs.Plan.{IsInputOf, IsInputTooLong, IsRunFor, IsBuildPlan, IsFormatPlan, IsJournalOf, IsJournalShort, IsJournalTooLong, IsNoRun, IsSoundStage, IsPlanFor, IsPlanFrom, IsPlanOf, IsReadyFor, IsReplayPlan, IsStageFor, IsStageFrom, IsStageOf, Completes, HasProgram, HasText, ReadsInput}
 use Rattle.chill_top.specs.Runs.{AreRunnable}
 use Rattle.chill_top.specs.Reading.{IsInputRead, IsRead, IsReadingOf, IsReadingUpTo}
 use Rattle.chill_top.specs.declared.plan.Plan.{Plan}

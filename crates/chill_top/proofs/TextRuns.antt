@@ -1,5 +1,5 @@
 -- The code of a text runs as the text does: its facts are sound, it suits them, and each of its runs is one of the text.
-use Rattle.std.proofs.Common.{◌≡◌, ℕ, ◌≤◌, List, length, ap, subst, sym}
+use Rattle.std.proofs.Common.{ℕ, ◌≤◌, List, subst}
 use Rattle.checked_program.specs.declared.program.Checked.{Checked}
 use Rattle.std.specs.Prelude.{Any}
 use Rattle.std.proofs.lemmas.List.{length-map}
