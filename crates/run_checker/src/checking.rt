@@ -12,11 +12,9 @@ use crate::following::{Slot, follow, start};
 use crate::{CheckRefusal, Verdict};
 use chill_base::{List, Memory};
 use code_guard::Guarded;
-use journal_check::is_allowed;
+use indexed_world::IndexedWorld;
 use kernel_base::{Event, Facts, Over, event_units};
 use std::alloc::Global;
-use world_check::opening_world;
-use world_model::World;
 
 /// The most units of events that are held against a code.
 const MOST_UNITS: u64 = 20_000_000;
@@ -24,7 +22,7 @@ const MOST_UNITS: u64 = 20_000_000;
 /// What the events so far come to.
 #[derive(Drop)]
 pub struct Checker {
-    pub world: World,
+    pub world: IndexedWorld,
     /// The machine of each instance, by its number.
     pub machines: Vec<Slot>,
     /// The units of the events so far.
@@ -41,7 +39,7 @@ impl Checker {
     {
         let _code = guarded.code();
         let first = start(alloc, guarded, 1, 0, &List::new(alloc))?;
-        let world = opening_world(alloc, facts)?;
+        let world = IndexedWorld::open(alloc, facts)?;
         let mut machines = Vec::with_capacity(alloc, 2)?;
         machines.push(None)?;
         machines.push(first)?;
@@ -70,7 +68,7 @@ impl Checker {
         let _code = guarded.code();
         let event = &events[place];
         let alloc = *self.machines.allocator();
-        if !is_allowed(facts, &self.world, event) {
+        if !self.world.allows(facts, event)? {
             return Ok(false);
         }
         if !follow(alloc, guarded, &mut self.machines, event)? {
@@ -92,7 +90,7 @@ impl Checker {
         if facts.units <= self.units {
             return Some(Over::Spent);
         }
-        end_in(&self.world)
+        end_in(self.world.bare())
     }
 }
 

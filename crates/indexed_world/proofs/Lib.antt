@@ -1,0 +1,4 @@
+pub mod Receiving
+pub mod Hearing
+pub mod Alike
+pub mod Fronts

@@ -1,0 +1,61 @@
+-- What an index keeps: one message more, and those of one send number less.
+use Rattle.std.proofs.Common.{◌≡◌, ◌≢◌, ℕ, zero, suc, Bool, true, false, List, [], ◌∷◌, ◌++◌, length, refl, sym, ap, ap₂, ◌∙◌, inl, inr, arith, Option, Some, None, slice_get, eq-eqb}
+use Rattle.std.specs.Prelude.{if◌then◌else◌, ◌==◌}
+use Rattle.std.proofs.lemmas.Bool.{cases_Bool, eqb-true}
+use Rattle.world_model.specs.declared.world.PendingSignal.{PendingSignal}
+use Rattle.world_model.proofs.ChangedLists.{pushed_or_old, pushed_keeps}
+use Rattle.message_index.specs.Places.{PlaceTable, places_of}
+use Rattle.message_index.specs.Slots.{live, way_of, HasNone, IsThinned}
+use Rattle.message_index.specs.Ranks.{Way}
+use Rattle.message_index.specs.Shelves.{IsTopSlot, NoneGoes}
+use Rattle.message_index.specs.Messages.{IsTop, NoMessageGoes}
+use Rattle.message_index.proofs.Slotted.{there, back, last_there}
+
+abbrev pub ArePlaced : List (Option PendingSignal) → PlaceTable → Type 0
+ArePlaced slots places = (k : ℕ) (message : PendingSignal) → slice_get slots k ≡ Some (Some message) → (j : ℕ) × (slice_get (places_of places message.value.send) j ≡ Some k)
+
+pub placed_more : (slots new : List (Option PendingSignal)) (old places : PlaceTable) (message : PendingSignal) → ArePlaced slots old
+    → ((s : ℕ) → places_of places s ≡ (if message.value.send == s then places_of old message.value.send ++ length slots ∷ [] else places_of old s))
+    → new ≡ slots ++ Some message ∷ [] → ArePlaced new places
+placed_more slots new old places message placed adds is k m at = elim (pushed_or_old slots k (Some message) (Some m) (ap (λ (s : List (Option PendingSignal)). slice_get s k) (sym is) ∙ at)) [
+  | inl last ↦ (let same : m ≡ message = let e : Some m ≡ Some message = last.1 in cc in
+      let own : places_of places message.value.send ≡ places_of old message.value.send ++ length slots ∷ [] =
+          adds message.value.send ∙ ap (λ (b : Bool). if b then places_of old message.value.send ++ length slots ∷ [] else places_of old message.value.send) (eq-eqb message.value.send message.value.send refl) in
+      (length (places_of old message.value.send), ap₂ (λ (x : PendingSignal) (p : ℕ). slice_get (places_of places x.value.send) (length (places_of old message.value.send))) same last.0
+          ∙ (ap (λ (ps : List ℕ). slice_get ps (length (places_of old message.value.send))) own ∙ (last_there (places_of old message.value.send) (length slots) ∙ ap Some (sym last.0)))))
+  | inr before ↦ (let p = placed k m before in elim (cases_Bool (message.value.send == m.value.send)) [
+      | inl same ↦ (let e : message.value.send ≡ m.value.send = eqb-true message.value.send m.value.send same in
+          (p.0, ap (λ (ps : List ℕ). slice_get ps p.0) (adds m.value.send ∙ ap (λ (b : Bool). if b then places_of old message.value.send ++ length slots ∷ [] else places_of old m.value.send) same)
+            ∙ pushed_keeps (places_of old message.value.send) p.0 (length slots) k (ap (λ (s : ℕ). slice_get (places_of old s) p.0) e ∙ p.1)))
+      | inr apart ↦ (p.0, ap (λ (ps : List ℕ). slice_get ps p.0) (adds m.value.send ∙ ap (λ (b : Bool). if b then places_of old message.value.send ++ length slots ∷ [] else places_of old m.value.send) apart) ∙ p.1)
+    ])
+]
+
+pub placed_less : (slots new : List (Option PendingSignal)) (old places : PlaceTable) (send : ℕ) → ArePlaced slots old
+    → ((s : ℕ) → places_of places s ≡ (if send == s then [] else places_of old s)) → IsThinned send slots new → ((k : ℕ) → HasNone send k new) → ArePlaced new places
+placed_less slots new old places send placed takes thinned none k m at =
+    let p = placed k m (thinned.from k m at) in
+    elim (cases_Bool (send == m.value.send)) [
+      | inl same ↦ absurd (none k m at (sym (eqb-true send m.value.send same)))
+      | inr apart ↦ (p.0, ap (λ (ps : List ℕ). slice_get ps p.0) (takes m.value.send ∙ ap (λ (b : Bool). if b then [] else places_of old m.value.send) apart) ∙ p.1)
+    ]
+
+-- where the noted places have no message of the send number, no place has
+pub none_left : (slots new : List (Option PendingSignal)) (old : PlaceTable) (send : ℕ) (those : List ℕ) → ArePlaced slots old → those ≡ places_of old send → IsThinned send slots new
+    → ((j k : ℕ) → slice_get those j ≡ Some k → HasNone send k new) → (k : ℕ) → HasNone send k new
+none_left slots new old send those placed are thinned none k m at same =
+    let p = placed k m (thinned.from k m at) in
+    none p.0 k (ap (λ (ps : List ℕ). slice_get ps p.0) are ∙ (ap (λ (s : ℕ). slice_get (places_of old s) p.0) (sym same) ∙ p.1)) m at same
+
+pub no_message : (slots : List (Option PendingSignal)) (way : Way) → NoneGoes slots way → NoMessageGoes (live slots) way
+no_message slots way none j m at goes = let b = back slots j m at in none b.0 m b.1 goes
+
+pub top_message : (slots : List (Option PendingSignal)) (way : Way) (top : PendingSignal) → IsTopSlot slots way top → IsTop (live slots) way top
+top_message slots way top slot =
+    let t = there slots slot.place top slot.there in
+    record {
+      place = t.0;
+      there = t.1;
+      goes = slot.goes;
+      highest = λ j m at goes. let b = back slots j m at in slot.highest b.0 m b.1 goes;
+    }

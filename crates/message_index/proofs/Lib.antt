@@ -1,0 +1,4 @@
+pub mod Ranked
+pub mod Slotted
+pub mod Shelved
+pub mod Kept
