@@ -1,3 +1,5 @@
 pub mod Shown
 pub mod Fronts
+pub mod Stocks
+pub mod Sending
 pub mod Indexed

@@ -8,6 +8,7 @@
 mod copies;
 mod sending;
 mod shown;
+mod storing;
 mod world;
 
 pub use world::IndexedWorld;

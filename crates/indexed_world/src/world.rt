@@ -1,17 +1,21 @@
 // A world with an index.
-ghost use Rattle.std.specs.Prelude.{◌+◌, ◌^◌, ◌<◌};
+ghost use Rattle.std.specs.Prelude.{◌≡◌, ◌↔◌, ◌+◌, ◌^◌, ◌<◌, IfOk, IsTrue, OnOk, All};
+ghost use Rattle.world_check.specs.Opening.{HasFewMembersEach};
+ghost use Rattle.world_model.specs.World as worlds;
+ghost use Rattle.world_model.specs.Allowed as events;
+ghost use Rattle.indexed_world.specs.Indexed.{IsBare, IsIndexed, world_in};
 
-use crate::copies::values_of;
-use crate::sending::{allows_send, has_room};
-use crate::shown::show_way;
+use crate::sending::{has_room, may_send, may_wait};
+use crate::shown::{shown_signals, shown_values};
+use crate::storing::{count_in, no_stocks, no_values, put_all, put_signals, take_stored};
 use chill_base::{Item, List, Memory};
 use journal_check::is_allowed;
 use kernel_base::{Alternative, Answer, Event, Facts, Request};
 use message_index::Messages;
 use std::alloc::Global;
 use std::mem;
-use world_check::opening_world;
-use world_model::{PendingSignal, StoredValue, World};
+use world_check::{event_in_range, opening_world};
+use world_model::World;
 
 /// A world with an index.
 #[derive(Drop)]
@@ -24,62 +28,14 @@ pub struct IndexedWorld {
     pending: Messages,
 }
 
-fn no_messages(alloc: Global, count: usize) -> Result<Vec<Messages>, Memory> {
-    let mut all = Vec::new(alloc);
-    for _ in 0..count {
-        all.push(Messages::new(alloc))?;
-    }
-    Ok(all)
-}
-
-// The answer of an event, or one that receives nothing.
-fn answer_of(event: &Event) -> &Answer {
-    match event {
-        Event::Did { answer, .. } => answer,
-        Event::Goes { answer, .. } => answer,
-        _ => &Answer::Done,
-    }
-}
-
-// Puts values behind those that lie in a buffer.
-fn put_values(messages: &mut Messages, values: List<StoredValue>) -> Result<(), Memory> {
-    for value in values.into_vec() {
-        messages.push(PendingSignal {
-            signal: 0,
-            to: None,
-            value,
-        })?;
-    }
-    Ok(())
-}
-
-fn put_signals(messages: &mut Messages, signals: List<PendingSignal>) -> Result<(), Memory> {
-    for signal in signals.into_vec() {
-        messages.push(signal)?;
-    }
-    Ok(())
-}
-
-// Takes what has this send number out of all buffers.
-fn take_stored(stored: &mut Vec<Messages>, send: u32) -> Result<(), Memory> {
-    for buffer in 0..stored.len() {
-        stored[buffer].take(send)?;
-    }
-    Ok(())
-}
-
-fn count_in(stored: &[Messages], buffer: u32) -> usize {
-    match stored.get(buffer as usize) {
-        Some(messages) => messages.len(),
-        None => 0,
-    }
-}
-
 impl IndexedWorld {
     /// The world before the first event.
-    pub fn open(alloc: Global, facts: &Facts) -> Result<IndexedWorld, Memory> {
+    pub fn open(alloc: Global, facts: &Facts) -> Result<IndexedWorld, Memory>
+        requires few_members { All HasFewMembersEach facts.now.store }
+        ensures { IfOk result (λ world. IsIndexed world × IsBare world × (world_in world ≡ worlds.opening facts.now)) }
+    {
         let bare = opening_world(alloc, facts)?;
-        let stored = no_messages(alloc, facts.buffers.len())?;
+        let stored = no_stocks(alloc, facts.buffers.len())?;
         Ok(IndexedWorld {
             bare,
             stored,
@@ -88,92 +44,114 @@ impl IndexedWorld {
     }
 
     /// The world without what lies in the buffers and pends.
-    pub fn bare(&self) -> &World {
+    pub fn bare(&self) -> &World
+        ensures { result.now ≡ self.now.bare }
+    {
         &self.bare
     }
 
-    // Shows what matters of the values in a buffer.
-    fn show_values(&mut self, buffer: u32, answer: &Answer) -> Result<(), Memory> {
-        let place = buffer as usize;
-        if place < self.stored.len() && place < self.bare.stored.len() {
-            let mut shown = List::new(self.bare.stored.allocator());
-            show_way(&self.stored[place], 0, None, answer, &mut shown)?;
-            let values = values_of(shown)?;
-            let stored = self.bare.stored.room();
-            stored[place] = values;
-        }
-        Ok(())
-    }
-
-    fn show_buffers(&mut self, buffers: &[Alternative], answer: &Answer) -> Result<(), Memory> {
-        for place in 0..buffers.len() {
-            self.show_values(buffers[place].thing, answer)?;
-        }
-        Ok(())
-    }
-
-    fn hide_buffers(&mut self, buffers: &[Alternative]) {
-        let alloc = self.bare.stored.allocator();
-        for place in 0..buffers.len() {
-            let buffer = buffers[place].thing as usize;
-            if buffer < self.bare.stored.len() {
-                let stored = self.bare.stored.room();
-                stored[buffer] = List::new(alloc);
-            }
-        }
-    }
-
-    fn show_signals(
+    // Whether an event is allowed that receives from these buffers with this answer, or waits.
+    fn allows_receipt(
         &mut self,
+        facts: &Facts,
+        event: &Event,
+        buffers: &[Alternative],
+        answer: &Answer,
+    ) -> Result<bool, Memory> {
+        let alloc = self.bare.stored.allocator();
+        let shown = shown_values(alloc, self.stored.as_slice(), buffers, answer)?;
+        let bare = mem::replace(&mut self.bare.stored, shown);
+        let yes = is_allowed(facts, &self.bare, event);
+        self.bare.stored = bare;
+        Ok(yes)
+    }
+
+    // Whether an event is allowed in which an instance receives one of these signals with this answer, or waits.
+    fn allows_hearing(
+        &mut self,
+        facts: &Facts,
+        event: &Event,
         who: u32,
         signals: &[Alternative],
         answer: &Answer,
-    ) -> Result<(), Memory> {
-        for place in 0..signals.len() {
-            let signal = signals[place].thing;
-            show_way(&self.pending, signal, None, answer, &mut self.bare.pending)?;
-            show_way(&self.pending, signal, Some(who), answer, &mut self.bare.pending)?;
-        }
-        Ok(())
+    ) -> Result<bool, Memory> {
+        let alloc = self.bare.pending.allocator();
+        let shown = shown_signals(alloc, &self.pending, who, signals, answer)?;
+        let bare = mem::replace(&mut self.bare.pending, shown);
+        let yes = is_allowed(facts, &self.bare, event);
+        self.bare.pending = bare;
+        Ok(yes)
     }
 
-    fn hide_signals(&mut self) {
-        self.bare.pending = List::new(self.bare.pending.allocator());
+    fn room(&self, facts: &Facts, buffer: u32) -> bool {
+        has_room(facts, buffer, count_in(self.stored.as_slice(), buffer))
     }
 
-    fn allows_request(
+    fn allows_answer(
         &mut self,
         facts: &Facts,
+        event: &Event,
         who: u32,
         request: &Request,
-        event: &Event,
+        answer: &Answer,
+        refill: Option<u32>,
     ) -> Result<bool, Memory> {
         match request {
             Request::ReceiveBuffer { buffers, .. } => {
-                self.show_buffers(buffers.as_slice(), answer_of(event))?;
-                let yes = is_allowed(facts, &self.bare, event);
-                self.hide_buffers(buffers.as_slice());
-                Ok(yes)
+                self.allows_receipt(facts, event, buffers.as_slice(), answer)
             }
             Request::ReceiveSignal { signals, .. } => {
-                self.show_signals(who, signals.as_slice(), answer_of(event))?;
-                let yes = is_allowed(facts, &self.bare, event);
-                self.hide_signals();
-                Ok(yes)
+                self.allows_hearing(facts, event, who, signals.as_slice(), answer)
             }
             Request::SendBuffer { buffer, .. } => {
-                let room = has_room(facts, *buffer, count_in(&self.stored, *buffer));
-                Ok(allows_send(facts, &self.bare, *buffer, event, room))
+                let room = self.room(facts, *buffer);
+                Ok(refill.is_none()
+                    && may_send(facts, &self.bare, who, request, *buffer, answer, room)
+                    && event_in_range(event))
+            }
+            _ => Ok(is_allowed(facts, &self.bare, event)),
+        }
+    }
+
+    fn allows_wait(
+        &mut self,
+        facts: &Facts,
+        event: &Event,
+        who: u32,
+        request: &Request,
+    ) -> Result<bool, Memory> {
+        match request {
+            Request::ReceiveBuffer { buffers, .. } => {
+                self.allows_receipt(facts, event, buffers.as_slice(), &Answer::Done)
+            }
+            Request::ReceiveSignal { signals, .. } => {
+                self.allows_hearing(facts, event, who, signals.as_slice(), &Answer::Done)
+            }
+            Request::SendBuffer { buffer, .. } => {
+                let room = self.room(facts, *buffer);
+                Ok(may_wait(facts, &self.bare, who, request, *buffer, room)
+                    && event_in_range(event))
             }
             _ => Ok(is_allowed(facts, &self.bare, event)),
         }
     }
 
     /// Whether an event is allowed.
-    pub fn allows(&mut self, facts: &Facts, event: &Event) -> Result<bool, Memory> {
+    pub fn allows(&mut self, facts: &Facts, event: &Event) -> Result<bool, Memory>
+        requires kept { IsIndexed self.old }
+        requires bare { IsBare self.old }
+        ensures decides { IfOk result (λ yes. IsTrue yes ↔ events.IsAllowed facts.now (world_in self.old) event.now) }
+        ensures same { OnOk result (self.new ≡ self.old) }
+    {
         match event {
-            Event::Did { who, request, .. } => self.allows_request(facts, *who, request, event),
-            Event::Waits { who, request, .. } => self.allows_request(facts, *who, request, event),
+            Event::Did {
+                who,
+                request,
+                answer,
+                refill,
+                ..
+            } => self.allows_answer(facts, event, *who, request, answer, *refill),
+            Event::Waits { who, request, .. } => self.allows_wait(facts, event, *who, request),
             Event::Goes { .. } | Event::Runs { .. } => Ok(is_allowed(facts, &self.bare, event)),
         }
     }
@@ -192,15 +170,14 @@ impl IndexedWorld {
     }
 
     // Puts what an event stored or let pend to the rest.
-    fn put_away(&mut self) -> Result<(), Memory> {
+    fn put_away(&mut self) -> Result<(), Memory>
+        requires { IsIndexed self.old }
+        ensures { OnOk result (IsIndexed self.new × IsBare self.new × (world_in self.new ≡ world_in self.old)) }
+    {
         let alloc = self.bare.stored.allocator();
-        for buffer in 0..self.stored.len() {
-            if buffer < self.bare.stored.len() && !self.bare.stored.at(buffer).is_empty() {
-                let stored = self.bare.stored.room();
-                let values = mem::replace(&mut stored[buffer], List::new(alloc));
-                put_values(&mut self.stored[buffer], values)?;
-            }
-        }
+        let none = no_values(alloc, self.stored.len())?;
+        let made = mem::replace(&mut self.bare.stored, none);
+        put_all(&mut self.stored, made)?;
         let signals = mem::replace(&mut self.bare.pending, List::new(alloc));
         put_signals(&mut self.pending, signals)
     }
@@ -211,7 +188,9 @@ impl IndexedWorld {
         event: &Event,
         request: &Request,
         answer: &Answer,
-    ) -> Result<(), Memory> {
+    ) -> Result<(), Memory>
+        requires { self.old.bare.sends + 1 < 2 ^ 32 }
+    {
         match request {
             Request::SendBuffer { .. }
             | Request::ReceiveBuffer { .. }
@@ -227,7 +206,10 @@ impl IndexedWorld {
 
     /// Makes of the world what the event makes of it. After want of memory the world is of no further use.
     pub fn apply(&mut self, facts: &Facts, event: &Event) -> Result<(), Memory>
-        requires { self.old.bare.sends + 1 < 2 ^ 32 }
+        requires kept { IsIndexed self.old }
+        requires bare { IsBare self.old }
+        requires few { self.old.bare.sends + 1 < 2 ^ 32 }
+        ensures { OnOk result (IsIndexed self.new × IsBare self.new × (world_in self.new ≡ worlds.after facts.now (world_in self.old) event.now)) }
     {
         match event {
             Event::Did { request, answer, .. } => self.apply_did(facts, event, request, answer),

@@ -1,11 +1,12 @@
 -- What an index keeps: one message more, and those of one send number less.
-use Rattle.std.proofs.Common.{◌≡◌, ◌≢◌, ℕ, zero, suc, Bool, true, false, List, [], ◌∷◌, ◌++◌, length, refl, sym, ap, ap₂, ◌∙◌, inl, inr, arith, Option, Some, None, slice_get, eq-eqb}
+use Rattle.std.proofs.Common.{◌≡◌, ◌≢◌, ◌<◌, ◌+◌, subst, ℕ, zero, suc, Bool, true, false, List, [], ◌∷◌, ◌++◌, length, refl, sym, ap, ap₂, ◌∙◌, inl, inr, arith, Option, Some, None, slice_get, eq-eqb}
 use Rattle.std.specs.Prelude.{if◌then◌else◌, ◌==◌}
-use Rattle.std.proofs.lemmas.Bool.{cases_Bool, eqb-true}
+use Rattle.std.proofs.lemmas.Bool.{cases_Bool, cases_lt, eqb-true}
+use Rattle.std.proofs.lemmas.Option.{same_Some, slice_get_within}
 use Rattle.world_model.specs.declared.world.PendingSignal.{PendingSignal}
 use Rattle.world_model.proofs.ChangedLists.{pushed_or_old, pushed_keeps}
 use Rattle.message_index.specs.Places.{PlaceTable, places_of}
-use Rattle.message_index.specs.Slots.{live, way_of, HasNone, IsThinned}
+use Rattle.message_index.specs.Slots.{live, message_in, way_of, HasNone, IsThinned}
 use Rattle.message_index.specs.Ranks.{Way}
 use Rattle.message_index.specs.Shelves.{IsTopSlot, NoneGoes}
 use Rattle.message_index.specs.Messages.{IsTop, NoMessageGoes}
@@ -59,3 +60,27 @@ top_message slots way top slot =
       goes = slot.goes;
       highest = λ j m at goes. let b = back slots j m at in slot.highest b.0 m b.1 goes;
     }
+
+-- a message in a slot
+pub in_slot : (slot : Option (Option PendingSignal)) (m : PendingSignal) → message_in slot ≡ Some m → slot ≡ Some (Some m)
+in_slot None m is = absurd (let f : ⊥ = cc in f)
+in_slot (Some found) m is = ap Some is
+
+-- none of the places so far has a message of the send number, and neither has the next
+pub none_more : (send : ℕ) (those : List ℕ) (i value : ℕ) (mid new : List (Option PendingSignal)) → ((j k : ℕ) → j < i → slice_get those j ≡ Some k → HasNone send k mid)
+    → IsThinned send mid new → HasNone send value new → slice_get those i ≡ Some value → (j k : ℕ) → j < i + 1 → slice_get those j ≡ Some k → HasNone send k new
+none_more send those i value mid new before thinned none here j k low at = elim (cases_lt j i) [
+  | inl below ↦ (λ m there. before j k below at m (thinned.from k m there))
+  | inr last ↦ (let same : j ≡ i = omega arith in
+      let e : Some value ≡ Some k = sym here ∙ (ap (slice_get those) (sym same) ∙ at) in
+      subst (λ (p : ℕ). HasNone send p new) (same_Some value k e) none)
+]
+
+-- at none of the noted places the message is there, so it is nowhere
+pub is_nowhere : (slots : List (Option PendingSignal)) (places : PlaceTable) (those : List ℕ) (message : PendingSignal) → ArePlaced slots places → those ≡ places_of places message.value.send
+    → ((j k : ℕ) → j < length those → slice_get those j ≡ Some k → message_in (slice_get slots k) ≡ Some message → ⊥) → (j : ℕ) × (slice_get (live slots) j ≡ Some message) → ⊥
+is_nowhere slots places those message placed are none found =
+    let b = back slots found.0 message found.1 in
+    let p = placed b.0 message b.1 in
+    let at : slice_get those p.0 ≡ Some b.0 = ap (λ (ps : List ℕ). slice_get ps p.0) are ∙ p.1 in
+    none p.0 b.0 (slice_get_within those p.0 b.0 at) at (ap message_in b.1)

@@ -3,14 +3,14 @@ use Rattle.std.proofs.Common.{◌≡◌, ℕ, Bool, true, false, List, refl, sym
 use Rattle.std.specs.Prelude.{◌==◌, ◌&&◌, ◌≤◌, ◌<◌, nat_eq, if◌then◌else◌}
 use Rattle.std.specs.declared.cmp.Ordering.{Ordering}
 use Rattle.std.specs.declared.cmp.Ordering.TheVariants.{Less, Equal, Greater}
-use Rattle.std.specs.Ordering.{is_eq, is_lt, nat_cmp}
+use Rattle.std.specs.Ordering.{is_eq, is_lt, nat_cmp, ordering_then}
 use Rattle.std.specs.Option.{option_eq}
 use Rattle.std.specs.Cmp.{IsTotalOrder}
 use Rattle.std.specs.HashMap.{get}
 use Rattle.std.specs.BTreeSet.{BTreeSet, contains}
 use Rattle.std.proofs.Common.{arith}
-use Rattle.std.proofs.lemmas.Bool.{cases_Bool, eqb-true, and_parts, and_from, nat_tests}
-use Rattle.std.proofs.lemmas.Cmp.{nat_cmp_total, on_total, then_total, tied_itself}
+use Rattle.std.proofs.lemmas.Bool.{cases_Bool, eqb-true, and_parts, and_from}
+use Rattle.std.proofs.lemmas.Cmp.{nat_cmp_total, on_total, then_total, tied_itself, ranked, by_ranked}
 use Rattle.std.proofs.lemmas.Map.Lookups.{exact_pairs, exact_unsigned}
 use Rattle.message_index.specs.Ranks.{Way, Rank, RankTable, same_way, rank_cmp, is_at, among, has_rank}
 
@@ -58,7 +58,10 @@ at_is way rank w r same =
 
 -- one that doesn't come behind has no higher priority
 pub not_behind : (a b : Rank) → is_lt (rank_cmp a b) ≡ false → b.0 ≤ a.0
-not_behind a b apart = grind (arith, nat_tests)
+not_behind a b apart = by_ranked (a.0 < b.0) (a.0 ≡ b.0) (b.0 < a.0) (nat_cmp a.0 b.0) (ranked a.0 b.0 (nat_cmp a.0 b.0) refl)
+    (λ less low. absurd (let e : true ≡ false = sym (ap (λ (o : Ordering). is_lt (ordering_then o (nat_cmp a.1 b.1))) less) ∙ apart in let f : ⊥ = cc in f))
+    (λ equal same. omega arith)
+    (λ greater high. omega arith)
 
 -- the set of one way is replaced by one that has or lacks one rank
 pub replaced : (value : Bool) (old bare new : RankTable) (way : Way) (rank : Rank) (those more : BTreeSet Rank)

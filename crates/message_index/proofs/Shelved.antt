@@ -61,6 +61,21 @@ shelf_more old new message shelf adds slots gone =
           omega (arith, l, n, gone, shelf.count, length-append (live old.slots) (message ∷ []), length-append old.slots (Some message ∷ []));
     }
 
+emptied_here : (xs : List (Option PendingSignal)) (k : ℕ) (m : PendingSignal) → slice_get xs k ≡ Some (Some m) → slice_get (slice_set xs k None) k ≡ Some None
+emptied_here [] k m at = absurd (let f : ⊥ = cc in f)
+emptied_here (x ∷ xs) zero m at = refl
+emptied_here (x ∷ xs) (suc k) m at = emptied_here xs k m at
+
+elsewhere : (xs : List (Option PendingSignal)) (send place : ℕ) (way : Way) (priority : ℕ) → HasSent send place xs way priority → (w : Way) (r : Rank) → IsRanked xs w r → r.1 ≡ place → is_at way (priority, place) w r ≡ false → ⊥
+elsewhere xs send place way priority sent w r ranked here apart =
+    let e : Some (Some sent.message) ≡ Some (Some ranked.message) = sym sent.there ∙ (ap (λ (p : ℕ). slice_get xs p) (sym here) ∙ ranked.there) in
+    let is : sent.message ≡ ranked.message = cc in
+    let ways : way ≡ w = sym sent.goes ∙ (ap (λ (m : PendingSignal). way_of m) is ∙ ranked.goes) in
+    let first : priority ≡ r.0 = sym sent.ranked ∙ (ap (λ (m : PendingSignal). m.value.priority) is ∙ ranked.priority) in
+    let ranks : let rank : Rank = (priority, place) in rank ≡ r = ap₂ (λ (x y : ℕ). let rank : Rank = (x, y) in rank) first (sym here) in
+    let yes : is_at way (priority, place) w r ≡ true = ap₂ (λ (v : Way) (x : Rank). is_at way (priority, place) v x) (sym ways) (sym ranks) ∙ at_itself way (priority, place) in
+    let f : ⊥ = cc in f
+
 pub shelf_less : (old new : Shelf) (send place : ℕ) (way : Way) (priority : ℕ) → IsShelf old → HasSent send place old.slots way priority
     → ((w : Way) (r : Rank) → has_rank new.ranks w r ≡ (if is_at way (priority, place) w r then false else has_rank old.ranks w r))
     → new.slots ≡ slice_set old.slots place None → new.gone ≡ old.gone + 1 → IsShelf new
@@ -93,21 +108,6 @@ shelf_less old new send place way priority shelf sent drops slots gone =
           let n : length new.slots ≡ length (slice_set old.slots place None) = ap (λ (s : List (Option PendingSignal)). length s) slots in
           omega (arith, l, n, gone, shelf.count, fewer, set_length old.slots place None);
     }
-    where
-      emptied_here : (xs : List (Option PendingSignal)) (k : ℕ) (m : PendingSignal) → slice_get xs k ≡ Some (Some m) → slice_get (slice_set xs k None) k ≡ Some None
-      emptied_here [] k m at = absurd (let f : ⊥ = cc in f)
-      emptied_here (x ∷ xs) zero m at = refl
-      emptied_here (x ∷ xs) (suc k) m at = emptied_here xs k m at
-
-      elsewhere : (xs : List (Option PendingSignal)) (send place : ℕ) (way : Way) (priority : ℕ) → HasSent send place xs way priority → (w : Way) (r : Rank) → IsRanked xs w r → r.1 ≡ place → is_at way (priority, place) w r ≡ false → ⊥
-      elsewhere xs send place way priority sent w r ranked here apart =
-          let e : Some (Some sent.message) ≡ Some (Some ranked.message) = sym sent.there ∙ (ap (λ (p : ℕ). slice_get xs p) (sym here) ∙ ranked.there) in
-          let is : sent.message ≡ ranked.message = cc in
-          let ways : way ≡ w = sym sent.goes ∙ (ap (λ (m : PendingSignal). way_of m) is ∙ ranked.goes) in
-          let first : priority ≡ r.0 = sym sent.ranked ∙ (ap (λ (m : PendingSignal). m.value.priority) is ∙ ranked.priority) in
-          let ranks : let rank : Rank = (priority, place) in rank ≡ r = ap₂ (λ (x y : ℕ). let rank : Rank = (x, y) in rank) first (sym here) in
-          let yes : is_at way (priority, place) w r ≡ true = ap₂ (λ (v : Way) (x : Rank). is_at way (priority, place) v x) (sym ways) (sym ranks) ∙ at_itself way (priority, place) in
-          let f : ⊥ = cc in f
 
 pub slot_thinned : (slots : List (Option PendingSignal)) (send place : ℕ) (way : Way) (priority : ℕ) → HasSent send place slots way priority → IsThinned send slots (slice_set slots place None)
 slot_thinned slots send place way priority sent = record {
@@ -122,16 +122,13 @@ slot_thinned slots send place way priority sent = record {
       apart (ap (λ (x : PendingSignal). x.value.send) is ∙ sent.sent)) ∙ at;
 }
 
+not_emptied : (xs : List (Option PendingSignal)) (k : ℕ) (m : PendingSignal) → slice_get (slice_set xs k None) k ≡ Some (Some m) → ⊥
+not_emptied [] k m at = let f : ⊥ = cc in f
+not_emptied (x ∷ xs) zero m at = let f : ⊥ = cc in f
+not_emptied (x ∷ xs) (suc k) m at = not_emptied xs k m at
+
 pub slot_none : (slots : List (Option PendingSignal)) (send place : ℕ) → HasNone send place (slice_set slots place None)
-slot_none slots send place m at same = elim (written_or_old slots place place None (Some m) at) [
-  | inl here ↦ (let e : Some m ≡ None = here.1 in let f : ⊥ = cc in f)
-  | inr before ↦ not_emptied slots place m at
-]
-    where
-      not_emptied : (xs : List (Option PendingSignal)) (k : ℕ) (m : PendingSignal) → slice_get (slice_set xs k None) k ≡ Some (Some m) → ⊥
-      not_emptied [] k m at = let f : ⊥ = cc in f
-      not_emptied (x ∷ xs) zero m at = let f : ⊥ = cc in f
-      not_emptied (x ∷ xs) (suc k) m at = not_emptied xs k m at
+slot_none slots send place m at same = not_emptied slots place m at
 
 -- no rank, no message
 pub none_goes : (shelf : Shelf) (way : Way) → IsShelf shelf → ((r : Rank) → has_rank shelf.ranks way r ≡ false) → NoneGoes shelf.slots way
