@@ -12,14 +12,8 @@ use Rattle.world_model.specs.declared.world.World.{World}
 use Rattle.world_model.specs.Lists.{number_for}
 use Rattle.world_model.specs.Waiting.{may_receive}
 use Rattle.world_model.specs.Allowed.{IsPendingFor, TakesSignal, NoSignalPends, ReceivesSignal}
-use Rattle.indexed_world.specs.Shown.{Receives, ShowsWay, AreThere}
+use Rattle.indexed_world.specs.Shown.{Receives, ShowsWay, AreThere, ShowsSignals}
 use Rattle.indexed_world.proofs.Receiving.{showing}
-
--- the signals that are listed and that `who` may receive are shown
-pub record ShowsSignals (answer : Answer) (who : ℕ) (signals : List Alternative) (messages shown : List PendingSignal) : Type 0 where
-  pub there : AreThere messages shown
-  pub to_all : (s n : ℕ) → number_for signals s ≡ Some n → ShowsWay answer s None messages shown
-  pub to_one : (s n : ℕ) → number_for signals s ≡ Some n → ShowsWay answer s (Some who) messages shown
 
 module _ (facts : Facts) (w : World) (stored : List (List StoredValue)) (pending : List PendingSignal) (who : ℕ) (signals : List Alternative) where
   abbrev small : World

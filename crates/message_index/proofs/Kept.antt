@@ -1,5 +1,5 @@
 -- What an index keeps: one message more, and those of one send number less.
-use Rattle.std.proofs.Common.{◌≡◌, ◌≢◌, ◌<◌, ◌+◌, subst, ℕ, zero, suc, Bool, true, false, List, [], ◌∷◌, ◌++◌, length, refl, sym, ap, ap₂, ◌∙◌, inl, inr, arith, Option, Some, None, slice_get, eq-eqb}
+use Rattle.std.proofs.Common.{◌≡◌, ◌≢◌, ◌<◌, ◌≤◌, ◌+◌, subst, ℕ, zero, suc, Bool, true, false, List, [], ◌∷◌, ◌++◌, length, refl, sym, ap, ap₂, ◌∙◌, inl, inr, arith, Option, Some, None, slice_get, eq-eqb}
 use Rattle.std.specs.Prelude.{if◌then◌else◌, ◌==◌}
 use Rattle.std.proofs.lemmas.Bool.{cases_Bool, cases_lt, eqb-true}
 use Rattle.std.proofs.lemmas.Option.{same_Some, slice_get_within}
@@ -21,15 +21,19 @@ pub placed_more : (slots new : List (Option PendingSignal)) (old places : PlaceT
 placed_more slots new old places message placed adds is k m at = elim (pushed_or_old slots k (Some message) (Some m) (ap (λ (s : List (Option PendingSignal)). slice_get s k) (sym is) ∙ at)) [
   | inl last ↦ (let same : m ≡ message = let e : Some m ≡ Some message = last.1 in cc in
       let own : places_of places message.value.send ≡ places_of old message.value.send ++ length slots ∷ [] =
-          adds message.value.send ∙ ap (λ (b : Bool). if b then places_of old message.value.send ++ length slots ∷ [] else places_of old message.value.send) (eq-eqb message.value.send message.value.send refl) in
-      (length (places_of old message.value.send), ap₂ (λ (x : PendingSignal) (p : ℕ). slice_get (places_of places x.value.send) (length (places_of old message.value.send))) same last.0
-          ∙ (ap (λ (ps : List ℕ). slice_get ps (length (places_of old message.value.send))) own ∙ (last_there (places_of old message.value.send) (length slots) ∙ ap Some (sym last.0)))))
+      adds message.value.send ∙ ap (λ (b : Bool). if b then places_of old message.value.send ++ length slots ∷ [] else places_of old message.value.send) (eq-eqb message.value.send message.value.send refl) in (
+        length (places_of old message.value.send),
+        ap₂ (λ (x : PendingSignal) (p : ℕ). slice_get (places_of places x.value.send) (length (places_of old message.value.send))) same last.0
+            ∙ (ap (λ (ps : List ℕ). slice_get ps (length (places_of old message.value.send))) own ∙ (last_there (places_of old message.value.send) (length slots) ∙ ap Some (sym last.0))),
+      ))
   | inr before ↦ (let p = placed k m before in elim (cases_Bool (message.value.send == m.value.send)) [
-      | inl same ↦ (let e : message.value.send ≡ m.value.send = eqb-true message.value.send m.value.send same in
-          (p.0, ap (λ (ps : List ℕ). slice_get ps p.0) (adds m.value.send ∙ ap (λ (b : Bool). if b then places_of old message.value.send ++ length slots ∷ [] else places_of old m.value.send) same)
-            ∙ pushed_keeps (places_of old message.value.send) p.0 (length slots) k (ap (λ (s : ℕ). slice_get (places_of old s) p.0) e ∙ p.1)))
-      | inr apart ↦ (p.0, ap (λ (ps : List ℕ). slice_get ps p.0) (adds m.value.send ∙ ap (λ (b : Bool). if b then places_of old message.value.send ++ length slots ∷ [] else places_of old m.value.send) apart) ∙ p.1)
-    ])
+    | inl same ↦ (let e : message.value.send ≡ m.value.send = eqb-true message.value.send m.value.send same in (
+      p.0,
+      ap (λ (ps : List ℕ). slice_get ps p.0) (adds m.value.send ∙ ap (λ (b : Bool). if b then places_of old message.value.send ++ length slots ∷ [] else places_of old m.value.send) same)
+          ∙ pushed_keeps (places_of old message.value.send) p.0 (length slots) k (ap (λ (s : ℕ). slice_get (places_of old s) p.0) e ∙ p.1),
+    ))
+    | inr apart ↦ (p.0, ap (λ (ps : List ℕ). slice_get ps p.0) (adds m.value.send ∙ ap (λ (b : Bool). if b then places_of old message.value.send ++ length slots ∷ [] else places_of old m.value.send) apart) ∙ p.1)
+  ])
 ]
 
 pub placed_less : (slots new : List (Option PendingSignal)) (old places : PlaceTable) (send : ℕ) → ArePlaced slots old
@@ -84,3 +88,18 @@ is_nowhere slots places those message placed are none found =
     let p = placed b.0 message b.1 in
     let at : slice_get those p.0 ≡ Some b.0 = ap (λ (ps : List ℕ). slice_get ps p.0) are ∙ p.1 in
     none p.0 b.0 (slice_get_within those p.0 b.0 at) at (ap message_in b.1)
+
+-- so it is at all places
+pub none_each : (send : ℕ) (those : List ℕ) (i : ℕ) (new : List (Option PendingSignal)) → length those ≤ i → ((j k : ℕ) → j < i → slice_get those j ≡ Some k → HasNone send k new)
+    → (j k : ℕ) → slice_get those j ≡ Some k → HasNone send k new
+none_each send those i new low before j k at = let within : j < length those = slice_get_within those j k at in before j k (omega arith) at
+
+pub nowhere_more : (slots : List (Option PendingSignal)) (those : List ℕ) (message : PendingSignal) (i value : ℕ) → slice_get those i ≡ Some value → (message_in (slice_get slots value) ≡ Some message → ⊥)
+    → ((j k : ℕ) → j < i → slice_get those j ≡ Some k → message_in (slice_get slots k) ≡ Some message → ⊥)
+    → (j k : ℕ) → j < i + 1 → slice_get those j ≡ Some k → message_in (slice_get slots k) ≡ Some message → ⊥
+nowhere_more slots those message i value here none before j k low at is = elim (cases_lt j i) [
+  | inl below ↦ before j k below at is
+  | inr last ↦ (let same : j ≡ i = omega arith in
+      let e : Some value ≡ Some k = sym here ∙ (ap (slice_get those) (sym same) ∙ at) in
+      none (ap (λ (p : ℕ). message_in (slice_get slots p)) (same_Some value k e) ∙ is))
+]

@@ -74,8 +74,8 @@ replaced value old bare new way rank those more took puts was is w r = elim (cas
   | inl same ↦ (let there : get same_way new w ≡ Some more = puts w ∙ ap (λ (x : Bool). if x then Some more else get same_way bare w) same in
       let olds : has_rank old way r ≡ has_rank old w r = ap (λ (x : Way). has_rank old x r) (way_is way w same) in
       ap (λ (o : Option (BTreeSet Rank)). among o r) there ∙ (is r ∙ (ap (λ (x : Bool). if is_eq (rank_cmp rank r) then value else x) (was r ∙ olds)
-          ∙ sym (ap (λ (x : Bool). if x && is_eq (rank_cmp rank r) then value else has_rank old w r) same))))
+      ∙ sym (ap (λ (x : Bool). if x && is_eq (rank_cmp rank r) then value else has_rank old w r) same))))
   | inr apart ↦ (let there : get same_way new w ≡ get same_way old w = puts w ∙ (ap (λ (x : Bool). if x then Some more else get same_way bare w) apart
-          ∙ (took w ∙ ap (λ (x : Bool). if x then None else get same_way old w) apart)) in
+      ∙ (took w ∙ ap (λ (x : Bool). if x then None else get same_way old w) apart)) in
       ap (λ (o : Option (BTreeSet Rank)). among o r) there ∙ sym (ap (λ (x : Bool). if x && is_eq (rank_cmp rank r) then value else has_rank old w r) apart))
 ]

@@ -47,11 +47,11 @@ shelf_more old new message shelf adds slots gone =
       ];
       only = λ w r has. elim (cases_Bool (is_at way rank w r)) [
         | inl same ↦ (let parts = at_is way rank w r same in record {
-            message = message;
-            there = ap (λ (s : List (Option PendingSignal)). slice_get s r.1) slots ∙ (ap (λ (x : Rank). slice_get (old.slots ++ Some message ∷ []) x.1) (sym parts.1) ∙ last_there old.slots (Some message));
-            goes = parts.0;
-            priority = ap (λ (x : Rank). x.0) parts.1;
-          })
+          message = message;
+          there = ap (λ (s : List (Option PendingSignal)). slice_get s r.1) slots ∙ (ap (λ (x : Rank). slice_get (old.slots ++ Some message ∷ []) x.1) (sym parts.1) ∙ last_there old.slots (Some message));
+          goes = parts.0;
+          priority = ap (λ (x : Rank). x.0) parts.1;
+        })
         | inr apart ↦ ranked_moved old.slots new.slots w r
             (shelf.only w r (sym (adds w r ∙ ap (λ (b : Bool). if b then true else has_rank old.ranks w r) apart) ∙ has))
             (λ k m at. ap (λ (s : List (Option PendingSignal)). slice_get s k) slots ∙ pushed_keeps old.slots k (Some message) (Some m) at)
@@ -88,8 +88,8 @@ shelf_less old new send place way priority shelf sent drops slots gone =
           | inl same ↦ (let parts = at_is way rank (way_of m) (rank_at m k) same in
               let here : place ≡ k = ap (λ (x : Rank). x.1) parts.1 in
               absurd (let e : slice_get (slice_set old.slots place None) k ≡ Some (Some m) = ap (λ (s : List (Option PendingSignal)). slice_get s k) (sym slots) ∙ at in
-                let none : slice_get (slice_set old.slots place None) k ≡ Some None = ap (λ (p : ℕ). slice_get (slice_set old.slots place None) p) (sym here) ∙ emptied_here old.slots place sent.message sent.there in
-                let f : ⊥ = cc in f))
+              let none : slice_get (slice_set old.slots place None) k ≡ Some None = ap (λ (p : ℕ). slice_get (slice_set old.slots place None) p) (sym here) ∙ emptied_here old.slots place sent.message sent.there in
+              let f : ⊥ = cc in f))
           | inr apart ↦ drops (way_of m) (rank_at m k) ∙ (ap (λ (b : Bool). if b then false else has_rank old.ranks (way_of m) (rank_at m k)) apart ∙ shelf.ranked k m before)
         ]
       ];
@@ -141,14 +141,17 @@ none_goes shelf way kept none k m at goes =
 pub top_slot : (shelf : Shelf) (way : Way) (rank : Rank) (found : Option PendingSignal) → IsShelf shelf → IsHighest shelf.ranks way rank
     → found ≡ message_in (slice_get shelf.slots rank.1) → (top : PendingSignal) × (found ≡ Some top) × IsTopSlot shelf.slots way top
 top_slot shelf way rank found kept high is =
-    let ranked = kept.only way rank high.there in
-    (ranked.message, is ∙ ap message_in ranked.there, record {
-      place = rank.1;
-      there = ranked.there;
-      goes = ranked.goes;
-      highest = λ k m at goes.
-          let yes : has_rank shelf.ranks way (rank_at m k) ≡ true = ap (λ (w : Way). has_rank shelf.ranks w (rank_at m k)) (sym goes) ∙ kept.ranked k m at in
-          let most : m.value.priority ≤ rank.0 = high.highest (rank_at m k) yes in
-          let same : ranked.message.value.priority ≡ rank.0 = ranked.priority in
-          omega arith;
-    })
+    let ranked = kept.only way rank high.there in (
+      ranked.message,
+      is ∙ ap message_in ranked.there,
+      record {
+        place = rank.1;
+        there = ranked.there;
+        goes = ranked.goes;
+        highest = λ k m at goes.
+            let yes : has_rank shelf.ranks way (rank_at m k) ≡ true = ap (λ (w : Way). has_rank shelf.ranks w (rank_at m k)) (sym goes) ∙ kept.ranked k m at in
+            let most : m.value.priority ≤ rank.0 = high.highest (rank_at m k) yes in
+            let same : ranked.message.value.priority ≡ rank.0 = ranked.priority in
+            omega arith;
+      },
+    )

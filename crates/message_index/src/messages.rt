@@ -1,8 +1,7 @@
 // The messages that are there, with an index.
-ghost use Rattle.std.specs.Prelude.{◌≡◌, ◌≢◌, ◌↔◌, ℕ, ◌++◌, ◌∷◌, [], OnOk, MatchOption, IsTrue, Some, slice_get, length};
-ghost use Rattle.std.specs.Option.{option_copied};
+ghost use Rattle.std.specs.Prelude.{◌≡◌, ◌<◌, ◌↔◌, ℕ, ◌++◌, ◌∷◌, [], OnOk, MatchOption, IsTrue, Some, slice_get, length};
 ghost use Rattle.world_model.specs.World.{signals_but};
-ghost use Rattle.message_index.specs.Slots.{HasNone, IsThinned, live};
+ghost use Rattle.message_index.specs.Slots.{HasNone, IsThinned, message_in};
 ghost use Rattle.message_index.specs.Shelves.{IsShelf};
 ghost use Rattle.message_index.specs.Messages.{IsKept, IsTop, NoMessageGoes, messages_in};
 
@@ -26,9 +25,17 @@ fn empty_all(shelf: &mut Shelf, those: &[usize], send: u32) -> Result<(), Memory
     ensures { OnOk result (IsShelf shelf.new × IsThinned send shelf.old.slots shelf.new.slots × ((j k : ℕ) → slice_get those.now j ≡ Some k → HasNone send k shelf.new.slots)) }
 {
     for i in 0..those.len() {
-        shelf.empty(those[i], send)?;
+        let place = place_at(those, i);
+        shelf.empty(place, send)?;
     }
     Ok(())
+}
+
+fn place_at(those: &[usize], i: usize) -> usize
+    requires { i < length those.now }
+    ensures { slice_get those.now i ≡ Some result }
+{
+    those[i]
 }
 
 impl Messages {
@@ -70,7 +77,8 @@ impl Messages {
     {
         let alloc = self.shelf.slots.allocator();
         let those = take_places(alloc, &mut self.places, send);
-        empty_all(&mut self.shelf, those.as_slice(), send)
+        empty_all(&mut self.shelf, those.as_slice(), send)?;
+        Ok(())
     }
 
     /// Whether this message is there.
@@ -80,7 +88,8 @@ impl Messages {
     {
         let those = places_at(&self.places, message.value.send);
         for i in 0..those.len() {
-            if is_same(self.shelf.at(those[i]), message) {
+            let place = place_at(those, i);
+            if self.is_at(place, message) {
                 return true;
             }
         }
@@ -92,22 +101,30 @@ impl Messages {
         requires { IsKept self.now }
         ensures { MatchOption result (NoMessageGoes (messages_in self.now) (signal, to)) (λ top. IsTop (messages_in self.now) (signal, to) top.now) }
     {
-        self.shelf.top((signal, to))
+        match self.shelf.top((signal, to)) {
+            Some(top) => Some(top),
+            None => None,
+        }
+    }
+
+    // Whether this message is at a place.
+    fn is_at(&self, place: usize, message: &PendingSignal) -> bool
+        ensures { IsTrue result ↔ (message_in (slice_get self.now.shelf.slots place) ≡ Some message.now) }
+    {
+        match self.shelf.at(place) {
+            Some(found) => is_same(found, message),
+            None => false,
+        }
     }
 }
 
-// Whether there is a message, and it is this one.
-fn is_same(found: Option<&PendingSignal>, message: &PendingSignal) -> bool
-    ensures { IsTrue result ↔ (option_copied found ≡ Some message.now) }
+// Whether two messages are the same.
+fn is_same(message: &PendingSignal, other: &PendingSignal) -> bool
+    ensures { IsTrue result ↔ (message.now ≡ other.now) }
 {
-    match found {
-        Some(found) => {
-            found.signal == message.signal
-                && found.to == message.to
-                && is_same_value(&found.value, &message.value)
-        }
-        None => false,
-    }
+    message.signal == other.signal
+        && message.to.equals(&other.to)
+        && is_same_value(&message.value, &other.value)
 }
 
 fn is_same_value(value: &StoredValue, other: &StoredValue) -> bool

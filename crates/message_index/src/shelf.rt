@@ -110,7 +110,10 @@ impl Shelf {
         ensures { MatchOption result (NoneGoes self.now.slots way) (λ message. IsTopSlot self.now.slots way message.now) }
     {
         match highest(&self.ranks, way) {
-            Some((_, place)) => self.at(place),
+            Some((_, place)) => match self.at(place) {
+                Some(message) => Some(message),
+                None => None,
+            },
             None => None,
         }
     }

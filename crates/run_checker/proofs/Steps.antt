@@ -20,6 +20,7 @@ use Rattle.code_types.specs.Runs.{IsCodeRun}
 use Rattle.machine_steps.specs.declared.process.Process.{Process}
 use Rattle.run_checker.specs.declared.checking.Checker.{Checker}
 use Rattle.run_checker.specs.Slots.{CanFollow, CannotFollow, Follows, IsThere, StartsAs}
+use Rattle.indexed_world.specs.Indexed.{IsBare, IsIndexed, world_in}
 use Rattle.run_checker.specs.Standing.{AllStand, Holds, WasOpen, late_behind, is_no_going, over_in}
 use Rattle.run_checker.specs.Verdicts.{TellsEnd}
 use Rattle.run_checker.proofs.Followed.{all_follow, cannot_follow, code_run, ready_at, there_at}
@@ -42,13 +43,13 @@ here : (facts : Facts) (events : List Event) (place : ℕ) (w : World) (event : 
 here facts events place w event is may = subst (λ (x : World). IsAllowed facts x event) is may
 
 -- the machines can follow an event that is allowed
-pub can_follow : (code : Code) (facts : Facts) (events : List Event) (place : ℕ) (event : Event) (c : Checker) → Holds code facts events place c → slice_get events place ≡ Some event → IsAllowed facts c.world event → units_of_all events ≤ 20000000
+pub can_follow : (code : Code) (facts : Facts) (events : List Event) (place : ℕ) (event : Event) (c : Checker) → Holds code facts events place c → slice_get events place ≡ Some event → IsAllowed facts (world_in c.world) event → units_of_all events ≤ 20000000
     → CanFollow code c.machines.items event
 can_follow code facts events place event c h at may few =
-    can_by code facts (take place events) event c.machines.items h.stand (here facts events place c.world event h.world may) (let low = its_units events place event at in omega (arith, low, few))
+    can_by code facts (take place events) event c.machines.items h.stand (here facts events place (world_in c.world) event h.world may) (let low = its_units events place event at in omega (arith, low, few))
 
 -- an event that isn't allowed
-pub step_refused : (code : Code) (facts : Facts) (events : List Event) (place : ℕ) (event : Event) (c : Checker) → Holds code facts events place c → slice_get events place ≡ Some event → (IsAllowed facts c.world event → ⊥)
+pub step_refused : (code : Code) (facts : Facts) (events : List Event) (place : ℕ) (event : Event) (c : Checker) → Holds code facts events place c → slice_get events place ≡ Some event → (IsAllowed facts (world_in c.world) event → ⊥)
     → IsCodeRun code facts (take (place + 1) events) → ⊥
 step_refused code facts events place event c h at fails run =
     let there : IsCodeRun code facts (take place events ++ event ∷ []) = subst (IsCodeRun code facts) (take_next events place event at) run in
@@ -56,10 +57,10 @@ step_refused code facts events place event c h at fails run =
     fails (subst (λ (x : World). IsAllowed facts x event) (sym h.world) may)
 
 -- an event that its machine doesn't make
-pub step_off : (code : Code) (agrees : Agrees code) (facts : Facts) (events : List Event) (place : ℕ) (event : Event) (c : Checker) → Holds code facts events place c → slice_get events place ≡ Some event → IsAllowed facts c.world event
+pub step_off : (code : Code) (agrees : Agrees code) (facts : Facts) (events : List Event) (place : ℕ) (event : Event) (c : Checker) → Holds code facts events place c → slice_get events place ≡ Some event → IsAllowed facts (world_in c.world) event
     → CannotFollow code event c.machines.items → IsCodeRun code facts (take (place + 1) events) → ⊥
 step_off code agrees facts events place event c h at may off run =
-    cannot_follow code agrees facts (take place events) event c.machines.items h.stand (here facts events place c.world event h.world may) off (subst (IsCodeRun code facts) (take_next events place event at) run)
+    cannot_follow code agrees facts (take place events) event c.machines.items h.stand (here facts events place (world_in c.world) event h.world may) off (subst (IsCodeRun code facts) (take_next events place event at) run)
 
 all_fronts : (code : Code) (facts : Facts) (events : List Event) (place : ℕ) → ((count : ℕ) → count ≤ place → IsCodeRun code facts (take count events)) → IsCodeRun code facts (take (place + 1) events) → (count : ℕ) → count ≤ place + 1 → IsCodeRun code facts (take count events)
 all_fronts code facts events place fronts last count low = elim (cases_lt count (place + 1)) [
@@ -91,22 +92,24 @@ late_false facts false units event is = (
 )
 
 -- one event further
-pub step_holds : (code : Code) (agrees : Agrees code) (facts : Facts) (events : List Event) (place : ℕ) (event : Event) (old new : Checker) → Holds code facts events place old → slice_get events place ≡ Some event → IsAllowed facts old.world event
-    → Follows code event old.machines.items new.machines.items → new.world ≡ after facts old.world event → new.units ≡ old.units + units_of event → new.late ≡ late_behind facts old.late old.units event
+pub step_holds : (code : Code) (agrees : Agrees code) (facts : Facts) (events : List Event) (place : ℕ) (event : Event) (old new : Checker) → Holds code facts events place old → slice_get events place ≡ Some event → IsAllowed facts (world_in old.world) event
+    → Follows code event old.machines.items new.machines.items → IsIndexed new.world → IsBare new.world → world_in new.world ≡ after facts (world_in old.world) event → new.units ≡ old.units + units_of event → new.late ≡ late_behind facts old.late old.units event
     → Holds code facts events (place + 1) new
-step_holds code agrees facts events place event old new h at may follows world units late =
+step_holds code agrees facts events place event old new h at may follows kept bare world units late =
     let front : List Event = take place events in
     let more : take (place + 1) events ≡ front ++ event ∷ [] = take_next events place event at in
-    let allowed : IsAllowed facts (world_of facts front) event = here facts events place old.world event h.world may in
+    let allowed : IsAllowed facts (world_of facts front) event = here facts events place (world_in old.world) event h.world may in
     let all : AllStand code facts (front ++ event ∷ []) new.machines.items = all_follow code facts front event old.machines.items new.machines.items h.stand allowed follows in
     let stands : AllStand code facts (take (place + 1) events) new.machines.items = subst (λ (xs : List Event). AllStand code facts xs new.machines.items) (sym more) all in
     let spent : nat_le facts.units old.units ≡ nat_le facts.units (units_of_all front) = ap (nat_le facts.units) h.units in
     let flag : new.late ≡ late_behind facts old.late (units_of_all front) event = late ∙ ap (λ (n : ℕ). late_behind facts old.late n event) h.units in
-    let rise : (after facts old.world event).sends ≤ old.world.sends + 1 = sends_rise facts old.world event in
-    let same : new.world.sends ≡ (after facts old.world event).sends = ap (λ (x : World). x.sends) world in
-    let few : old.world.sends ≤ place = h.sends in
+    let rise : (after facts (world_in old.world) event).sends ≤ (world_in old.world).sends + 1 = sends_rise facts (world_in old.world) event in
+    let same : (world_in new.world).sends ≡ (after facts (world_in old.world) event).sends = ap (λ (x : World). x.sends) world in
+    let few : (world_in old.world).sends ≤ place = h.sends in
     record {
       world = world ∙ (ap (λ (x : World). after facts x event) h.world ∙ (sym (world_noted facts front event) ∙ sym (ap (world_of facts) more)));
+      kept = kept;
+      bare = bare;
       sends = omega (arith, rise, same, few);
       stand = stands;
       runs = all_fronts code facts events place h.runs (code_run code agrees facts (take (place + 1) events) new.machines.items stands);
@@ -117,14 +120,16 @@ step_holds code agrees facts events place event old new h at may follows world u
     }
 
 -- before the first event
-pub opening_holds : (code : Code) (agrees : Agrees code) (facts : Facts) (events : List Event) (first : Option Process) (c : Checker) → StartsAs code 1 0 [] first → c.world ≡ opening facts → c.machines.items ≡ None ∷ first ∷ [] → c.units ≡ 0 → c.late ≡ false
+pub opening_holds : (code : Code) (agrees : Agrees code) (facts : Facts) (events : List Event) (first : Option Process) (c : Checker) → StartsAs code 1 0 [] first → IsIndexed c.world → IsBare c.world → world_in c.world ≡ opening facts → c.machines.items ≡ None ∷ first ∷ [] → c.units ≡ 0 → c.late ≡ false
     → Holds code facts events 0 c
-opening_holds code agrees facts events first c starts world machines units late =
+opening_holds code agrees facts events first c starts kept bare world machines units late =
     let none : take 0 events ≡ [] = take_none events in
     let all : AllStand code facts [] c.machines.items = subst (λ (ms : List (Option Process)). AllStand code facts [] ms) (sym machines) (opening_stands code facts first starts) in
     let stands : AllStand code facts (take 0 events) c.machines.items = subst (λ (xs : List Event). AllStand code facts xs c.machines.items) (sym none) all in
     record {
       world = world ∙ sym (ap (world_of facts) none);
+      kept = kept;
+      bare = bare;
       sends = (let s = ap (λ (w : World). w.sends) world in omega (arith, s));
       stand = stands;
       runs = λ count low. (let same : 0 ≡ count = omega (arith, low) in subst (λ (k : ℕ). IsCodeRun code facts (take k events)) same (code_run code agrees facts (take 0 events) c.machines.items stands));
@@ -142,14 +147,14 @@ take_past [] (suc place) past = refl
 take_past (e ∷ events) zero past = absurd (let f : ⊥ = omega (arith, past) in f)
 take_past (e ∷ events) (suc place) past = ap (λ (xs : List Event). e ∷ xs) (take_past events place (omega (arith, past)))
 
-over_left : (facts : Facts) (events : List Event) (c : Checker) → c.late ≡ false → c.world ≡ world_of facts events → c.units ≡ units_of_all events → over_in facts c ≡ over_of facts events
+over_left : (facts : Facts) (events : List Event) (c : Checker) → c.late ≡ false → world_in c.world ≡ world_of facts events → c.units ≡ units_of_all events → over_in facts c ≡ over_of facts events
 over_left facts events c in_time world units = elim (cases_Bool (nat_le facts.units c.units)) [
   | inl spent ↦ (
       let a : over_in facts c ≡ Some Spent = rw (in_time, spent) refl in
       let b : over_of facts events ≡ Some Spent = (let s : nat_le facts.units (units_of_all events) ≡ true = sym (ap (nat_le facts.units) units) ∙ spent in rw s refl) in
       a ∙ sym b)
   | inr left ↦ (
-      let a : over_in facts c ≡ end_in c.world = rw (in_time, left) refl in
+      let a : over_in facts c ≡ end_in (world_in c.world) = rw (in_time, left) refl in
       let b : over_of facts events ≡ end_in (world_of facts events) = (let s : nat_le facts.units (units_of_all events) ≡ false = sym (ap (nat_le facts.units) units) ∙ left in rw s refl) in
       a ∙ (ap end_in world ∙ sym b))
 ]
@@ -161,7 +166,7 @@ tells_by facts events None is was = λ complete. some_none (over_of facts events
     some_none o is some = let f : false ≡ true = subst IsSome is some in let g : ⊥ = cc in g
 tells_by facts events (Some over) is was = (record { over = subst IsSome (sym is) refl; first = was }, is)
 
-end_by : (facts : Facts) (events : List Event) (c : Checker) (late : Bool) → c.late ≡ late → c.world ≡ world_of facts events → c.units ≡ units_of_all events → IsOpen late facts events → TellsEnd facts events (over_in facts c)
+end_by : (facts : Facts) (events : List Event) (c : Checker) (late : Bool) → c.late ≡ late → world_in c.world ≡ world_of facts events → c.units ≡ units_of_all events → IsOpen late facts events → TellsEnd facts events (over_in facts c)
 end_by facts events c true is world units was = subst (TellsEnd facts events) (sym (let e : over_in facts c ≡ None = rw is refl in e)) (λ complete. was complete.first)
 end_by facts events c false is world units was = tells_by facts events (over_in facts c) (sym (over_left facts events c is world units)) was
 

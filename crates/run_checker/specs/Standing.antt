@@ -25,6 +25,7 @@ use Rattle.machine_steps.specs.declared.process.Process.{Process}
 use Rattle.machine_steps.specs.Taking.{IsNoEnd}
 use Rattle.machine_steps.specs.Views.{state_of}
 use Rattle.code_machine.specs.Running.{IsUp, RunsOn}
+use Rattle.indexed_world.specs.Indexed.{IsBare, IsIndexed, world_in}
 use Rattle.run_checker.specs.declared.checking.Checker.{Checker}
 
 -- Each talk of the instance with these answers, and others behind, is over where its line is.
@@ -88,8 +89,10 @@ late_behind facts late units event = late || (is_no_going event && nat_le facts.
 
 -- What a checker has come to behind so many events: each front of them is a run of the code.
 pub record Holds (code : Code) (facts : Facts) (events : List Event) (place : ℕ) (c : Checker) : Type 0 where
-  pub world : c.world ≡ world_of facts (take place events)
-  pub sends : c.world.sends ≤ place
+  pub world : world_in c.world ≡ world_of facts (take place events)
+  pub kept : IsIndexed c.world
+  pub bare : IsBare c.world
+  pub sends : c.world.bare.sends ≤ place
   pub stand : AllStand code facts (take place events) c.machines.items
   pub runs : (count : ℕ) → count ≤ place → IsCodeRun code facts (take count events)
   pub units : c.units ≡ units_of_all (take place events)
@@ -97,4 +100,4 @@ pub record Holds (code : Code) (facts : Facts) (events : List Event) (place : �
 
 -- how the run is over that a checker has come to; none where it isn't, or was before
 abbrev pub over_in : Facts → Checker → Option Over
-over_in facts c = if c.late then None else (if nat_le facts.units c.units then Some Spent else end_in c.world)
+over_in facts c = if c.late then None else (if nat_le facts.units c.units then Some Spent else end_in (world_in c.world))

@@ -5,24 +5,24 @@ use Rattle.run_checker.proofs.Held.{few_events}
 use Rattle.run_checker.proofs.Steps.{can_follow, step_holds, step_off, step_refused}
 use Rattle.run_checker.proofs.checking.Checker.step.Goals as goal
 
-pub returns-then-not-is_allowed : goal.returns-then-not-is_allowed
-returns-then-not-is_allowed c =
+pub returns-then-not-branch : goal.returns-then-not-branch
+returns-then-not-branch c =
     step_refused c.args.guarded.now c.args.facts.now c.args.events.now c.args.place c.index-events-place.result c.args.self.now c.requires.holds
     (slice_get_read c.args.events.now (length c.args.events.now) c.args.place c.index-events-place.result refl c.requires.there c.index-events-place.is)
-    (λ may. let holds = c.is_allowed.ensures.1 may in let no_more = c.if-not-is_allowed.true in cc)
+    (λ may. let holds = c.in_ok-allows.ensures.decides.1 may in let no_more = c.if-not-branch.true in cc)
 
 pub follow-requires : goal.follow-requires
 follow-requires c = record {
   can = can_follow c.args.guarded.now c.args.facts.now c.args.events.now c.args.place c.index-events-place.result c.args.self.now c.requires.holds
       (slice_get_read c.args.events.now (length c.args.events.now) c.args.place c.index-events-place.result refl c.requires.there c.index-events-place.is)
-      (c.is_allowed.ensures.0 c.if-not-is_allowed.false) c.requires.few;
+      (c.in_ok-allows.ensures.decides.0 c.if-not-branch.false) c.requires.few;
 }
 
 pub returns-then-not-branch : goal.returns-then-not-branch
 returns-then-not-branch c =
     step_off c.args.guarded.now c.code-code.ensures.agrees c.args.facts.now c.args.events.now c.args.place c.index-events-place.result c.args.self.now c.requires.holds
     (slice_get_read c.args.events.now (length c.args.events.now) c.args.place c.index-events-place.result refl c.requires.there c.index-events-place.is)
-    (c.is_allowed.ensures.0 c.if-not-is_allowed.false) (when_false c.in_ok-follow.field-0 _ _ c.if-not-branch.true c.in_ok-follow.ensures)
+    (c.in_ok-allows.ensures.decides.0 c.if-not-branch.false) (when_false c.in_ok-follow.field-0 _ _ c.if-not-branch.true c.in_ok-follow.ensures)
 
 pub apply-requires : goal.apply-requires
 apply-requires c =
@@ -34,5 +34,5 @@ pub returns : goal.returns
 returns c =
     step_holds c.args.guarded.now c.code-code.ensures.agrees c.args.facts.now c.args.events.now c.args.place c.index-events-place.result c.args.self.now _ c.requires.holds
     (slice_get_read c.args.events.now (length c.args.events.now) c.args.place c.index-events-place.result refl c.requires.there c.index-events-place.is)
-    (c.is_allowed.ensures.0 c.if-not-is_allowed.false) (when_true c.in_ok-follow.field-0 _ _ c.if-not-branch.false c.in_ok-follow.ensures)
+    (c.in_ok-allows.ensures.decides.0 c.if-not-branch.false) (when_true c.in_ok-follow.field-0 _ _ c.if-not-branch.false c.in_ok-follow.ensures)
     c.in_ok-apply.ensures (ap (λ (n : ℕ). c.args.self.now.units + n) c.event_units.ensures) c.is_late-self.ensures
