@@ -1,12 +1,12 @@
 -- What an index keeps: one message more, and those of one send number less.
-use Rattle.std.proofs.Common.{◌≡◌, ◌≢◌, ◌<◌, ◌≤◌, ◌+◌, subst, ℕ, zero, suc, Bool, true, false, List, [], ◌∷◌, ◌++◌, length, refl, sym, ap, ap₂, ◌∙◌, inl, inr, arith, Option, Some, None, slice_get, eq-eqb}
+use Rattle.std.proofs.Common.{◌≡◌, ◌<◌, ◌≤◌, ◌+◌, subst, ℕ, Bool, List, [], ◌∷◌, ◌++◌, length, refl, sym, ap, ap₂, ◌∙◌, inl, inr, arith, Option, Some, None, slice_get, eq-eqb}
 use Rattle.std.specs.Prelude.{if◌then◌else◌, ◌==◌}
 use Rattle.std.proofs.lemmas.Bool.{cases_Bool, cases_lt, eqb-true}
 use Rattle.std.proofs.lemmas.Option.{same_Some, slice_get_within}
 use Rattle.world_model.specs.declared.world.PendingSignal.{PendingSignal}
 use Rattle.world_model.proofs.ChangedLists.{pushed_or_old, pushed_keeps}
 use Rattle.message_index.specs.Places.{PlaceTable, places_of}
-use Rattle.message_index.specs.Slots.{live, message_in, way_of, HasNone, IsThinned}
+use Rattle.message_index.specs.Slots.{live, message_in, HasNone, IsThinned}
 use Rattle.message_index.specs.Ranks.{Way}
 use Rattle.message_index.specs.Shelves.{IsTopSlot, NoneGoes}
 use Rattle.message_index.specs.Messages.{IsTop, NoMessageGoes}

@@ -1,4 +1,3 @@
-use Rattle.message_index.specs.Ranks.{IsLast}
 use Rattle.message_index.proofs.Ranked.{not_behind}
 use Rattle.message_index.proofs.ranks.last_rank.Goals as goal
 

@@ -1,5 +1,4 @@
-use Rattle.std.proofs.Common.{◌≡◌, arith, refl, ℕ, Some, slice_get}
-use Rattle.message_index.specs.Slots.{message_in}
+use Rattle.std.proofs.Common.{arith, refl, slice_get}
 use Rattle.message_index.proofs.Slotted.{there}
 use Rattle.message_index.proofs.Kept.{in_slot, nowhere_more, is_nowhere}
 use Rattle.message_index.proofs.messages.Messages.has.Goals as goal

@@ -1,4 +1,4 @@
-use Rattle.std.proofs.Common.{sym, ◌∙◌}
+use Rattle.std.proofs.Common.{◌∙◌}
 use Rattle.message_index.proofs.Slotted.{thinned_live}
 use Rattle.message_index.proofs.Kept.{placed_less, none_left}
 use Rattle.message_index.proofs.messages.Messages.take.Goals as goal
