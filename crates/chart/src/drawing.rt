@@ -3,7 +3,7 @@ use crate::Names;
 use crate::cast::{Cast, who_of};
 use crate::lives::Life;
 use crate::marks::push_marks;
-use crate::names::{push_name, push_number};
+use crate::names::{push_name, push_number, region_label};
 use crate::shapes::{Point, push_bar, push_label};
 use chill_base::{Memory, Text};
 use kernel_base::{Answer, Event, Request};
@@ -169,7 +169,8 @@ impl<'a> Drawing<'a> {
     fn lock(&mut self, who: u32, region: u32, y: u32) -> Result<(), Memory> {
         let place = who as usize;
         if place < self.lives.len() {
-            return self.lives[place].lock(region, y);
+            let label = region_label(self.alloc, self.names, region)?;
+            return self.lives[place].lock(region, label, y);
         }
         Ok(())
     }
@@ -228,7 +229,7 @@ impl<'a> Drawing<'a> {
         let coming = life.coming;
         life.coming = None;
         match coming {
-            Some(region) => life.lock(region, y),
+            Some(region) => self.lock(who, region, y),
             None => Ok(()),
         }
     }

@@ -1,9 +1,14 @@
 // What is written beside an event.
 use crate::Names;
-use crate::names::{push_name, push_number};
+use crate::names::push_name;
 use chill_base::{List, Memory, Scalars, Text};
 use kernel_base::{Alternative, Answer, Exc, How, Request};
 use std::alloc::Global;
+
+// So many of the scalars of a value are written, and so many of the bytes of an output.
+const MOST_SCALARS: usize = 4;
+
+const MOST_BYTES: usize = 20;
 
 /// What a request asks, by the names of its things.
 pub(crate) fn request_label(
@@ -23,7 +28,7 @@ pub(crate) fn request_label(
                 place.location,
             )?
         }
-        Request::Write { place, .. } => {
+        Request::Write { place, scalars } => {
             push_thing(
                 alloc,
                 &mut text,
@@ -31,10 +36,29 @@ pub(crate) fn request_label(
                 &names.locations,
                 b"location",
                 place.location,
+            )?;
+            push_scalars(alloc, &mut text, scalars)?
+        }
+        Request::Enter { region } => {
+            push_thing(
+                alloc,
+                &mut text,
+                b"enter ",
+                &names.regions,
+                b"region",
+                *region,
             )?
         }
-        Request::Enter { region } => push_counted(alloc, &mut text, b"enter region ", *region)?,
-        Request::Leave { region } => push_counted(alloc, &mut text, b"leave region ", *region)?,
+        Request::Leave { region } => {
+            push_thing(
+                alloc,
+                &mut text,
+                b"leave ",
+                &names.regions,
+                b"region",
+                *region,
+            )?
+        }
         Request::Continue { event } => {
             push_thing(
                 alloc,
@@ -45,7 +69,7 @@ pub(crate) fn request_label(
                 *event,
             )?
         }
-        Request::Start { process, .. } => {
+        Request::Start { process, scalars } => {
             push_thing(
                 alloc,
                 &mut text,
@@ -53,7 +77,8 @@ pub(crate) fn request_label(
                 &names.processes,
                 b"process",
                 *process,
-            )?
+            )?;
+            push_scalars(alloc, &mut text, scalars)?
         }
         Request::Put { bytes } => push_put(&mut text, bytes)?,
         Request::Get => text.extend_from_slice(b"get")?,
@@ -119,6 +144,20 @@ fn push_got(
         }
     }
     Ok(())
+}
+
+/// What was asked, and the value that was answered.
+pub(crate) fn did_label(
+    alloc: Global,
+    names: &Names,
+    request: &Request,
+    answer: &Answer,
+) -> Result<Vec<u8>, Memory> {
+    let mut text = request_label(alloc, names, request)?;
+    if let Answer::Value(scalars) = answer {
+        push_scalars(alloc, &mut text, scalars)?;
+    }
+    Ok(text)
 }
 
 /// What a receipt at once took, and its value.
@@ -202,15 +241,12 @@ fn end_word(how: How) -> &'static [u8] {
 }
 
 fn push_put(text: &mut Vec<u8>, bytes: &Text) -> Result<(), Memory> {
+    let bytes = bytes.as_slice();
+    let count = bytes.len().min(MOST_BYTES);
     text.push(b'"')?;
-    text.extend_from_slice(bytes.as_slice())?;
+    text.extend_from_slice(&bytes[..count])?;
     text.push(b'"')?;
-    Ok(())
-}
-
-fn push_counted(alloc: Global, text: &mut Vec<u8>, word: &[u8], number: u32) -> Result<(), Memory> {
-    text.extend_from_slice(word)?;
-    push_number(alloc, text, number)
+    push_rest(text, bytes.len() > count)
 }
 
 fn push_thing(
@@ -250,8 +286,9 @@ fn push_scalars(alloc: Global, text: &mut Vec<u8>, scalars: &Scalars) -> Result<
     if numbers.is_empty() {
         return Ok(());
     }
+    let count = numbers.len().min(MOST_SCALARS);
     text.extend_from_slice(b" (")?;
-    for k in 0..numbers.len() {
+    for k in 0..count {
         if k > 0 {
             text.extend_from_slice(b", ")?;
         }
@@ -259,6 +296,15 @@ fn push_scalars(alloc: Global, text: &mut Vec<u8>, scalars: &Scalars) -> Result<
         let number = format!(in alloc; "{number}")?;
         text.extend_from_slice(number.as_bytes())?;
     }
+    push_rest(text, numbers.len() > count)?;
     text.push(b')')?;
+    Ok(())
+}
+
+// Two dots, where there is more.
+fn push_rest(text: &mut Vec<u8>, more: bool) -> Result<(), Memory> {
+    if more {
+        text.extend_from_slice(b" ..")?;
+    }
     Ok(())
 }

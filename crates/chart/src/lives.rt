@@ -3,10 +3,11 @@ use crate::shapes::{Point, Stroke, push_bar, push_label, push_line};
 use chill_base::Memory;
 use std::alloc::Global;
 
-/// A region that an instance holds, from a height on.
-#[derive(Clone, Copy, Drop)]
+/// A region that an instance holds, from a height on, and what is written beside its bar.
+#[derive(Drop)]
 pub(crate) struct Held {
     pub region: u32,
+    pub label: Vec<u8>,
     pub since: u32,
 }
 
@@ -71,9 +72,14 @@ impl Life {
     }
 
     /// It locks a region, unless it holds it.
-    pub fn lock(&mut self, region: u32, y: u32) -> Result<(), Memory> {
+    pub fn lock(&mut self, region: u32, label: Vec<u8>, y: u32) -> Result<(), Memory> {
         if self.place_of(region).is_none() {
-            self.regions.push(Held { region, since: y })?;
+            let held = Held {
+                region,
+                label,
+                since: y,
+            };
+            self.regions.push(held)?;
         }
         Ok(())
     }
@@ -158,13 +164,11 @@ fn draw_bar(
     Ok(())
 }
 
-// The number of the region, beside the head of its bar.
+// The region, beside the head of its bar.
 fn push_region(alloc: Global, text: &mut Vec<u8>, held: &Held, left: u32) -> Result<(), Memory> {
-    let region = held.region;
-    let label = format!(in alloc; "R{region}")?;
     let at = Point {
         x: left.saturating_sub(2),
         y: held.since.saturating_add(10),
     };
-    push_label(alloc, text, "end region", at, label.as_bytes())
+    push_label(alloc, text, "end region", at, &held.label)
 }

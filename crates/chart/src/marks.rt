@@ -1,7 +1,7 @@
 // What is drawn in the row of an event.
 use crate::cast::{other_of, who_of};
 use crate::drawing::Drawing;
-use crate::labels::{answer_word, receipt_label, request_label};
+use crate::labels::{answer_word, did_label, receipt_label, request_label};
 use crate::names::push_number;
 use crate::shapes::{Point, Stroke, push_bar, push_dot, push_label, push_line, push_tip};
 use chill_base::Memory;
@@ -49,7 +49,7 @@ fn push_did(
     }
     let label = match answer {
         Answer::Got { .. } => receipt_label(drawing.alloc, drawing.names, request, answer)?,
-        _ => request_label(drawing.alloc, drawing.names, request)?,
+        _ => did_label(drawing.alloc, drawing.names, request, answer)?,
     };
     let other = match other_of(event) {
         Some(instance) => drawing.x_of(instance),

@@ -2,10 +2,11 @@
 use chill_base::{List, Memory, Text};
 use std::alloc::Global;
 
-/// The names of a program's things, by their numbers. What has none is told by its number.
+/// The names of a program's things, by their numbers. What has none, or the empty one, is told by its number.
 #[derive(Drop)]
 pub struct Names {
     pub processes: List<Text>,
+    pub regions: List<Text>,
     pub locations: List<Text>,
     pub events: List<Text>,
     pub buffers: List<Text>,
@@ -17,6 +18,7 @@ impl Names {
     pub fn new(alloc: Global) -> Names {
         Names {
             processes: List::new(alloc),
+            regions: List::new(alloc),
             locations: List::new(alloc),
             events: List::new(alloc),
             buffers: List::new(alloc),
@@ -33,7 +35,7 @@ pub(crate) fn push_name(
     what: &[u8],
     number: u32,
 ) -> Result<(), Memory> {
-    match names.as_slice().get(number as usize) {
+    match name_at(names, number) {
         Some(name) => text.extend_from_slice(name.as_slice())?,
         None => {
             text.extend_from_slice(what)?;
@@ -42,6 +44,27 @@ pub(crate) fn push_name(
         }
     }
     Ok(())
+}
+
+/// The name of a thing, where it has one.
+pub(crate) fn name_at(names: &List<Text>, number: u32) -> Option<&Text> {
+    match names.as_slice().get(number as usize) {
+        Some(name) if !name.is_empty() => Some(name),
+        _ => None,
+    }
+}
+
+/// What is written beside the bar of a region.
+pub(crate) fn region_label(alloc: Global, names: &Names, region: u32) -> Result<Vec<u8>, Memory> {
+    let mut label = Vec::new(alloc);
+    match name_at(&names.regions, region) {
+        Some(name) => label.extend_from_slice(name.as_slice())?,
+        None => {
+            label.push(b'R')?;
+            push_number(alloc, &mut label, region)?;
+        }
+    }
+    Ok(label)
 }
 
 /// Appends a number in decimal.

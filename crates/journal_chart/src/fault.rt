@@ -3,17 +3,21 @@ use chart::MOST_EVENTS;
 use chill_base::Memory;
 use std::alloc::Global;
 
-const USAGE: &str = "usage: journal_chart JOURNAL [--from K] [--to K]\n";
+const USAGE: &str = "usage: journal_chart JOURNAL [--program FILE] [--from K] [--to K]\n";
 
 /// Why there is no picture.
 #[derive(Drop)]
 pub(crate) enum Fault {
     Usage,
-    /// The file can't be read.
+    /// The journal can't be read.
     Unread,
-    /// It has too many bytes.
+    /// The program's text can't be read.
+    UnreadProgram,
+    /// The journal has too many bytes.
     TooLong,
-    /// This line of it can't stand there.
+    /// The program's text breaks a rule.
+    Refused,
+    /// This line of the journal can't stand there.
     BadLine(u32),
     /// So many events are more than a picture has.
     TooMany(usize),
@@ -35,7 +39,8 @@ impl From<Memory> for Fault {
 pub(crate) fn status_of(fault: &Fault) -> u8 {
     match fault {
         Fault::Usage => 2,
-        Fault::Unread => 4,
+        Fault::Unread | Fault::UnreadProgram => 4,
+        Fault::Refused => 3,
         Fault::Memory => 8,
         Fault::TooLong | Fault::BadLine(_) | Fault::TooMany(_) => 10,
     }
@@ -47,6 +52,10 @@ pub(crate) fn line_of(alloc: Global, fault: &Fault) -> Result<Vec<u8>, Memory> {
     match fault {
         Fault::Usage => line.extend_from_slice(USAGE.as_bytes())?,
         Fault::Unread => line.extend_from_slice(b"the journal can't be read\n")?,
+        Fault::UnreadProgram => line.extend_from_slice(b"the program can't be read\n")?,
+        Fault::Refused => {
+            line.extend_from_slice(b"the program breaks a rule, which `chill check` tells\n")?
+        }
         Fault::TooLong => line.extend_from_slice(b"journal longer than 1073741824 bytes\n")?,
         Fault::BadLine(number) => {
             let text = format!(in alloc; "journal line {number}: no event\n")?;
