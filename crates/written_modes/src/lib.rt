@@ -6,6 +6,7 @@
 
 mod fields;
 mod places;
+mod ranges;
 mod written;
 
 pub use written::{Standing, written_mode};

@@ -13,7 +13,7 @@ use Rattle.constant_operators.specs.Known.{IsKnownConstant}
 use Rattle.written_modes.specs.Wholes.{tree_there, bound_there, first_in, value_misfits}
 use Rattle.written_modes.proofs.GateLemmas.{first_told, none_told_behind}
 use Rattle.written_modes.proofs.NumberLemmas.{bound-there, bound-broken}
-use Rattle.written_modes.proofs.written.bound_of.Goals as goal
+use Rattle.written_modes.proofs.ranges.bound_of.Goals as goal
 
 pub returns-in_default-clause-told : goal.returns-in_default-clause-told
 returns-in_default-clause-told c = λ ground.

@@ -1,7 +1,7 @@
 use Rattle.std.proofs.Common.{◌∙◌, sym, true, false}
 use Rattle.modes.specs.ModeTree.{mode_tree}
 use Rattle.written_modes.proofs.NumberLemmas.{goes-known, first-misfits, outside-misfits}
-use Rattle.written_modes.proofs.written.bound_outside_its_mode.Goals as goal
+use Rattle.written_modes.proofs.ranges.bound_outside_its_mode.Goals as goal
 
 pub returns-then-goes_not_with : goal.returns-then-goes_not_with
 returns-then-goes_not_with c = λ c' v k.

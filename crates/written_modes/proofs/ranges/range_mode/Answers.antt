@@ -8,7 +8,7 @@ use Rattle.checks_model.specs.WrittenModes.{range_from, is_above, unless_told, t
 use Rattle.constant_operators.specs.Grounds.{ground_of}
 use Rattle.written_modes.specs.Wholes.{tree_there}
 use Rattle.written_modes.proofs.RangeLemmas.{HasBounds, range_there, range_none}
-use Rattle.written_modes.proofs.written.range_mode.Goals as goal
+use Rattle.written_modes.proofs.ranges.range_mode.Goals as goal
 
 pub returns-in_default-clause-told : goal.returns-in_default-clause-told
 returns-in_default-clause-told c = λ ground discrete.
